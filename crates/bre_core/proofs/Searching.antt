@@ -9,7 +9,9 @@ use Rattle.bre_core.specs.Search.{any_below, has_parts, is_at_most, matches, mat
 -- What a pattern matches stands on the line.
 
 -- what matches ends on the line, and not before it begins
-pub parts_stay : (Part : ℕ → ℕ → Type 0) (places : ℕ) → ((from to : ℕ) → from ≤ places → Part from to → (from ≤ to) × (to ≤ places)) → (count from to : ℕ) → from ≤ places → Parts Part count from to → (from ≤ to) × (to ≤ places)
+pub parts_stay : (Part : ℕ → ℕ → Type 0) (places : ℕ)
+    → ((from to : ℕ) → from ≤ places → Part from to → (from ≤ to) × (to ≤ places)) → (count from to : ℕ) → from ≤ places
+    → Parts Part count from to → (from ≤ to) × (to ≤ places)
 parts_stay Part places stay zero from to h p = (omega (arith, p), omega (arith, p, h))
 parts_stay Part places stay (suc count) from to h p =
     let one = parts_stay Part places stay count from p.0 h p.1 in
@@ -17,14 +19,16 @@ parts_stay Part places stay (suc count) from to h p =
     (omega (arith, one.0, other.0), other.1)
 
 mutual
-  pub stays : (pattern : Pattern) (line : List ℕ) (from to : ℕ) → from ≤ length line → Matches pattern line from to → (from ≤ to) × (to ≤ length line)
+  pub stays : (pattern : Pattern) (line : List ℕ) (from to : ℕ) → from ≤ length line → Matches pattern line from to
+      → (from ≤ to) × (to ≤ length line)
   stays nothing line from to h m = (omega (arith, m), omega (arith, m, h))
   stays (append pattern item) line from to h m =
       let one = stays pattern line from m.0 h m.1 in
       let other = item_stays item line m.0 to one.1 m.2 in
       (omega (arith, one.0, other.0), other.1)
 
-  pub item_stays : (item : Item) (line : List ℕ) (from to : ℕ) → from ≤ length line → MatchesItem item line from to → (from ≤ to) × (to ≤ length line)
+  pub item_stays : (item : Item) (line : List ℕ) (from to : ℕ) → from ≤ length line → MatchesItem item line from to
+      → (from ≤ to) × (to ≤ length line)
   item_stays (set bytes) line from to h m = (omega (arith, m.0), omega (arith, m.0, m.1))
   item_stays front line from to h m = (omega (arith, m.0), omega (arith, m.1))
   item_stays end line from to h m = (omega (arith, m.0, m.1), omega (arith, m.1))
@@ -32,16 +36,19 @@ mutual
   item_stays (repeat item low high) line from to h m =
       parts_stay (MatchesItem item line) (length line) (λ f t k p. item_stays item line f t k p) m.0 from to h m.3
 
-any_found : (bound : ℕ) (test : ℕ → Bool) → any_below bound test ≡ true → (number : ℕ) × (number < bound) × (test number ≡ true)
+any_found : (bound : ℕ) (test : ℕ → Bool) → any_below bound test ≡ true
+    → (number : ℕ) × (number < bound) × (test number ≡ true)
 any_found zero test e = absurd (false≢true e)
 any_found (suc bound) test e = side (λ f. any_found bound test f) (or_cases (any_below bound test) (test bound) e)
   where
-    side : (any_below bound test ≡ true → (number : ℕ) × (number < bound) × (test number ≡ true)) → (any_below bound test ≡ true) ⊎ (test bound ≡ true)
+    side : (any_below bound test ≡ true → (number : ℕ) × (number < bound) × (test number ≡ true))
+        → (any_below bound test ≡ true) ⊎ (test bound ≡ true)
         → (number : ℕ) × (number < suc bound) × (test number ≡ true)
     side before (inl f) = let n = before f in (n.0, omega (arith, n.1), n.2)
     side before (inr f) = (bound, omega arith, f)
 
-any_there : (bound : ℕ) (test : ℕ → Bool) (number : ℕ) → number < bound → test number ≡ true → any_below bound test ≡ true
+any_there : (bound : ℕ) (test : ℕ → Bool) (number : ℕ) → number < bound → test number ≡ true
+    → any_below bound test ≡ true
 any_there zero test number h e = absurd (omega (arith, h))
 any_there (suc bound) test number h e = elim (cases_eq number bound) [
   | inl same ↦ or_right (any_below bound test) (test bound) (ap test (sym same) ∙ e)
@@ -54,11 +61,13 @@ record Tells (test : ℕ → ℕ → Bool) (Kind : ℕ → ℕ → Type 0) : Typ
   no : (from to : ℕ) → Kind from to → test from to ≡ true
   forward : (from to : ℕ) → Kind from to → from ≤ to
 
-parts_forward : (Kind : ℕ → ℕ → Type 0) → ((from to : ℕ) → Kind from to → from ≤ to) → (count from to : ℕ) → Parts Kind count from to → from ≤ to
+parts_forward : (Kind : ℕ → ℕ → Type 0) → ((from to : ℕ) → Kind from to → from ≤ to) → (count from to : ℕ)
+    → Parts Kind count from to → from ≤ to
 parts_forward Kind f zero from to p = omega (arith, p)
 parts_forward Kind f (suc count) from to p = let one = parts_forward Kind f count from p.0 p.1 in let other = f p.0 to p.2 in omega (arith, one, other)
 
-parts_tell : {test : ℕ → ℕ → Bool} (Kind : ℕ → ℕ → Type 0) → Tells test Kind → (count : ℕ) → Tells (has_parts test count) (Parts Kind count)
+parts_tell : {test : ℕ → ℕ → Bool} (Kind : ℕ → ℕ → Type 0) → Tells test Kind → (count : ℕ)
+    → Tells (has_parts test count) (Parts Kind count)
 parts_tell Kind t zero = search rules
 parts_tell {test} Kind t (suc count) = let before = parts_tell Kind t count in record {
   yes = λ from to e.
@@ -73,7 +82,8 @@ parts_tell {test} Kind t (suc count) = let before = parts_tell Kind t count in r
 }
 
 -- among more parts than the stretch is long there is an empty one, which can go
-fewer : (Kind : ℕ → ℕ → Type 0) → ((from to : ℕ) → Kind from to → from ≤ to) → (count from to : ℕ) → to ≤ from + count → Parts Kind (suc count) from to → Parts Kind count from to
+fewer : (Kind : ℕ → ℕ → Type 0) → ((from to : ℕ) → Kind from to → from ≤ to) → (count from to : ℕ) → to ≤ from + count
+    → Parts Kind (suc count) from to → Parts Kind count from to
 fewer Kind f zero from to h p = let first : from ≡ p.0 = p.1 in let step = f p.0 to p.2 in let e : from ≡ to = omega (arith, first, step, h) in e
 fewer Kind f (suc count) from to h p = elim (cases_eq p.0 to) [
   | inl same ↦ subst (λ m. Parts Kind (suc count) from m) same p.1
@@ -84,7 +94,8 @@ at_most_less : (high : Option ℕ) (count : ℕ) → IsAtMost high (suc count) �
 at_most_less None count h = tt
 at_most_less (Some high) count h = omega (arith, h)
 
-few_parts : (Kind : ℕ → ℕ → Type 0) → ((from to : ℕ) → Kind from to → from ≤ to) → (low : ℕ) (high : Option ℕ) (count from to : ℕ) → low ≤ count → IsAtMost high count → Parts Kind count from to
+few_parts : (Kind : ℕ → ℕ → Type 0) → ((from to : ℕ) → Kind from to → from ≤ to)
+    → (low : ℕ) (high : Option ℕ) (count from to : ℕ) → low ≤ count → IsAtMost high count → Parts Kind count from to
     → (few : ℕ) × (few < suc (low + to)) × (low ≤ few) × IsAtMost high few × Parts Kind few from to
 few_parts Kind f low high zero from to l h p = (0, omega arith, l, h, p)
 few_parts Kind f low high (suc count) from to l h p = elim (cases_lt (suc count) (suc (low + to))) [

@@ -37,11 +37,13 @@ number_grows (byte ∷ text) number =
     (λ _. omega (arith, number_grows text (10 * number + (byte - 48)))) (λ _. omega arith)
 
 -- a number that is at most 255
-pub number_fits : (text : List ℕ) → begins_with_digit text ≡ true → {found : ℕ × List ℕ} → number_from 0 text ≡ found → found.0 ≤ 255 → number_at text ≡ Some found
+pub number_fits : (text : List ℕ) → begins_with_digit text ≡ true → {found : ℕ × List ℕ} → number_from 0 text ≡ found
+    → found.0 ≤ 255 → number_at text ≡ Some found
 number_fits text d e h = cond-true _ _ _ (both _ _ d (le-leb _ _ (omega (arith, ap (λ f. f.0) e)))) ∙ ap Some e
 
 -- and one that is not
-pub number_too_large : (text : List ℕ) (number : ℕ) (rest : List ℕ) → number_from 0 text ≡ number_from number rest → 255 < number → number_at text ≡ None
+pub number_too_large : (text : List ℕ) (number : ℕ) (rest : List ℕ) → number_from 0 text ≡ number_from number rest
+    → 255 < number → number_at text ≡ None
 number_too_large text number rest e h = search (rules, cond-false, and_right, begins_with_digit, lt-leb, number_grows)
 
 -- A text is read as an interval where it is spelled as one, and only there.
@@ -57,17 +59,20 @@ number_stops : (number : ℕ) (text : List ℕ) → begins_with_digit text ≡ f
 number_stops number [] e = refl
 number_stops number (byte ∷ text) e = cond-false _ _ _ e
 
-digits_read : (number : ℕ) (digits : List ℕ) {text : List ℕ} → list_all (is_between 48 57) digits ≡ true → begins_with_digit text ≡ false → number_from number (digits ++ text) ≡ (fold step number digits, text)
+digits_read : (number : ℕ) (digits : List ℕ) {text : List ℕ} → list_all (is_between 48 57) digits ≡ true
+    → begins_with_digit text ≡ false → number_from number (digits ++ text) ≡ (fold step number digits, text)
 digits_read number [] {text} all e = number_stops number text e
 digits_read number (digit ∷ digits) all e =
     let parts = and_parts (is_between 48 57 digit) (list_all (is_between 48 57) digits) all in
     cond-true _ _ _ parts.0 ∙ digits_read (step number digit) digits parts.1 e
 
-digit_first : (digits text : List ℕ) → digits ≢ [] → list_all (is_between 48 57) digits ≡ true → begins_with_digit (digits ++ text) ≡ true
+digit_first : (digits text : List ℕ) → digits ≢ [] → list_all (is_between 48 57) digits ≡ true
+    → begins_with_digit (digits ++ text) ≡ true
 digit_first [] text some all = absurd (some refl)
 digit_first (digit ∷ digits) text some all = (and_parts (is_between 48 57 digit) (list_all (is_between 48 57) digits) all).0
 
-number_read : {digits text : List ℕ} (number : ℕ) → IsNumber digits number → begins_with_digit text ≡ false → number_at (digits ++ text) ≡ Some (number, text)
+number_read : {digits text : List ℕ} (number : ℕ) → IsNumber digits number → begins_with_digit text ≡ false
+    → number_at (digits ++ text) ≡ Some (number, text)
 number_read {digits} {text} number n e = search (rules, number_fits, digit_first, digits_read)
 
 -- the digits at the front of a text, what follows them, and the number that they go on
@@ -84,14 +89,16 @@ front number (byte ∷ text) =
     (λ e. let more = front (step number byte) text in record { digits = byte ∷ more.digits; all = and_from _ _ e more.all; whole = ap (λ t. byte ∷ t) more.whole; value = more.value })
     (λ e. record { digits = []; all = refl; whole = refl; value = refl })
 
-front_some : (text : List ℕ) (number : ℕ) {rest : List ℕ} → begins_with_digit text ≡ true → number_from 0 text ≡ (number, rest) → number ≤ 255
+front_some : (text : List ℕ) (number : ℕ) {rest : List ℕ} → begins_with_digit text ≡ true
+    → number_from 0 text ≡ (number, rest) → number ≤ 255
     → (digits : List ℕ) × IsNumber digits number × (text ≡ digits ++ rest)
 front_some [] number e f h = absurd (false≢true e)
 front_some (byte ∷ text) number e f h =
     let more = subst (Front (step 0 byte) text) (sym (cond-true _ _ _ e) ∙ f) (front (step 0 byte) text) in
     (byte ∷ more.digits, record { some = λ g. cc; are_digits = and_from _ _ e more.all; value = more.value; within = h }, ap (λ t. byte ∷ t) more.whole)
 
-number_found : {text : List ℕ} (number : ℕ) {rest : List ℕ} → number_at text ≡ Some (number, rest) → (digits : List ℕ) × IsNumber digits number × (text ≡ digits ++ rest)
+number_found : {text : List ℕ} (number : ℕ) {rest : List ℕ} → number_at text ≡ Some (number, rest)
+    → (digits : List ℕ) × IsNumber digits number × (text ≡ digits ++ rest)
 number_found {text} number {rest} e =
     let found = cond_some _ (number_from 0 text) (number, rest) e in
     let tests = and_parts (begins_with_digit text) (nat_le (number_from 0 text).0 255) found.0 in
@@ -103,7 +110,8 @@ closed (byte ∷ brace ∷ text) {rest} e = search rules
 closed text e = absurd (none-some _ e)
 
 -- bounds that are spelled are read
-pub bounds_read : {text rest : List ℕ} {low : ℕ} {high : Option ℕ} → AreBounds text low high → interval_at (text ++ close rest) ≡ Some ((low, high), rest)
+pub bounds_read : {text rest : List ℕ} {low : ℕ} {high : Option ℕ} → AreBounds text low high
+    → interval_at (text ++ close rest) ≡ Some ((low, high), rest)
 bounds_read (exactly digits number n) = ap (option_and_then (λ m. bounds_at m.0 m.1)) (number_read number n refl)
 bounds_read {rest} (at_least digits number n) =
     ap interval_at (append_assoc digits (44 ∷ []) (close rest)) ∙ ap (option_and_then (λ m. bounds_at m.0 m.1)) (number_read number n refl)
@@ -114,7 +122,8 @@ bounds_read {rest} (between first second least most m n ordered) =
     ∙ cond-true _ _ _ (le-leb least most ordered))
 
 -- what a mapped value was found from
-pub mapped : {A B : Type 0} (f : A → B) (o : Option A) {y : B} → option_map f o ≡ Some y → (x : A) × (o ≡ Some x) × (f x ≡ y)
+pub mapped : {A B : Type 0} (f : A → B) (o : Option A) {y : B} → option_map f o ≡ Some y
+    → (x : A) × (o ≡ Some x) × (f x ≡ y)
 mapped f None {y} e = absurd (none-some y e)
 mapped f (Some x) e = (x, refl, same_Some _ _ e)
 
@@ -129,8 +138,11 @@ record Found (text : List ℕ) (low : ℕ) (high : Option ℕ) (rest : List ℕ)
   bounds : AreBounds inner low high
   whole : text ≡ inner ++ close rest
 
-second_found : {digits : List ℕ} {low : ℕ} → IsNumber digits low → (text : List ℕ) {high : Option ℕ} {rest : List ℕ} {most : ℕ} {after : List ℕ}
-    → number_at text ≡ Some (most, after) → cond (nat_le low most) (option_map {U = Option ℕ × List ℕ} (λ r. (Some most, r)) (after_close after)) None ≡ Some (high, rest) → Found (digits ++ (44 ∷ text)) low high rest
+second_found : {digits : List ℕ} {low : ℕ} → IsNumber digits low
+    → (text : List ℕ) {high : Option ℕ} {rest : List ℕ} {most : ℕ} {after : List ℕ}
+    → number_at text ≡ Some (most, after)
+    → cond (nat_le low most) (option_map {U = Option ℕ × List ℕ} (λ r. (Some most, r)) (after_close after)) None
+    ≡ Some (high, rest) → Found (digits ++ (44 ∷ text)) low high rest
 second_found {digits} {low} n text {high} {rest} {most} {after} e f = go (cases_Bool (nat_le low most))
   where
     go : (nat_le low most ≡ true) ⊎ (nat_le low most ≡ false) → Found (digits ++ (44 ∷ text)) low high rest
@@ -145,10 +157,12 @@ second_found {digits} {low} n text {high} {rest} {most} {after} e f = go (cases_
         }
     go (inr e) = absurd (none-some _ (sym (cond-false _ _ _ e) ∙ f))
 
-high_found : {digits : List ℕ} {low : ℕ} → IsNumber digits low → (text : List ℕ) {high : Option ℕ} {rest : List ℕ} → high_at low text ≡ Some (high, rest) → Found (digits ++ (44 ∷ text)) low high rest
+high_found : {digits : List ℕ} {low : ℕ} → IsNumber digits low → (text : List ℕ) {high : Option ℕ} {rest : List ℕ}
+    → high_at low text ≡ Some (high, rest) → Found (digits ++ (44 ∷ text)) low high rest
 high_found {digits} {low} n text {high} {rest} e = go (cases_Bool (begins_with_digit text))
   where
-    go : (begins_with_digit text ≡ true) ⊎ (begins_with_digit text ≡ false) → Found (digits ++ (44 ∷ text)) low high rest
+    go : (begins_with_digit text ≡ true) ⊎ (begins_with_digit text ≡ false)
+        → Found (digits ++ (44 ∷ text)) low high rest
     go (inl digit) =
         option_and_then_some _ (number_at text) (high, rest) (sym (cond-true _ _ _ digit) ∙ e) (λ found is ends. second_found n text is ends)
     go (inr none) =
@@ -159,7 +173,8 @@ high_found {digits} {low} n text {high} {rest} e = go (cases_Bool (begins_with_d
           whole = ap (λ t. digits ++ (44 ∷ t)) (closed text (end.1 ∙ ap (λ p. Some p.1) end.2)) ∙ sym (append_assoc digits (44 ∷ []) (close rest));
         }
 
-after_number : {digits : List ℕ} (number : ℕ) → IsNumber digits number → (text : List ℕ) {low : ℕ} {high : Option ℕ} {rest : List ℕ}
+after_number : {digits : List ℕ} (number : ℕ) → IsNumber digits number
+    → (text : List ℕ) {low : ℕ} {high : Option ℕ} {rest : List ℕ}
     → bounds_at number text ≡ Some ((low, high), rest) → Found (digits ++ text) low high rest
 after_number {digits} number n text {low} {high} {rest} e = go (cases_Bool (begins_with 44 text))
   where
@@ -183,13 +198,15 @@ after_number {digits} number n text {low} {high} {rest} e = go (cases_Bool (begi
         }
 
 -- bounds that are read are spelled
-bounds_found : {text : List ℕ} {low : ℕ} {high : Option ℕ} {rest : List ℕ} → interval_at text ≡ Some ((low, high), rest) → Found text low high rest
+bounds_found : {text : List ℕ} {low : ℕ} {high : Option ℕ} {rest : List ℕ} → interval_at text ≡ Some ((low, high), rest)
+    → Found text low high rest
 bounds_found {text} {low} {high} {rest} e =
     option_and_then_some _ (number_at text) ((low, high), rest) e (λ found is ends.
     let first = number_found found.0 is in
     subst (λ t. Found t low high rest) (sym first.2) (after_number found.0 first.1 found.1 ends))
 
-interval_found : (context : Context) {text rest : List ℕ} {token : Token} → BeginsWithToken context (92 ∷ 123 ∷ text) token rest → (context ≡ Inner) × IsInterval text token rest
+interval_found : (context : Context) {text rest : List ℕ} {token : Token}
+    → BeginsWithToken context (92 ∷ 123 ∷ text) token rest → (context ≡ Inner) × IsInterval text token rest
 interval_found Inner {text} e =
     let read = mapped {B = Token × List ℕ} (λ found. (Repeat found.0.0 found.0.1, found.1)) (interval_at text) e in
     let found = bounds_found (read.1 ∙ ap (λ p. Some (read.0.0, p.1)) read.2) in
@@ -197,12 +214,14 @@ interval_found Inner {text} e =
 interval_found context e = absurd (none-some _ e)
 
 -- after `\{`
-pub interval_read : (context : Context) (text rest : List ℕ) (token : Token) → BeginsWithToken context (92 ∷ 123 ∷ text) token rest ↔ ((context ≡ Inner) × IsInterval text token rest)
+pub interval_read : (context : Context) (text rest : List ℕ) (token : Token)
+    → BeginsWithToken context (92 ∷ 123 ∷ text) token rest ↔ ((context ≡ Inner) × IsInterval text token rest)
 interval_read context text rest token = search (rules, interval_found, cond-true, has_item, interval_at, bounds_read)
 
 -- WHAT IS SPELLED IS READ
 
-element_read : (spelling : Spelling) {text : List ℕ} → is_opening spelling text ≡ false → element_at (byte_before spelling text) ≡ Some (Point (byte_of spelling), text)
+element_read : (spelling : Spelling) {text : List ℕ} → is_opening spelling text ≡ false
+    → element_at (byte_before spelling text) ≡ Some (Point (byte_of spelling), text)
 element_read (symbol byte) e = refl
 element_read (plain byte) {text} e = search rules
 
@@ -210,13 +229,16 @@ named_read : (name : Class) {text : List ℕ} → element_at (part_before (class
 named_read Upper = refl
 named_read name = refl
 
-part_read : (part : Part) {text : List ℕ} → IsItself part text → option_and_then (λ found. member_from found.0 found.1) (element_at (part_before part text)) ≡ Some (member_of part, text)
+part_read : (part : Part) {text : List ℕ} → IsItself part text
+    → option_and_then (λ found. member_from found.0 found.1) (element_at (part_before part text))
+    ≡ Some (member_of part, text)
 part_read (single spelling) itself = ap (option_and_then (λ found. member_from found.0 found.1)) (element_read spelling itself.0) ∙ cond-false _ _ _ itself.1
 part_read (range low high) {text} itself = search rules
 part_read (equivalents byte) itself = refl
 part_read (class name) itself = ap (option_and_then (λ found. member_from found.0 found.1)) (named_read name)
 
-at_place : (first : Bool) (text : List ℕ) → MayBegin first text → member_at first text ≡ option_and_then (λ found. member_from found.0 found.1) (element_at text)
+at_place : (first : Bool) (text : List ℕ) → MayBegin first text
+    → member_at first text ≡ option_and_then (λ found. member_from found.0 found.1) (element_at text)
 at_place true text may = refl
 at_place false text may = cond-false _ _ _ (or_from _ _ may.0 may.1)
 
@@ -224,21 +246,25 @@ one_read : (first : Bool) (part : Part) (text : List ℕ) → MayBegin first (pa
     → ReadsMember (first, part_before part text) (member_of part) (false, text)
 one_read first part text may itself = (at_place first (part_before part text) may ∙ part_read part itself, refl)
 
-others_read : (parts : List Part) (text : List ℕ) → Stand false parts text → Steps ReadsMember (false, parts_before parts text) (map member_of parts) (false, text)
+others_read : (parts : List Part) (text : List ℕ) → Stand false parts text
+    → Steps ReadsMember (false, parts_before parts text) (map member_of parts) (false, text)
 others_read [] text stand = refl
 others_read (part ∷ parts) text stand = ((false, parts_before parts text), one_read false part (parts_before parts text) stand.0 stand.1, others_read parts text stand.2)
 
-parts_read : (parts : List Part) (text : List ℕ) → parts ≢ [] → Stand true parts text → Steps ReadsMember (true, parts_before parts text) (map member_of parts) (false, text)
+parts_read : (parts : List Part) (text : List ℕ) → parts ≢ [] → Stand true parts text
+    → Steps ReadsMember (true, parts_before parts text) (map member_of parts) (false, text)
 parts_read [] text some stand = absurd (some refl)
 parts_read (part ∷ parts) text some stand = ((false, parts_before parts text), one_read true part (parts_before parts text) stand.0 stand.1, others_read parts text stand.2)
 
-after_caret : (complemented : Bool) {parts : List Part} {rest : List ℕ} → IsBracketList complemented parts rest → after_complement (list_before complemented parts rest) ≡ parts_before parts (93 ∷ rest)
+after_caret : (complemented : Bool) {parts : List Part} {rest : List ℕ} → IsBracketList complemented parts rest
+    → after_complement (list_before complemented parts rest) ≡ parts_before parts (93 ∷ rest)
 after_caret true list = refl
 after_caret false list = cond-false _ _ _ list.caret
 
 -- a list that is spelled by the rules is read as its members
 pub list_read : (complemented : Bool) (parts : List Part) (rest : List ℕ) → IsBracketList complemented parts rest
-    → (found : IsBracket (list_before complemented parts rest) (matched_bytes complemented (map member_of parts)) rest) × (found.members ≡ map member_of parts)
+    → (found : IsBracket (list_before complemented parts rest) (matched_bytes complemented (map member_of parts)) rest)
+    × (found.members ≡ map member_of parts)
 list_read complemented parts rest list = (
   record {
     members = map member_of parts;
@@ -250,7 +276,8 @@ list_read complemented parts rest list = (
 
 -- ANY LIST OF MEMBERS
 
-symbols_stand : (first : Bool) (members : List Member) (rest : List ℕ) → list_all is_ordered members ≡ true → Stand first (map in_symbols members) (93 ∷ rest)
+symbols_stand : (first : Bool) (members : List Member) (rest : List ℕ) → list_all is_ordered members ≡ true
+    → Stand first (map in_symbols members) (93 ∷ rest)
 symbols_stand first [] rest ordered = tt
 symbols_stand first (Range low high ∷ members) rest ordered =
     let parts = and_parts (nat_le low high) (list_all is_ordered members) ordered in
@@ -265,7 +292,8 @@ symbols_stand first (InClass name ∷ members) rest ordered = (may first, tt, sy
     may true = tt
     may false = (refl, refl)
 
-no_caret : (complemented : Bool) (members : List Member) (rest : List ℕ) → members ≢ [] → begins_with 94 (list_before complemented (map in_symbols members) rest) ≡ complemented
+no_caret : (complemented : Bool) (members : List Member) (rest : List ℕ) → members ≢ []
+    → begins_with 94 (list_before complemented (map in_symbols members) rest) ≡ complemented
 no_caret false [] rest some = absurd (some refl)
 no_caret false (Range low high ∷ members) rest some = refl
 no_caret complemented members rest some = refl
@@ -279,8 +307,10 @@ same_members [] = refl
 same_members (Range low high ∷ members) = ap (λ ms. Range low high ∷ ms) (same_members members)
 same_members (InClass name ∷ members) = ap (λ ms. InClass name ∷ ms) (same_members members)
 
-pub any_list : (complemented : Bool) (members : List Member) (rest : List ℕ) → members ≢ [] → list_all is_ordered members ≡ true
-    → (found : IsBracket (list_before complemented (map in_symbols members) rest) (matched_bytes complemented members) rest) × (found.members ≡ members)
+pub any_list : (complemented : Bool) (members : List Member) (rest : List ℕ) → members ≢ []
+    → list_all is_ordered members ≡ true
+    → (found : IsBracket (list_before complemented (map in_symbols members) rest)
+    (matched_bytes complemented members) rest) × (found.members ≡ members)
 any_list complemented members rest some ordered =
     let list : IsBracketList complemented (map in_symbols members) rest = record { some = some_parts members some; stand = symbols_stand true members rest ordered; caret = no_caret complemented members rest some } in
     let same = same_members members in
@@ -295,7 +325,8 @@ ElementIs (Point byte) text rest = (spelling : Spelling) × (byte_of spelling �
 ElementIs (Same byte) text rest = text ≡ part_before (equivalents byte) rest
 ElementIs (Named name) text rest = text ≡ part_before (class name) rest
 
-enclosed_found : {mark : ℕ} (text : List ℕ) {byte : ℕ} {rest : List ℕ} → enclosed mark text ≡ Some (byte, rest) → text ≡ byte ∷ mark ∷ 93 ∷ rest
+enclosed_found : {mark : ℕ} (text : List ℕ) {byte : ℕ} {rest : List ℕ} → enclosed mark text ≡ Some (byte, rest)
+    → text ≡ byte ∷ mark ∷ 93 ∷ rest
 enclosed_found {mark} (first ∷ second ∷ third ∷ text) {byte} {rest} e = search rules
 enclosed_found text e = absurd (none-some _ e)
 
@@ -303,7 +334,8 @@ name_found : (text : List ℕ) {name rest : List ℕ} → name_at text ≡ Some 
 name_found [] e = absurd (none-some _ e)
 name_found (byte ∷ text) {name} {rest} e = go (cases_Bool (eqb byte 58 && begins_with 93 text)) (λ n r f. name_found text f)
   where
-    go : ((eqb byte 58 && begins_with 93 text) ≡ true) ⊎ ((eqb byte 58 && begins_with 93 text) ≡ false) → ((n r : List ℕ) → name_at text ≡ Some (n, r) → text ≡ n ++ (58 ∷ 93 ∷ r))
+    go : ((eqb byte 58 && begins_with 93 text) ≡ true) ⊎ ((eqb byte 58 && begins_with 93 text) ≡ false)
+        → ((n r : List ℕ) → name_at text ≡ Some (n, r) → text ≡ n ++ (58 ∷ 93 ∷ r))
         → byte ∷ text ≡ name ++ (58 ∷ 93 ∷ rest)
     go (inl here) more =
         let tests = and_parts (eqb byte 58) (begins_with 93 text) here in
@@ -316,27 +348,33 @@ name_found (byte ∷ text) {name} {rest} e = go (cases_Bool (eqb byte 58 && begi
 class_is : {name : List ℕ} {found : Class} → class_named name ≡ Some found → name ≡ name_of found
 class_is = search rules
 
-class_found : {text : List ℕ} {name : Class} {rest : List ℕ} → class_at text ≡ Some (name, rest) → text ≡ name_of name ++ (58 ∷ 93 ∷ rest)
+class_found : {text : List ℕ} {name : Class} {rest : List ℕ} → class_at text ≡ Some (name, rest)
+    → text ≡ name_of name ++ (58 ∷ 93 ∷ rest)
 class_found {text} {name} {rest} e = search (rules, option_and_then_some, name_at, class_named, name_found, class_is, name_of)
 
-inner_found : (text : List ℕ) {element : Element} {rest : List ℕ} → inner_at text ≡ Some (element, rest) → ElementIs element (91 ∷ text) rest
+inner_found : (text : List ℕ) {element : Element} {rest : List ℕ} → inner_at text ≡ Some (element, rest)
+    → ElementIs element (91 ∷ text) rest
 inner_found [] {element} {rest} e =
     let same : ◌≡◌ {A = Element × List ℕ} (Point 91, []) (element, rest) = same_Some _ _ e in
     subst (λ p. ElementIs p.0 (91 ∷ []) p.1) same (plain 91, refl, refl, refl)
 inner_found (mark ∷ text) {element} {rest} e = dot (cases_Bool (eqb mark 46))
   where
-    plainly : eqb mark 46 ≡ false → eqb mark 61 ≡ false → eqb mark 58 ≡ false → ◌≡◌ {A = Option (Element × List ℕ)} (Some (Point 91, mark ∷ text)) (Some (element, rest)) → ElementIs element (91 ∷ mark ∷ text) rest
+    plainly : eqb mark 46 ≡ false → eqb mark 61 ≡ false → eqb mark 58 ≡ false
+        → ◌≡◌ {A = Option (Element × List ℕ)} (Some (Point 91, mark ∷ text)) (Some (element, rest))
+        → ElementIs element (91 ∷ mark ∷ text) rest
     plainly f g h k =
         let same : ◌≡◌ {A = Element × List ℕ} (Point 91, mark ∷ text) (element, rest) = same_Some _ _ k in
         subst (λ p. ElementIs p.0 (91 ∷ mark ∷ text) p.1) same (plain 91, refl, refl, or_from _ _ (or_from _ _ f g) h)
 
-    colon : eqb mark 46 ≡ false → eqb mark 61 ≡ false → (eqb mark 58 ≡ true) ⊎ (eqb mark 58 ≡ false) → ElementIs element (91 ∷ mark ∷ text) rest
+    colon : eqb mark 46 ≡ false → eqb mark 61 ≡ false → (eqb mark 58 ≡ true) ⊎ (eqb mark 58 ≡ false)
+        → ElementIs element (91 ∷ mark ∷ text) rest
     colon f g (inl is) =
         let found = mapped {B = Element × List ℕ} (λ p. (Named p.0, p.1)) (class_at text) (sym (cond-false _ _ _ f ∙ cond-false _ _ _ g ∙ cond-true _ _ _ is) ∙ e) in
         subst (λ p. ElementIs p.0 (91 ∷ mark ∷ text) p.1) found.2 (ap (λ b. 91 ∷ b ∷ text) (eqb-true mark 58 is) ∙ ap (λ t. 91 ∷ 58 ∷ t) (class_found found.1))
     colon f g (inr other) = plainly f g other (sym (cond-false _ _ _ f ∙ cond-false _ _ _ g ∙ cond-false _ _ _ other) ∙ e)
 
-    equals : eqb mark 46 ≡ false → (eqb mark 61 ≡ true) ⊎ (eqb mark 61 ≡ false) → ElementIs element (91 ∷ mark ∷ text) rest
+    equals : eqb mark 46 ≡ false → (eqb mark 61 ≡ true) ⊎ (eqb mark 61 ≡ false)
+        → ElementIs element (91 ∷ mark ∷ text) rest
     equals f (inl is) =
         let found = mapped {B = Element × List ℕ} (λ p. (Same p.0, p.1)) (enclosed 61 text) (sym (cond-false _ _ _ f ∙ cond-true _ _ _ is) ∙ e) in
         subst (λ p. ElementIs p.0 (91 ∷ mark ∷ text) p.1) found.2 (ap (λ b. 91 ∷ b ∷ text) (eqb-true mark 61 is) ∙ ap (λ t. 91 ∷ 61 ∷ t) (enclosed_found text found.1))
@@ -349,7 +387,8 @@ inner_found (mark ∷ text) {element} {rest} e = dot (cases_Bool (eqb mark 46))
         (symbol found.0.0, refl, ap (λ b. 91 ∷ b ∷ text) (eqb-true mark 46 is) ∙ ap (λ t. 91 ∷ 46 ∷ t) (enclosed_found text found.1), refl)
     dot (inr other) = equals other (cases_Bool (eqb mark 61))
 
-element_found : (text : List ℕ) {element : Element} {rest : List ℕ} → element_at text ≡ Some (element, rest) → ElementIs element text rest
+element_found : (text : List ℕ) {element : Element} {rest : List ℕ} → element_at text ≡ Some (element, rest)
+    → ElementIs element text rest
 element_found [] e = absurd (none-some _ e)
 element_found (byte ∷ text) {element} {rest} e = go (cases_Bool (eqb byte 91))
   where
@@ -366,12 +405,15 @@ record Spells (text : List ℕ) (member : Member) (rest : List ℕ) : Type 0 whe
   whole : text ≡ part_before part rest
   same : member ≡ member_of part
 
-dash_inside : (text : List ℕ) → is_dash_inside text ≡ true → (text ≡ 45 ∷ drop 1 text) × (begins_with 93 (drop 1 text) ≡ false)
+dash_inside : (text : List ℕ) → is_dash_inside text ≡ true
+    → (text ≡ 45 ∷ drop 1 text) × (begins_with 93 (drop 1 text) ≡ false)
 dash_inside [] e = absurd (false≢true e)
 dash_inside (byte ∷ text) e = search rules
 
-range_found : {text : List ℕ} (low : Spelling) (after : List ℕ) (element : Element) {member : Member} (left : List ℕ) {rest : List ℕ}
-    → text ≡ byte_before low (45 ∷ after) → begins_with 93 after ≡ false → ElementIs element after left → range_to (byte_of low) element left ≡ Some (member, rest) → Spells text member rest
+range_found : {text : List ℕ} (low : Spelling) (after : List ℕ) (element : Element) {member : Member} (left : List ℕ)
+    {rest : List ℕ}
+    → text ≡ byte_before low (45 ∷ after) → begins_with 93 after ≡ false → ElementIs element after left
+    → range_to (byte_of low) element left ≡ Some (member, rest) → Spells text member rest
 range_found low after (Point byte) {member} left {rest} whole unclosed high e =
     let found = cond_some (nat_le (byte_of low) byte) (Range (byte_of low) byte, left) (member, rest) e in
     let ends : left ≡ rest = ap (λ p. p.1) found.1 in
@@ -388,7 +430,8 @@ range_found low after (Point byte) {member} left {rest} whole unclosed high e =
     }
 range_found low after element left whole unclosed high e = absurd (none-some _ e)
 
-from_found : {text : List ℕ} (element : Element) (after : List ℕ) {member : Member} {rest : List ℕ} → ElementIs element text after → member_from element after ≡ Some (member, rest) → Spells text member rest
+from_found : {text : List ℕ} (element : Element) (after : List ℕ) {member : Member} {rest : List ℕ}
+    → ElementIs element text after → member_from element after ≡ Some (member, rest) → Spells text member rest
 from_found (Same byte) after {member} {rest} is e =
     let same : ◌≡◌ {A = Member × List ℕ} (Range byte byte, after) (member, rest) = same_Some _ _ e in
     record { part = equivalents byte; itself = tt; whole = is ∙ ap (part_before (equivalents byte)) (ap (λ p. p.1) same); same = sym (ap (λ p. p.0) same) }
@@ -413,11 +456,13 @@ from_found {text} (Point byte) after {member} {rest} is e = go (cases_Bool (is_d
           same = sym (ap (λ p. p.0) same) ∙ ap (λ b. Range b b) (sym is.1);
         }
 
-may_begin : (first : Bool) (text : List ℕ) {found : Member × List ℕ} → member_at first text ≡ Some found → MayBegin first text
+may_begin : (first : Bool) (text : List ℕ) {found : Member × List ℕ} → member_at first text ≡ Some found
+    → MayBegin first text
 may_begin true text e = tt
 may_begin false text e = search rules
 
-member_found : (first : Bool) {text : List ℕ} {member : Member} {rest : List ℕ} → member_at first text ≡ Some (member, rest) → Spells text member rest
+member_found : (first : Bool) {text : List ℕ} {member : Member} {rest : List ℕ}
+    → member_at first text ≡ Some (member, rest) → Spells text member rest
 member_found first {text} {member} {rest} e =
     option_and_then_some _ (element_at text) (member, rest) (sym (at_place first text (may_begin first text e)) ∙ e)
     (λ found is from. from_found found.0 found.1 (element_found text is) from)
@@ -429,7 +474,8 @@ record SpellsAll (first : Bool) (text : List ℕ) (members : List Member) (end :
   whole : text ≡ parts_before parts end
   same : members ≡ map member_of parts
 
-members_found : (first : Bool) {text : List ℕ} (members : List Member) (end : List ℕ) → Steps ReadsMember (first, text) members (false, end) → SpellsAll first text members end
+members_found : (first : Bool) {text : List ℕ} (members : List Member) (end : List ℕ)
+    → Steps ReadsMember (first, text) members (false, end) → SpellsAll first text members end
 members_found first [] end way = record { parts = []; stand = tt; whole = ap (λ s. s.1) way; same = refl }
 members_found first {text} (member ∷ members) end way =
     let more = members_found false members end (subst (λ place. Steps ReadsMember (place, way.0.1) members (false, end)) way.1.1 way.2) in
@@ -443,15 +489,19 @@ members_found first {text} (member ∷ members) end way =
     }
 
 -- the first place doesn't follow a member
-has_parts : (text : List ℕ) {members : List Member} (parts : List Part) (end : List ℕ) → Steps ReadsMember (true, text) members (false, end) → members ≡ map member_of parts → parts ≢ []
+has_parts : (text : List ℕ) {members : List Member} (parts : List Part) (end : List ℕ)
+    → Steps ReadsMember (true, text) members (false, end) → members ≡ map member_of parts → parts ≢ []
 has_parts text {members} parts end way same none = search rules
 
 -- a text that is read is spelled by the rules
-pub list_found : (text : List ℕ) (set : List Bool) (rest : List ℕ) (found : IsBracket text set rest) → IsSpelled text found.members set rest
+pub list_found : (text : List ℕ) (set : List Bool) (rest : List ℕ) (found : IsBracket text set rest)
+    → IsSpelled text found.members set rest
 list_found text set rest found = go (cases_Bool (begins_with 94 text))
   where
-    spelled : (complemented : Bool) (after : List ℕ) → begins_with 94 text ≡ complemented → Steps ReadsMember (true, after) found.members (false, 93 ∷ rest)
-        → ((parts : List Part) → after ≡ parts_before parts (93 ∷ rest) → text ≡ list_before complemented parts rest) → IsSpelled text found.members set rest
+    spelled : (complemented : Bool) (after : List ℕ) → begins_with 94 text ≡ complemented
+        → Steps ReadsMember (true, after) found.members (false, 93 ∷ rest)
+        → ((parts : List Part) → after ≡ parts_before parts (93 ∷ rest) → text ≡ list_before complemented parts rest)
+        → IsSpelled text found.members set rest
     spelled complemented after caret way whole =
         let all = members_found true found.members (93 ∷ rest) way in
         let is = whole all.parts all.whole in
@@ -464,7 +514,8 @@ list_found text set rest found = go (cases_Bool (begins_with 94 text))
           bytes = found.bytes ∙ ap (λ b. matched_bytes b found.members) caret;
         }
 
-    way_from : (after : List ℕ) → after_complement text ≡ after → Steps ReadsMember (true, after) found.members (false, 93 ∷ rest)
+    way_from : (after : List ℕ) → after_complement text ≡ after
+        → Steps ReadsMember (true, after) found.members (false, 93 ∷ rest)
     way_from after is = subst (λ t. Steps ReadsMember (true, t) found.members (false, 93 ∷ rest)) is found.way
 
     go : (begins_with 94 text ≡ true) ⊎ (begins_with 94 text ≡ false) → IsSpelled text found.members set rest
@@ -472,5 +523,6 @@ list_found text set rest found = go (cases_Bool (begins_with 94 text))
     go (inr other) = spelled false text other (way_from text (cond-false _ _ _ other)) (λ parts whole. whole)
 
 -- two readings of one text have the same members
-pub same_list : (text : List ℕ) (one other : List Bool) (rest end : List ℕ) (found : IsBracket text one rest) (again : IsBracket text other end) → (found.members ≡ again.members) × (one ≡ other) × (rest ≡ end)
+pub same_list : (text : List ℕ) (one other : List Bool) (rest end : List ℕ) (found : IsBracket text one rest)
+    (again : IsBracket text other end) → (found.members ≡ again.members) × (one ≡ other) × (rest ≡ end)
 same_list text one other rest end found again = search (rules, one_way, members_decided, closed_stuck, bracket_decided)

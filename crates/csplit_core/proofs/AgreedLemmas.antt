@@ -20,10 +20,14 @@ use Rattle.std.proofs.lemmas.Grind.{common_steps}
 
 -- One more line that every operand finds.
 
-matched_within : (suppress : Bool) (lines : List Line) (state : State) (operand : Operand) (target : Target) (matched cut : ℕ) → CutsAt suppress lines state operand target matched cut → state.matched ≤ length lines → matched ≤ length lines
+matched_within : (suppress : Bool) (lines : List Line) (state : State) (operand : Operand) (target : Target)
+    (matched cut : ℕ) → CutsAt suppress lines state operand target matched cut → state.matched ≤ length lines
+    → matched ≤ length lines
 matched_within suppress lines state operand target matched cut at within = grind (arith, common_steps)
 
-search_within : {suppress : Bool} {lines : List Line} {first : State} {steps : List Step} {last : State} {ending : Ending} → Runs suppress lines first steps last ending → first.matched ≤ length lines → search_line suppress first ≤ suc (length lines)
+search_within : {suppress : Bool} {lines : List Line} {first : State} {steps : List Step} {last : State}
+    {ending : Ending} → Runs suppress lines first steps last ending → first.matched ≤ length lines
+    → search_line suppress first ≤ suc (length lines)
     → search_line suppress last ≤ suc (length lines)
 search_within {suppress} {lines} (cuts state operand operands matched' cut steps' last' ending' is at from in_lines rest) matched within =
     let few = matched_within suppress lines state operand operand.target matched' cut at matched in
@@ -42,11 +46,17 @@ matching_comes = grind (arith, common_steps)
 
 -- the cut falls within the lines that are there: the section ends there, or the cut is below it
 pub data Turned (suppress : Bool) (x : List Line) (state : State) (operand : Operand) (cut : ℕ) : Type 0 where
-  too_low : cut < state.current → Runs suppress (x ++ matching_line ∷ []) state [] state (below operand state.repetition) → Turned suppress x state operand cut
-  turns : state.current ≤ cut → (rest : List Step) (end : State) (how : Ending) → Runs suppress (x ++ matching_line ∷ []) state (step_of state operand (suc (length x)) cut ∷ rest) end how → Turned suppress x state operand cut
+  too_low : cut < state.current
+      → Runs suppress (x ++ matching_line ∷ []) state [] state (below operand state.repetition)
+      → Turned suppress x state operand cut
+  turns : state.current ≤ cut → (rest : List Step) (end : State) (how : Ending)
+      → Runs suppress (x ++ matching_line ∷ []) state (step_of state operand (suc (length x)) cut ∷ rest) end how
+      → Turned suppress x state operand cut
 
-turned_by : {suppress : Bool} {x : List Line} {state : State} {operand : Operand} {operands : List Operand} (cut : ℕ) → 1 ≤ state.current → state.operands ≡ operand ∷ operands
-    → CutsAt suppress (x ++ matching_line ∷ []) state operand operand.target (suc (length x)) cut → cut ≤ length (x ++ matching_line ∷ []) → Turned suppress x state operand cut
+turned_by : {suppress : Bool} {x : List Line} {state : State} {operand : Operand} {operands : List Operand} (cut : ℕ)
+    → 1 ≤ state.current → state.operands ≡ operand ∷ operands
+    → CutsAt suppress (x ++ matching_line ∷ []) state operand operand.target (suc (length x)) cut
+    → cut ≤ length (x ++ matching_line ∷ []) → Turned suppress x state operand cut
 turned_by {suppress} {x} {state} {operand} {operands} cut some is at within = elim (cases_lt cut state.current) [
   | inl low ↦ too_low low (is_below state operand operands (suc (length x)) cut is at within low)
   | inr from ↦
@@ -56,8 +66,11 @@ turned_by {suppress} {x} {state} {operand} {operands} cut some is at within = el
       (state_after suppress operand operands state.repetition (suc (length x)) cut) (omega arith) (omega (arith, some, from, least))))
 ]
 
-turned : {suppress : Bool} {x : List Line} {state : State} {operand : Operand} {operands : List Operand} (pattern : Pattern) (kept : Bool) (k : ℕ) → 1 ≤ state.current → state.operands ≡ operand ∷ operands → operand.target ≡ Search pattern kept (Minus k)
-    → MatchesNone operand x (search_line suppress state) → search_line suppress state ≤ suc (length x) → Turned suppress x state operand (suc (length x) - k)
+turned : {suppress : Bool} {x : List Line} {state : State} {operand : Operand} {operands : List Operand}
+    (pattern : Pattern) (kept : Bool) (k : ℕ) → 1 ≤ state.current → state.operands ≡ operand ∷ operands
+    → operand.target ≡ Search pattern kept (Minus k)
+    → MatchesNone operand x (search_line suppress state) → search_line suppress state ≤ suc (length x)
+    → Turned suppress x state operand (suc (length x) - k)
 turned {suppress} {x} {state} {operand} pattern kept k some is target none within =
     turned_by (suc (length x) - k) some is
     (subst (λ t. CutsAt suppress (x ++ matching_line ∷ []) state operand t (suc (length x)) (suc (length x) - k)) (sym target) ((grind (arith, common_steps)), refl))
@@ -66,17 +79,22 @@ turned {suppress} {x} {state} {operand} pattern kept k some is target none withi
 -- at the end of a plan either nothing waits, or one line more makes a cut that stands back
 pub data Waits (suppress : Bool) (x : List Line) (state : State) (ending : Ending) : Type 0 where
   none_waits : whole_end (length x) ending ≡ settled_end (length x) ending → Waits suppress x state ending
-  some_wait : {operand : Operand} (k : ℕ) → is_last_kept ending ≡ is_kept operand.target → settled_end (length x) ending ≡ suc (length x) - k → Turned suppress x state operand (suc (length x) - k) → Waits suppress x state ending
+  some_wait : {operand : Operand} (k : ℕ) → is_last_kept ending ≡ is_kept operand.target
+      → settled_end (length x) ending ≡ suc (length x) - k → Turned suppress x state operand (suc (length x) - k)
+      → Waits suppress x state ending
 
-waits_by : {suppress : Bool} {x : List Line} {state : State} (ending : Ending) → EndsAs suppress x state ending → 1 ≤ state.current → search_line suppress state ≤ suc (length x) → Waits suppress x state ending
+waits_by : {suppress : Bool} {x : List Line} {state : State} (ending : Ending) → EndsAs suppress x state ending
+    → 1 ≤ state.current → search_line suppress state ≤ suc (length x) → Waits suppress x state ending
 waits_by {suppress} {x} {state} (missed operand repetition) (left, are, none, often) some within = by operand.target refl none where
-  by : (target : Target) → operand.target ≡ target → Misses suppress x state operand target → Waits suppress x state (missed operand repetition)
+  by : (target : Target) → operand.target ≡ target → Misses suppress x state operand target
+      → Waits suppress x state (missed operand repetition)
   by (Number n) is none = absurd none
   by (Search pattern kept (Plus k)) is none = none_waits (sym (ap (λ t. suc (length x) - most_held t) is ∙ (let e : suc (length x) - 0 ≡ suc (length x) = omega arith in e)))
   by (Search pattern kept (Minus k)) is none = some_wait k refl (ap (λ t. suc (length x) - most_held t) is) (turned pattern kept k some are is none within)
 waits_by _ ends some within = none_waits refl
 
-pub end_waits : (suppress : Bool) (operands : List Operand) (x : List Line) → Waits suppress x (plan suppress operands x).last (plan suppress operands x).ending
+pub end_waits : (suppress : Bool) (operands : List Operand) (x : List Line)
+    → Waits suppress x (plan suppress operands x).last (plan suppress operands x).ending
 end_waits suppress operands x =
     let here = plan_runs suppress operands x in
     waits_by (plan suppress operands x).ending (ends_as suppress x (start operands) _ _ _ here) (are_within suppress x (start operands) _ _ _ here (omega arith)).1 (search_within here (omega arith) (grind (arith, common_steps)))
@@ -85,21 +103,27 @@ end_waits suppress operands x =
 
 -- Outputs
 
-kept_by : (has : Bool) (lines : List Line) (low high : List (List Line)) → AreFronts low high → AreFronts (cond has (lines ∷ low) low) (cond has (lines ∷ high) high)
+kept_by : (has : Bool) (lines : List Line) (low high : List (List Line)) → AreFronts low high
+    → AreFronts (cond has (lines ∷ low) low) (cond has (lines ∷ high) high)
 kept_by has lines low high fronts = grind (arith, common_steps)
 
-kept_grow : (front : List Section) (begun other : Section) (more : List Section) → begun.is_kept ≡ other.is_kept → IsBeginning begun.lines other.lines → AreFronts (kept_lines (front ++ begun ∷ [])) (kept_lines (front ++ other ∷ more))
+kept_grow : (front : List Section) (begun other : Section) (more : List Section) → begun.is_kept ≡ other.is_kept
+    → IsBeginning begun.lines other.lines
+    → AreFronts (kept_lines (front ++ begun ∷ [])) (kept_lines (front ++ other ∷ more))
 kept_grow [] begun other more same begins = grind (arith, common_steps)
 kept_grow (one ∷ front) begun other more same begins = kept_by one.is_kept one.lines _ _ (kept_grow front begun other more same begins)
 
 kept-append : (a b : List Section) → kept_lines (a ++ b) ≡ kept_lines a ++ kept_lines b
 kept-append [] b = refl
 kept-append (one ∷ a) b = by one.is_kept (kept-append a b) where
-  by : (has : Bool) → kept_lines (a ++ b) ≡ kept_lines a ++ kept_lines b → cond has (one.lines ∷ kept_lines (a ++ b)) (kept_lines (a ++ b)) ≡ cond has (one.lines ∷ kept_lines a) (kept_lines a) ++ kept_lines b
+  by : (has : Bool) → kept_lines (a ++ b) ≡ kept_lines a ++ kept_lines b
+      → cond has (one.lines ∷ kept_lines (a ++ b)) (kept_lines (a ++ b))
+      ≡ cond has (one.lines ∷ kept_lines a) (kept_lines a) ++ kept_lines b
   by true is = ap (λ those. one.lines ∷ those) is
   by false is = is
 
-fewest : (suppress : Bool) (operands : List Operand) (x : List Line) → length (whole_outputs suppress operands (x ++ [])) ≡ length (settled_outputs suppress operands x)
+fewest : (suppress : Bool) (operands : List Operand) (x : List Line)
+    → length (whole_outputs suppress operands (x ++ [])) ≡ length (settled_outputs suppress operands x)
 fewest suppress operands x = grind (arith, common_steps, append-nil, kept-append)
 
 -- no front is longer than the whole
@@ -110,23 +134,35 @@ pub record Decides (suppress : Bool) (operands : List Operand) (x : List Line) :
   pub comes : CanCome y
   pub next : Section
   pub more : List Section
-  pub are : whole_sections (x ++ y) (plan suppress operands (x ++ y)) ≡ map (section_of x) (plan suppress operands x).steps ++ next ∷ more
+  pub are : whole_sections (x ++ y) (plan suppress operands (x ++ y))
+      ≡ map (section_of x) (plan suppress operands x).steps ++ next ∷ more
   pub kept : is_last_kept (plan suppress operands x).ending ≡ next.is_kept
-  pub short : length next.lines ≤ length (lines_between (plan suppress operands x).last.current (settled_end (length x) (plan suppress operands x).ending) x)
+  pub short : length next.lines ≤ length
+      (lines_between (plan suppress operands x).last.current
+      (settled_end (length x) (plan suppress operands x).ending) x)
 
-short_by : (has : Bool) (front : List (List Line)) (one other : List Line) (more : List (List Line)) (place : ℕ) → length other ≤ length one → place < length (front ++ cond has (one ∷ []) [])
-    → length (get_or (front ++ cond has (other ∷ more) more) place []) ≤ length (get_or (front ++ cond has (one ∷ []) []) place [])
+short_by : (has : Bool) (front : List (List Line)) (one other : List Line) (more : List (List Line)) (place : ℕ)
+    → length other ≤ length one → place < length (front ++ cond has (one ∷ []) [])
+    → length (get_or (front ++ cond has (other ∷ more) more) place []) ≤ length
+    (get_or (front ++ cond has (one ∷ []) []) place [])
 short_by has front one other more place short less = grind (arith, common_steps)
 
-no_longer : (front : List Section) (one other : Section) (more : List Section) (place : ℕ) → one.is_kept ≡ other.is_kept → length other.lines ≤ length one.lines → place < length (kept_lines (front ++ one ∷ []))
-    → length (get_or (kept_lines (front ++ other ∷ more)) place []) ≤ length (get_or (kept_lines (front ++ one ∷ [])) place [])
+no_longer : (front : List Section) (one other : Section) (more : List Section) (place : ℕ) → one.is_kept ≡ other.is_kept
+    → length other.lines ≤ length one.lines → place < length (kept_lines (front ++ one ∷ []))
+    → length (get_or (kept_lines (front ++ other ∷ more)) place []) ≤ length
+    (get_or (kept_lines (front ++ one ∷ [])) place [])
 no_longer front one other more place same short less = grind (arith, common_steps, kept-append, short_by)
 
 -- Such a continuation is there: none at all, or under an offset back one line that the operand finds
 
-decides_by : {suppress : Bool} {operands : List Operand} {x : List Line} (y : List Line) (more : List Step) (end : State) {how : Ending} → CanCome y → Runs suppress (x ++ y) (plan suppress operands x).last more end how
-    → {next : Section} {rest' : List Section} → sections_by true whole_end (x ++ y) (record { steps = more; last = end; ending = how }) ≡ next ∷ rest' → is_last_kept (plan suppress operands x).ending ≡ next.is_kept
-    → length next.lines ≤ length (lines_between (plan suppress operands x).last.current (settled_end (length x) (plan suppress operands x).ending) x) → Decides suppress operands x
+decides_by : {suppress : Bool} {operands : List Operand} {x : List Line} (y : List Line) (more : List Step)
+    (end : State) {how : Ending} → CanCome y → Runs suppress (x ++ y) (plan suppress operands x).last more end how
+    → {next : Section} {rest' : List Section}
+    → sections_by true whole_end (x ++ y) (record { steps = more; last = end; ending = how }) ≡ next ∷ rest'
+    → is_last_kept (plan suppress operands x).ending ≡ next.is_kept
+    → length next.lines ≤ length
+    (lines_between (plan suppress operands x).last.current (settled_end (length x) (plan suppress operands x).ending) x)
+    → Decides suppress operands x
 decides_by {suppress} {operands} {x} y more end {how} comes rest {next} {rest'} are kept short =
     let here = plan_runs suppress operands x in
     let within = are_within suppress x (start operands) _ _ _ here (omega arith) in record {
@@ -143,7 +179,9 @@ decides_by {suppress} {operands} {x} y more end {how} comes rest {next} {rest'} 
       short = short;
     }
 
-decides_now : {suppress : Bool} {operands : List Operand} {x : List Line} → whole_end (length x) (plan suppress operands x).ending ≡ settled_end (length x) (plan suppress operands x).ending → Decides suppress operands x
+decides_now : {suppress : Bool} {operands : List Operand} {x : List Line}
+    → whole_end (length x) (plan suppress operands x).ending ≡ settled_end (length x) (plan suppress operands x).ending
+    → Decides suppress operands x
 decides_now {suppress} {operands} {x} same = record {
   y = [];
   comes = none_comes;
@@ -154,8 +192,11 @@ decides_now {suppress} {operands} {x} same = record {
   short = (grind (arith, common_steps));
 }
 
-decides_back : {suppress : Bool} {operands : List Operand} {x : List Line} {operand : Operand} (k : ℕ) → 1 ≤ (plan suppress operands x).last.current → is_last_kept (plan suppress operands x).ending ≡ is_kept operand.target
-    → settled_end (length x) (plan suppress operands x).ending ≡ suc (length x) - k → Turned suppress x (plan suppress operands x).last operand (suc (length x) - k) → Decides suppress operands x
+decides_back : {suppress : Bool} {operands : List Operand} {x : List Line} {operand : Operand} (k : ℕ)
+    → 1 ≤ (plan suppress operands x).last.current
+    → is_last_kept (plan suppress operands x).ending ≡ is_kept operand.target
+    → settled_end (length x) (plan suppress operands x).ending ≡ suc (length x) - k
+    → Turned suppress x (plan suppress operands x).last operand (suc (length x) - k) → Decides suppress operands x
 decides_back {suppress} {operands} {x} k some kept past (too_low low rest) =
     decides_by (matching_line ∷ []) _ _ matching_comes rest refl kept
     (let e : length (lines_between (plan suppress operands x).last.current 0 (x ++ matching_line ∷ [])) ≡ 0 = (grind (arith, common_steps)) in omega (arith, e))
@@ -164,12 +205,14 @@ decides_back {suppress} {operands} {x} k some kept past (turns from steps end ho
     (let e : length (lines_between (plan suppress operands x).last.current (suc (length x) - k) (x ++ matching_line ∷ [])) ≡ length (lines_between (plan suppress operands x).last.current (settled_end (length x) (plan suppress operands x).ending) x)
     = ap length (between_still (plan suppress operands x).last.current (suc (length x) - k) x (matching_line ∷ []) some (omega arith) ∙ ap (λ p. lines_between (plan suppress operands x).last.current p x) (sym past)) in omega (arith, e))
 
-decides : {suppress : Bool} {operands : List Operand} {x : List Line} → Waits suppress x (plan suppress operands x).last (plan suppress operands x).ending → Decides suppress operands x
+decides : {suppress : Bool} {operands : List Operand} {x : List Line}
+    → Waits suppress x (plan suppress operands x).last (plan suppress operands x).ending → Decides suppress operands x
 decides (none_waits same) = decides_now same
 decides {suppress} {operands} {x} (some_wait k kept past turned) = decides_back k (are_within suppress x (start operands) _ _ _ (plan_runs suppress operands x) (omega arith)).1 kept past turned
 
 -- What is settled is what all continuations agree on
-pub settled_is_agreed : (suppress : Bool) (operands : List Operand) (x : List Line) → IsAgreed (whole_outputs suppress operands) x (settled_outputs suppress operands x)
+pub settled_is_agreed : (suppress : Bool) (operands : List Operand) (x : List Line)
+    → IsAgreed (whole_outputs suppress operands) x (settled_outputs suppress operands x)
 settled_is_agreed suppress operands x =
     let made = plan suppress operands x in
     let open_section = section (is_last_kept made.ending) false (lines_between made.last.current (settled_end (length x) made.ending) x) in
@@ -181,34 +224,44 @@ settled_is_agreed suppress operands x =
 -- The lines that wait are those that two continuations put into different places.
 
 -- a line after a cut is after the one that is left out there
-pub left_by : (suppress : Bool) (line cut : ℕ) → nat_lt line cut ≡ false → (suppress && nat_le line cut) ≡ false → line_after suppress cut ≤ line
+pub left_by : (suppress : Bool) (line cut : ℕ) → nat_lt line cut ≡ false → (suppress && nat_le line cut) ≡ false
+    → line_after suppress cut ≤ line
 left_by suppress line cut is are = grind (arith, common_steps)
 
 pub not_left : (suppress : Bool) (line cut : ℕ) → line_after suppress cut ≤ line → (suppress && nat_le line cut) ≡ false
 not_left true line cut rest' = grind (arith, nat_tests, rest')
 not_left false line cut rest' = refl
 
-same_by : (lt le : Bool) (index : ℕ) (one other : Place) → (lt ≡ false → le ≡ false → one ≡ other) → cond lt (in_section index) (cond le (left_out index) one) ≡ cond lt (in_section index) (cond le (left_out index) other)
+same_by : (lt le : Bool) (index : ℕ) (one other : Place) → (lt ≡ false → le ≡ false → one ≡ other)
+    → cond lt (in_section index) (cond le (left_out index) one)
+    ≡ cond lt (in_section index) (cond le (left_out index) other)
 same_by lt le index one other same = grind (arith, common_steps)
 
 -- before the current line all plans that go on agree
-place_front : {suppress : Bool} {lines : List Line} {first : State} {steps : List Step} {last : State} {ending : Ending} → Runs suppress lines first steps last ending
-    → (total total' index line : ℕ) (more more' : List Step) (how how' : Ending) → first.current ≤ line → line < last.current
-    → place_from suppress total index (steps ++ more) how line ≡ place_from suppress total' index (steps ++ more') how' line
+place_front : {suppress : Bool} {lines : List Line} {first : State} {steps : List Step} {last : State} {ending : Ending}
+    → Runs suppress lines first steps last ending
+    → (total total' index line : ℕ) (more more' : List Step) (how how' : Ending) → first.current ≤ line
+    → line < last.current
+    → place_from suppress total index (steps ++ more) how line
+    ≡ place_from suppress total' index (steps ++ more') how' line
 place_front {suppress} (cuts state operand operands matched cut steps' last' ending' is at least within rest) total total' index line more more' how how' from before =
     same_by (nat_lt line cut) (suppress && nat_le line cut) index _ _
     (λ lt le. place_front rest total total' (index + 1) line more more' how how' (left_by suppress line cut lt le) before)
 place_front run total total' index line more more' how how' from before = absurd (omega (arith, from, before))
 
-current_grows : {suppress : Bool} {lines : List Line} {first : State} {steps : List Step} {last : State} {ending : Ending} → Runs suppress lines first steps last ending → first.current ≤ last.current
+current_grows : {suppress : Bool} {lines : List Line} {first : State} {steps : List Step} {last : State}
+    {ending : Ending} → Runs suppress lines first steps last ending → first.current ≤ last.current
 current_grows {suppress} (cuts state operand operands matched cut steps' last' ending' is at least within rest) =
     let on = current_grows rest in
     let more : cut ≤ line_after suppress cut = line_some suppress cut in omega (arith, on, more, least)
 current_grows run = omega arith
 
 -- from the current line on, what follows decides
-place_after : {suppress : Bool} {lines : List Line} {first : State} {steps : List Step} {last : State} {ending : Ending} → Runs suppress lines first steps last ending
-    → (total index line : ℕ) (more : List Step) (how : Ending) → last.current ≤ line → place_from suppress total index (steps ++ more) how line ≡ place_from suppress total (index + length steps) more how line
+place_after : {suppress : Bool} {lines : List Line} {first : State} {steps : List Step} {last : State} {ending : Ending}
+    → Runs suppress lines first steps last ending
+    → (total index line : ℕ) (more : List Step) (how : Ending) → last.current ≤ line
+    → place_from suppress total index (steps ++ more) how line
+    ≡ place_from suppress total (index + length steps) more how line
 place_after {suppress} (cuts state operand operands matched cut steps' last' ending' is at least within rest) total index line more how from =
     let on : line_after suppress cut ≤ last'.current = current_grows rest in
     let more_cut : cut ≤ line_after suppress cut = line_some suppress cut in
@@ -220,8 +273,10 @@ place_after {suppress} run total index line more how from = ap (λ i. place_from
 
 -- What is settled of the open section is in it whatever comes
 
-settled_place : {suppress : Bool} (a b : List Line) {last : State} (ending : Ending) → EndsAs suppress a last ending → (more : List Step) (end : State) {how : Ending} → Runs suppress (a ++ b) last more end how
-    → {index : ℕ} (line : ℕ) → last.current ≤ line → line < settled_end (length a) ending → place_from suppress (length (a ++ b)) index more how line ≡ in_section index
+settled_place : {suppress : Bool} (a b : List Line) {last : State} (ending : Ending) → EndsAs suppress a last ending
+    → (more : List Step) (end : State) {how : Ending} → Runs suppress (a ++ b) last more end how
+    → {index : ℕ} (line : ℕ) → last.current ≤ line → line < settled_end (length a) ending
+    → place_from suppress (length (a ++ b)) index more how line ≡ in_section index
 settled_place a b ending ends more end (is_used_up state none) line from before = grind (arith, common_steps)
 settled_place a b ending ends more end (misses state operand operands are none) line from before = grind (arith, common_steps)
 settled_place a b ending ends more end (is_above state operand operands matched cut are at far) line from before = grind (arith, common_steps)
@@ -230,8 +285,11 @@ settled_place {suppress} a b ending ends more end (cuts state operand operands m
 
 -- where the cut is below the current line all lines go nowhere
 
-nowhere_by : {suppress : Bool} {lines : List Line} {first : State} {operand : Operand} {operands : List Operand} (matched cut : ℕ) → first.operands ≡ operand ∷ operands → CutsAt suppress lines first operand operand.target matched cut → cut ≤ length lines → cut < first.current
-    → (more : List Step) (end : State) {how : Ending} → Runs suppress lines first more end how → (index line : ℕ) → place_from suppress (length lines) index more how line ≡ nowhere
+nowhere_by : {suppress : Bool} {lines : List Line} {first : State} {operand : Operand} {operands : List Operand}
+    (matched cut : ℕ) → first.operands ≡ operand ∷ operands
+    → CutsAt suppress lines first operand operand.target matched cut → cut ≤ length lines → cut < first.current
+    → (more : List Step) (end : State) {how : Ending} → Runs suppress lines first more end how → (index line : ℕ)
+    → place_from suppress (length lines) index more how line ≡ nowhere
 nowhere_by {suppress} {lines} {first} {operand} {operands} matched cut is at within low more end run index line = search rules
 
 -- One place for each line that doesn't wait
@@ -240,15 +298,20 @@ nowhere_by {suppress} {lines} {first} {operand} {operands} matched cut is at wit
 abbrev WaitsAt : (total : ℕ) → Plan → ℕ → Type 0
 WaitsAt total plan line = (is_final plan.ending ≡ false) × (plan.last.current ≤ line) × (settled_end total plan.ending ≤ line) × (line ≤ total)
 
-decided_by : (suppress : Bool) (a b : List Line) {last : State} (ending : Ending) → 1 ≤ last.current → EndsAs suppress a last ending → (line : ℕ) → last.current ≤ line → line ≤ length a → ((is_final ending ≡ false) → settled_end (length a) ending ≤ line → ⊥)
-    → (index : ℕ) (more : List Step) (end : State) {how : Ending} → Runs suppress (a ++ b) last more end how → place_from suppress (length (a ++ b)) index more how line ≡ cond (is_final ending) nowhere (in_section index)
+decided_by : (suppress : Bool) (a b : List Line) {last : State} (ending : Ending) → 1 ≤ last.current
+    → EndsAs suppress a last ending → (line : ℕ) → last.current ≤ line → line ≤ length a
+    → ((is_final ending ≡ false) → settled_end (length a) ending ≤ line → ⊥)
+    → (index : ℕ) (more : List Step) (end : State) {how : Ending} → Runs suppress (a ++ b) last more end how
+    → place_from suppress (length (a ++ b)) index more how line ≡ cond (is_final ending) nowhere (in_section index)
 decided_by suppress a b (missed operand repetition) some is line from within not index more end rest = settled_place a b (missed operand repetition) is more end rest line from
     (elim (cases_lt line (suc (length a) - most_held operand.target)) [ inl less ↦ less | inr beyond ↦ absurd (not refl beyond) ])
 decided_by suppress a b {last} (below operand repetition) some (operands, matched, cut, is, at, in_lines, low, often) line from within not index more end rest =
     nowhere_by matched cut is (cuts_still suppress a b last operand operand.target matched cut at) (let e : length (a ++ b) ≡ length a + length b = length-append a b in omega (arith, e, in_lines)) low more end rest index line
 decided_by suppress a b ending some is line from within not index more end rest = settled_place a b ending is more end rest line from (omega (arith, within))
 
-place_here : (suppress : Bool) (operands : List Operand) (x y : List Line) (line : ℕ) → 1 ≤ line → line ≤ length x → (WaitsAt (length x) (plan suppress operands x) line → ⊥) → place_of suppress operands (x ++ y) line ≡ place_of suppress operands x line
+place_here : (suppress : Bool) (operands : List Operand) (x y : List Line) (line : ℕ) → 1 ≤ line → line ≤ length x
+    → (WaitsAt (length x) (plan suppress operands x) line → ⊥)
+    → place_of suppress operands (x ++ y) line ≡ place_of suppress operands x line
 place_here suppress operands x y line some within not =
     let goes = plan_goes_on operands x y in
     let here = plan_runs suppress operands x in
@@ -267,25 +330,32 @@ place_here suppress operands x y line some within not =
 
 -- Two places for each that does
 
-step_later : {index : ℕ} (other : ℕ) {rest' : Place} → index < other → (rest' ≡ in_section index → ⊥) → (lt le : Bool) → cond lt (in_section other) (cond le (left_out other) rest') ≡ in_section index → ⊥
+step_later : {index : ℕ} (other : ℕ) {rest' : Place} → index < other → (rest' ≡ in_section index → ⊥) → (lt le : Bool)
+    → cond lt (in_section other) (cond le (left_out other) rest') ≡ in_section index → ⊥
 step_later other less later lt le same = grind (arith, common_steps)
 
 -- what comes after a section isn't in it
-pub in_later : (suppress : Bool) (total : ℕ) {index : ℕ} (other line : ℕ) (steps : List Step) (how : Ending) → index < other → place_from suppress total other steps how line ≡ in_section index → ⊥
+pub in_later : (suppress : Bool) (total : ℕ) {index : ℕ} (other line : ℕ) (steps : List Step) (how : Ending)
+    → index < other → place_from suppress total other steps how line ≡ in_section index → ⊥
 in_later suppress total other line [] how less is = grind (arith, common_steps)
 in_later suppress total other line (step ∷ steps) how less is =
     step_later other less (λ same. in_later suppress total (other + 1) line steps how (omega (arith, less)) same) (nat_lt line step.cut) (suppress && nat_le line step.cut) is
 
 -- a line after the cut isn't in the section
 
-turned_away : {suppress : Bool} {x : List Line} {state : State} {operand : Operand} (k line : ℕ) → Turned suppress x state operand (suc (length x) - k) → suc (length x) - k ≤ line
-    → (steps : List Step) × (end : State) × (how : Ending) × Runs suppress (x ++ matching_line ∷ []) state steps end how × ((index : ℕ) → place_from suppress (length (x ++ matching_line ∷ [])) index steps how line ≡ in_section index → ⊥)
+turned_away : {suppress : Bool} {x : List Line} {state : State} {operand : Operand} (k line : ℕ)
+    → Turned suppress x state operand (suc (length x) - k) → suc (length x) - k ≤ line
+    → (steps : List Step) × (end : State) × (how : Ending) × Runs suppress (x ++ matching_line ∷ []) state steps end how
+    × ((index : ℕ) → place_from suppress (length (x ++ matching_line ∷ [])) index steps how line ≡ in_section index → ⊥)
 turned_away k line fact from = grind (arith, common_steps, not_less_test, in_later)
 
 -- the rest as it is puts the line into its section
 
-differ_line : (suppress : Bool) (operands : List Operand) (x : List Line) (line : ℕ) → WaitsAt (length x) (plan suppress operands x) line → Waits suppress x (plan suppress operands x).last (plan suppress operands x).ending
-    → (y : List Line) × (z : List Line) × CanCome y × CanCome z × (place_of suppress operands (x ++ y) line ≢ place_of suppress operands (x ++ z) line)
+differ_line : (suppress : Bool) (operands : List Operand) (x : List Line) (line : ℕ)
+    → WaitsAt (length x) (plan suppress operands x) line
+    → Waits suppress x (plan suppress operands x).last (plan suppress operands x).ending
+    → (y : List Line) × (z : List Line) × CanCome y × CanCome z
+    × (place_of suppress operands (x ++ y) line ≢ place_of suppress operands (x ++ z) line)
 differ_line suppress operands x line (live, from, past, within) (none_waits same) = absurd (omega (arith, ends_after_all (length x) (plan suppress operands x).ending live, same, past, within))
 differ_line suppress operands x line (live, from, past, within) (some_wait k kept settled turned) =
     let away = turned_away k line turned (omega (arith, settled, past)) in (
@@ -301,7 +371,8 @@ differ_line suppress operands x line (live, from, past, within) (some_wait k kep
           ∙ (ap (λ those. place_from suppress (length x) 0 those (plan suppress operands x).ending line) (sym (append-nil (plan suppress operands x).steps)) ∙ place_after (plan_runs suppress operands x) (length x) 0 line [] (plan suppress operands x).ending from ∙ (grind (arith, common_steps)))),
     )
 
-same_line : (suppress : Bool) (operands : List Operand) (x y z : List Line) (line : ℕ) → 1 ≤ line → line ≤ length x → (WaitsAt (length x) (plan suppress operands x) line → ⊥)
+same_line : (suppress : Bool) (operands : List Operand) (x y z : List Line) (line : ℕ) → 1 ≤ line → line ≤ length x
+    → (WaitsAt (length x) (plan suppress operands x) line → ⊥)
     → place_of suppress operands (x ++ y) line ≡ place_of suppress operands (x ++ z) line
 same_line suppress operands x y z line some within not = grind (arith, common_steps, place_here)
 
@@ -309,8 +380,12 @@ same_line suppress operands x y z line some within not = grind (arith, common_st
 abbrev gone : ℕ → Plan → ℕ
 gone total plan = plan.last.current - 1 + (settled_end total plan.ending - plan.last.current)
 
-undecided_by : (suppress : Bool) (operands : List Operand) {x : List Line} → 1 ≤ (plan suppress operands x).last.current → (final : Bool) → is_final (plan suppress operands x).ending ≡ final
-    → IsUndecided (place_of suppress operands) x (cond final [] (drop (settled_end (length x) (plan suppress operands x).ending - (plan suppress operands x).last.current) (drop ((plan suppress operands x).last.current - 1) x)))
+undecided_by : (suppress : Bool) (operands : List Operand) {x : List Line} → 1 ≤ (plan suppress operands x).last.current
+    → (final : Bool) → is_final (plan suppress operands x).ending ≡ final
+    → IsUndecided (place_of suppress operands) x
+    (cond final []
+    (drop (settled_end (length x) (plan suppress operands x).ending - (plan suppress operands x).last.current)
+    (drop ((plan suppress operands x).last.current - 1) x)))
 undecided_by suppress operands {x} some true final = nothing_waits (λ i within y z. same_line suppress operands x y z (i + 1) (omega arith) (omega (arith, within)) (λ waits. false≢true (sym waits.0 ∙ final)))
 undecided_by suppress operands {x} some false live =
     let n = gone (length x) (plan suppress operands x) in
@@ -321,7 +396,8 @@ undecided_by suppress operands {x} some false live =
       decided = λ i within y z y_comes z_comes. same_line suppress operands x y z (i + 1) (omega arith) (omega (arith, within, count)) (λ waits. let current = waits.1 in let end = waits.2 in omega (arith, within, count, current, end, some));
     }
 
-pub waiting_is_undecided : (suppress : Bool) (operands : List Operand) (x : List Line) → IsUndecided (place_of suppress operands) x (waiting_lines x (plan suppress operands x))
+pub waiting_is_undecided : (suppress : Bool) (operands : List Operand) (x : List Line)
+    → IsUndecided (place_of suppress operands) x (waiting_lines x (plan suppress operands x))
 waiting_is_undecided suppress operands x =
     undecided_by suppress operands (are_within suppress x (start operands) _ _ _ (plan_runs suppress operands x) (omega arith)).1 (is_final (plan suppress operands x).ending) refl
 
@@ -329,23 +405,28 @@ waiting_is_undecided suppress operands x =
 
 -- Which lines go into a section
 
-into-append : (s : ℕ) (places : ℕ → Place) (n : ℕ) (a b : List Line) → lines_into s places n (a ++ b) ≡ lines_into s places n a ++ lines_into s places (n + length a) b
+into-append : (s : ℕ) (places : ℕ → Place) (n : ℕ) (a b : List Line)
+    → lines_into s places n (a ++ b) ≡ lines_into s places n a ++ lines_into s places (n + length a) b
 into-append s places n [] b = ap (λ m. lines_into s places m b) (let e : n ≡ n + 0 = omega arith in e)
 into-append s places n (line ∷ a) b = grind (arith, common_steps, (into-append s places (n + 1) a b ∙ ap (λ m. lines_into s places (n + 1) a ++ lines_into s places m b) (let e : n + 1 + length a ≡ n + suc (length a) = omega arith in e)))
 
-into_all : {s : ℕ} (places : ℕ → Place) (n : ℕ) (a : List Line) → ((line : ℕ) → n ≤ line → line < n + length a → places line ≡ in_section s) → lines_into s places n a ≡ a
+into_all : {s : ℕ} (places : ℕ → Place) (n : ℕ) (a : List Line)
+    → ((line : ℕ) → n ≤ line → line < n + length a → places line ≡ in_section s) → lines_into s places n a ≡ a
 into_all places n [] here = refl
 into_all {s} places n (line ∷ a) here =
     ap (λ has. cond has (line ∷ lines_into s places (n + 1) a) (lines_into s places (n + 1) a)) (ap (is_in s) (here n (omega arith) (omega arith)) ∙ eq-eqb s s refl)
     ∙ ap (λ those. line ∷ those) (into_all places (n + 1) a (λ k from within. here k (omega (arith, from)) (omega (arith, within))))
 
-into_none : (s : ℕ) (places : ℕ → Place) (n : ℕ) (a : List Line) → ((line : ℕ) → n ≤ line → line < n + length a → is_in s (places line) ≡ false) → lines_into s places n a ≡ []
+into_none : (s : ℕ) (places : ℕ → Place) (n : ℕ) (a : List Line)
+    → ((line : ℕ) → n ≤ line → line < n + length a → is_in s (places line) ≡ false) → lines_into s places n a ≡ []
 into_none s places n [] not_in = refl
 into_none s places n (line ∷ a) not_in =
     ap (λ has. cond has (line ∷ lines_into s places (n + 1) a) (lines_into s places (n + 1) a)) (not_in n (omega arith) (omega arith))
     ∙ into_none s places (n + 1) a (λ k from within. not_in k (omega (arith, from)) (omega (arith, within)))
 
-into_same : (s : ℕ) (places others : ℕ → Place) (n : ℕ) (a : List Line) → ((line : ℕ) → n ≤ line → line < n + length a → places line ≡ others line) → lines_into s places n a ≡ lines_into s others n a
+into_same : (s : ℕ) (places others : ℕ → Place) (n : ℕ) (a : List Line)
+    → ((line : ℕ) → n ≤ line → line < n + length a → places line ≡ others line)
+    → lines_into s places n a ≡ lines_into s others n a
 into_same s places others n [] same = refl
 into_same s places others n (line ∷ a) same =
     ap (λ place. cond (is_in s place) (line ∷ lines_into s places (n + 1) a) (lines_into s places (n + 1) a)) (same n (omega arith) (omega arith))
@@ -359,8 +440,10 @@ goes_elsewhere place differs = grind (arith, common_steps)
 abbrev rest_places : ℕ → ℕ → ℕ → Place
 rest_places end index line = cond (nat_lt line end) (in_section index) nowhere
 
-rest_placed : (lines : List Line) (current end index : ℕ) → 1 ≤ current → (end ≡ suc (length lines)) ⊎ (end ≡ 0) → (k : ℕ) {s : ℕ} → s ≡ index + k
-    → get_or (lines_between current end lines ∷ []) k [] ≡ lines_into s (rest_places end index) current (drop (current - 1) lines)
+rest_placed : (lines : List Line) (current end index : ℕ) → 1 ≤ current → (end ≡ suc (length lines)) ⊎ (end ≡ 0)
+    → (k : ℕ) {s : ℕ} → s ≡ index + k
+    → get_or (lines_between current end lines ∷ []) k []
+    ≡ lines_into s (rest_places end index) current (drop (current - 1) lines)
 rest_placed lines current end index some which k at = grind (arith, common_steps, into_all, less_test, into_none, not_less_test)
 
 end_is : {total : ℕ} (ending : Ending) → (whole_end total ending ≡ suc total) ⊎ (whole_end total ending ≡ 0)
@@ -372,12 +455,14 @@ end_is ending = inl refl
 abbrev places_with : Bool → ℕ → ℕ → (ℕ → Place) → ℕ → Place
 places_with suppress index cut later line = cond (nat_lt line cut) (in_section index) (cond (suppress && nat_le line cut) (left_out index) (later line))
 
-left_there : (suppress : Bool) (cut line : ℕ) → cut ≤ line → line < line_after suppress cut → (suppress && nat_le line cut) ≡ true
+left_there : (suppress : Bool) (cut line : ℕ) → cut ≤ line → line < line_after suppress cut
+    → (suppress && nat_le line cut) ≡ true
 left_there true cut line from within = let less : line ≤ cut = omega (arith, within) in grind (arith, nat_tests, less)
 left_there false cut line from within = absurd (omega (arith, from, within))
 
 -- the lines before the cut, that at it, and those after it
-step_parts : (suppress : Bool) (lines : List Line) (current cut index s : ℕ) (later : ℕ → Place) → 1 ≤ current → current ≤ cut → cut ≤ length lines
+step_parts : (suppress : Bool) (lines : List Line) (current cut index s : ℕ) (later : ℕ → Place) → 1 ≤ current
+    → current ≤ cut → cut ≤ length lines
     → lines_into s (places_with suppress index cut later) current (drop (current - 1) lines)
     ≡ lines_into s (places_with suppress index cut later) current (lines_between current cut lines) ++ lines_into s later (line_after suppress cut) (drop (line_after suppress cut - 1) lines)
 step_parts suppress lines current cut index s later some least within =
@@ -402,11 +487,17 @@ step_parts suppress lines current cut index s later some least within =
     ap (λ has. cond has (in_section index) (cond (suppress && nat_le line cut) (left_out index) (later line))) (not_less_test line cut (omega (arith, from, least_next)))
     ∙ ap (λ has. cond has (left_out index) (later line)) (not_left suppress line cut from)))
 
-step_before : (suppress : Bool) (lines : List Line) (current cut : ℕ) {index : ℕ} (later : ℕ → Place) (line : ℕ) → 1 ≤ current → current ≤ cut → cut ≤ length lines → line < current + length (lines_between current cut lines) → places_with suppress index cut later line ≡ in_section index
+step_before : (suppress : Bool) (lines : List Line) (current cut : ℕ) {index : ℕ} (later : ℕ → Place) (line : ℕ)
+    → 1 ≤ current → current ≤ cut → cut ≤ length lines → line < current + length (lines_between current cut lines)
+    → places_with suppress index cut later line ≡ in_section index
 step_before suppress lines current cut {index} later line some least within before = grind (arith, common_steps)
 
-placed_from : {suppress : Bool} {lines : List Line} {first : State} {steps : List Step} {last : State} {ending : Ending} → Runs suppress lines first steps last ending → 1 ≤ first.current → (index k : ℕ) {s : ℕ} → s ≡ index + k
-    → get_or (map (λ (one : Section). one.lines) (sections_by true whole_end lines (record { steps = steps; last = last; ending = ending }))) k []
+placed_from : {suppress : Bool} {lines : List Line} {first : State} {steps : List Step} {last : State} {ending : Ending}
+    → Runs suppress lines first steps last ending → 1 ≤ first.current → (index k : ℕ) {s : ℕ} → s ≡ index + k
+    → get_or
+    (map (λ
+    (one : Section). one.lines)
+    (sections_by true whole_end lines (record { steps = steps; last = last; ending = ending }))) k []
     ≡ lines_into s (place_from suppress (length lines) index steps ending) first.current (drop (first.current - 1) lines)
 placed_from {suppress} {lines} (cuts state operand operands matched cut steps' last' ending' is cuts_at least within rest) some index zero {s} at =
     sym (step_parts suppress lines state.current cut index s (place_from suppress (length lines) (index + 1) steps' ending') some least within ∙ (grind (
@@ -433,30 +524,39 @@ record LeftAt (suppress : Bool) (index cut line : ℕ) (steps : List Step) : Typ
   at : cut ≡ index + k
   is : get_or (map (λ (step : Step). step.cut) steps) k 0 ≡ line
 
-left_by_step : {suppress : Bool} {index : ℕ} (cut line : ℕ) {step : Step} {steps : List Step} {later : Place} (lt le : Bool) → nat_lt line step.cut ≡ lt → (suppress && nat_le line step.cut) ≡ le → (later ≡ left_out cut → LeftAt suppress (index + 1) cut line steps)
-    → cond lt (in_section index) (cond le (left_out index) later) ≡ left_out cut → LeftAt suppress index cut line (step ∷ steps)
+left_by_step : {suppress : Bool} {index : ℕ} (cut line : ℕ) {step : Step} {steps : List Step} {later : Place}
+    (lt le : Bool) → nat_lt line step.cut ≡ lt → (suppress && nat_le line step.cut) ≡ le
+    → (later ≡ left_out cut → LeftAt suppress (index + 1) cut line steps)
+    → cond lt (in_section index) (cond le (left_out index) later) ≡ left_out cut
+    → LeftAt suppress index cut line (step ∷ steps)
 left_by_step cut line true le lt_is le_is rest same = absurd (cc)
 left_by_step {suppress} {index} cut line {step} false true lt_is le_is rest same = grind (arith, common_steps)
 left_by_step {index} cut line false false lt_is le_is rest same =
     let there = rest same in let at : cut ≡ index + 1 + there.k = there.at in record { so = there.so; k = suc there.k; at = omega (arith, at); is = there.is }
 
-left_at : (suppress : Bool) (total index cut line : ℕ) (steps : List Step) (ending : Ending) → place_from suppress total index steps ending line ≡ left_out cut → LeftAt suppress index cut line steps
+left_at : (suppress : Bool) (total index cut line : ℕ) (steps : List Step) (ending : Ending)
+    → place_from suppress total index steps ending line ≡ left_out cut → LeftAt suppress index cut line steps
 left_at suppress total index cut line [] ending same = absurd (grind (arith, common_steps))
 left_at suppress total index cut line (step ∷ steps) ending same =
     left_by_step {suppress = suppress} {index = index} cut line {step = step} {steps = steps} {later = place_from suppress total (index + 1) steps ending line} (nat_lt line step.cut) (suppress && nat_le line step.cut) refl refl (left_at suppress total (index + 1) cut line steps ending) same
 
-nowhere_by_step : (lt le : Bool) (index : ℕ) {later : Place} (A : Type 0) → (lt ≡ false → le ≡ false → later ≡ nowhere → A) → cond lt (in_section index) (cond le (left_out index) later) ≡ nowhere → A
+nowhere_by_step : (lt le : Bool) (index : ℕ) {later : Place} (A : Type 0)
+    → (lt ≡ false → le ≡ false → later ≡ nowhere → A)
+    → cond lt (in_section index) (cond le (left_out index) later) ≡ nowhere → A
 nowhere_by_step lt le index A rest same = grind (arith, common_steps)
 
-nowhere_at : {suppress : Bool} {lines : List Line} {first : State} {steps : List Step} {last : State} {ending : Ending} → Runs suppress lines first steps last ending → (index line : ℕ) → first.current ≤ line → line ≤ length lines
-    → place_from suppress (length lines) index steps ending line ≡ nowhere → (is_final ending ≡ true) × (last.current ≤ line)
+nowhere_at : {suppress : Bool} {lines : List Line} {first : State} {steps : List Step} {last : State} {ending : Ending}
+    → Runs suppress lines first steps last ending → (index line : ℕ) → first.current ≤ line → line ≤ length lines
+    → place_from suppress (length lines) index steps ending line ≡ nowhere
+    → (is_final ending ≡ true) × (last.current ≤ line)
 nowhere_at (is_below state operand operands matched cut is cuts_at in_lines low) index line from within same = (refl, from)
 nowhere_at {suppress} (cuts state operand operands matched cut steps' last' ending' is cuts_at least in_lines rest) index line from within same =
     nowhere_by_step (nat_lt line cut) (suppress && nat_le line cut) index ((is_final ending' ≡ true) × (last'.current ≤ line))
     (λ lt le later. nowhere_at rest (index + 1) line (left_by suppress line cut lt le) within later) same
 nowhere_at {lines} run index line from within same = absurd (grind (arith, common_steps))
 
-pub are_placed : (suppress : Bool) (operands : List Operand) (x : List Line) → ArePlaced (place_of suppress operands x) suppress (plan suppress operands x) x
+pub are_placed : (suppress : Bool) (operands : List Operand) (x : List Line)
+    → ArePlaced (place_of suppress operands x) suppress (plan suppress operands x) x
 are_placed suppress operands x =
     let here = plan_runs suppress operands x in record {
       sections = λ k. placed_from here (omega arith) 0 k (omega arith);

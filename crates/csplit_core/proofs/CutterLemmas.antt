@@ -47,7 +47,8 @@ use Rattle.csplit_core.proofs.WholeLemmas.{after_within}
 -- What is settled of complete lines, by where the plan over them ends.
 
 -- the last section is kept as the next operand says
-pub last_kept : (suppress : Bool) (lines : List Line) (state : State) (ending : Ending) → EndsAs suppress lines state ending → kept_by state.operands ≡ is_last_kept ending
+pub last_kept : (suppress : Bool) (lines : List Line) (state : State) (ending : Ending)
+    → EndsAs suppress lines state ending → kept_by state.operands ≡ is_last_kept ending
 last_kept suppress lines state ending none = grind (arith, common_steps)
 
 -- the sections of the plan, and of the last one what stands before the line that this says
@@ -57,52 +58,69 @@ draft_to past style operands lines =
     draft_by style lines p.steps (is_last_kept p.ending) (bytes_of (lines_between p.last.current (past (length lines) p.ending) lines))
 
 -- it is the draft of these steps, where the plan ends after them
-pub draft_is : (past : ℕ → Ending → ℕ) (style : Style) (operands : List Operand) (x : List ℕ) {steps : List Step} {state : State} {ending : Ending} (taken : ℕ) {written : List ℕ} → Runs style.suppress (all_lines x) (start operands) steps state ending
-    → taken ≡ past (line_count newline x) ending - state.current → written ≡ first_lines newline taken (text_from state.current x)
+pub draft_is : (past : ℕ → Ending → ℕ) (style : Style) (operands : List Operand) (x : List ℕ) {steps : List Step}
+    {state : State} {ending : Ending} (taken : ℕ) {written : List ℕ}
+    → Runs style.suppress (all_lines x) (start operands) steps state ending
+    → taken ≡ past (line_count newline x) ending - state.current
+    → written ≡ first_lines newline taken (text_from state.current x)
     → draft_by style (all_lines x) steps (kept_by state.operands) written ≡ draft_to past style operands (all_lines x)
 draft_is past style operands x {steps} {state} {ending} taken {written} runs taken_is written_is = search (rules, last_kept, ends_as, length-all_lines, taken_is, bytes_between, plan_once)
 
 -- what standard output has of sections is the sizes of the files that are closed
-pub sizes_are : (style : Style) → style.quiet ≡ false → (files : List File) → told_of_files (sizes_wanted style) files ≡ lines_for size_of_file files
+pub sizes_are : (style : Style) → style.quiet ≡ false → (files : List File)
+    → told_of_files (sizes_wanted style) files ≡ lines_for size_of_file files
 sizes_are style loud files = search rules
 
 -- the sections of steps are closed
-closed_shares : (style : Style) (lines : List Line) (steps : List Step) → shares_in style (map (section_of lines) steps) ≡ map (share Closed) (flat_map (file_in style) (map (section_of lines) steps))
+closed_shares : (style : Style) (lines : List Line) (steps : List Step)
+    → shares_in style (map (section_of lines) steps)
+    ≡ map (share Closed) (flat_map (file_in style) (map (section_of lines) steps))
 closed_shares style lines [] = refl
 closed_shares style lines (step ∷ steps) =
     ap (λ rest. map (share Closed) (file_in style (section_of lines step)) ++ rest) (closed_shares style lines steps) ∙ sym (map-append (share Closed) (file_in style (section_of lines step)) (flat_map (file_in style) (map (section_of lines) steps)))
 
 -- what they make, and the last section
-shares_to : (style : Style) (lines : List Line) (steps : List Step) (last : Section) → shares_in style (map (section_of lines) steps ++ last ∷ []) ≡ map (share Closed) (flat_map (file_in style) (map (section_of lines) steps)) ++ shares_in style (last ∷ [])
+shares_to : (style : Style) (lines : List Line) (steps : List Step) (last : Section)
+    → shares_in style (map (section_of lines) steps ++ last ∷ [])
+    ≡ map (share Closed) (flat_map (file_in style) (map (section_of lines) steps)) ++ shares_in style (last ∷ [])
 shares_to style lines steps last = shares-append style (map (section_of lines) steps) (last ∷ []) ∙ ap (λ front. front ++ shares_in style (last ∷ [])) (closed_shares style lines steps)
 
 -- what is written of sections that ended, and of an open one
-draft_shares : (style : Style) (lines : List Line) (steps : List Step) (kept : Bool) (last : List Line) → shares_of (draft_by style lines steps kept (bytes_of last)) ≡ shares_in style (map (section_of lines) steps ++ section kept false last ∷ [])
+draft_shares : (style : Style) (lines : List Line) (steps : List Step) (kept : Bool) (last : List Line)
+    → shares_of (draft_by style lines steps kept (bytes_of last))
+    ≡ shares_in style (map (section_of lines) steps ++ section kept false last ∷ [])
 draft_shares style lines steps kept last =
     ap (λ rest. map (share Closed) (flat_map (file_in style) (map (section_of lines) steps)) ++ rest) (sym (append-nil (map (share Open) (made_of (opening_of style kept) (bytes_of last))))) ∙ sym (shares_to style lines steps (section kept false last))
 
 -- and what is written of it is what is settled
-pub settled_part_is : (style : Style) (operands : List Operand) (lines : List Line) → draft_part (manner_of style) (settled_draft style operands lines) ≡ settled_of style operands lines
+pub settled_part_is : (style : Style) (operands : List Operand) (lines : List Line)
+    → draft_part (manner_of style) (settled_draft style operands lines) ≡ settled_of style operands lines
 settled_part_is style operands lines =
     let p = plan style.suppress operands lines in
     ap (part_by (manner_of style)) (draft_shares style lines p.steps (is_last_kept p.ending) (lines_between p.last.current (settled_end (length lines) p.ending) lines))
 
 -- once the last section ended it is the whole
-pub whole_part_is : (style : Style) (operands : List Operand) (lines : List Line) → draft_part (manner_of style) (with_next Never (draft_to whole_end style operands lines)) ≡ whole_of style operands lines
+pub whole_part_is : (style : Style) (operands : List Operand) (lines : List Line)
+    → draft_part (manner_of style) (with_next Never (draft_to whole_end style operands lines))
+    ≡ whole_of style operands lines
 whole_part_is style operands lines =
     let p = plan style.suppress operands lines in
     ap (part_by (manner_of style)) (next_shares Never (draft_to whole_end style operands lines) ∙ sym (shares_to style lines p.steps (section (is_last_kept p.ending) true (lines_between p.last.current (whole_end (length lines) p.ending) lines))))
 
-pub final_count : (total current : ℕ) (ending : Ending) → is_final ending ≡ true → 0 ≡ settled_end total ending - current
+pub final_count : (total current : ℕ) (ending : Ending) → is_final ending ≡ true
+    → 0 ≡ settled_end total ending - current
 final_count total current ending past = grind (arith, common_steps)
 
 -- the sections that ended stay, whatever comes
-pub ended_still : (style : Style) (operands : List Operand) {x : List ℕ} (t : List ℕ) {steps : List Step} {state : State} {ending : Ending} (kept : Bool) (written : List ℕ) → Joins x t → Runs style.suppress (all_lines x) (start operands) steps state ending
+pub ended_still : (style : Style) (operands : List Operand) {x : List ℕ} (t : List ℕ) {steps : List Step}
+    {state : State} {ending : Ending} (kept : Bool) (written : List ℕ) → Joins x t
+    → Runs style.suppress (all_lines x) (start operands) steps state ending
     → draft_by style (all_lines x) steps kept written ≡ draft_by style (all_lines (x ++ t)) steps kept written
 ended_still style operands {x} t {steps} {state} {ending} kept written whole runs = search (rules, are_within, all_lines-append, closed_still)
 
 -- as many lines may wait as the next operand says
-pub most_is : (suppress : Bool) (lines : List Line) (state : State) (ending : Ending) → EndsAs suppress lines state ending → is_final ending ≡ false → most_by state.operands ≡ most_waiting ending
+pub most_is : (suppress : Bool) (lines : List Line) (state : State) (ending : Ending)
+    → EndsAs suppress lines state ending → is_final ending ≡ false → most_by state.operands ≡ most_waiting ending
 most_is suppress lines state ending none live = grind (arith, common_steps)
 
 -- an aim that isn't below a cut doesn't end for good
@@ -110,23 +128,31 @@ pub aims_live : (aim : Turn) (ending : Ending) → AimsAt aim ending → (aim �
 aims_live aim ending aims differs = grind (arith, common_steps)
 
 -- one call after another
-pub keeps_on : {one two three : CutterState} {old mid new : List Slot} {fault : Option Fault} → Keeps one two old mid None → Keeps two three mid new fault → Keeps one three old new fault
+pub keeps_on : {one two three : CutterState} {old mid new : List Slot} {fault : Option Fault}
+    → Keeps one two old mid None → Keeps two three mid new fault → Keeps one three old new fault
 keeps_on first second = record { operands = second.operands ∙ first.operands; style = second.style ∙ first.style; writer = leaves_again first.writer second.writer }
 
 -- what is written of the sections, where the style stays
-pub reaches_then : {told : Bool} {style other : Style} {low middle high : Part} {old mid new : List Slot} {fault : Option Fault} {one two three : WriterState} → other ≡ style → Begins low middle → Reaches (sizes_wanted style) told one two low middle old mid None
-    → Reaches (sizes_wanted other) told two three middle high mid new fault → Reaches (sizes_wanted style) told one three low high old new fault
+pub reaches_then : {told : Bool} {style other : Style} {low middle high : Part} {old mid new : List Slot}
+    {fault : Option Fault} {one two three : WriterState} → other ≡ style → Begins low middle
+    → Reaches (sizes_wanted style) told one two low middle old mid None
+    → Reaches (sizes_wanted other) told two three middle high mid new fault
+    → Reaches (sizes_wanted style) told one three low high old new fault
 reaches_then {told} {low = low} {middle} {high} {mid = mid} {new} {fault} {two = two} {three} same begins first second = reaches_again begins first (subst (λ style. Reaches (sizes_wanted style) told two three middle high mid new fault) same second)
 
 -- what style and operands decide stays
-pub same_by : {A : Type 0} {cutter next : CutterState} {old new : List Slot} {fault : Option Fault} (f : Style → List Operand → A) → Keeps cutter next old new fault → f next.style next.operands ≡ f cutter.style cutter.operands
+pub same_by : {A : Type 0} {cutter next : CutterState} {old new : List Slot} {fault : Option Fault}
+    (f : Style → List Operand → A) → Keeps cutter next old new fault
+    → f next.style next.operands ≡ f cutter.style cutter.operands
 same_by {cutter = cutter} {next} f keeps = grind (arith, common_steps)
 
-pub settled_same : {cutter next : CutterState} {old new : List Slot} {fault : Option Fault} (x : List ℕ) → Keeps cutter next old new fault → settled_part next x ≡ settled_part cutter x
+pub settled_same : {cutter next : CutterState} {old new : List Slot} {fault : Option Fault} (x : List ℕ)
+    → Keeps cutter next old new fault → settled_part next x ≡ settled_part cutter x
 settled_same x keeps = grind (arith, common_steps)
 
 -- the plan up to where the cutter stands
-pub runs_to : {cutter : CutterState} {x left : List ℕ} (at : IsAt cutter x left) (ends : EndsNow cutter x) → Runs (suppress_in cutter) (all_lines x) (start cutter.operands) at.steps (state_in cutter) ends.ending
+pub runs_to : {cutter : CutterState} {x left : List ℕ} (at : IsAt cutter x left) (ends : EndsNow cutter x)
+    → Runs (suppress_in cutter) (all_lines x) (start cutter.operands) at.steps (state_in cutter) ends.ending
 runs_to {cutter} {x} at ends = grind (arith, common_steps)
 
 -- more lines came in, and nothing was done with them yet
@@ -146,8 +172,11 @@ at_more cutter lines aim x t left whole some at ends count =
       writes = subst (Writes (manner_of cutter.style) cutter.writer) (ended_still cutter.style cutter.operands t (kept_by (state_in cutter).operands) at.written whole (runs_to at ends)) at.writes;
     }
 
-pub part_more : {cutter : CutterState} {lines : ℕ} (aim : Turn) {x : List ℕ} (t : List ℕ) {left : List ℕ} (whole : Joins x t) (some : 1 ≤ cutter.progress.current) (at : IsAt cutter x left) (ends : EndsNow cutter x) (count : lines ≡ line_count newline (x ++ t))
-    → part_at cutter x left at ≡ part_at (record cutter { lines = lines; aim = aim }) (x ++ t) (left ++ t) (at_more cutter lines aim x t left whole some at ends count)
+pub part_more : {cutter : CutterState} {lines : ℕ} (aim : Turn) {x : List ℕ} (t : List ℕ) {left : List ℕ}
+    (whole : Joins x t) (some : 1 ≤ cutter.progress.current) (at : IsAt cutter x left) (ends : EndsNow cutter x)
+    (count : lines ≡ line_count newline (x ++ t))
+    → part_at cutter x left at ≡ part_at (record cutter { lines = lines; aim = aim }) (x ++ t) (left ++ t)
+    (at_more cutter lines aim x t left whole some at ends count)
 unfolding at_more
 part_more {cutter} aim t whole some at ends count =
     ap (draft_part (manner_of cutter.style)) (ended_still cutter.style cutter.operands t (kept_by (state_in cutter).operands) at.written whole (runs_to at ends))
@@ -155,24 +184,30 @@ part_more {cutter} aim t whole some at ends count =
 -- where the plan isn't final, all lines of the last section are settled but the last ones
 
 -- what is written of the open section, where all but the last lines that may wait are taken, is what is settled
-pub live_taken : {cutter : CutterState} {x : List ℕ} (live : IsLive cutter x) → live.at.taken ≡ settled_end (line_count newline x) live.ends.ending - cutter.progress.current
+pub live_taken : {cutter : CutterState} {x : List ℕ} (live : IsLive cutter x)
+    → live.at.taken ≡ settled_end (line_count newline x) live.ends.ending - cutter.progress.current
 live_taken live = grind (arith, common_steps)
 
-pub live_part : {cutter : CutterState} {x : List ℕ} (live : IsLive cutter x) → part_at cutter x cutter.window.held live.at ≡ settled_part cutter x
+pub live_part : {cutter : CutterState} {x : List ℕ} (live : IsLive cutter x)
+    → part_at cutter x cutter.window.held live.at ≡ settled_part cutter x
 live_part {cutter} {x} live =
     ap (draft_part (manner_of cutter.style)) (draft_is settled_end cutter.style cutter.operands x live.at.taken (runs_to live.at live.ends) (live_taken live) live.at.written_is)
     ∙ settled_part_is cutter.style cutter.operands (all_lines x)
 
 -- how many lines are left
-pub left_count : {cutter : CutterState} {x left : List ℕ} (at : IsAt cutter x left) → line_count newline left ≡ cutter.lines - (cutter.progress.current + at.taken - 1)
+pub left_count : {cutter : CutterState} {x left : List ℕ} (at : IsAt cutter x left)
+    → line_count newline left ≡ cutter.lines - (cutter.progress.current + at.taken - 1)
 left_count {cutter} {x} at = grind (arith, common_steps, count_from)
 
-pub few_taken : {cutter : CutterState} {x left : List ℕ} (at : IsAt cutter x left) → cutter.progress.current + at.taken ≤ cutter.lines + 1
+pub few_taken : {cutter : CutterState} {x left : List ℕ} (at : IsAt cutter x left)
+    → cutter.progress.current + at.taken ≤ cutter.lines + 1
 few_taken {cutter} {x} at = grind (arith, common_steps)
 
 -- some lines of those that were left are written, and the others wait
 unfoldable pub at_held : (cutter : CutterState) (writer : WriterState) (x left bytes held : List ℕ) (n : ℕ) → 1 ≤ cutter.progress.current → (at : IsAt cutter x left) → n ≤ line_count newline left
-    → bytes ≡ first_lines newline n left → held ≡ after_lines newline n left → ((draft : Draft) → Writes (manner_of cutter.style) cutter.writer draft → Writes (manner_of cutter.style) writer (with_bytes bytes draft))
+    → bytes ≡ first_lines newline n left → held ≡ after_lines newline n left
+    → ((draft : Draft) → Writes (manner_of cutter.style) cutter.writer draft
+    → Writes (manner_of cutter.style) writer (with_bytes bytes draft))
     → IsAt (record cutter { writer = writer; window = record cutter.window { held = held } }) x held
 at_held cutter writer x left bytes held n some at within bytes_is held_is writes =
     let count : line_count newline left ≡ line_count newline x - (cutter.progress.current + at.taken - 1) = ap (line_count newline) at.left_is ∙ count_from (cutter.progress.current + at.taken) x in record {
@@ -195,13 +230,15 @@ at_held cutter writer x left bytes held n some at within bytes_is held_is writes
 -- Writing lines that wait to the open section.
 
 -- A beginning of what waited was written and dropped, and `left` bytes are still to go.
-pub record Emptying (told : Bool) (writer now : WriterState) (window left_in : Window) (n left : ℕ) (old new : List Slot) : Type 0 where
+pub record Emptying (told : Bool) (writer now : WriterState) (window left_in : Window) (n left : ℕ)
+    (old new : List Slot) : Type 0 where
   pub few : left ≤ n
   pub rest : left_in ≡ without_first window (n - left)
   pub went : Goes told writer (with_bytes (take (n - left) window.held)) old new now None
   pub size : size_of now.current + length left_in.held ≤ size_of writer.current + length window.held
 
-pub all_held : {told : Bool} {writer : WriterState} {window : Window} {n : ℕ} {slots : List Slot} → IsReady writer slots → Emptying told writer writer window window n n slots slots
+pub all_held : {told : Bool} {writer : WriterState} {window : Window} {n : ℕ} {slots : List Slot} → IsReady writer slots
+    → Emptying told writer writer window window n n slots slots
 all_held {told} {writer} {window} {n} {slots} ready =
     let none : n - n ≡ 0 = omega arith in record {
       few = omega arith;
@@ -212,20 +249,26 @@ all_held {told} {writer} {window} {n} {slots} ready =
 
 -- the first bytes of what stands at the front are the first of all
 
-module _ {told : Bool} {writer now : WriterState} {window left_in : Window} {n left : ℕ} {old mid : List Slot} (so_far : Emptying told writer now window left_in n left old mid) where
+module _ {told : Bool} {writer now : WriterState} {window left_in : Window} {n left : ℕ} {old mid : List Slot}
+    (so_far : Emptying told writer now window left_in n left old mid) where
   -- what is still to go is held
   pub left_within : n ≤ length window.held → left ≤ length left_in.held
   left_within enough = grind (arith, common_steps)
 
-  pub fits_front : (bytes most : ℕ) (front rest : List ℕ) → left_in.held ≡ front ++ rest → bytes ≤ length front → size_of writer.current + length window.held < most → size_of now.current + length (take bytes front) < most
+  pub fits_front : (bytes most : ℕ) (front rest : List ℕ) → left_in.held ≡ front ++ rest → bytes ≤ length front
+      → size_of writer.current + length window.held < most → size_of now.current + length (take bytes front) < most
   fits_front bytes most front rest is within fits = grind (arith, common_steps)
 
   -- what went, with more bytes of what stands at the front
-  taken_more : (bytes : ℕ) (front rest : List ℕ) → left_in.held ≡ front ++ rest → bytes ≤ length front → take (n - left) window.held ++ take bytes front ≡ take (n - left + bytes) window.held
+  taken_more : (bytes : ℕ) (front rest : List ℕ) → left_in.held ≡ front ++ rest → bytes ≤ length front
+      → take (n - left) window.held ++ take bytes front ≡ take (n - left + bytes) window.held
   taken_more bytes front rest is within = grind (arith, common_steps, take-add)
 
-  pub empties : (bytes : ℕ) (front rest : List ℕ) {next : WriterState} {after : Window} {new : List Slot} → left_in.held ≡ front ++ rest → bytes ≤ length front → bytes ≤ left → after ≡ without_first left_in bytes
-      → Goes told now (with_bytes (take bytes front)) mid new next None → size_of next.current ≤ size_of now.current + length (take bytes front) → Emptying told writer next window after n (left - bytes) old new
+  pub empties : (bytes : ℕ) (front rest : List ℕ) {next : WriterState} {after : Window} {new : List Slot}
+      → left_in.held ≡ front ++ rest → bytes ≤ length front → bytes ≤ left → after ≡ without_first left_in bytes
+      → Goes told now (with_bytes (take bytes front)) mid new next None
+      → size_of next.current ≤ size_of now.current + length (take bytes front)
+      → Emptying told writer next window after n (left - bytes) old new
   empties bytes front rest {after = after} is within few dropped went more =
       let long : length (take bytes front) ≡ bytes = length-take-le bytes front within in
       let less : length front ≤ length left_in.held = (grind (arith, common_steps)) in
@@ -238,7 +281,9 @@ module _ {told : Bool} {writer now : WriterState} {window left_in : Window} {n l
       }
 
   -- a write of it stopped
-  pub empties_short : (bytes : ℕ) (front rest : List ℕ) {next : WriterState} {new : List Slot} {fault : Fault} → left_in.held ≡ front ++ rest → bytes ≤ length front → bytes ≤ left → Goes told now (with_bytes (take bytes front)) mid new next (Some fault)
+  pub empties_short : (bytes : ℕ) (front rest : List ℕ) {next : WriterState} {new : List Slot} {fault : Fault}
+      → left_in.held ≡ front ++ rest → bytes ≤ length front → bytes ≤ left
+      → Goes told now (with_bytes (take bytes front)) mid new next (Some fault)
       → Goes told writer (with_bytes (take n window.held)) old new next (Some fault)
   empties_short bytes front rest is within few stopped =
       let count : n - left + bytes + (left - bytes) ≡ n = (let all = so_far.few in omega (arith, all, few)) in
@@ -258,7 +303,8 @@ pub record Parted (delim most over front : ℕ) (held text : List ℕ) : Type 0 
   pub stays : drop front held ++ drop (over - front) text ≡ last_lines delim most (held ++ text)
   pub within : over - front ≤ length text
 
-pub parted : {delim most over front : ℕ} {held text : List ℕ} → over ≡ length (but_last_lines delim most (held ++ text)) → front ≡ min over (length held) → Parted delim most over front held text
+pub parted : {delim most over front : ℕ} {held text : List ℕ} → over ≡ length (but_last_lines delim most (held ++ text))
+    → front ≡ min over (length held) → Parted delim most over front held text
 parted {delim} {most} {over} {front} {held} {text} is at = elim (cases_lt over (length held)) [
   | inl less ↦
       let low : over ≤ length held = omega (arith, less) in
@@ -283,15 +329,26 @@ module _ {delim most over front : ℕ} {held text : List ℕ} (parts : Parted de
   pub rest_fits : but_last_lines delim most (drop front held ++ drop (over - front) text) ≡ []
   rest_fits = ap (but_last_lines delim most) parts.stays ∙ but_last_lines-last delim most (held ++ text)
 
-  pub hold_short : {told : Bool} {writer next : WriterState} {old new : List Slot} {fault : Fault} → Goes told writer (with_bytes (take front held)) old new next (Some fault) → Goes told writer (with_bytes (but_last_lines delim most (held ++ text))) old new next (Some fault)
+  pub hold_short : {told : Bool} {writer next : WriterState} {old new : List Slot} {fault : Fault}
+      → Goes told writer (with_bytes (take front held)) old new next (Some fault)
+      → Goes told writer (with_bytes (but_last_lines delim most (held ++ text))) old new next (Some fault)
   hold_short stopped = goes_as parts.goes (stops_among (take front held) (take (over - front) text) stopped)
 
-  pub hold_on : {told : Bool} {writer between next : WriterState} {piece : List ℕ} {old mid new : List Slot} {fault : Option Fault} → piece ≡ take (over - front) text → Goes told writer (with_bytes (take front held)) old mid between None → Goes told between (with_bytes piece) mid new next fault
+  pub hold_on : {told : Bool} {writer between next : WriterState} {piece : List ℕ} {old mid new : List Slot}
+      {fault : Option Fault} → piece ≡ take (over - front) text
+      → Goes told writer (with_bytes (take front held)) old mid between None
+      → Goes told between (with_bytes piece) mid new next fault
       → Goes told writer (with_bytes (but_last_lines delim most (held ++ text))) old new next fault
   hold_on piece_is first second = goes_as parts.goes (goes_more (take front held) (take (over - front) text) first (goes_as piece_is second))
 
-pub kept_window : {window mid : Window} (new : Window) {over front : ℕ} {text : List ℕ} (result : Result (Unit {0}) Fault) → Parted window.delim window.most over front window.held text → mid ≡ without_first window front
-    → OnOk result (new ≡ record { most = mid.most; delim = mid.delim; held = mid.held ++ drop (over - front) text }) → OnOk result (new ≡ record { most = window.most; delim = window.delim; held = last_lines window.delim window.most (window.held ++ text) })
+pub kept_window : {window mid : Window} (new : Window) {over front : ℕ} {text : List ℕ}
+    (result : Result (Unit {0}) Fault) → Parted window.delim window.most over front window.held text
+    → mid ≡ without_first window front
+    → OnOk result (new ≡ record { most = mid.most; delim = mid.delim; held = mid.held ++ drop (over - front) text })
+    → OnOk result
+    (new
+    ≡ record
+    { most = window.most; delim = window.delim; held = last_lines window.delim window.most (window.held ++ text) })
 kept_window new result parts dropped put = grind (arith, common_steps)
 
 -- What `hold` leaves: all that is settled of the lines that came in is written, and the others wait.
@@ -305,7 +362,8 @@ abbrev pub over_of : CutterState → List ℕ → ℕ
 over_of cutter left = line_count newline left - cutter.window.most
 
 -- then all lines but those that may wait are taken
-taken_is : {cutter : CutterState} {x left : List ℕ} {at : IsAt cutter x left} (arrives : Arrives cutter x left at) → IsFit cutter → is_final arrives.ends.ending ≡ false
+taken_is : {cutter : CutterState} {x left : List ℕ} {at : IsAt cutter x left} (arrives : Arrives cutter x left at)
+    → IsFit cutter → is_final arrives.ends.ending ≡ false
     → at.taken + over_of cutter left ≡ cutter.lines + 1 - cutter.progress.current - most_waiting arrives.ends.ending
 taken_is {cutter} {x} {at} arrives fit live =
     let most : cutter.window.most ≡ most_waiting arrives.ends.ending = fit.most ∙ most_is (suppress_in cutter) (all_lines x) (state_in cutter) arrives.ends.ending (ends_as _ _ _ _ _ _ arrives.ends.runs) live in
@@ -313,8 +371,12 @@ taken_is {cutter} {x} {at} arrives fit live =
     ∙ ap (λ n. cutter.lines + 1 - cutter.progress.current - n) most
 
 -- and what is written is what is settled
-held_part : {cutter : CutterState} {x left bytes : List ℕ} {at : IsAt cutter x left} (arrives : Arrives cutter x left at) → IsFit cutter → is_final arrives.ends.ending ≡ false → bytes ≡ first_lines newline (over_of cutter left) left
-    → draft_part (manner_of cutter.style) (with_bytes bytes (draft_by cutter.style (all_lines x) at.steps (kept_by (state_in cutter).operands) at.written)) ≡ settled_part cutter x
+held_part : {cutter : CutterState} {x left bytes : List ℕ} {at : IsAt cutter x left}
+    (arrives : Arrives cutter x left at) → IsFit cutter → is_final arrives.ends.ending ≡ false
+    → bytes ≡ first_lines newline (over_of cutter left) left
+    → draft_part (manner_of cutter.style)
+    (with_bytes bytes (draft_by cutter.style (all_lines x) at.steps (kept_by (state_in cutter).operands) at.written))
+    ≡ settled_part cutter x
 held_part {cutter} {x} {left} {bytes} {at} arrives fit live bytes_is =
     let written : at.written ++ bytes ≡ first_lines newline (at.taken + over_of cutter left) (text_from cutter.progress.current x) =
     ap (λ those. those ++ bytes) at.written_is
@@ -324,8 +386,11 @@ held_part {cutter} {x} {left} {bytes} {at} arrives fit live bytes_is =
     (taken_is arrives fit live ∙ (grind (arith, common_steps))) written)
     ∙ settled_part_is cutter.style cutter.operands (all_lines x)
 
-held_live : {cutter : CutterState} {writer : WriterState} {x left bytes held : List ℕ} {at : IsAt cutter x left} (arrives : Arrives cutter x left at) → IsFit cutter → is_final arrives.ends.ending ≡ false
-    → bytes ≡ first_lines newline (over_of cutter left) left → held ≡ after_lines newline (over_of cutter left) left → ((draft : Draft) → Writes (manner_of cutter.style) cutter.writer draft → Writes (manner_of cutter.style) writer (with_bytes bytes draft)) → IsLive (holding cutter writer held) x
+held_live : {cutter : CutterState} {writer : WriterState} {x left bytes held : List ℕ} {at : IsAt cutter x left}
+    (arrives : Arrives cutter x left at) → IsFit cutter → is_final arrives.ends.ending ≡ false
+    → bytes ≡ first_lines newline (over_of cutter left) left → held ≡ after_lines newline (over_of cutter left) left
+    → ((draft : Draft) → Writes (manner_of cutter.style) cutter.writer draft
+    → Writes (manner_of cutter.style) writer (with_bytes bytes draft)) → IsLive (holding cutter writer held) x
 unfolding at_held
 held_live {cutter} {writer} {x} {left} {bytes} {held} {at} arrives fit live bytes_is held_is writes = record {
   at = at_held cutter writer x left bytes held (over_of cutter left) fit.fits.some at (omega arith) bytes_is held_is writes;
@@ -334,10 +399,20 @@ held_live {cutter} {writer} {x} {left} {bytes} {held} {at} arrives fit live byte
   settled = taken_is arrives fit live;
 }
 
-pub hold_goes : {told : Bool} {cutter : CutterState} {writer : WriterState} {window : Window} {left : List ℕ} {old new : List Slot} {fault : Option Fault} → IsFit cutter → (cutter.aim ≡ Below → ⊥)
-    → Goes told cutter.writer (with_bytes (but_last_lines cutter.window.delim cutter.window.most left)) old new writer fault
-    → IfNone fault (window ≡ record { most = cutter.window.most; delim = cutter.window.delim; held = last_lines cutter.window.delim cutter.window.most left })
-    → IfNone fault (size_of writer.current + length window.held ≤ size_of cutter.writer.current + length left) → Holds told cutter left old new (record cutter { writer = writer; window = window }) fault
+pub hold_goes : {told : Bool} {cutter : CutterState} {writer : WriterState} {window : Window} {left : List ℕ}
+    {old new : List Slot} {fault : Option Fault} → IsFit cutter → (cutter.aim ≡ Below → ⊥)
+    → Goes told cutter.writer
+    (with_bytes (but_last_lines cutter.window.delim cutter.window.most left)) old new writer fault
+    → IfNone fault
+    (window
+    ≡ record {
+      most = cutter.window.most;
+      delim = cutter.window.delim;
+      held = last_lines cutter.window.delim
+          cutter.window.most left;
+    })
+    → IfNone fault (size_of writer.current + length window.held ≤ size_of cutter.writer.current + length left)
+    → Holds told cutter left old new (record cutter { writer = writer; window = window }) fault
 hold_goes {cutter = cutter} {writer} {window} {left} {fault = fault} fit differs goes waits fewer = record {
   keeps = record { operands = refl; style = refl; writer = goes.leaves };
   reaches = λ x at arrives. reaches_as refl (sym (held_part arrives fit (aims_live cutter.aim arrives.ends.ending arrives.ends.aims differs) bytes_is))
@@ -357,14 +432,19 @@ hold_goes {cutter = cutter} {writer} {window} {left} {fault = fault} fit differs
 
 -- where the cut is below the current line, none waits
 
-past_draft : {cutter : CutterState} {x left : List ℕ} {at : IsAt cutter x left} (arrives : Arrives cutter x left at) → is_final arrives.ends.ending ≡ true
-    → draft_by cutter.style (all_lines x) at.steps (kept_by (state_in cutter).operands) at.written ≡ settled_draft cutter.style cutter.operands (all_lines x)
+past_draft : {cutter : CutterState} {x left : List ℕ} {at : IsAt cutter x left} (arrives : Arrives cutter x left at)
+    → is_final arrives.ends.ending ≡ true
+    → draft_by cutter.style (all_lines x) at.steps (kept_by (state_in cutter).operands) at.written
+    ≡ settled_draft cutter.style cutter.operands (all_lines x)
 past_draft {cutter} {x} {at} arrives past =
     draft_is settled_end cutter.style cutter.operands x at.taken (runs_to at arrives.ends)
     (arrives.low past ∙ final_count (line_count newline x) cutter.progress.current arrives.ends.ending past) at.written_is
 
-pub hold_past : {told : Bool} {cutter : CutterState} {window : Window} {left : List ℕ} {slots : List Slot} {n : ℕ} → cutter.aim ≡ Below → IsReady cutter.writer slots → n ≡ length cutter.window.held → length cutter.window.held ≤ length left
-    → window ≡ without_first cutter.window n → Holds told cutter left slots slots (record cutter { window = window }) None
+pub hold_past : {told : Bool} {cutter : CutterState} {window : Window} {left : List ℕ} {slots : List Slot} {n : ℕ}
+    → cutter.aim ≡ Below → IsReady cutter.writer slots → n ≡ length cutter.window.held
+    → length cutter.window.held ≤ length left
+    → window ≡ without_first cutter.window n
+    → Holds told cutter left slots slots (record cutter { window = window }) None
 hold_past {cutter = cutter} {window} {left} {slots} {n} aim ready all less dropped = record {
   keeps = record { operands = refl; style = refl; writer = leaves_still ready };
   reaches = λ x at arrives. reaches_still keeps_files (ap (draft_part (manner_of cutter.style)) (past_draft arrives (past x at arrives)) ∙ settled_part_is cutter.style cutter.operands (all_lines x));
@@ -384,32 +464,44 @@ hold_past {cutter = cutter} {window} {left} {slots} {n} aim ready all less dropp
   none : window.held ≡ []
   none = ap (λ (w : Window). w.held) dropped ∙ drop_all n cutter.window.held (omega (arith, all))
 
-  past : (x : List ℕ) (at : IsAt cutter x left) (arrives : Arrives cutter x left at) → is_final arrives.ends.ending ≡ true
+  past : (x : List ℕ) (at : IsAt cutter x left) (arrives : Arrives cutter x left at)
+      → is_final arrives.ends.ending ≡ true
   past x at arrives = (grind (arith, common_steps))
 
 -- What is settled begins with what stands where a section has begun.
 
-first_kept : {suppress : Bool} {lines : List Line} {state : State} {step : Step} {steps : List Step} {last : State} {ending : Ending} → Runs suppress lines state (step ∷ steps) last ending → kept_by state.operands ≡ is_kept step.operand.target
+first_kept : {suppress : Bool} {lines : List Line} {state : State} {step : Step} {steps : List Step} {last : State}
+    {ending : Ending} → Runs suppress lines state (step ∷ steps) last ending
+    → kept_by state.operands ≡ is_kept step.operand.target
 first_kept (cuts state' operand operands matched cut steps' last' ending' are at from within rest) = ap kept_by are
 
 -- one section, and those after it
-begins_with : (style : Style) (lines : List Line) (steps : List Step) (one : Section) (more : List Section) (kept : Bool) → kept ≡ one.is_kept
-    → Begins (draft_part (manner_of style) (draft_by style lines steps kept [])) (part_of style (map (section_of lines) steps ++ one ∷ more))
+begins_with : (style : Style) (lines : List Line) (steps : List Step) (one : Section) (more : List Section)
+    (kept : Bool) → kept ≡ one.is_kept
+    → Begins (draft_part (manner_of style) (draft_by style lines steps kept []))
+    (part_of style (map (section_of lines) steps ++ one ∷ more))
 begins_with style lines steps one more kept same =
     subst (λ shares. Begins (part_by (manner_of style) shares) (part_of style (map (section_of lines) steps ++ one ∷ more))) (sym (draft_shares style lines steps kept []))
     (section_grows style (map (section_of lines) steps) (section kept false []) one more refl same (bytes_of one.lines) refl)
 
-settled_by_plan : (style : Style) (operands : List Operand) {lines : List Line} {steps : List Step} {last : State} {ending : Ending} → Runs style.suppress lines (start operands) steps last ending
-    → settled_of style operands lines ≡ part_of style (map (section_of lines) steps ++ section (is_last_kept ending) false (lines_between last.current (settled_end (length lines) ending) lines) ∷ [])
+settled_by_plan : (style : Style) (operands : List Operand) {lines : List Line} {steps : List Step} {last : State}
+    {ending : Ending} → Runs style.suppress lines (start operands) steps last ending
+    → settled_of style operands lines ≡ part_of style
+    (map (section_of lines) steps ++ section (is_last_kept ending) false
+    (lines_between last.current (settled_end (length lines) ending) lines) ∷ [])
 settled_by_plan style operands {lines} {steps} {last} {ending} runs = grind (arith, common_steps, plan_once, runs)
 
-begun_by : (style : Style) (operands : List Operand) {lines : List Line} (steps : List Step) {state : State} (more : List Step) {last : State} {ending : Ending} → Runs style.suppress lines state more last ending → Runs style.suppress lines (start operands) (steps ++ more) last ending
-    → Begins (draft_part (manner_of style) (draft_by style lines steps (kept_by state.operands) [])) (settled_of style operands lines)
+begun_by : (style : Style) (operands : List Operand) {lines : List Line} (steps : List Step) {state : State}
+    (more : List Step) {last : State} {ending : Ending} → Runs style.suppress lines state more last ending
+    → Runs style.suppress lines (start operands) (steps ++ more) last ending
+    → Begins (draft_part (manner_of style) (draft_by style lines steps (kept_by state.operands) []))
+    (settled_of style operands lines)
 begun_by style operands {lines} steps {state} [] {last} {ending} rest all =
     subst (Begins (draft_part (manner_of style) (draft_by style lines steps (kept_by state.operands) []))) (sym (settled_by_plan style operands all))
     (subst (λ those. Begins (draft_part (manner_of style) (draft_by style lines steps (kept_by state.operands) [])) (part_of style (map (section_of lines) those ++ section (is_last_kept ending) false (lines_between last.current (settled_end (length lines) ending) lines) ∷ []))) (sym (append-nil steps))
     (begins_with style lines steps (section (is_last_kept ending) false (lines_between last.current (settled_end (length lines) ending) lines)) [] (kept_by state.operands) (at_end state last ending rest))) where
-      at_end : (state last : State) (ending : Ending) → Runs style.suppress lines state [] last ending → kept_by state.operands ≡ is_last_kept ending
+      at_end : (state last : State) (ending : Ending) → Runs style.suppress lines state [] last ending
+          → kept_by state.operands ≡ is_last_kept ending
       at_end state last ending (is_used_up state' none) = last_kept style.suppress lines state' ending (ends_as style.suppress lines state' [] state' ending (is_used_up state' none))
       at_end state last ending (misses state' operand those is none) = ap kept_by is
       at_end state last ending (is_above state' operand those matched cut is at far) = ap kept_by is
@@ -427,9 +519,14 @@ begun_by style operands {lines} steps {state} (step ∷ more) {last} {ending} re
 abbrev step_at : CutterState → Operand → Cut → Step
 step_at cutter operand cut = step_of (state_in cutter) operand cut.matched cut.line
 
-cut_draft : {cutter : CutterState} {x left before : List ℕ} (at : IsAt cutter x left) (cut : Cut) {operand : Operand} {operands : List Operand} (kept : Bool) → (state_in cutter).operands ≡ operand ∷ operands → 1 ≤ cutter.progress.current
-    → cutter.progress.current + at.taken ≤ cut.line → before ≡ first_lines newline (cut.line - (cutter.progress.current + at.taken)) left
-    → with_next (opening_of cutter.style kept) (with_bytes before (draft_by cutter.style (all_lines x) at.steps (kept_by (state_in cutter).operands) at.written)) ≡ draft_by cutter.style (all_lines x) (at.steps ++ step_at cutter operand cut ∷ []) kept []
+cut_draft : {cutter : CutterState} {x left before : List ℕ} (at : IsAt cutter x left) (cut : Cut) {operand : Operand}
+    {operands : List Operand} (kept : Bool) → (state_in cutter).operands ≡ operand ∷ operands
+    → 1 ≤ cutter.progress.current
+    → cutter.progress.current + at.taken ≤ cut.line
+    → before ≡ first_lines newline (cut.line - (cutter.progress.current + at.taken)) left
+    → with_next (opening_of cutter.style kept)
+    (with_bytes before (draft_by cutter.style (all_lines x) at.steps (kept_by (state_in cutter).operands) at.written))
+    ≡ draft_by cutter.style (all_lines x) (at.steps ++ step_at cutter operand cut ∷ []) kept []
 cut_draft {cutter} {x} {before} at cut {operand} kept are some on before_is =
     let bytes : at.written ++ before ≡ bytes_of (lines_between cutter.progress.current cut.line (all_lines x)) =
     ap (λ those. those ++ before) at.written_is
@@ -443,15 +540,26 @@ cut_draft {cutter} {x} {before} at cut {operand} kept are some on before_is =
     ∙ ap (λ those. record { ended = those; opening = opening_of cutter.style kept; bytes = [] })
     (sym (ap (flat_map (file_in cutter.style)) (map-append (section_of (all_lines x)) at.steps (step_at cutter operand cut ∷ [])) ∙ flat_map-append (file_in cutter.style) (map (section_of (all_lines x)) at.steps) (next ∷ []) ∙ ap (λ one. ended ++ one) (append-nil (file_in cutter.style next))))
 
-leads_on : {cutter : CutterState} {x left : List ℕ} (at : IsAt cutter x left) (cut : Cut) (goes : GoesPast (suppress_in cutter) (all_lines x) (state_in cutter) cut.matched cut.line)
-    → Leads (suppress_in cutter) (all_lines x) cutter.operands (at.steps ++ step_at cutter goes.operand cut ∷ []) (state_after (suppress_in cutter) goes.operand goes.operands cutter.progress.repetition cut.matched cut.line)
+leads_on : {cutter : CutterState} {x left : List ℕ} (at : IsAt cutter x left) (cut : Cut)
+    (goes : GoesPast (suppress_in cutter) (all_lines x) (state_in cutter) cut.matched cut.line)
+    → Leads (suppress_in cutter) (all_lines x) cutter.operands (at.steps ++ step_at cutter goes.operand cut ∷ [])
+    (state_after (suppress_in cutter) goes.operand goes.operands cutter.progress.repetition cut.matched cut.line)
 leads_on {cutter} {x} at cut goes more last ending run =
     subst (λ steps. Runs (suppress_in cutter) (all_lines x) (start cutter.operands) steps last ending) (sym (append_assoc at.steps (step_at cutter goes.operand cut ∷ []) more))
     (at.leads (step_at cutter goes.operand cut ∷ more) last ending (cuts (state_in cutter) goes.operand goes.operands cut.matched cut.line more last ending goes.are goes.cuts goes.from goes.within run))
 
 -- what is settled begins with the sections after the cut
-pub cut_begins : {cutter : CutterState} {x left : List ℕ} (line : List ℕ) {before : List ℕ} {at : IsAt cutter x left} (cut : Cut) {place : ℕ} (now : CutsNow cutter x left line cut place at) → IsFit cutter → WillCut cutter cut → before ≡ first_lines newline (cut.line - place) left
-    → Begins (draft_part (manner_of cutter.style) (with_next (opening_of cutter.style (kept_by (state_after (suppress_in cutter) now.goes.operand now.goes.operands cutter.progress.repetition cut.matched cut.line).operands))
+pub cut_begins : {cutter : CutterState} {x left : List ℕ} (line : List ℕ) {before : List ℕ} {at : IsAt cutter x left}
+    (cut : Cut) {place : ℕ} (now : CutsNow cutter x left line cut place at) → IsFit cutter → WillCut cutter cut
+    → before ≡ first_lines newline (cut.line - place) left
+    → Begins
+    (draft_part (manner_of cutter.style)
+    (with_next
+    (opening_of cutter.style
+    (kept_by
+    (state_after
+    (suppress_in cutter) now.goes.operand now.goes.operands cutter.progress.repetition cut.matched
+    cut.line).operands))
     (with_bytes before (draft_by cutter.style (all_lines x) at.steps (kept_by (state_in cutter).operands) at.written)))) (settled_part cutter x)
 cut_begins {cutter} {x} {left} line {at} cut now fit will before_is =
     let state = state_after (suppress_in cutter) now.goes.operand now.goes.operands cutter.progress.repetition cut.matched cut.line in
@@ -467,18 +575,29 @@ cut_begins {cutter} {x} {left} line {at} cut now fit will before_is =
 abbrev draft_at : (cutter : CutterState) (x left : List ℕ) → IsAt cutter x left → Draft
 draft_at cutter x left at = draft_by cutter.style (all_lines x) at.steps (kept_by (state_in cutter).operands) at.written
 
-pub cut_stopped : {told : Bool} {cutter next : CutterState} {cut : Cut} {place : ℕ} {left line : List ℕ} {old new : List Slot} {fault : Fault} → next.operands ≡ cutter.operands → next.style ≡ cutter.style → Leaves cutter.writer next.writer old new (Some fault)
-    → ((x : List ℕ) (at : IsAt cutter x left) → CutsNow cutter x left line cut place at → Reaches (sizes_wanted cutter.style) told cutter.writer next.writer (part_at cutter x left at) (settled_part cutter x) old new (Some fault))
+pub cut_stopped : {told : Bool} {cutter next : CutterState} {cut : Cut} {place : ℕ} {left line : List ℕ}
+    {old new : List Slot} {fault : Fault} → next.operands ≡ cutter.operands → next.style ≡ cutter.style
+    → Leaves cutter.writer next.writer old new (Some fault)
+    → ((x : List ℕ) (at : IsAt cutter x left) → CutsNow cutter x left line cut place at
+    → Reaches (sizes_wanted cutter.style) told cutter.writer next.writer (part_at cutter x left at)
+    (settled_part cutter x) old new (Some fault))
     → CutsAll told cutter cut place left line [] old new next (Some fault)
 cut_stopped {cutter = cutter} operands style leaves reaches = grind (arith, common_steps)
 
 -- where the run stands after the cut
-passed_state : {told : Bool} {cutter mid : CutterState} {writer : WriterState} {cut : Cut} {before : List ℕ} {old new : List Slot} → Goes told cutter.writer (with_bytes before) old new writer None → WentOn (record cutter { writer = writer }) cut mid
-    → {operand : Operand} {operands : List Operand} → (state_in cutter).operands ≡ operand ∷ operands → state_in mid ≡ state_after (suppress_in cutter) operand operands cutter.progress.repetition cut.matched cut.line
+passed_state : {told : Bool} {cutter mid : CutterState} {writer : WriterState} {cut : Cut} {before : List ℕ}
+    {old new : List Slot} → Goes told cutter.writer (with_bytes before) old new writer None
+    → WentOn (record cutter { writer = writer }) cut mid
+    → {operand : Operand} {operands : List Operand} → (state_in cutter).operands ≡ operand ∷ operands
+    → state_in mid ≡ state_after (suppress_in cutter) operand operands cutter.progress.repetition cut.matched cut.line
 passed_state {cutter = cutter} {cut = cut} goes passed {operand} {operands} are = grind (arith, common_steps)
 
 -- the writer is as it was before
-began_there : {told : Bool} (cutter : CutterState) {mid : CutterState} {writer next : WriterState} {cut : Cut} {opening : Opening} {old new : List Slot} {fault : Option Fault} → WentOn (record cutter { writer = writer }) cut mid → opening ≡ opening_of mid.style (kept_by (state_in mid).operands) → Goes told mid.writer (with_next opening) old new next fault
+began_there : {told : Bool} (cutter : CutterState) {mid : CutterState} {writer next : WriterState} {cut : Cut}
+    {opening : Opening} {old new : List Slot} {fault : Option Fault}
+    → WentOn (record cutter { writer = writer }) cut mid
+    → opening ≡ opening_of mid.style (kept_by (state_in mid).operands)
+    → Goes told mid.writer (with_next opening) old new next fault
     → Goes told writer (with_next (opening_of cutter.style (kept_by (state_in mid).operands))) old new next fault
 began_there {told} cutter {mid} {writer} {next} {old = old} {new} {fault} passed opening_is began =
     let style : mid.style ≡ cutter.style = ap (λ (c : CutterState). c.style) passed.same in
@@ -486,19 +605,29 @@ began_there {told} cutter {mid} {writer} {next} {old = old} {new} {fault} passed
     (subst (λ those. Goes told mid.writer (with_next those) old new next fault) (opening_is ∙ ap (λ (s : Style). opening_of s (kept_by (state_in mid).operands)) style) began)
 
 -- a cut of this cutter is due, and stands after these bytes of the lines that are left
-module _ {cutter : CutterState} {cut : Cut} {place : ℕ} {left before : List ℕ} (fit : IsFit cutter) (will : WillCut cutter cut) (before_is : before ≡ first_lines newline (cut.line - place) left) where
-  pub cut_put_stopped : {told : Bool} {next : CutterState} {old new : List Slot} {fault : Fault} (line : List ℕ) → next.operands ≡ cutter.operands → next.style ≡ cutter.style → Goes told cutter.writer (with_bytes before) old new next.writer (Some fault)
+module _ {cutter : CutterState} {cut : Cut} {place : ℕ} {left before : List ℕ} (fit : IsFit cutter)
+    (will : WillCut cutter cut) (before_is : before ≡ first_lines newline (cut.line - place) left) where
+  pub cut_put_stopped : {told : Bool} {next : CutterState} {old new : List Slot} {fault : Fault} (line : List ℕ)
+      → next.operands ≡ cutter.operands → next.style ≡ cutter.style
+      → Goes told cutter.writer (with_bytes before) old new next.writer (Some fault)
       → CutsAll told cutter cut place left line [] old new next (Some fault)
   cut_put_stopped line operands style goes = cut_stopped operands style goes.leaves (λ x at now. stops_wider (goes.reaches (manner_of cutter.style) (draft_at cutter x left at) at.writes)
       (part_trans _ _ _ (next_begins (manner_of cutter.style) _ (with_bytes before (draft_at cutter x left at))) (cut_begins line cut now fit will before_is)))
 
-  pub cut_pass_stopped : {told : Bool} {mid : CutterState} {writer : WriterState} {old new : List Slot} {fault : Fault} (line : List ℕ) → Goes told cutter.writer (with_bytes before) old new writer None
-      → PassesCut (record cutter { writer = writer }) cut mid (Some fault) → CutsAll told cutter cut place left line [] old new mid (Some fault)
+  pub cut_pass_stopped : {told : Bool} {mid : CutterState} {writer : WriterState} {old new : List Slot} {fault : Fault}
+      (line : List ℕ) → Goes told cutter.writer (with_bytes before) old new writer None
+      → PassesCut (record cutter { writer = writer }) cut mid (Some fault)
+      → CutsAll told cutter cut place left line [] old new mid (Some fault)
   cut_pass_stopped {told} {old = old} {new} {fault} line goes (is_memory, same_writer, same_operands, same_style) =
       cut_put_stopped line same_operands same_style (subst (λ w. Goes told cutter.writer (with_bytes before) old new w (Some fault)) (sym same_writer) (goes_or_lacks (Err fault) goes is_memory))
 
-  pub cut_next_stopped : {told : Bool} {mid : CutterState} {writer next : WriterState} {opening : Opening} {old between new : List Slot} {fault : Fault} (line : List ℕ) → Goes told cutter.writer (with_bytes before) old between writer None → WentOn (record cutter { writer = writer }) cut mid
-      → opening ≡ opening_of mid.style (kept_by (state_in mid).operands) → Goes told mid.writer (with_next opening) between new next (Some fault) → CutsAll told cutter cut place left line [] old new (record mid { writer = next }) (Some fault)
+  pub cut_next_stopped : {told : Bool} {mid : CutterState} {writer next : WriterState} {opening : Opening}
+      {old between new : List Slot} {fault : Fault} (line : List ℕ)
+      → Goes told cutter.writer (with_bytes before) old between writer None
+      → WentOn (record cutter { writer = writer }) cut mid
+      → opening ≡ opening_of mid.style (kept_by (state_in mid).operands)
+      → Goes told mid.writer (with_next opening) between new next (Some fault)
+      → CutsAll told cutter cut place left line [] old new (record mid { writer = next }) (Some fault)
   cut_next_stopped {told} {mid} {writer} {next} line went passed opening_is stops =
       let stopped = began_there cutter passed opening_is stops in
       cut_stopped (ap (λ (c : CutterState). c.operands) passed.same) (ap (λ (c : CutterState). c.style) passed.same) (leaves_again went.leaves stopped.leaves)
@@ -512,12 +641,15 @@ module _ {cutter : CutterState} {cut : Cut} {place : ℕ} {left before : List �
 
 -- the next section began
 
-rest_from : (suppress : Bool) {rest : List ℕ} (all : List ℕ) (cut : ℕ) (x : List ℕ) → 1 ≤ cut → all ≡ text_from cut x → (suppress ≡ true → rest ≡ after_lines newline 1 all) → (suppress ≡ false → rest ≡ all) → rest ≡ text_from (line_after suppress cut) x
+rest_from : (suppress : Bool) {rest : List ℕ} (all : List ℕ) (cut : ℕ) (x : List ℕ) → 1 ≤ cut → all ≡ text_from cut x
+    → (suppress ≡ true → rest ≡ after_lines newline 1 all) → (suppress ≡ false → rest ≡ all)
+    → rest ≡ text_from (line_after suppress cut) x
 rest_from true all cut x some is skipped whole = skipped refl ∙ ap (after_lines newline 1) is ∙ from_further cut 1 x some ∙ ap (λ n. text_from n x) (let e : cut + 1 ≡ suc cut = omega arith in e)
 rest_from false all cut x some is skipped whole = whole refl ∙ is
 
 -- What is left is the end of the lines.
-end_of : (suppress : Bool) (left : List ℕ) {rest : List ℕ} (all : List ℕ) (n : ℕ) → all ≡ after_lines newline n left → (suppress ≡ true → rest ≡ after_lines newline 1 all) → (suppress ≡ false → rest ≡ all) → IsEnd rest left
+end_of : (suppress : Bool) (left : List ℕ) {rest : List ℕ} (all : List ℕ) (n : ℕ) → all ≡ after_lines newline n left
+    → (suppress ≡ true → rest ≡ after_lines newline 1 all) → (suppress ≡ false → rest ≡ all) → IsEnd rest left
 end_of true left {rest} all n all_is skipped whole = (
   first_lines newline n left ++ first_lines newline 1 all,
   sym (first_lines_then_rest newline n left)
@@ -526,10 +658,19 @@ end_of true left {rest} all n all_is skipped whole = (
 )
 end_of false left all n all_is skipped whole = (first_lines newline n left, sym (first_lines_then_rest newline n left) ∙ ap (λ those. first_lines newline n left ++ those) (sym all_is ∙ sym (whole refl)))
 
-module _ {told : Bool} {cutter mid : CutterState} {writer next : WriterState} {cut : Cut} {place : ℕ} {left before rest : List ℕ} (all : List ℕ) {opening : Opening} {old between new : List Slot} (fit : IsFit cutter) (will : WillCut cutter cut)
-    (before_is : before ≡ first_lines newline (cut.line - place) left) (all_is : all ≡ after_lines newline (cut.line - place) left) (skipped : mid.style.suppress ≡ true → rest ≡ after_lines newline 1 all) (whole : mid.style.suppress ≡ false → rest ≡ all)
-    (went : Goes told cutter.writer (with_bytes before) old between writer None) (passed : WentOn (record cutter { writer = writer }) cut mid) (opening_is : opening ≡ opening_of mid.style (kept_by (state_in mid).operands)) (began : Goes told mid.writer (with_next opening) between new next None) where
-  after_at : {x : List ℕ} (line : List ℕ) {at : IsAt cutter x left} (now : CutsNow cutter x left line cut place at) → IsAfter told cutter x line (record mid { writer = next }) rest (part_at cutter x left at) old new
+module _ {told : Bool} {cutter mid : CutterState} {writer next : WriterState} {cut : Cut} {place : ℕ}
+    {left before rest : List ℕ} (all : List ℕ) {opening : Opening} {old between new : List Slot} (fit : IsFit cutter)
+    (will : WillCut cutter cut)
+    (before_is : before ≡ first_lines newline (cut.line - place) left)
+    (all_is : all ≡ after_lines newline (cut.line - place) left)
+    (skipped : mid.style.suppress ≡ true → rest ≡ after_lines newline 1 all)
+    (whole : mid.style.suppress ≡ false → rest ≡ all)
+    (went : Goes told cutter.writer (with_bytes before) old between writer None)
+    (passed : WentOn (record cutter { writer = writer }) cut mid)
+    (opening_is : opening ≡ opening_of mid.style (kept_by (state_in mid).operands))
+    (began : Goes told mid.writer (with_next opening) between new next None) where
+  after_at : {x : List ℕ} (line : List ℕ) {at : IsAt cutter x left} (now : CutsNow cutter x left line cut place at)
+      → IsAfter told cutter x line (record mid { writer = next }) rest (part_at cutter x left at) old new
   after_at {x} line {at} now =
       let second = began_there cutter passed opening_is began in
       let manner = manner_of cutter.style in
@@ -578,7 +719,8 @@ module _ {told : Bool} {cutter mid : CutterState} {writer next : WriterState} {c
             (reaches_as refl (sym (ap (draft_part manner) draft_is ∙ now_part)) (second.reaches manner (with_bytes before draft) (went.writes manner draft at.writes)));
       }
 
-  pub cut_done : size_of next.current ≡ 0 → length rest ≤ length left → CutAt told cutter cut place left old new (record mid { writer = next }) rest
+  pub cut_done : size_of next.current ≡ 0 → length rest ≤ length left
+      → CutAt told cutter cut place left old new (record mid { writer = next }) rest
   cut_done empty shorter = let second = began_there cutter passed opening_is began in record {
     fewer = passed.fewer;
     spreading = λ line. record {

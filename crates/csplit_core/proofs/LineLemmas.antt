@@ -17,22 +17,26 @@ use Rattle.csplit_core.specs.CsplitState.{whole_lines}
 use Rattle.std.proofs.lemmas.Grind.{common_steps}
 
 -- the lines of complete lines and of what follows them
-pub lines-append : {x : List ℕ} (t : List ℕ) → Joins x t → lines_of newline (x ++ t) ≡ lines_of newline x ++ lines_of newline t
+pub lines-append : {x : List ℕ} (t : List ℕ) → Joins x t
+    → lines_of newline (x ++ t) ≡ lines_of newline x ++ lines_of newline t
 lines-append t fact = grind (arith, common_steps, lines_of-append)
 
 pub all_lines-append : {x : List ℕ} (t : List ℕ) → Joins x t → all_lines (x ++ t) ≡ all_lines x ++ all_lines t
 all_lines-append {x} t whole = grind (arith, common_steps, lines-append, map-append)
 
-pub all_lines-line : {x : List ℕ} (line : List ℕ) → IsWhole x → IsLine line → all_lines (x ++ line) ≡ all_lines x ++ marked line ∷ []
+pub all_lines-line : {x : List ℕ} (line : List ℕ) → IsWhole x → IsLine line
+    → all_lines (x ++ line) ≡ all_lines x ++ marked line ∷ []
 all_lines-line {x} line whole one = all_lines-append line (inl whole) ∙ ap (λ those. all_lines x ++ map marked those) one
 
 pub length-all_lines : (x : List ℕ) → length (all_lines x) ≡ line_count newline x
 length-all_lines x = length-map (lines_of newline x) marked
 
-pub count-append : {x : List ℕ} (t : List ℕ) → Joins x t → line_count newline (x ++ t) ≡ line_count newline x + line_count newline t
+pub count-append : {x : List ℕ} (t : List ℕ) → Joins x t
+    → line_count newline (x ++ t) ≡ line_count newline x + line_count newline t
 count-append {x} t whole = ap length (lines-append t whole) ∙ length-append (lines_of newline x) (lines_of newline t)
 
-pub count-line : {x : List ℕ} (line : List ℕ) → IsWhole x → IsLine line → line_count newline (x ++ line) ≡ line_count newline x + 1
+pub count-line : {x : List ℕ} (line : List ℕ) → IsWhole x → IsLine line
+    → line_count newline (x ++ line) ≡ line_count newline x + 1
 count-line {x} line whole one = count-append line (inl whole) ∙ ap (λ those. line_count newline x + length those) one
 
 -- complete lines have as many delimiters
@@ -55,7 +59,8 @@ pub bytes_marked : (lines : List (List ℕ)) → bytes_of (map marked lines) ≡
 bytes_marked [] = refl
 bytes_marked (line ∷ lines) = ap (λ those. line ++ those) (bytes_marked lines)
 
-pub bytes_between : (first end : ℕ) (x : List ℕ) → bytes_of (lines_between first end (all_lines x)) ≡ first_lines newline (end - first) (text_from first x)
+pub bytes_between : (first end : ℕ) (x : List ℕ)
+    → bytes_of (lines_between first end (all_lines x)) ≡ first_lines newline (end - first) (text_from first x)
 bytes_between first end x = search (rules, drop-map, take-map, bytes_marked, lines_of-after_lines)
 
 -- how many lines follow
@@ -69,20 +74,26 @@ rest_is {n} {x} end ends = ap (λ k. drop k x) (sym (length-take-le end x ends.w
 
 -- the first lines from a line on
 
-pub first_from : (n first : ℕ) (x : List ℕ) → first_lines newline n (text_from first x) ≡ joined (take n (drop (first - 1) (lines_of newline x)))
+pub first_from : (n first : ℕ) (x : List ℕ)
+    → first_lines newline n (text_from first x) ≡ joined (take n (drop (first - 1) (lines_of newline x)))
 first_from n first x = ap (λ those. joined (take n those)) (lines_of-after_lines newline (first - 1) x)
 
 -- what follows complete lines changes nothing among them
-pub first_still : (n first : ℕ) {x : List ℕ} (t : List ℕ) → Joins x t → 1 ≤ first → first + n ≤ line_count newline x + 1 → first_lines newline n (text_from first (x ++ t)) ≡ first_lines newline n (text_from first x)
+pub first_still : (n first : ℕ) {x : List ℕ} (t : List ℕ) → Joins x t → 1 ≤ first → first + n ≤ line_count newline x + 1
+    → first_lines newline n (text_from first (x ++ t)) ≡ first_lines newline n (text_from first x)
 first_still n first {x} t whole some within = search (rules, length-drop, first_from, lines-append, drop-append-le, take-append-le)
 
-pub rest_more : (first : ℕ) {x : List ℕ} (t : List ℕ) → Joins x t → 1 ≤ first → first ≤ line_count newline x + 1 → text_from first x ++ t ≡ text_from first (x ++ t)
+pub rest_more : (first : ℕ) {x : List ℕ} (t : List ℕ) → Joins x t → 1 ≤ first → first ≤ line_count newline x + 1
+    → text_from first x ++ t ≡ text_from first (x ++ t)
 rest_more first t fact some within = grind (arith, common_steps, after_lines-append, whole_count, append-nil)
 
-pub from_further : (first n : ℕ) (x : List ℕ) → 1 ≤ first → after_lines newline n (text_from first x) ≡ text_from (first + n) x
+pub from_further : (first n : ℕ) (x : List ℕ) → 1 ≤ first
+    → after_lines newline n (text_from first x) ≡ text_from (first + n) x
 from_further first n x some = search (rules, lines_of-after_lines, drop-drop)
 
-pub first_further : (first a b : ℕ) (x : List ℕ) → 1 ≤ first → first_lines newline (a + b) (text_from first x) ≡ first_lines newline a (text_from first x) ++ first_lines newline b (text_from (first + a) x)
+pub first_further : (first a b : ℕ) (x : List ℕ) → 1 ≤ first
+    → first_lines newline (a + b) (text_from first x)
+    ≡ first_lines newline a (text_from first x) ++ first_lines newline b (text_from (first + a) x)
 first_further first a b x some =
     ap joined (take-add a b (lines_of newline (text_from first x)))
     ∙ joined-append (take a (lines_of newline (text_from first x))) (take b (drop a (lines_of newline (text_from first x))))
@@ -103,7 +114,8 @@ whole_from first {x} whole = by (cases_lt (first - 1) (line_count newline x)) wh
         inr (sym (ends_with-append newline (first_lines newline (first - 1) x) (text_from first x) (let less = line_count-le-length newline (text_from first x) in omega (arith, less, some))) ∙ ap (ends_with newline) both ∙ ends)
 
 -- what follows the first line
-pub after_first : (text line : List ℕ) {rest : List ℕ} → text ≡ line ++ rest → (0 < length text → lines_of newline text ≡ line ∷ lines_of newline rest) → rest ≡ after_lines newline 1 text
+pub after_first : (text line : List ℕ) {rest : List ℕ} → text ≡ line ++ rest
+    → (0 < length text → lines_of newline text ≡ line ∷ lines_of newline rest) → rest ≡ after_lines newline 1 text
 after_first text line is first = grind (arith, common_steps, joined-lines_of)
 
 -- what is left of a slice
@@ -112,7 +124,8 @@ rest_all n left = grind (arith, common_steps)
 
 -- The complete lines of a text and what follows them, where more bytes come.
 
-pub whole_by : (x : List ℕ) (ends : Bool) → ends_with newline x ≡ ends → line_count newline x ≤ delimiters newline x → IsWhole x
+pub whole_by : (x : List ℕ) (ends : Bool) → ends_with newline x ≡ ends → line_count newline x ≤ delimiters newline x
+    → IsWhole x
 whole_by x ends is few = grind (arith, common_steps, line_count-open)
 
 pub lines_whole : (x : List ℕ) → IsWhole (whole_lines x)
@@ -135,7 +148,8 @@ all_complete x = ap (map marked) (lines_of-first_lines newline (delimiters newli
 pub front_is : (front rest : List ℕ) → IsWhole front → delimiters newline rest ≡ 0 → whole_lines (front ++ rest) ≡ front
 front_is front rest fact none = grind (arith, common_steps, first_lines-zero, first_lines-whole, delimiters-append)
 
-pub tail_is : (front : List ℕ) {rest : List ℕ} → IsWhole front → delimiters newline rest ≡ 0 → open_line (front ++ rest) ≡ rest
+pub tail_is : (front : List ℕ) {rest : List ℕ} → IsWhole front → delimiters newline rest ≡ 0
+    → open_line (front ++ rest) ≡ rest
 tail_is front {rest} whole none = append_cancel_left front (open_line (front ++ rest)) rest
     (ap (λ those. those ++ open_line (front ++ rest)) (sym (front_is front rest whole none)) ∙ lines_then_open)
 
@@ -158,7 +172,8 @@ open_more x y = grind (arith, common_steps, parted, tail_is, both_whole, open_un
 
 -- a piece without a newline
 
-pub no_newline : (rest piece : List ℕ) → delimiters newline rest ≡ 0 → delimiters newline piece ≡ 0 → delimiters newline (rest ++ piece) ≡ 0
+pub no_newline : (rest piece : List ℕ) → delimiters newline rest ≡ 0 → delimiters newline piece ≡ 0
+    → delimiters newline (rest ++ piece) ≡ 0
 no_newline rest piece none also = grind (arith, common_steps, delimiters-append)
 
 -- a piece with one
@@ -175,10 +190,12 @@ some_ends rest text ends = ends_with-append newline rest text (ends_with-some ne
 split_piece : (rest piece : List ℕ) (end : ℕ) → rest ++ piece ≡ (rest ++ take end piece) ++ drop end piece
 split_piece rest piece end = grind (arith, common_steps)
 
-pub piece_lines : (rest : List ℕ) {piece : List ℕ} (end : ℕ) → LastEndsAt newline piece end → whole_lines (rest ++ piece) ≡ rest ++ take end piece
+pub piece_lines : (rest : List ℕ) {piece : List ℕ} (end : ℕ) → LastEndsAt newline piece end
+    → whole_lines (rest ++ piece) ≡ rest ++ take end piece
 piece_lines rest {piece} end last = ap whole_lines (split_piece rest piece end) ∙ front_is (rest ++ take end piece) (drop end piece) (inr (some_ends rest (take end piece) (piece_ends end last))) last.none_after
 
-pub piece_open : (rest : List ℕ) {piece : List ℕ} (end : ℕ) → LastEndsAt newline piece end → open_line (rest ++ piece) ≡ drop end piece
+pub piece_open : (rest : List ℕ) {piece : List ℕ} (end : ℕ) → LastEndsAt newline piece end
+    → open_line (rest ++ piece) ≡ drop end piece
 piece_open rest {piece} end last = ap open_line (split_piece rest piece end) ∙ tail_is (rest ++ take end piece) (inr (some_ends rest (take end piece) (piece_ends end last))) last.none_after
 
 -- lines
@@ -209,10 +226,12 @@ joined_line rest end none is = grind (arith, common_steps, line_by, none_in, Are
 
 -- the first of complete lines is complete, and so are those after it
 
-pub first_complete : {text : List ℕ} (line : List ℕ) {rest : List ℕ} → (ends_with newline line ≡ false → rest ≡ []) → text ≡ line ++ rest → ends_with newline text ≡ true → ends_with newline line ≡ true
+pub first_complete : {text : List ℕ} (line : List ℕ) {rest : List ℕ} → (ends_with newline line ≡ false → rest ≡ [])
+    → text ≡ line ++ rest → ends_with newline text ≡ true → ends_with newline line ≡ true
 first_complete line last joined whole = grind (arith, common_steps)
 
-pub others_whole : {text : List ℕ} (line rest : List ℕ) → text ≡ line ++ rest → ends_with newline text ≡ true → IsWhole rest
+pub others_whole : {text : List ℕ} (line rest : List ℕ) → text ≡ line ++ rest → ends_with newline text ≡ true
+    → IsWhole rest
 others_whole line rest joined whole = grind (arith, common_steps, ends_with-append)
 
 pub open_complete : (rest line : List ℕ) → ends_with newline line ≡ true → IsWhole (rest ++ line)

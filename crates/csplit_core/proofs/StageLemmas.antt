@@ -67,10 +67,12 @@ nothing_yet = record { ended = []; opening = Never; bytes = [] }
 abbrev first_draft : Style → Bool → Draft
 first_draft style kept = with_next (opening_of style kept) nothing_yet
 
-first_settled : (style : Style) (operands : List Operand) → first_draft style (kept_by operands) ≡ settled_draft style operands []
+first_settled : (style : Style) (operands : List Operand)
+    → first_draft style (kept_by operands) ≡ settled_draft style operands []
 first_settled style operands = search rules
 
-first_part : (style : Style) (operands : List Operand) → draft_part (manner_of style) (first_draft style (kept_by operands)) ≡ settled_of style operands []
+first_part : (style : Style) (operands : List Operand)
+    → draft_part (manner_of style) (first_draft style (kept_by operands)) ≡ settled_of style operands []
 first_part style operands = ap (draft_part (manner_of style)) (first_settled style operands) ∙ settled_part_is style operands []
 
 -- 64 bits count more files than come
@@ -84,7 +86,8 @@ first_owns style two = grind (arith, common_steps)
 first_writes : (style : Style) → Writes (manner_of style) (writer_for style) nothing_yet
 first_writes style = record { same = first_manner style; made = refl; kept = λ all. refl; named = λ place less. refl; current = refl }
 
-pub first_ready : (style : Style) {writer : WriterState} {slots : List Slot} → writer ≡ new_for style → 2 ≤ length slots → IsTrue (is_writable slots 0) → CanWrite writer slots
+pub first_ready : (style : Style) {writer : WriterState} {slots : List Slot} → writer ≡ new_for style → 2 ≤ length slots
+    → IsTrue (is_writable slots 0) → CanWrite writer slots
 first_ready style {slots = slots} is two can = grind (arith, common_steps)
 
 -- The first turn, before any line came in.
@@ -95,7 +98,8 @@ first_progress = record { done = 0; repetition = 0; current = 1; matched = 0 }
 abbrev SaysFirst : Bool → List Operand → Turn → Type 0
 SaysFirst suppress operands turn = (lines : List Line) → AreSeen suppress lines 0 (start operands) false → Turns suppress lines (start operands) turn
 
-first_ends : {suppress : Bool} (operands : List Operand) {turn : Turn} → SaysFirst suppress operands turn → MovesOn operands 0 first_progress turn → EndsHere suppress [] (start operands) turn
+first_ends : {suppress : Bool} (operands : List Operand) {turn : Turn} → SaysFirst suppress operands turn
+    → MovesOn operands 0 first_progress turn → EndsHere suppress [] (start operands) turn
 first_ends {suppress} operands {turn} says moves =
     turn_ends turn (grind (arith, common_steps)) (says [] (grind (arith, common_steps)))
 
@@ -110,7 +114,10 @@ first_window operands = record { most = most_by operands; delim = newline; held 
 abbrev first_cutter : List Operand → Style → WriterState → Turn → CutterState
 first_cutter operands style writer aim = opened operands style writer first_progress aim (first_window operands) (pattern_by operands)
 
-first_stands : (operands : List Operand) (style : Style) {writer : WriterState} {aim : Turn} → Writes (manner_of style) writer (first_draft style (kept_by operands)) → (ends : EndsHere style.suppress [] (start operands) aim) → (final : Bool) → is_final ends.ending ≡ final → Stands (first_cutter operands style writer aim) []
+first_stands : (operands : List Operand) (style : Style) {writer : WriterState} {aim : Turn}
+    → Writes (manner_of style) writer (first_draft style (kept_by operands))
+    → (ends : EndsHere style.suppress [] (start operands) aim) → (final : Bool) → is_final ends.ending ≡ final
+    → Stands (first_cutter operands style writer aim) []
 first_stands operands style writes ends false live = inl (record {
   at = record {
     steps = [];
@@ -129,7 +136,10 @@ first_stands operands style writes ends false live = inl (record {
 })
 first_stands operands style {writer} {aim} writes ends true past = grind (arith, common_steps, plan_once, first_settled)
 
-first_opened : (told : Bool) {style : Style} {operands : List Operand} {old new : List Slot} {writer : WriterState} (aim : Turn) → 2 ≤ length old → Goes told (writer_for style) (with_next (opening_of style (kept_by operands))) old new writer None → size_of writer.current ≡ 0 → SaysFirst style.suppress operands aim → MovesOn operands 0 first_progress aim
+first_opened : (told : Bool) {style : Style} {operands : List Operand} {old new : List Slot} {writer : WriterState}
+    (aim : Turn) → 2 ≤ length old
+    → Goes told (writer_for style) (with_next (opening_of style (kept_by operands))) old new writer None
+    → size_of writer.current ≡ 0 → SaysFirst style.suppress operands aim → MovesOn operands 0 first_progress aim
     → Opened told style operands old new (first_cutter operands style writer aim)
 first_opened told {style} {operands} {old} {new} {writer} aim two begun none says moves =
     let ends = first_ends operands says moves in
@@ -149,11 +159,17 @@ first_opened told {style} {operands} {old} {new} {writer} aim two begun none say
 
 -- What `open` returns, where the next operand was looked up.
 
-pub opened_at : (told : Bool) {style : Style} {suppress : Bool} {operands : List Operand} {next : Option Operand} {opening : Opening} {old new : List Slot} {first writer : WriterState} {progress : Progress} {aim : Turn} {window : Window} {sought : Option Pattern}
-    → next ≡ next_of operands → window ≡ record { most = most_next next; delim = newline; held = [] } → sought ≡ pattern_next next → opening ≡ opening_of style (kept_next next)
-    → suppress ≡ style.suppress → first ≡ new_for style → 2 ≤ length old → Goes told (paused first) (with_next opening) old new writer None
+pub opened_at : (told : Bool) {style : Style} {suppress : Bool} {operands : List Operand} {next : Option Operand}
+    {opening : Opening} {old new : List Slot} {first writer : WriterState} {progress : Progress} {aim : Turn}
+    {window : Window} {sought : Option Pattern}
+    → next ≡ next_of operands → window ≡ record { most = most_next next; delim = newline; held = [] }
+    → sought ≡ pattern_next next → opening ≡ opening_of style (kept_next next)
+    → suppress ≡ style.suppress → first ≡ new_for style → 2 ≤ length old
+    → Goes told (paused first) (with_next opening) old new writer None
     → size_of writer.current ≡ 0 → progress ≡ first_progress
-    → ((lines : List Line) → AreSeen suppress lines 0 (state_of operands progress) false → Turns suppress lines (state_of operands progress) aim) → (progress.matched ≤ 0 → MovesOn operands 0 progress aim)
+    → ((lines : List Line) → AreSeen suppress lines 0 (state_of operands progress) false
+    → Turns suppress lines (state_of operands progress) aim)
+    → (progress.matched ≤ 0 → MovesOn operands 0 progress aim)
     → Opened told style operands old new (opened operands style writer progress aim window sought)
 opened_at told {style} {suppress} {operands} {opening = opening} {old} {new} {writer = writer} {aim = aim} {window} {sought} next_is window_is sought_is opening_is suppress_is made two begun none start_is says moves =
     let window_first : first_window operands ≡ window = sym (window_is ∙ ap (λ (o : Option Operand). record { most = most_next o; delim = newline; held = [] }) next_is) in
@@ -167,7 +183,8 @@ opened_at told {style} {suppress} {operands} {opening = opening} {old} {new} {wr
     (subst (λ s. Opened told style operands old new (opened operands style writer first_progress aim (first_window operands) s)) sought_first
     (first_opened told aim two (subst (λ those. Goes told (writer_for style) (with_next those) old new writer None) opening_first (subst (λ w. Goes told (paused w) (with_next opening) old new writer None) made begun)) none says_first moves_first)))
 
-begun_not : {told : Bool} {style : Style} {opening : Opening} {old new : List Slot} {next : WriterState} {f : Fault} → 2 ≤ length old → Goes told (writer_for style) (with_next opening) old new next (Some f) → next.files ≡ []
+begun_not : {told : Bool} {style : Style} {opening : Opening} {old new : List Slot} {next : WriterState} {f : Fault}
+    → 2 ≤ length old → Goes told (writer_for style) (with_next opening) old new next (Some f) → next.files ≡ []
     → BegunNot told style (draft_part (manner_of style) (with_next opening nothing_yet)) old new f
 begun_not {style = style} {old = old} {new} {f = f} two goes none = record {
   reaches = reaches_as (sym (nothing_part (sizes_wanted style))) refl (record { there = (goes.reaches (manner_of style) nothing_yet (first_writes style)).there });
@@ -175,8 +192,10 @@ begun_not {style = style} {old = old} {new} {f = f} two goes none = record {
   none = λ place past. (goes.leaves.owns.owns (length old) (first_owns style two)).own goes.leaves.keeps place past ∙ ap (is_among place) none;
 }
 
-pub opened_not : (told : Bool) {style : Style} (operands : List Operand) {next : Option Operand} {opening : Opening} {old new : List Slot}
-    {first writer : WriterState} {fault : Fault} → next ≡ next_of operands → opening ≡ opening_of style (kept_next next) → first ≡ new_for style → 2 ≤ length old
+pub opened_not : (told : Bool) {style : Style} (operands : List Operand) {next : Option Operand} {opening : Opening}
+    {old new : List Slot}
+    {first writer : WriterState} {fault : Fault} → next ≡ next_of operands → opening ≡ opening_of style (kept_next next)
+    → first ≡ new_for style → 2 ≤ length old
     → Goes told (paused first) (with_next opening) old new writer (Some fault) → writer.files ≡ first.files
     → BegunNot told style (settled_of style operands []) old new fault
 opened_not told {style} operands {opening = opening} {old} {new} {writer = writer} {fault} next_is opening_is made two begun same =
@@ -187,14 +206,17 @@ none_told : (style : Style) → LinesTo (sizes_wanted style) nothing nothing 0 M
 none_told style = grind (arith, common_steps)
 
 -- where there is no memory, nothing was done
-pub opened_lacks : (told : Bool) {style : Style} (operands : List Operand) {slots : List Slot} {fault : Fault} → fault ≡ Memory → BegunNot told style (settled_of style operands []) slots slots fault
+pub opened_lacks : (told : Bool) {style : Style} (operands : List Operand) {slots : List Slot} {fault : Fault}
+    → fault ≡ Memory → BegunNot told style (settled_of style operands []) slots slots fault
 opened_lacks told {style} operands {slots} lacks = search (rules, stops_wider, in_turn, none_told, nothing_begins_part, none_past)
 
 -- What ending the cutter leaves: all lines that waited belong to the last section, which ends; and the fault with which the work ends.
 
 -- The last section has all lines that are left, and none where the cut is below the current line.
 
-all_written : (x : List ℕ) {written held : List ℕ} (current taken : ℕ) (ending : Ending) → 1 ≤ current → is_final ending ≡ false → written ≡ first_lines newline taken (text_from current x) → held ≡ text_from (current + taken) x
+all_written : (x : List ℕ) {written held : List ℕ} (current taken : ℕ) (ending : Ending) → 1 ≤ current
+    → is_final ending ≡ false → written ≡ first_lines newline taken (text_from current x)
+    → held ≡ text_from (current + taken) x
     → written ++ held ≡ first_lines newline (whole_end (line_count newline x) ending - current) (text_from current x)
 all_written x {held} current taken ending some live written_is held_is =
     let all : first_lines newline taken (text_from current x) ++ after_lines newline taken (text_from current x) ≡ text_from current x = first_lines_then_rest newline taken (text_from current x) in
@@ -209,7 +231,8 @@ record LastDraft (cutter : CutterState) (x : List ℕ) : Type 0 where
   draft : Draft
   writes : Writes (manner_of cutter.style) cutter.writer draft
   settled : draft_part (manner_of cutter.style) draft ≡ settled_part cutter x
-  whole : draft_part (manner_of cutter.style) (with_next Never (with_bytes cutter.window.held draft)) ≡ whole_part cutter x
+  whole : draft_part (manner_of cutter.style) (with_next Never (with_bytes cutter.window.held draft))
+      ≡ whole_part cutter x
 
 live_draft : {cutter : CutterState} {x : List ℕ} → IsFit cutter → IsLive cutter x → LastDraft cutter x
 live_draft {cutter} {x} fit live = record {
@@ -234,11 +257,15 @@ judged_now fact = grind (arith, common_steps, plan_once, runs_to)
 
 -- What `end` does: the lines that wait are written, and then the section ends.
 
-all_held : (cutter : CutterState) {n : ℕ} → n ≡ length cutter.window.held → take n cutter.window.held ≡ cutter.window.held
+all_held : (cutter : CutterState) {n : ℕ} → n ≡ length cutter.window.held
+    → take n cutter.window.held ≡ cutter.window.held
 all_held cutter {n} all = grind (arith, common_steps)
 
-pub end_goes : {told : Bool} {cutter : CutterState} {between next : WriterState} (window : Window) {n : ℕ} {old mid new : List Slot} {fault : Option Fault} → IsFit cutter → n ≡ length cutter.window.held
-    → Goes told cutter.writer (with_bytes (take n cutter.window.held)) old mid between None → Goes told between (with_next Never) mid new next fault → EndsAll told cutter old new (record cutter { writer = next; window = window }) fault
+pub end_goes : {told : Bool} {cutter : CutterState} {between next : WriterState} (window : Window) {n : ℕ}
+    {old mid new : List Slot} {fault : Option Fault} → IsFit cutter → n ≡ length cutter.window.held
+    → Goes told cutter.writer (with_bytes (take n cutter.window.held)) old mid between None
+    → Goes told between (with_next Never) mid new next fault
+    → EndsAll told cutter old new (record cutter { writer = next; window = window }) fault
 end_goes {told} {cutter} {between = between} {next} window {mid = mid} {new} {fault} fit all goes ends =
     let went = goes_as (all_held cutter all) goes in record {
       keeps = record { operands = refl; style = refl; writer = leaves_again went.leaves ends.leaves };
@@ -247,8 +274,10 @@ end_goes {told} {cutter} {between = between} {next} window {mid = mid} {new} {fa
       judged = in_any fault (λ x stands. (grind (arith, common_steps, judged_now, stands)));
     }
 
-pub end_short : {told : Bool} {cutter : CutterState} {next : WriterState} {window : Window} {n : ℕ} {old new : List Slot} {fault : Fault} → IsFit cutter → n ≡ length cutter.window.held
-    → Goes told cutter.writer (with_bytes (take n cutter.window.held)) old new next (Some fault) → EndsAll told cutter old new (record cutter { writer = next; window = window }) (Some fault)
+pub end_short : {told : Bool} {cutter : CutterState} {next : WriterState} {window : Window} {n : ℕ}
+    {old new : List Slot} {fault : Fault} → IsFit cutter → n ≡ length cutter.window.held
+    → Goes told cutter.writer (with_bytes (take n cutter.window.held)) old new next (Some fault)
+    → EndsAll told cutter old new (record cutter { writer = next; window = window }) (Some fault)
 end_short {cutter = cutter} fit all goes =
     let stopped = goes_as (all_held cutter all) goes in record {
       keeps = record { operands = refl; style = refl; writer = stopped.leaves };
@@ -263,7 +292,8 @@ end_short {cutter = cutter} fit all goes =
 abbrev ending_in : CutterState → List ℕ → Ending
 ending_in cutter x = (plan (suppress_in cutter) cutter.operands (all_lines x)).ending
 
-of_it : {cutter : CutterState} {x : List ℕ} → IsJudged cutter x → EndsAs (suppress_in cutter) (all_lines x) (state_in cutter) (ending_in cutter x)
+of_it : {cutter : CutterState} {x : List ℕ} → IsJudged cutter x
+    → EndsAs (suppress_in cutter) (all_lines x) (state_in cutter) (ending_in cutter x)
 of_it {cutter} {x} judged =
     subst (λ state. EndsAs (suppress_in cutter) (all_lines x) state (ending_in cutter x)) (sym judged.last) (ends_as _ _ _ _ _ _ (plan_runs (suppress_in cutter) cutter.operands (all_lines x)))
 
@@ -276,18 +306,24 @@ verdict_at (Above matched line) operand repetition = verdict_of (above operand r
 verdict_at Below operand repetition = verdict_of (below operand repetition)
 verdict_at turn operand repetition = None
 
-verdict_is : (suppress : Bool) (lines : List Line) (state : State) {operand : Operand} {operands : List Operand} (aim : Turn) (ending : Ending) → EndsAs suppress lines state ending → state.operands ≡ operand ∷ operands → AimsAt aim ending
+verdict_is : (suppress : Bool) (lines : List Line) (state : State) {operand : Operand} {operands : List Operand}
+    (aim : Turn) (ending : Ending) → EndsAs suppress lines state ending → state.operands ≡ operand ∷ operands
+    → AimsAt aim ending
     → verdict_at aim operand state.repetition ≡ verdict_of ending
 verdict_is suppress lines state aim ending ends are aims = search rules
 
 -- What `verdict` returns
 
-pub judged_none : {cutter : CutterState} {result : Option Verdict} {x : List ℕ} → false ≡ nat_lt cutter.progress.done (length cutter.operands) → result ≡ None → IsJudged cutter x → result ≡ verdict_of (ending_in cutter x)
+pub judged_none : {cutter : CutterState} {result : Option Verdict} {x : List ℕ}
+    → false ≡ nat_lt cutter.progress.done (length cutter.operands) → result ≡ None → IsJudged cutter x
+    → result ≡ verdict_of (ending_in cutter x)
 judged_none {cutter} {x = x} over none judged = grind (arith, common_steps, nat_tests, of_it, drop_all)
 
 -- the operand that was looked up is the next
-pub judged_next : {cutter : CutterState} {operand : Operand} {aim : Turn} {result : Option Verdict} {x : List ℕ} → cutter.progress.done < length cutter.operands → operand ≡ get_or cutter.operands cutter.progress.done operand
-    → cutter.aim ≡ aim → result ≡ verdict_at aim operand cutter.progress.repetition → IsJudged cutter x → result ≡ verdict_of (ending_in cutter x)
+pub judged_next : {cutter : CutterState} {operand : Operand} {aim : Turn} {result : Option Verdict} {x : List ℕ}
+    → cutter.progress.done < length cutter.operands → operand ≡ get_or cutter.operands cutter.progress.done operand
+    → cutter.aim ≡ aim → result ≡ verdict_at aim operand cutter.progress.repetition → IsJudged cutter x
+    → result ≡ verdict_of (ending_in cutter x)
 judged_next {cutter} {aim = aim} {x = x} within here aimed made judged = grind (arith, common_steps, verdict_is, of_it, left_is)
 
 -- How many bytes wait.
@@ -303,10 +339,14 @@ held_within {cutter} {x} live =
     let long : length x ≡ length (first_lines newline (cutter.progress.current + live.at.taken - 1) x) + length (text_from (cutter.progress.current + live.at.taken) x) = ap length (sym both) ∙ length-append (first_lines newline (cutter.progress.current + live.at.taken - 1) x) (text_from (cutter.progress.current + live.at.taken) x) in
     let same : length cutter.window.held ≡ length (text_from (cutter.progress.current + live.at.taken) x) = ap length live.at.left_is in omega (arith, long, same)
 
-live_waiting : (stage : CsplitState) (x : List ℕ) (live : IsLive stage.cutter (whole_lines x)) → stage.rest ≡ open_line x → waiting stage.cutter.style stage.cutter.operands x ≡ stage.cutter.window.held ++ stage.rest
+live_waiting : (stage : CsplitState) (x : List ℕ) (live : IsLive stage.cutter (whole_lines x))
+    → stage.rest ≡ open_line x
+    → waiting stage.cutter.style stage.cutter.operands x ≡ stage.cutter.window.held ++ stage.rest
 live_waiting stage x live rest_is = grind (arith, common_steps, all_complete, plan_once, runs_to, are_within, length-all_lines, live_taken, drop-map, bytes_marked, lines_of-after_lines, from_further)
 
-pub held_is : {stage : CsplitState} {x : List ℕ} {result : ℕ} → Holds stage x → length x < 2 ^ 63 → result ≡ min (length stage.cutter.window.held + length stage.rest) (2 ^ 64 - 1) → result ≡ length (waiting stage.cutter.style stage.cutter.operands x)
+pub held_is : {stage : CsplitState} {x : List ℕ} {result : ℕ} → Holds stage x → length x < 2 ^ 63
+    → result ≡ min (length stage.cutter.window.held + length stage.rest) (2 ^ 64 - 1)
+    → result ≡ length (waiting stage.cutter.style stage.cutter.operands x)
 held_is {stage} {x} {result} holds few is = by holds.stands where
   by : Stands stage.cutter (whole_lines x) → result ≡ length (waiting stage.cutter.style stage.cutter.operands x)
   by (inl live) =
@@ -326,7 +366,8 @@ held_is {stage} {x} {result} holds few is = by holds.stands where
 
 -- Want of memory
 
-pub takes_lacking : {told : Bool} {cutter next : CutterState} {t : List ℕ} {old new : List Slot} → Takes told cutter t old new next None → Takes told cutter t old new next (Some Memory)
+pub takes_lacking : {told : Bool} {cutter next : CutterState} {t : List ℕ} {old new : List Slot}
+    → Takes told cutter t old new next None → Takes told cutter t old new next (Some Memory)
 takes_lacking {cutter = cutter} {t = t} took = record {
   keeps = keeps_on took.keeps (record { operands = refl; style = refl; writer = leaves_lacking });
   reaches = λ x whole stands. reaches_again (more_settled cutter t whole) (took.reaches x whole stands) (let is = sym (settled_part_is cutter.style cutter.operands (all_lines (x ++ t))) in reaches_as is is (lacks_memory (manner_of cutter.style) (settled_draft cutter.style cutter.operands (all_lines (x ++ t))) (λ place less. refl)));
@@ -334,13 +375,18 @@ takes_lacking {cutter = cutter} {t = t} took = record {
 }
 
 -- where the last call only wants memory
-pub takes_or_lacks : {told : Bool} {cutter next : CutterState} {t : List ℕ} {old new : List Slot} (result : Result (Unit {0}) Fault) → Takes told cutter t old new next None → IfErr result (λ fault. fault ≡ Memory) → Takes told cutter t old new next (fault_in result)
+pub takes_or_lacks : {told : Bool} {cutter next : CutterState} {t : List ℕ} {old new : List Slot}
+    (result : Result (Unit {0}) Fault) → Takes told cutter t old new next None → IfErr result (λ fault. fault ≡ Memory)
+    → Takes told cutter t old new next (fault_in result)
 takes_or_lacks (Ok done) took lacks = took
 takes_or_lacks {told} {cutter} {next} {t} {old} {new} (Err fault) took lacks = subst (λ why. Takes told cutter t old new next (Some why)) (sym lacks) (takes_lacking took)
 
 -- The end
 
-pub closed_on : {told : Bool} {stage : CsplitState} (last : CsplitState) {next : CsplitState} {two : CutterState} {old mid new : List Slot} {fault : Option Fault} → two ≡ last.cutter → Takes told stage.cutter stage.rest old mid last.cutter None → EndsAll told two mid new next.cutter fault → Closed told stage old new next fault
+pub closed_on : {told : Bool} {stage : CsplitState} (last : CsplitState) {next : CsplitState} {two : CutterState}
+    {old mid new : List Slot} {fault : Option Fault} → two ≡ last.cutter
+    → Takes told stage.cutter stage.rest old mid last.cutter None → EndsAll told two mid new next.cutter fault
+    → Closed told stage old new next fault
 closed_on {told} {stage} last {old = old} {mid} {fault = fault} is took second = let first = subst (λ c. Takes told stage.cutter stage.rest old mid c None) (sym is) took in record {
   keeps = keeps_on first.keeps second.keeps;
   reaches = λ x front stands. reaches_then first.keeps.style (more_settled stage.cutter stage.rest front) (first.reaches x front stands)
@@ -349,15 +395,18 @@ closed_on {told} {stage} last {old = old} {mid} {fault = fault} is took second =
 }
 
 -- the open line could not be taken in
-pub closed_short : {told : Bool} {stage next : CsplitState} {old new : List Slot} {fault : Fault} → Takes told stage.cutter stage.rest old new next.cutter (Some fault) → Closed told stage old new next (Some fault)
+pub closed_short : {told : Bool} {stage next : CsplitState} {old new : List Slot} {fault : Fault}
+    → Takes told stage.cutter stage.rest old new next.cutter (Some fault) → Closed told stage old new next (Some fault)
 closed_short {stage = stage} stopped = record { keeps = stopped.keeps; reaches = λ x front stands. stops_wider (stopped.reaches x front stands) (subst (λ lines. Begins (settled_part stage.cutter (x ++ stage.rest)) (whole_of stage.cutter.style stage.cutter.operands lines)) (append-nil (all_lines (x ++ stage.rest))) (whole_grows stage.cutter.style stage.cutter.operands (all_lines (x ++ stage.rest)) [])); judged = tt }
 
 -- Where later input goes nowhere, it changes nothing of the end either.
 
-final_sections : (a b : List Line) (p : Plan) → AreWithin (length a) p.steps → is_final p.ending ≡ true → whole_sections (a ++ b) p ≡ whole_sections a p
+final_sections : (a b : List Line) (p : Plan) → AreWithin (length a) p.steps → is_final p.ending ≡ true
+    → whole_sections (a ++ b) p ≡ whole_sections a p
 final_sections a b p within final = grind (arith, common_steps, closed_still)
 
-pub past_end : {cutter : CutterState} {x : List ℕ} (t : List ℕ) → IsWhole x → IsPast cutter x → whole_part cutter (x ++ t) ≡ whole_part cutter x
+pub past_end : {cutter : CutterState} {x : List ℕ} (t : List ℕ) → IsWhole x → IsPast cutter x
+    → whole_part cutter (x ++ t) ≡ whole_part cutter x
 past_end {cutter} {x} t whole past =
     let same = past_plan (suppress_in cutter) cutter.operands t whole past.past in
     ap (λ (p : Plan). part_of cutter.style (whole_sections (all_lines (x ++ t)) p)) same
@@ -365,38 +414,51 @@ past_end {cutter} {x} t whole past =
     ∙ ap (part_of cutter.style) (final_sections (all_lines x) (all_lines t) (plan (suppress_in cutter) cutter.operands (all_lines x))
     (are_within (suppress_in cutter) (all_lines x) (start cutter.operands) _ _ _ (plan_runs (suppress_in cutter) cutter.operands (all_lines x)) (omega arith)).0 past.past)
 
-pub past_verdict : {cutter : CutterState} {x : List ℕ} (t : List ℕ) → IsWhole x → IsPast cutter x → verdict_of (plan (suppress_in cutter) cutter.operands (all_lines (x ++ t))).ending ≡ verdict_of (plan (suppress_in cutter) cutter.operands (all_lines x)).ending
+pub past_verdict : {cutter : CutterState} {x : List ℕ} (t : List ℕ) → IsWhole x → IsPast cutter x
+    → verdict_of (plan (suppress_in cutter) cutter.operands (all_lines (x ++ t))).ending
+    ≡ verdict_of (plan (suppress_in cutter) cutter.operands (all_lines x)).ending
 past_verdict {cutter} t whole past = grind (arith, common_steps, past_plan)
 
 -- The steps of the stage that takes in bytes. A stage is known by its fields and by its value.
 
 -- the open line and its end
 
-pub line_at : {before stage : CsplitState} {text : List ℕ} (end : List ℕ) → before ≡ stage → text ≡ before.rest ++ end → delimiters newline stage.rest ≡ 0 → IsLine end → IsLine text
+pub line_at : {before stage : CsplitState} {text : List ℕ} (end : List ℕ) → before ≡ stage → text ≡ before.rest ++ end
+    → delimiters newline stage.rest ≡ 0 → IsLine end → IsLine text
 line_at {before} end is text_is none line = grind (arith, common_steps, joined_line)
 
-pub lacks_at : {told : Bool} {before stage : CsplitState} (t : List ℕ) {slots : List Slot} → before ≡ stage → IsSound stage.cutter → CanWrite stage.cutter.writer slots → Takes told stage.cutter t slots slots before.cutter (Some Memory)
+pub lacks_at : {told : Bool} {before stage : CsplitState} (t : List ℕ) {slots : List Slot} → before ≡ stage
+    → IsSound stage.cutter → CanWrite stage.cutter.writer slots
+    → Takes told stage.cutter t slots slots before.cutter (Some Memory)
 lacks_at {told} {stage = stage} t {slots} is sound ready = subst (λ (s : CsplitState). Takes told stage.cutter t slots slots s.cutter (Some Memory)) (sym is) (takes_wider t (inl refl) (takes_lacking (takes_none sound ready)))
 
 -- the first of the lines was taken in, and then the others
 
-lines_from : {told : Bool} {before stage : CsplitState} {next : CutterState} {lines : List ℕ} (end others : List ℕ) {old new : List Slot} {fault : Option Fault}
+lines_from : {told : Bool} {before stage : CsplitState} {next : CutterState} {lines : List ℕ} (end others : List ℕ)
+    {old new : List Slot} {fault : Option Fault}
     → before ≡ stage → lines ≡ end ++ others
-    → Takes told before.cutter ((before.rest ++ end) ++ others) old new next fault → Takes told stage.cutter (stage.rest ++ lines) old new next fault
+    → Takes told before.cutter ((before.rest ++ end) ++ others) old new next fault
+    → Takes told stage.cutter (stage.rest ++ lines) old new next fault
 lines_from {told} {before} {next = next} {lines} end others {old} {new} {fault} same is takes = grind (arith, common_steps)
 
 -- no line was open
-pub lines_alone : {told : Bool} {before stage : CsplitState} {next : CutterState} {lines : List ℕ} {n : ℕ} {old new : List Slot} {fault : Option Fault} → before ≡ stage → n ≡ length before.rest → eqb n 0 ≡ true → Takes told before.cutter lines old new next fault → Takes told stage.cutter (stage.rest ++ lines) old new next fault
+pub lines_alone : {told : Bool} {before stage : CsplitState} {next : CutterState} {lines : List ℕ} {n : ℕ}
+    {old new : List Slot} {fault : Option Fault} → before ≡ stage → n ≡ length before.rest → eqb n 0 ≡ true
+    → Takes told before.cutter lines old new next fault
+    → Takes told stage.cutter (stage.rest ++ lines) old new next fault
 lines_alone {told} {before} {next = next} {lines} {old = old} {new} {fault} is size empty takes = grind (arith, common_steps)
 
-pub lines_stop : {told : Bool} {before stage : CsplitState} {next : CutterState} {lines text : List ℕ} (end : List ℕ) {others : List ℕ} {old new : List Slot}
+pub lines_stop : {told : Bool} {before stage : CsplitState} {next : CutterState} {lines text : List ℕ} (end : List ℕ)
+    {others : List ℕ} {old new : List Slot}
     {fault : Fault} → before ≡ stage → text ≡ before.rest ++ end
     → lines ≡ end ++ others → (ends_with newline end ≡ false → others ≡ []) → ends_with newline lines ≡ true
-    → Takes told before.cutter text old new next (Some fault) → Takes told stage.cutter (stage.rest ++ lines) old new next (Some fault)
+    → Takes told before.cutter text old new next (Some fault)
+    → Takes told stage.cutter (stage.rest ++ lines) old new next (Some fault)
 lines_stop {told} {before} {next = next} end {others} {old} {new} {fault} same text_is is last whole stopped =
     lines_from end others same is (takes_wider others (open_complete before.rest end (first_complete end last is whole)) (subst (λ those. Takes told before.cutter those old new next (Some fault)) text_is stopped))
 
-pub lines_after : {told : Bool} {before stage : CsplitState} {mid next : CutterState} {lines text : List ℕ} (end : List ℕ) {others : List ℕ}
+pub lines_after : {told : Bool} {before stage : CsplitState} {mid next : CutterState} {lines text : List ℕ}
+    (end : List ℕ) {others : List ℕ}
     {old between new : List Slot} {fault : Option Fault} → before ≡ stage → text ≡ before.rest ++ end
     → lines ≡ end ++ others → (ends_with newline end ≡ false → others ≡ []) → ends_with newline lines ≡ true
     → Takes told before.cutter text old between mid None → Takes told mid others between new next fault
@@ -406,7 +468,9 @@ lines_after {told} {before} {mid = mid} end {others} {old} {between} same text_i
 
 -- A piece
 
-pub past_passes : {told : Bool} {view stage : CsplitState} {piece : List ℕ} {slots : List Slot} → view ≡ stage → view.cutter.aim ≡ Below → CanWrite stage.cutter.writer slots → IsSound stage.cutter → delimiters newline stage.rest ≡ 0
+pub past_passes : {told : Bool} {view stage : CsplitState} {piece : List ℕ} {slots : List Slot} → view ≡ stage
+    → view.cutter.aim ≡ Below → CanWrite stage.cutter.writer slots → IsSound stage.cutter
+    → delimiters newline stage.rest ≡ 0
     → Passes told stage piece slots slots view (Ok tt)
 past_passes {told} {stage = stage} {piece} {slots} is aim ready sound unbroken =
     let aimed : stage.cutter.aim ≡ Below = ap (λ (s : CsplitState). s.cutter.aim) (sym is) ∙ aim in
@@ -418,12 +482,17 @@ past_passes {told} {stage = stage} {piece} {slots} is aim ready sound unbroken =
 pub below_or_not : (turn : Turn) → (turn ≡ Below) ⊎ (turn ≡ Below → ⊥)
 below_or_not turn = search rules
 
-on_both : {A B C : Type 0} (result : Result (Unit {0}) Fault) → OnOk result A → OnOk result B → (A → B → C) → OnOk result C
+on_both : {A B C : Type 0} (result : Result (Unit {0}) Fault) → OnOk result A → OnOk result B → (A → B → C)
+    → OnOk result C
 on_both result one other follows = search rules
 
 -- no newline came: the piece is more of the open line
-pub none_passes : {told : Bool} {view stage : CsplitState} (next : CsplitState) {piece : List ℕ} {slots : List Slot} (result : Result (Unit {0}) Fault) → view ≡ stage → (view.cutter.aim ≡ Below → ⊥) → delimiters newline piece ≡ 0 → CanWrite stage.cutter.writer slots → IsSound stage.cutter
-    → delimiters newline stage.rest ≡ 0 → next.cutter ≡ view.cutter → OnOk result ((view.cutter.aim ≡ Below → ⊥) → next.rest ≡ view.rest ++ piece) → IfErr result (λ fault. fault ≡ Memory) → Passes told stage piece slots slots next result
+pub none_passes : {told : Bool} {view stage : CsplitState} (next : CsplitState) {piece : List ℕ} {slots : List Slot}
+    (result : Result (Unit {0}) Fault) → view ≡ stage → (view.cutter.aim ≡ Below → ⊥) → delimiters newline piece ≡ 0
+    → CanWrite stage.cutter.writer slots → IsSound stage.cutter
+    → delimiters newline stage.rest ≡ 0 → next.cutter ≡ view.cutter
+    → OnOk result ((view.cutter.aim ≡ Below → ⊥) → next.rest ≡ view.rest ++ piece)
+    → IfErr result (λ fault. fault ≡ Memory) → Passes told stage piece slots slots next result
 none_passes {told} {view} {stage} next {piece} {slots} result is differs none ready sound unbroken cutter rest lacks = subst (λ (s : CsplitState). Passes told s piece slots slots next result) is (record {
   took = takes_or_lacks result (subst (λ (c : CutterState). Takes told view.cutter (whole_lines (view.rest ++ piece)) slots slots c None) (sym cutter)
       (subst (λ text. Takes told view.cutter text slots slots view.cutter None) (sym (front_is [] (view.rest ++ piece) (inl refl) (no_newline view.rest piece here none)))
@@ -441,14 +510,20 @@ none_passes {told} {view} {stage} next {piece} {slots} result is differs none re
 
 -- the lines of the piece were taken in, and what follows them is the open line
 
-some_unbroken : (aim : Turn) (mid next : CsplitState) (text : List ℕ) → mid.rest ≡ [] → delimiters newline text ≡ 0 → (mid.cutter.aim ≡ Below) ⊎ (mid.cutter.aim ≡ Below → ⊥) → (mid.cutter.aim ≡ Below → next.rest ≡ mid.rest) → ((mid.cutter.aim ≡ Below → ⊥) → next.rest ≡ mid.rest ++ text)
+some_unbroken : (aim : Turn) (mid next : CsplitState) (text : List ℕ) → mid.rest ≡ [] → delimiters newline text ≡ 0
+    → (mid.cutter.aim ≡ Below) ⊎ (mid.cutter.aim ≡ Below → ⊥) → (mid.cutter.aim ≡ Below → next.rest ≡ mid.rest)
+    → ((mid.cutter.aim ≡ Below → ⊥) → next.rest ≡ mid.rest ++ text)
     → (delimiters newline next.rest ≡ 0) × (length next.rest ≤ length text)
 some_unbroken aim mid next text empty none (inl is_below) past live = (ap (delimiters newline) (past is_below ∙ empty), (let e : length next.rest ≡ 0 = ap length (past is_below ∙ empty) in omega (arith, e)))
 some_unbroken aim mid next text empty none (inr differs) past live =
     let is : next.rest ≡ text = live differs ∙ ap (λ those. those ++ text) empty in (ap (delimiters newline) is ∙ none, (let e : length next.rest ≡ length text = ap length is in omega (arith, e)))
 
-pub some_passes : {told : Bool} {view stage : CsplitState} (mid next : CsplitState) {piece lines : List ℕ} (text : List ℕ) (end : ℕ) {old new : List Slot} (result : Result (Unit {0}) Fault) → view ≡ stage → (view.cutter.aim ≡ Below → ⊥) → LastEndsAt newline piece end → lines ≡ take end piece → text ≡ drop end piece
-    → Takes told view.cutter (view.rest ++ lines) old new mid.cutter None → mid.rest ≡ [] → next.cutter ≡ mid.cutter → OnOk result (mid.cutter.aim ≡ Below → next.rest ≡ mid.rest) → OnOk result ((mid.cutter.aim ≡ Below → ⊥) → next.rest ≡ mid.rest ++ text)
+pub some_passes : {told : Bool} {view stage : CsplitState} (mid next : CsplitState) {piece lines : List ℕ}
+    (text : List ℕ) (end : ℕ) {old new : List Slot} (result : Result (Unit {0}) Fault) → view ≡ stage
+    → (view.cutter.aim ≡ Below → ⊥) → LastEndsAt newline piece end → lines ≡ take end piece → text ≡ drop end piece
+    → Takes told view.cutter (view.rest ++ lines) old new mid.cutter None → mid.rest ≡ [] → next.cutter ≡ mid.cutter
+    → OnOk result (mid.cutter.aim ≡ Below → next.rest ≡ mid.rest)
+    → OnOk result ((mid.cutter.aim ≡ Below → ⊥) → next.rest ≡ mid.rest ++ text)
     → IfErr result (λ fault. fault ≡ Memory) → Passes told stage piece old new next result
 some_passes {told} {view} {stage} mid next {piece} {lines} text end {old} {new} result is differs last lines_is text_is took empty cutter past live lacks = subst (λ (s : CsplitState). Passes told s piece old new next result) is (record {
   took = takes_or_lacks result (subst (λ (c : CutterState). Takes told view.cutter (whole_lines (view.rest ++ piece)) old new c None) (sym cutter)
@@ -470,22 +545,29 @@ some_passes {told} {view} {stage} mid next {piece} {lines} text end {old} {new} 
       });
 })
 
-pub some_stopped : {told : Bool} {view stage : CsplitState} (next : CsplitState) {piece lines : List ℕ} (end : ℕ) {old new : List Slot} {fault : Fault} → view ≡ stage → LastEndsAt newline piece end → lines ≡ take end piece → Takes told view.cutter (view.rest ++ lines) old new next.cutter (Some fault)
+pub some_stopped : {told : Bool} {view stage : CsplitState} (next : CsplitState) {piece lines : List ℕ} (end : ℕ)
+    {old new : List Slot} {fault : Fault} → view ≡ stage → LastEndsAt newline piece end → lines ≡ take end piece
+    → Takes told view.cutter (view.rest ++ lines) old new next.cutter (Some fault)
     → Passes told stage piece old new next (Err fault)
 some_stopped {told} {view} next {piece} end {old} {new} {fault} is last lines_is stopped = subst (λ (s : CsplitState). Passes told s piece old new next (Err fault)) is
     (record { took = subst (λ those. Takes told view.cutter those old new next.cutter (Some fault)) (ap (λ those. view.rest ++ those) lines_is ∙ sym (piece_lines view.rest end last)) stopped; passed = tt })
 
 -- The last line
 
-pub last_none : {told : Bool} {before stage : CsplitState} {n : ℕ} {slots : List Slot} → before ≡ stage → n ≡ length before.rest → eqb n 0 ≡ true → CanWrite stage.cutter.writer slots → IsSound stage.cutter → Takes told stage.cutter stage.rest slots slots stage.cutter None
+pub last_none : {told : Bool} {before stage : CsplitState} {n : ℕ} {slots : List Slot} → before ≡ stage
+    → n ≡ length before.rest → eqb n 0 ≡ true → CanWrite stage.cutter.writer slots → IsSound stage.cutter
+    → Takes told stage.cutter stage.rest slots slots stage.cutter None
 last_none {told} {stage = stage} {slots = slots} is size empty ready sound =
     subst (λ text. Takes told stage.cutter text slots slots stage.cutter None) (sym (ap (λ (s : CsplitState). s.rest) (sym is) ∙ none_there (ap (λ k. eqb k 0) size) empty)) (takes_none sound ready)
 
-pub last_line : {before stage : CsplitState} {n : ℕ} {text : List ℕ} → before ≡ stage → text ≡ before.rest → n ≡ length before.rest → eqb n 0 ≡ false → delimiters newline stage.rest ≡ 0 → IsLine text
+pub last_line : {before stage : CsplitState} {n : ℕ} {text : List ℕ} → before ≡ stage → text ≡ before.rest
+    → n ≡ length before.rest → eqb n 0 ≡ false → delimiters newline stage.rest ≡ 0 → IsLine text
 last_line {before} is text_is size some unbroken = grind (arith, common_steps, open_is_line)
 
 -- the work ends with a verdict, and the files are removed then
-pub judged_by : {told : Bool} {stage mid next : CsplitState} {reached new old : List Slot} {result : Option Verdict} {verdict : Verdict} → Closed told stage old reached mid None → result ≡ Some verdict → Judges mid.cutter result → Sweeps terms mid next reached new
+pub judged_by : {told : Bool} {stage mid next : CsplitState} {reached new old : List Slot} {result : Option Verdict}
+    {verdict : Verdict} → Closed told stage old reached mid None → result ≡ Some verdict → Judges mid.cutter result
+    → Sweeps terms mid next reached new
     → Closes told stage old new next (Err (fault_is.Verdict verdict))
 judged_by {mid = mid} {reached} {verdict = verdict} closed is judges swept = ended_so verdict mid reached closed (subst (Judges mid.cutter) is judges) swept
 
@@ -496,39 +578,58 @@ judged_by {mid = mid} {reached} {verdict = verdict} closed is judges swept = end
 settled_is : (stage : CsplitState) (x : List ℕ) → settled_part stage.cutter (whole_lines x) ≡ (work stage).settled x
 settled_is stage x = ap (settled_of stage.cutter.style stage.cutter.operands) (all_complete x)
 
-lines_in : (rest x piece : List ℕ) → rest ≡ open_line x → whole_lines x ++ whole_lines (rest ++ piece) ≡ whole_lines (x ++ piece)
+lines_in : (rest x piece : List ℕ) → rest ≡ open_line x
+    → whole_lines x ++ whole_lines (rest ++ piece) ≡ whole_lines (x ++ piece)
 lines_in rest x piece is = ap (λ those. whole_lines x ++ whole_lines (those ++ piece)) is ∙ sym (lines_more x piece)
 
-settled_by_cases : {stage : CsplitState} {x : List ℕ} (piece : List ℕ) → Holds stage x → (stage.cutter.aim ≡ Below) ⊎ (stage.cutter.aim ≡ Below → ⊥) → settled_part stage.cutter (whole_lines x ++ whole_lines (stage.rest ++ piece)) ≡ (work stage).settled (x ++ piece)
+settled_by_cases : {stage : CsplitState} {x : List ℕ} (piece : List ℕ) → Holds stage x
+    → (stage.cutter.aim ≡ Below) ⊎ (stage.cutter.aim ≡ Below → ⊥)
+    → settled_part stage.cutter (whole_lines x ++ whole_lines (stage.rest ++ piece)) ≡ (work stage).settled (x ++ piece)
 settled_by_cases {stage} {x} piece holds (inl is_below) =
     sym (past_part (whole_lines (stage.rest ++ piece)) (lines_whole x) (is_past is_below holds.stands))
     ∙ past_part (whole_lines (open_line x ++ piece)) (lines_whole x) (is_past is_below holds.stands)
     ∙ ap (settled_part stage.cutter) (sym (lines_more x piece)) ∙ settled_is stage (x ++ piece)
 settled_by_cases {stage} {x} piece holds (inr differs) = grind (arith, common_steps, lines_in, settled_is)
 
-settled_then : {stage : CsplitState} {x : List ℕ} (piece : List ℕ) → Holds stage x → settled_part stage.cutter (whole_lines x ++ whole_lines (stage.rest ++ piece)) ≡ (work stage).settled (x ++ piece)
+settled_then : {stage : CsplitState} {x : List ℕ} (piece : List ℕ) → Holds stage x
+    → settled_part stage.cutter (whole_lines x ++ whole_lines (stage.rest ++ piece)) ≡ (work stage).settled (x ++ piece)
 settled_then {stage} piece holds = settled_by_cases piece holds (below_or_not stage.cutter.aim)
 
 -- the outputs stay its own
-pub owns_on : {stage next : CsplitState} {old new : List Slot} {fault : Option Fault} → Leaves stage.cutter.writer next.cutter.writer old new fault → (first : ℕ) → Owns stage first old → Owns next first new
+pub owns_on : {stage next : CsplitState} {old new : List Slot} {fault : Option Fault}
+    → Leaves stage.cutter.writer next.cutter.writer old new fault → (first : ℕ) → Owns stage first old
+    → Owns next first new
 owns_on leaves first own = grind (arith, common_steps)
 
 -- the outputs at it, which are the writer's own
-stands_so : (told : Bool) {before : List Slot} {stage : CsplitState} {x : List ℕ} {now : List Slot} → StandsAt terms stage told before x now → At told stage.cutter.writer before (settled_part stage.cutter (whole_lines x)) now
+stands_so : (told : Bool) {before : List Slot} {stage : CsplitState} {x : List ℕ} {now : List Slot}
+    → StandsAt terms stage told before x now
+    → At told stage.cutter.writer before (settled_part stage.cutter (whole_lines x)) now
 stands_so told {before} {stage} {x} {now} at = grind (arith, common_steps, settled_is)
 
 -- faults
 
-not_verdict : (style : Style) (old new : List Slot) (fault : Fault) {own : Manner} → IsManner (manner_of style) own → Breaks own old new fault → is_verdict fault ≡ false
+not_verdict : (style : Style) (old new : List Slot) (fault : Fault) {own : Manner} → IsManner (manner_of style) own
+    → Breaks own old new fault → is_verdict fault ≡ false
 not_verdict style old new fault same breaks = grind (arith, common_steps)
 
-met_by : {Lacks : Type 0} → Lacks → (Ends : Verdict → Type 0) (style : Style) (old new : List Slot) (fault : Fault) {own : Manner} → IsManner (manner_of style) own → Breaks own old new fault
-    → IsMet (record { output = sizes_wanted style; files = true; feeding = record { memory = true; files = true }; closing = record { memory = true; files = true } }) (record { memory = true; files = true }) Lacks Ends old new fault
+met_by : {Lacks : Type 0} → Lacks → (Ends : Verdict → Type 0) (style : Style) (old new : List Slot) (fault : Fault)
+    {own : Manner} → IsManner (manner_of style) own → Breaks own old new fault
+    → IsMet
+    (record {
+      output = sizes_wanted style;
+      files = true;
+      feeding = record { memory = true; files = true };
+      closing = record
+          { memory = true; files = true };
+    }) (record { memory = true; files = true }) Lacks Ends old new fault
 met_by {Lacks} lacks Ends style old new fault same breaks = grind (arith, common_steps)
 
 -- a piece
 
-holds_by : {told : Bool} {stage next : CsplitState} {piece : List ℕ} {old new : List Slot} {x : List ℕ} → Passes told stage piece old new next (Ok tt) → Holds stage x → (stage.cutter.aim ≡ Below) ⊎ (stage.cutter.aim ≡ Below → ⊥) → Holds next (x ++ piece)
+holds_by : {told : Bool} {stage next : CsplitState} {piece : List ℕ} {old new : List Slot} {x : List ℕ}
+    → Passes told stage piece old new next (Ok tt) → Holds stage x
+    → (stage.cutter.aim ≡ Below) ⊎ (stage.cutter.aim ≡ Below → ⊥) → Holds next (x ++ piece)
 holds_by {stage = stage} {next} {piece} {x} passed holds (inl is_below) = record {
   stands = inr (rw (passed.passed.still is_below) (subst (IsPast stage.cutter) (sym (lines_more x piece)) (still_past (whole_lines (open_line x ++ piece)) (lines_whole x) (is_past is_below holds.stands))));
   live = λ differs. absurd (differs (ap (λ (c : CutterState). c.aim) (passed.passed.still is_below) ∙ is_below));
@@ -541,12 +642,15 @@ holds_by {stage = stage} {next} {piece} {x} passed holds (inr differs) = record 
 }
 
 -- standard output has the sizes of what is settled
-has_settled : (stage : CsplitState) (x : List ℕ) → HasLines (sizes_wanted stage.cutter.style) (settled_part stage.cutter x).out (settled_part stage.cutter x).files
+has_settled : (stage : CsplitState) (x : List ℕ)
+    → HasLines (sizes_wanted stage.cutter.style) (settled_part stage.cutter x).out (settled_part stage.cutter x).files
 has_settled stage x = grind (arith, common_steps)
 
 -- why a fault came
 
-pub passes_by : (told : Bool) (stage next : CsplitState) (piece : List ℕ) (old new : List Slot) (result : Result (Unit {0}) Fault) → Passes told stage piece old new next result → IsReady stage old → next.taken ≡ stage.taken + length piece → stage.taken + length piece < 2 ^ 63
+pub passes_by : (told : Bool) (stage next : CsplitState) (piece : List ℕ) (old new : List Slot)
+    (result : Result (Unit {0}) Fault) → Passes told stage piece old new next result → IsReady stage old
+    → next.taken ≡ stage.taken + length piece → stage.taken + length piece < 2 ^ 63
     → engine.Passes terms told piece stage next old new (IsMetWith terms piece stage) result
 passes_by told stage next piece old new (Ok done) passes is_ready taken fits = record {
   same = same_by csplit_work passes.took.keeps;
@@ -587,7 +691,8 @@ passes_by told stage next piece old new (Err fault) stopped is_ready taken fits 
 
 module _ (stage : CsplitState) (x : List ℕ) (holds : Holds stage x) where
   -- what is said of all lines, where those beyond some change nothing
-  all_then : {A : Type 0} (f : List ℕ → A) → ((t : List ℕ) → IsPast stage.cutter (whole_lines x) → f (whole_lines x ++ t) ≡ f (whole_lines x))
+  all_then : {A : Type 0} (f : List ℕ → A)
+      → ((t : List ℕ) → IsPast stage.cutter (whole_lines x) → f (whole_lines x ++ t) ≡ f (whole_lines x))
       → (stage.cutter.aim ≡ Below) ⊎ (stage.cutter.aim ≡ Below → ⊥) → f (whole_lines x ++ stage.rest) ≡ f x
   all_then f past (inl is_below) = let is = is_past is_below holds.stands in past stage.rest is ∙ sym (past (open_line x) is) ∙ ap f (lines_then_open)
   all_then f past (inr differs) = ap (λ those. f (whole_lines x ++ those)) (holds.live differs) ∙ ap f (lines_then_open)
@@ -595,37 +700,46 @@ module _ (stage : CsplitState) (x : List ℕ) (holds : Holds stage x) where
   pub whole_then : whole_part stage.cutter (whole_lines x ++ stage.rest) ≡ (work stage).whole x
   whole_then = all_then (whole_part stage.cutter) (λ t. past_end t (lines_whole x)) (below_or_not stage.cutter.aim)
 
-  pub verdict_then : {next : CutterState} {old new : List Slot} {fault : Option Fault} → Keeps stage.cutter next old new fault → verdict_of (plan (suppress_in next) next.operands (all_lines (whole_lines x ++ stage.rest))).ending ≡ (work stage).verdict x
+  pub verdict_then : {next : CutterState} {old new : List Slot} {fault : Option Fault}
+      → Keeps stage.cutter next old new fault
+      → verdict_of (plan (suppress_in next) next.operands (all_lines (whole_lines x ++ stage.rest))).ending
+      ≡ (work stage).verdict x
   verdict_then {next} keeps =
       same_by (λ style operands. verdict_by style.suppress operands (whole_lines x ++ stage.rest)) keeps
       ∙ all_then (verdict_by (suppress_in stage.cutter) stage.cutter.operands) (λ t. past_verdict t (lines_whole x)) (below_or_not stage.cutter.aim)
 
 module _ (told : Bool) (stage next : CsplitState) (old new : List Slot) where
-  pub judged_then : Closed told stage old new next None → {verdict : Option Verdict} → Judges next.cutter verdict → {x : List ℕ} → Holds stage x → verdict ≡ (work stage).verdict x
+  pub judged_then : Closed told stage old new next None → {verdict : Option Verdict} → Judges next.cutter verdict
+      → {x : List ℕ} → Holds stage x → verdict ≡ (work stage).verdict x
   judged_then closed judges {x} holds = judges (whole_lines x ++ stage.rest) (closed.judged (whole_lines x) (lines_whole x) holds.stands) ∙ verdict_then stage x holds closed.keeps
 
-  pub whole_out : Closed told stage old new next None → {before : List Slot} {x : List ℕ} → StandsAt terms stage told before x old → OutputsAt told before ((work stage).whole x) new
+  pub whole_out : Closed told stage old new next None → {before : List Slot} {x : List ℕ}
+      → StandsAt terms stage told before x old → OutputsAt told before ((work stage).whole x) new
   whole_out closed {before} {x} at =
       subst (λ part. OutputsAt told before part new) (whole_then stage x at.holds) ((closed.reaches (whole_lines x) (lines_whole x) at.holds.stands).there before (stands_so told at)).outputs
 
-  pub ends_there : Closed told stage old new next None → {verdict : Verdict} → Judges next.cutter (Some verdict) → EndsThere terms stage verdict
+  pub ends_there : Closed told stage old new next None → {verdict : Verdict} → Judges next.cutter (Some verdict)
+      → EndsThere terms stage verdict
   ends_there closed judges x holds = sym (judged_then closed judges holds)
 
-  pub ends_short : {fault : Fault} → Closed told stage old new next (Some fault) → IsReady stage old → CutsOff terms stage (work stage).whole told old new fault
+  pub ends_short : {fault : Fault} → Closed told stage old new next (Some fault) → IsReady stage old
+      → CutsOff terms stage (work stage).whole told old new fault
   ends_short {fault} stopped ready before x at = engine.cut (not_verdict stage.cutter.style old new fault ready.manner stopped.keeps.writer.slots)
       (subst (λ low. StoppedBetween (work stage).means.output told before low ((work stage).whole x) fault new) (settled_is stage x)
       (subst (λ high. StoppedBetween (work stage).means.output told before (settled_part stage.cutter (whole_lines x)) high fault new) (whole_then stage x at.holds)
       (stopped_in_turn (work stage).means.output told before _ _ fault new (has_settled stage (whole_lines x)) ((stopped.reaches (whole_lines x) (lines_whole x) at.holds.stands).there before (stands_so told at)))))
 
   -- the work ends with a verdict, and the files were cleared away after it
-  pub ends_judged : Closed told stage old new next None → {verdict : Verdict} → (cleared : List Slot) → ((first : ℕ) → Owns next first new → Swept (work next).clears first new cleared)
+  pub ends_judged : Closed told stage old new next None → {verdict : Verdict} → (cleared : List Slot)
+      → ((first : ℕ) → Owns next first new → Swept (work next).clears first new cleared)
       → CutsOff terms stage (work stage).whole told old cleared (fault_is.Verdict verdict)
   ends_judged closed cleared swept before x at =
       engine.judged refl new (whole_out closed at)
       (subst (λ (style : Style). Swept (not style.keep) (length before) new cleared) closed.keeps.style (swept (length before) (owns_on closed.keeps.writer (length before) at.owns)))
 
 -- what the end owes, however it went
-pub finishes_by : (told : Bool) (stage next : CsplitState) (old new : List Slot) {result : Result (Unit {0}) Fault} → Closes told stage old new next result → IsReady stage old → next.taken ≤ stage.taken
+pub finishes_by : (told : Bool) (stage next : CsplitState) (old new : List Slot) {result : Result (Unit {0}) Fault}
+    → Closes told stage old new next result → IsReady stage old → next.taken ≤ stage.taken
     → Finishes terms told stage next old new (IsMetThere terms stage) result
 finishes_by told stage next old new (ended_well closed none) is_ready few = record {
   same = same_by csplit_work closed.keeps;
@@ -662,26 +776,34 @@ finishes_by told stage next old new (ended_so verdict mid reached closed judges 
 }
 
 -- where nothing was written yet, the outputs are a new writer's
-none_stands : (told : Bool) (style : Style) {before slots : List Slot} → 2 ≤ length slots → OutputsAt told before nothing slots → At told (writer_for style) before nothing slots
+none_stands : (told : Bool) (style : Style) {before slots : List Slot} → 2 ≤ length slots
+    → OutputsAt told before nothing slots → At told (writer_for style) before nothing slots
 none_stands told style {before} {slots} two at =
     let size : length slots ≡ length before + 0 = outputs_count told before nothing slots at in
     record { owns = subst (λ n. OwnsFiles (writer_for style) n slots) (let e : length slots ≡ length before = omega (arith, size) in e) (first_owns style two); outputs = at }
 
 -- the first section began, or could not; the operands are as they are handed over
-pub begins_at : (told : Bool) (style : Style) {given operands : List Operand} {writer : WriterState} {old new : List Slot} → given ≡ operands → 2 ≤ length old → Reaches (sizes_wanted style) told (writer_for style) writer nothing (settled_of style given []) old new None
-    → (before : List Slot) → OutputsAt told before nothing old → OutputsAt told before (settled_by style operands []) new
+pub begins_at : (told : Bool) (style : Style) {given operands : List Operand} {writer : WriterState}
+    {old new : List Slot} → given ≡ operands → 2 ≤ length old
+    → Reaches (sizes_wanted style) told (writer_for style) writer nothing (settled_of style given []) old new None
+    → (before : List Slot) → OutputsAt told before nothing old
+    → OutputsAt told before (settled_by style operands []) new
 begins_at told style {new} same two reaches before at =
     subst (λ those. OutputsAt told before (settled_of style those []) new) same (reaches.there before (none_stands told style two at)).outputs
 
-pub cannot_begin : (told : Bool) {style : Style} {given operands : List Operand} {old new : List Slot} {fault : Fault} → given ≡ operands → 2 ≤ length old → BegunNot told style (settled_of style given []) old new fault
-    → (before : List Slot) → OutputsAt told before nothing old → StoppedBetween (sizes_wanted style) told before nothing (settled_by style operands []) fault new
+pub cannot_begin : (told : Bool) {style : Style} {given operands : List Operand} {old new : List Slot} {fault : Fault}
+    → given ≡ operands → 2 ≤ length old → BegunNot told style (settled_of style given []) old new fault
+    → (before : List Slot) → OutputsAt told before nothing old
+    → StoppedBetween (sizes_wanted style) told before nothing (settled_by style operands []) fault new
 cannot_begin told {style} {given} {new} {fault} same two stopped before at =
     subst (λ those. StoppedBetween (sizes_wanted style) told before nothing (settled_of style those []) fault new) same
     (stopped_in_turn (sizes_wanted style) told before nothing (settled_of style given []) fault new (nothing_told (sizes_wanted style)) (stopped.reaches.there before (none_stands told style two at)))
 
 -- The files are removed.
 
-pub sweeps : {view : CutterState} (stage next : CsplitState) {old new : List Slot} → view ≡ stage.cutter → next.taken ≡ stage.taken → Clears view old new next.cutter → stage.cutter.style.keep ≡ false → AreThere (files stage) old → Sweeps terms stage next old new
+pub sweeps : {view : CutterState} (stage next : CsplitState) {old new : List Slot} → view ≡ stage.cutter
+    → next.taken ≡ stage.taken → Clears view old new next.cutter → stage.cutter.style.keep ≡ false
+    → AreThere (files stage) old → Sweeps terms stage next old new
 sweeps stage next {old} {new} is taken clears_view none are =
     let clears = subst (λ (cutter : CutterState). Clears cutter old new next.cutter) is clears_view in
     let kept = files_left (ap (λ (c : CutterState). c.writer.keeps) clears.same) (ap (λ (c : CutterState). c.writer.current) clears.same) clears.removes in record {

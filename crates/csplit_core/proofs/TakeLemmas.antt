@@ -35,26 +35,34 @@ use Rattle.ports_core.specs.Turn.{fault_in}
 
 -- The lines that were left begin no later than a cut.
 
-live_before : {cutter : CutterState} {x : List ℕ} (t : List ℕ) (live : IsLive cutter x) {operand : Operand} {operands : List Operand} (matched cut : ℕ) → (state_in cutter).operands ≡ operand ∷ operands
-    → CutsAt (suppress_in cutter) (all_lines x ++ all_lines t) (state_in cutter) operand operand.target matched cut → settled_end (line_count newline x) live.ends.ending ≤ cut
+live_before : {cutter : CutterState} {x : List ℕ} (t : List ℕ) (live : IsLive cutter x) {operand : Operand}
+    {operands : List Operand} (matched cut : ℕ) → (state_in cutter).operands ≡ operand ∷ operands
+    → CutsAt (suppress_in cutter) (all_lines x ++ all_lines t) (state_in cutter) operand operand.target matched cut
+    → settled_end (line_count newline x) live.ends.ending ≤ cut
 live_before {cutter} {x} t live matched cut are at =
     let so = cuts_from (suppress_in cutter) (all_lines x) (all_lines t) (state_in cutter) live.ends.ending (ends_as _ _ _ _ _ _ live.ends.runs) are in
     subst (λ n. settled_end n live.ends.ending ≤ cut) (length-all_lines x) (so.1 matched cut at)
 
-pub place_before : {cutter : CutterState} {x : List ℕ} (t : List ℕ) {matched : ℕ} (cut : ℕ) (live : IsLive cutter x) → IsWhole x → (goes : GoesPast (suppress_in cutter) (all_lines (x ++ t)) (state_in cutter) matched cut) → IsFit cutter → cutter.progress.current ≤ cut → cutter.progress.current + live.at.taken ≤ cut
+pub place_before : {cutter : CutterState} {x : List ℕ} (t : List ℕ) {matched : ℕ} (cut : ℕ) (live : IsLive cutter x)
+    → IsWhole x → (goes : GoesPast (suppress_in cutter) (all_lines (x ++ t)) (state_in cutter) matched cut)
+    → IsFit cutter → cutter.progress.current ≤ cut → cutter.progress.current + live.at.taken ≤ cut
 place_before {cutter} {x} t {matched} cut live whole goes fit from =
     let at = subst (λ lines. CutsAt (suppress_in cutter) lines (state_in cutter) goes.operand goes.operand.target matched cut) (all_lines-append t (inl whole)) goes.cuts in omega (arith, live_taken live, live_before t live matched cut goes.are at, from)
 
 -- What arrives where more lines came.
 
-enough_left : (lines current taken most : ℕ) {left : ℕ} → 1 ≤ current → current + taken ≤ lines + 1 → taken ≡ lines + 1 - current - most → left ≡ lines - (current + taken - 1) → (taken ≡ 0) ⊎ (most ≤ left)
+enough_left : (lines current taken most : ℕ) {left : ℕ} → 1 ≤ current → current + taken ≤ lines + 1
+    → taken ≡ lines + 1 - current - most → left ≡ lines - (current + taken - 1) → (taken ≡ 0) ⊎ (most ≤ left)
 enough_left lines current taken most some few is left_is = elim (cases_lt most (lines + 1 - current)) [
   | inl more ↦ inr (omega (arith, some, few, is, left_is, more))
   | inr none ↦ inl (omega (arith, is, none))
 ]
 
-pub arrives_more : {cutter : CutterState} {lines : ℕ} {aim : Turn} {x : List ℕ} (t : List ℕ) (live : IsLive cutter x) (whole : IsWhole x) (fit : IsFit cutter) (count : lines ≡ line_count newline (x ++ t)) → EndsNow (record cutter { lines = lines; aim = aim }) (x ++ t)
-    → Arrives (record cutter { lines = lines; aim = aim }) (x ++ t) (cutter.window.held ++ t) (at_more cutter lines aim x t cutter.window.held (inl whole) fit.fits.some live.at live.ends count)
+pub arrives_more : {cutter : CutterState} {lines : ℕ} {aim : Turn} {x : List ℕ} (t : List ℕ) (live : IsLive cutter x)
+    (whole : IsWhole x) (fit : IsFit cutter) (count : lines ≡ line_count newline (x ++ t))
+    → EndsNow (record cutter { lines = lines; aim = aim }) (x ++ t)
+    → Arrives (record cutter { lines = lines; aim = aim }) (x ++ t) (cutter.window.held ++ t)
+    (at_more cutter lines aim x t cutter.window.held (inl whole) fit.fits.some live.at live.ends count)
 unfolding at_more
 arrives_more {cutter} {x} t live whole fit count ends =
     let few = few_taken live.at in
@@ -64,7 +72,8 @@ arrives_more {cutter} {x} t live whole fit count ends =
       low = λ past. (grind (arith, common_steps, ends_as, live_before, all_lines-append, live_taken, false≢true, whole, ends.runs, past));
       enough = more either most;
     } where
-      more : {taken most other : ℕ} → (taken ≡ 0) ⊎ (other ≤ line_count newline cutter.window.held) → most ≡ other → (taken ≡ 0) ⊎ (most ≤ line_count newline (cutter.window.held ++ t))
+      more : {taken most other : ℕ} → (taken ≡ 0) ⊎ (other ≤ line_count newline cutter.window.held) → most ≡ other
+          → (taken ≡ 0) ⊎ (most ≤ line_count newline (cutter.window.held ++ t))
       more (inl none) is = inl none
       more {most = most} {other = other} (inr enough) is = inr (let grows = line_count-grows newline cutter.window.held t in omega (arith, grows, enough, is))
 
@@ -78,7 +87,8 @@ live_of : {cutter : CutterState} {x : List ℕ} → (cutter.aim ≡ Below → �
 live_of differs (inl live) = live
 live_of differs (inr past) = absurd (differs past.aim)
 
-most_load : (lines size held more_lines more most : ℕ) → more_lines ≤ lines + more → size ≤ held + more → max more_lines size ≤ max lines held + more
+most_load : (lines size held more_lines more most : ℕ) → more_lines ≤ lines + more → size ≤ held + more
+    → max more_lines size ≤ max lines held + more
 most_load lines size held count more most few less = grind (arith, common_steps)
 
 pub sound_held : {mid next : CutterState} {left : List ℕ} → Held mid left next → IsSound mid → IsSound next
@@ -90,8 +100,12 @@ pub record Reached (low : Part) (cutter : CutterState) (x left : List ℕ) : Typ
   pub arrives : Arrives cutter x left at
   pub same : low ≡ part_at cutter x left at
 
-pub took_held : {told : Bool} {cutter next : CutterState} {lines : ℕ} {aim : Turn} {t : List ℕ} {old new : List Slot} {fault : Option Fault} → IsSound (more_lines cutter lines aim) → IsFit cutter → (cutter.aim ≡ Below → ⊥) → lines ≤ cutter.lines + length t
-    → ((x : List ℕ) → IsWhole x → IsLive cutter x → (lines ≡ line_count newline (x ++ t)) × EndsNow (more_lines cutter lines aim) (x ++ t)) → Holds told (more_lines cutter lines aim) (cutter.window.held ++ t) old new next fault
+pub took_held : {told : Bool} {cutter next : CutterState} {lines : ℕ} {aim : Turn} {t : List ℕ} {old new : List Slot}
+    {fault : Option Fault} → IsSound (more_lines cutter lines aim) → IsFit cutter → (cutter.aim ≡ Below → ⊥)
+    → lines ≤ cutter.lines + length t
+    → ((x : List ℕ) → IsWhole x → IsLive cutter x
+    → (lines ≡ line_count newline (x ++ t)) × EndsNow (more_lines cutter lines aim) (x ++ t))
+    → Holds told (more_lines cutter lines aim) (cutter.window.held ++ t) old new next fault
     → Takes told cutter t old new next fault
 took_held {cutter = cutter} {next} {lines} {aim} {t} {fault = fault} sound fit differs few ends held = record {
   keeps = record { operands = held.keeps.operands; style = held.keeps.style; writer = held.keeps.writer };
@@ -105,7 +119,8 @@ took_held {cutter = cutter} {next} {lines} {aim} {t} {fault = fault} sound fit d
         most_load cutter.lines (size_of next.writer.current + length next.window.held) (size_of cutter.writer.current + length cutter.window.held) next.lines (length t) 0 (omega (arith, lines_is, few)) (omega (arith, joined, s)));
   });
 } where
-  reached : (x : List ℕ) → IsWhole x → Stands cutter x → Reached (settled_part cutter x) (more_lines cutter lines aim) (x ++ t) (cutter.window.held ++ t)
+  reached : (x : List ℕ) → IsWhole x → Stands cutter x
+      → Reached (settled_part cutter x) (more_lines cutter lines aim) (x ++ t) (cutter.window.held ++ t)
   reached x whole stands = let live = live_of differs stands in let there = ends x whole live in record {
     at = at_more cutter lines aim x t cutter.window.held (inl whole) fit.fits.some live.at live.ends there.0;
     arrives = arrives_more t live whole fit there.0 there.1;
@@ -114,9 +129,14 @@ took_held {cutter = cutter} {next} {lines} {aim} {t} {fault = fault} sound fit d
 
 -- Once a line came that is cut.
 
-cuts_there : {cutter : CutterState} {lines : ℕ} (aim : Turn) {x : List ℕ} (line : List ℕ) (cut : Cut) (live : IsLive cutter x) (whole : IsWhole x) (fit : IsFit cutter) (one : IsLine line) (count : lines ≡ line_count newline (x ++ line)) → cutter.progress.current ≤ cut.line
-    → GoesPast (suppress_in cutter) (all_lines (x ++ line)) (state_in cutter) cut.matched cut.line → lines ≤ search_after (suppress_in cutter) cut
-    → CutsNow (more_lines cutter lines aim) (x ++ line) (cutter.window.held ++ line) line cut (lines - delimiters newline cutter.window.held) (at_more cutter lines aim x line cutter.window.held (inl whole) fit.fits.some live.at live.ends count)
+cuts_there : {cutter : CutterState} {lines : ℕ} (aim : Turn) {x : List ℕ} (line : List ℕ) (cut : Cut)
+    (live : IsLive cutter x) (whole : IsWhole x) (fit : IsFit cutter) (one : IsLine line)
+    (count : lines ≡ line_count newline (x ++ line)) → cutter.progress.current ≤ cut.line
+    → GoesPast (suppress_in cutter) (all_lines (x ++ line)) (state_in cutter) cut.matched cut.line
+    → lines ≤ search_after (suppress_in cutter) cut
+    → CutsNow (more_lines cutter lines aim) (x ++ line) (cutter.window.held ++ line) line cut
+    (lines - delimiters newline cutter.window.held)
+    (at_more cutter lines aim x line cutter.window.held (inl whole) fit.fits.some live.at live.ends count)
 unfolding at_more
 cuts_there {cutter} {lines} aim {x} line cut live whole fit one count from goes near =
     let held = left_count live.at in
@@ -140,8 +160,12 @@ record CutThere (low : Part) (cutter : CutterState) (x left line : List ℕ) (cu
 line_has : (line : List ℕ) → IsLine line → 1 ≤ length line
 line_has line one = grind (arith, common_steps)
 
-took_cut : {told : Bool} {cutter next : CutterState} {lines : ℕ} {aim : Turn} (line more : List ℕ) {cut : Cut} {old new : List Slot} {fault : Option Fault} → IsFit cutter → (cutter.aim ≡ Below → ⊥) → IsLine line → lines ≡ cutter.lines + 1 → WillCut (more_lines cutter lines aim) cut
-    → TriesNext cutter line (more_lines cutter lines aim) (Some cut) → CutsAll told (more_lines cutter lines aim) cut (lines - delimiters newline cutter.window.held) (cutter.window.held ++ line) line more old new next fault
+took_cut : {told : Bool} {cutter next : CutterState} {lines : ℕ} {aim : Turn} (line more : List ℕ) {cut : Cut}
+    {old new : List Slot} {fault : Option Fault} → IsFit cutter → (cutter.aim ≡ Below → ⊥) → IsLine line
+    → lines ≡ cutter.lines + 1 → WillCut (more_lines cutter lines aim) cut
+    → TriesNext cutter line (more_lines cutter lines aim) (Some cut)
+    → CutsAll told (more_lines cutter lines aim) cut (lines - delimiters newline cutter.window.held)
+    (cutter.window.held ++ line) line more old new next fault
     → Takes told cutter (line ++ more) old new next fault
 took_cut {cutter = cutter} {next} {lines} {aim} line more {cut} {fault = fault} fit differs one counted will tries all = record {
   keeps = record { operands = all.keeps.operands; style = all.keeps.style; writer = all.keeps.writer };
@@ -156,7 +180,9 @@ took_cut {cutter = cutter} {next} {lines} {aim} line more {cut} {fault = fault} 
         most_load cutter.lines (size_of next.writer.current + length next.window.held) (size_of cutter.writer.current + length cutter.window.held) next.lines (length (line ++ more)) 0 (omega (arith, n, counted, some, both)) (omega (arith, joined, both, s)));
   });
 } where
-  reached : (x : List ℕ) → IsWhole x → Stands cutter x → CutThere (settled_part cutter x) (more_lines cutter lines aim) (x ++ line) (cutter.window.held ++ line) line cut (lines - delimiters newline cutter.window.held)
+  reached : (x : List ℕ) → IsWhole x → Stands cutter x
+      → CutThere (settled_part cutter x) (more_lines cutter lines aim) (x ++ line) (cutter.window.held ++ line) line cut
+      (lines - delimiters newline cutter.window.held)
   reached x whole stands = let live = live_of differs stands in
       let count : lines ≡ line_count newline (x ++ line) = counted ∙ ap (λ n. n + 1) live.at.counted ∙ sym (count-line line whole one) in record {
         at = at_more cutter lines aim x line cutter.window.held (inl whole) fit.fits.some live.at live.ends count;
@@ -165,23 +191,32 @@ took_cut {cutter = cutter} {next} {lines} {aim} line more {cut} {fault = fault} 
       }
 
 -- more lines came after it
-pub take_cut : {told : Bool} {cutter mid next : CutterState} (line more : List ℕ) {cut : Cut} {old new : List Slot} {fault : Option Fault} → IsFit cutter → (cutter.aim ≡ Below → ⊥) → IsLine line → mid ≡ record cutter { lines = cutter.lines + 1; aim = mid.aim }
-    → WillCut mid cut → TriesNext cutter line mid (Some cut) → CutsAll told mid cut (mid.lines - delimiters newline mid.window.held) (mid.window.held ++ line) line more old new next fault → Takes told cutter (line ++ more) old new next fault
+pub take_cut : {told : Bool} {cutter mid next : CutterState} (line more : List ℕ) {cut : Cut} {old new : List Slot}
+    {fault : Option Fault} → IsFit cutter → (cutter.aim ≡ Below → ⊥) → IsLine line
+    → mid ≡ record cutter { lines = cutter.lines + 1; aim = mid.aim }
+    → WillCut mid cut → TriesNext cutter line mid (Some cut)
+    → CutsAll told mid cut (mid.lines - delimiters newline mid.window.held)
+    (mid.window.held ++ line) line more old new next fault → Takes told cutter (line ++ more) old new next fault
 take_cut {told} {cutter} {next = next} line more {cut} {old} {new} {fault} fit differs one is will tries all =
     took_cut line more fit differs one refl (subst (λ (m : CutterState). WillCut m cut) is will) (subst (λ (m : CutterState). TriesNext cutter line m (Some cut)) is tries)
     (subst (λ (m : CutterState). CutsAll told m cut (m.lines - delimiters newline m.window.held) (m.window.held ++ line) line more old new next fault) is all)
 
 -- Where the cut is below the current line, later lines go nowhere.
 
-pub past_plan : (suppress : Bool) (operands : List Operand) {x : List ℕ} (t : List ℕ) → IsWhole x → is_final (plan suppress operands (all_lines x)).ending ≡ true → plan suppress operands (all_lines (x ++ t)) ≡ plan suppress operands (all_lines x)
+pub past_plan : (suppress : Bool) (operands : List Operand) {x : List ℕ} (t : List ℕ) → IsWhole x
+    → is_final (plan suppress operands (all_lines x)).ending ≡ true
+    → plan suppress operands (all_lines (x ++ t)) ≡ plan suppress operands (all_lines x)
 past_plan suppress operands {x} t whole final = grind (arith, common_steps, all_lines-append, stays)
 
-final_draft : (style : Style) (operands : List Operand) (x : List ℕ) → is_final (plan style.suppress operands (all_lines x)).ending ≡ true
-    → draft_by style (all_lines x) (plan style.suppress operands (all_lines x)).steps (kept_by (plan style.suppress operands (all_lines x)).last.operands) [] ≡ settled_draft style operands (all_lines x)
+final_draft : (style : Style) (operands : List Operand) (x : List ℕ)
+    → is_final (plan style.suppress operands (all_lines x)).ending ≡ true
+    → draft_by style (all_lines x) (plan style.suppress operands (all_lines x)).steps
+    (kept_by (plan style.suppress operands (all_lines x)).last.operands) [] ≡ settled_draft style operands (all_lines x)
 final_draft style operands x final =
     draft_is settled_end style operands x 0 (plan_runs style.suppress operands (all_lines x)) (final_count (line_count newline x) _ (plan style.suppress operands (all_lines x)).ending final) refl
 
-past_draft : (style : Style) (operands : List Operand) {x : List ℕ} (t : List ℕ) → IsWhole x → is_final (plan style.suppress operands (all_lines x)).ending ≡ true
+past_draft : (style : Style) (operands : List Operand) {x : List ℕ} (t : List ℕ) → IsWhole x
+    → is_final (plan style.suppress operands (all_lines x)).ending ≡ true
     → settled_draft style operands (all_lines x) ≡ settled_draft style operands (all_lines (x ++ t))
 past_draft style operands {x} t whole final =
     let same = past_plan style.suppress operands t whole final in
@@ -190,7 +225,8 @@ past_draft style operands {x} t whole final =
     ∙ ap (λ (p : Plan). draft_by style (all_lines (x ++ t)) p.steps (kept_by p.last.operands) []) (sym same)
     ∙ final_draft style operands (x ++ t) (ap (λ (p : Plan). is_final p.ending) same ∙ final)
 
-pub past_part : {cutter : CutterState} {x : List ℕ} (t : List ℕ) → IsWhole x → IsPast cutter x → settled_part cutter x ≡ settled_part cutter (x ++ t)
+pub past_part : {cutter : CutterState} {x : List ℕ} (t : List ℕ) → IsWhole x → IsPast cutter x
+    → settled_part cutter x ≡ settled_part cutter (x ++ t)
 past_part {cutter} {x} t whole past = sym (settled_part_is cutter.style cutter.operands (all_lines x)) ∙ ap (draft_part (manner_of cutter.style)) (past_draft cutter.style cutter.operands t whole past.past) ∙ settled_part_is cutter.style cutter.operands (all_lines (x ++ t))
 
 pub is_past : {cutter : CutterState} {x : List ℕ} → cutter.aim ≡ Below → Stands cutter x → IsPast cutter x
@@ -199,21 +235,27 @@ is_past aim fact = grind (arith, common_steps)
 pub still_past : {cutter : CutterState} {x : List ℕ} (t : List ℕ) → IsWhole x → IsPast cutter x → IsPast cutter (x ++ t)
 still_past {cutter} t whole past = search (rules, past_plan, past_draft)
 
-pub took_past : {told : Bool} {cutter : CutterState} {t : List ℕ} {slots : List Slot} → cutter.aim ≡ Below → IsSound cutter → IsReady cutter.writer slots → Takes told cutter t slots slots cutter None
+pub took_past : {told : Bool} {cutter : CutterState} {t : List ℕ} {slots : List Slot} → cutter.aim ≡ Below
+    → IsSound cutter → IsReady cutter.writer slots → Takes told cutter t slots slots cutter None
 took_past {t = t} aim sound ready = search (rules, keeps_files, leaves_still, reaches_still, past_part, is_past, still_past)
 
 -- Taking a text of complete lines in, stretch by stretch.
 
 -- the pattern was found in the first line
-pub found_first : {cutter : CutterState} (left : List ℕ) {size : ℕ} (found : Option ℕ) → IfSome found (IsNextFound cutter left) → ((k : ℕ) → found ≡ Some k → size ≡ k) → is_some found ≡ true → IsFound cutter (without_newline (take size left)) (cutter.lines + 1) true
+pub found_first : {cutter : CutterState} (left : List ℕ) {size : ℕ} (found : Option ℕ)
+    → IfSome found (IsNextFound cutter left) → ((k : ℕ) → found ≡ Some k → size ≡ k) → is_some found ≡ true
+    → IsFound cutter (without_newline (take size left)) (cutter.lines + 1) true
 found_first left found is known sure = grind (arith, common_steps)
 
-pub more_settled : (cutter : CutterState) {x : List ℕ} (t : List ℕ) → IsWhole x → Begins (settled_part cutter x) (settled_part cutter (x ++ t))
+pub more_settled : (cutter : CutterState) {x : List ℕ} (t : List ℕ) → IsWhole x
+    → Begins (settled_part cutter x) (settled_part cutter (x ++ t))
 more_settled cutter {x} t whole = subst (λ lines. Begins (settled_part cutter x) (Rattle.csplit_core.specs.Csplit.settled_of cutter.style cutter.operands lines)) (sym (all_lines-append t (inl whole))) (grows cutter.style cutter.operands (all_lines x) (all_lines t))
 
 -- one text after another
 
-pub takes_again : {told : Bool} {one two three : CutterState} {a b : List ℕ} {old mid new : List Slot} {fault : Option Fault} → IsWhole a → Takes told one a old mid two None → Takes told two b mid new three fault → Takes told one (a ++ b) old new three fault
+pub takes_again : {told : Bool} {one two three : CutterState} {a b : List ℕ} {old mid new : List Slot}
+    {fault : Option Fault} → IsWhole a → Takes told one a old mid two None → Takes told two b mid new three fault
+    → Takes told one (a ++ b) old new three fault
 takes_again {one = one} {three = three} {a} {b} {fault = fault} whole first second = record {
   keeps = keeps_on first.keeps second.keeps;
   reaches = λ x before stands. reaches_then first.keeps.style (more_settled one a before) (first.reaches x before stands)
@@ -226,7 +268,9 @@ takes_again {one = one} {three = three} {a} {b} {fault = fault} whole first seco
   });
 }
 
-pub takes_wider : {told : Bool} {cutter next : CutterState} {a : List ℕ} (b : List ℕ) {old new : List Slot} {fault : Fault} → IsWhole a → Takes told cutter a old new next (Some fault) → Takes told cutter (a ++ b) old new next (Some fault)
+pub takes_wider : {told : Bool} {cutter next : CutterState} {a : List ℕ} (b : List ℕ) {old new : List Slot}
+    {fault : Fault} → IsWhole a → Takes told cutter a old new next (Some fault)
+    → Takes told cutter (a ++ b) old new next (Some fault)
 takes_wider {cutter = cutter} {a = a} b whole stopped = record {
   keeps = stopped.keeps;
   reaches = λ x before stands. stops_wider (stopped.reaches x before stands)
@@ -242,11 +286,15 @@ pub record Taking (told : Bool) (cutter now : CutterState) (text left : List ℕ
   pub rest : IsWhole left
   pub took : Takes told cutter front old new now None
 
-pub takes_none : {told : Bool} {cutter : CutterState} {slots : List Slot} → IsSound cutter → IsReady cutter.writer slots → Takes told cutter [] slots slots cutter None
+pub takes_none : {told : Bool} {cutter : CutterState} {slots : List Slot} → IsSound cutter → IsReady cutter.writer slots
+    → Takes told cutter [] slots slots cutter None
 takes_none {cutter = cutter} sound ready = grind (arith, common_steps)
 
-module _ {told : Bool} {cutter now : CutterState} {text left : List ℕ} {old mid : List Slot} (so_far : Taking told cutter now text left old mid) where
-  pub takes_more : {next : CutterState} {size : ℕ} (passed : Passed) {new : List Slot} → Stretches told now left size mid new next (Ok passed) → Taking told cutter next text (take (length left - passed.size) (drop passed.size left)) old new
+module _ {told : Bool} {cutter now : CutterState} {text left : List ℕ} {old mid : List Slot}
+    (so_far : Taking told cutter now text left old mid) where
+  pub takes_more : {next : CutterState} {size : ℕ} (passed : Passed) {new : List Slot}
+      → Stretches told now left size mid new next (Ok passed)
+      → Taking told cutter next text (take (length left - passed.size) (drop passed.size left)) old new
   takes_more {next} passed {new} more = record {
     front = so_far.front ++ take n left;
     whole = so_far.whole ∙ ap (λ those. so_far.front ++ those) (sym (take-append-drop n left) ∙ ap (λ those. take n left ++ those) (sym (rest_all n left))) ∙ sym (append_assoc so_far.front (take n left) (take (length left - n) (drop n left)));
@@ -257,7 +305,8 @@ module _ {told : Bool} {cutter now : CutterState} {text left : List ℕ} {old mi
     n : ℕ
     n = passed.size
 
-  pub takes_stopped : {next : CutterState} {size : ℕ} {new : List Slot} {fault : Fault} → Stretches told now left size mid new next (Err fault) → Takes told cutter text old new next (Some fault)
+  pub takes_stopped : {next : CutterState} {size : ℕ} {new : List Slot} {fault : Fault}
+      → Stretches told now left size mid new next (Err fault) → Takes told cutter text old new next (Some fault)
   takes_stopped {next} {new = new} {fault} more = subst (λ those. Takes told cutter those old new next (Some fault)) (sym so_far.whole)
       (takes_again so_far.complete so_far.took (subst (λ those. Takes told now those mid new next (Some fault)) (take-append-drop more.n left) (takes_wider (drop more.n left) (more.whole so_far.rest) more.took)))
 
@@ -267,10 +316,14 @@ module _ {told : Bool} {cutter now : CutterState} {text left : List ℕ} {old mi
   pub takes_fit : (most : ℕ) → load cutter + length text < most → load now + length left < most
   takes_fit most fits = grind (arith, common_steps)
 
-pub found_next : {told : Bool} {now next : CutterState} {left : List ℕ} {size : ℕ} (passed : Passed) {mid new : List Slot} → Stretches told now left size mid new next (Ok passed) → IfSome passed.found (IsNextFound next (take (length left - passed.size) (drop passed.size left)))
+pub found_next : {told : Bool} {now next : CutterState} {left : List ℕ} {size : ℕ} (passed : Passed)
+    {mid new : List Slot} → Stretches told now left size mid new next (Ok passed)
+    → IfSome passed.found (IsNextFound next (take (length left - passed.size) (drop passed.size left)))
 found_next {next = next} {left} passed more = grind (arith, common_steps)
 
-pub takes_fewer : {told : Bool} {now next : CutterState} {left : List ℕ} {size : ℕ} (passed : Passed) {mid new : List Slot} → 0 < size → Stretches told now left size mid new next (Ok passed) → length (take (length left - passed.size) (drop passed.size left)) < length left
+pub takes_fewer : {told : Bool} {now next : CutterState} {left : List ℕ} {size : ℕ} (passed : Passed)
+    {mid new : List Slot} → 0 < size → Stretches told now left size mid new next (Ok passed)
+    → length (take (length left - passed.size) (drop passed.size left)) < length left
 takes_fewer {left = left} passed some more = grind (arith, common_steps)
 
 -- Cutting as often as operands cut the lines that are left.
@@ -288,21 +341,30 @@ at_alike cutter aim window x left at = record { steps = at.steps; leads = at.lea
 pub spread_fit : {now mid : CutterState} → mid ≡ record now { aim = mid.aim } → IsFit now → IsFit mid
 spread_fit is fit = grind (arith, common_steps)
 
-pub spread_ready : (now : CutterState) {mid : CutterState} {slots : List Slot} → mid ≡ record now { aim = mid.aim } → IsReady now.writer slots → IsReady mid.writer slots
+pub spread_ready : (now : CutterState) {mid : CutterState} {slots : List Slot} → mid ≡ record now { aim = mid.aim }
+    → IsReady now.writer slots → IsReady mid.writer slots
 spread_ready now {slots} is ready = grind (arith, common_steps)
 
-pub spread_fewer : (now : CutterState) {mid : CutterState} {less : ℕ} → mid ≡ record now { aim = mid.aim } → less < needed mid.lines (state_in mid) → less < needed now.lines (state_in now)
+pub spread_fewer : (now : CutterState) {mid : CutterState} {less : ℕ} → mid ≡ record now { aim = mid.aim }
+    → less < needed mid.lines (state_in mid) → less < needed now.lines (state_in now)
 spread_fewer now {less} is fewer = grind (arith, common_steps)
 
 -- the next operand cuts as well
 
-cuts_again : {told : Bool} {cutter now : CutterState} {aim : Turn} (cut : Cut) {x : List ℕ} (line : List ℕ) {left : List ℕ} {low : Part} {old new : List Slot} (after : IsAfter told cutter x line now left low old new) → Tries now line (record now { aim = aim }) (Some cut) → WillCut now cut
-    → CutsNow (record now { aim = aim }) x left line cut now.progress.current (at_alike now aim now.window x left after.now)
+cuts_again : {told : Bool} {cutter now : CutterState} {aim : Turn} (cut : Cut) {x : List ℕ} (line : List ℕ)
+    {left : List ℕ} {low : Part} {old new : List Slot} (after : IsAfter told cutter x line now left low old new)
+    → Tries now line (record now { aim = aim }) (Some cut) → WillCut now cut
+    → CutsNow (record now { aim = aim }) x left line cut now.progress.current
+    (at_alike now aim now.window x left after.now)
 unfolding at_alike
 cuts_again cut {x} line after tries will = grind (arith, common_steps)
 
-pub spread_more : {told : Bool} {cutter now mid next : CutterState} {cut cut' : Cut} {place : ℕ} {waiting line left rest : List ℕ} {old between new : List Slot} → Spreading told cutter cut place waiting line old between now left
-    → mid ≡ record now { aim = mid.aim } → Tries now line mid (Some cut') → WillCut now cut' → CutAt told mid cut' mid.progress.current left between new next rest → Spreading told cutter cut place waiting line old new next rest
+pub spread_more : {told : Bool} {cutter now mid next : CutterState} {cut cut' : Cut} {place : ℕ}
+    {waiting line left rest : List ℕ} {old between new : List Slot}
+    → Spreading told cutter cut place waiting line old between now left
+    → mid ≡ record now { aim = mid.aim } → Tries now line mid (Some cut') → WillCut now cut'
+    → CutAt told mid cut' mid.progress.current left between new next rest
+    → Spreading told cutter cut place waiting line old new next rest
 unfolding at_alike
 spread_more {told} {cutter} {now} {mid} {next} {cut} {cut'} {waiting = waiting} {line} {left} {rest} {between = between} {new} so_far is tries will at_cut =
     let tried = subst (λ (m : CutterState). Tries now line m (Some cut')) is tries in
@@ -325,8 +387,12 @@ spread_more {told} {cutter} {now} {mid} {next} {cut} {cut'} {waiting = waiting} 
       end = (so_far.end.0 ++ once.end.0, so_far.end.1 ∙ ap (λ those. so_far.end.0 ++ those) once.end.1 ∙ sym (append_assoc so_far.end.0 once.end.0 rest));
     }
 
-pub spread_stopped : {told : Bool} {cutter now mid next : CutterState} {cut cut' : Cut} {place : ℕ} {waiting line left : List ℕ} {old between new : List Slot} {fault : Fault} → Spreading told cutter cut place waiting line old between now left
-    → mid ≡ record now { aim = mid.aim } → Tries now line mid (Some cut') → WillCut now cut' → CutsAll told mid cut' mid.progress.current left line [] between new next (Some fault) → CutsAll told cutter cut place waiting line [] old new next (Some fault)
+pub spread_stopped : {told : Bool} {cutter now mid next : CutterState} {cut cut' : Cut} {place : ℕ}
+    {waiting line left : List ℕ} {old between new : List Slot} {fault : Fault}
+    → Spreading told cutter cut place waiting line old between now left
+    → mid ≡ record now { aim = mid.aim } → Tries now line mid (Some cut') → WillCut now cut'
+    → CutsAll told mid cut' mid.progress.current left line [] between new next (Some fault)
+    → CutsAll told cutter cut place waiting line [] old new next (Some fault)
 unfolding at_alike
 spread_stopped {told} {now = now} {mid} {next} {cut' = cut'} {line = line} {left} {between = between} {new} {fault} so_far is tries will stops =
     let tried = subst (λ (m : CutterState). Tries now line m (Some cut')) is tries in
@@ -339,10 +405,15 @@ spread_stopped {told} {now = now} {mid} {next} {cut' = cut'} {line = line} {left
 
 -- Then no operand cuts any more, and the lines that are left are held, perhaps with more.
 
-pub spread_on : {told : Bool} {cutter now next : CutterState} {lines : ℕ} {aim : Turn} {cut : Cut} {place : ℕ} {waiting line left more : List ℕ} {old between new : List Slot} {fault : Option Fault} (so_far : Spreading told cutter cut place waiting line old between now left)
+pub spread_on : {told : Bool} {cutter now next : CutterState} {lines : ℕ} {aim : Turn} {cut : Cut} {place : ℕ}
+    {waiting line left more : List ℕ} {old between new : List Slot} {fault : Option Fault}
+    (so_far : Spreading told cutter cut place waiting line old between now left)
     → IsSound (more_lines now lines aim) → lines ≤ cutter.lines + length more
-    → ((x : List ℕ) (at : IsAt cutter x waiting) (here : CutsNow cutter x waiting line cut place at) → Reached (part_at now x left (so_far.after x at here).now) (more_lines now lines aim) (x ++ more) (left ++ more))
-    → Holds told (more_lines now lines aim) (left ++ more) between new next fault → CutsAll told cutter cut place waiting line more old new next fault
+    → ((x : List ℕ) (at : IsAt cutter x waiting) (here : CutsNow cutter x waiting line cut place at)
+    → Reached (part_at now x left (so_far.after x at here).now) (more_lines now lines aim) (x ++ more)
+    (left ++ more))
+    → Holds told (more_lines now lines aim) (left ++ more) between new next fault
+    → CutsAll told cutter cut place waiting line more old new next fault
 spread_on {cutter = cutter} {next = next} {lines} {left = left} {more} {fault = fault} so_far sound few reached held = record {
   keeps = keeps_on so_far.keeps (record { operands = held.keeps.operands; style = held.keeps.style; writer = held.keeps.writer });
   reaches = λ x at here. let after = so_far.after x at here in let there = reached x at here in
@@ -355,8 +426,11 @@ spread_on {cutter = cutter} {next = next} {lines} {left = left} {more} {fault = 
   });
 }
 
-pub spread_held : {told : Bool} {cutter mid next : CutterState} {cut : Cut} {place : ℕ} {waiting line left : List ℕ} {old between new : List Slot} {fault : Option Fault} → Spread told cutter cut place waiting line old between mid left
-    → Holds told mid (mid.window.held ++ left) between new next fault → CutsAll told cutter cut place waiting line [] old new next fault
+pub spread_held : {told : Bool} {cutter mid next : CutterState} {cut : Cut} {place : ℕ} {waiting line left : List ℕ}
+    {old between new : List Slot} {fault : Option Fault}
+    → Spread told cutter cut place waiting line old between mid left
+    → Holds told mid (mid.window.held ++ left) between new next fault
+    → CutsAll told cutter cut place waiting line [] old new next fault
 unfolding at_alike
 spread_held {told} {cutter} {mid} {next} {left = left} {between = between} {new} {fault} spread held =
     let now = spread.now in
@@ -382,17 +456,22 @@ spread_held {told} {cutter} {mid} {next} {left = left} {between = between} {new}
 pub none_there : {held : List ℕ} {empty : Bool} → empty ≡ eqb (length held) 0 → empty ≡ true → held ≡ []
 none_there {held} is true_is = grind (arith, common_steps)
 
-pub alone : (P : ℕ → List ℕ → Type 0) (cutter : CutterState) (line : List ℕ) → cutter.window.held ≡ [] → P cutter.lines line
+pub alone : (P : ℕ → List ℕ → Type 0) (cutter : CutterState) (line : List ℕ) → cutter.window.held ≡ []
+    → P cutter.lines line
     → P (cutter.lines - delimiters newline cutter.window.held) (cutter.window.held ++ line)
 alone P cutter line none holds = grind (arith, common_steps)
 
 -- and where some do
 
-cuts_alike : {cutter : CutterState} (window : Window) {x left : List ℕ} (line : List ℕ) (cut : Cut) {place : ℕ} {at : IsAt cutter x left} → CutsNow cutter x left line cut place at → CutsNow (alike cutter cutter.aim window) x left line cut place (at_alike cutter cutter.aim window x left at)
+cuts_alike : {cutter : CutterState} (window : Window) {x left : List ℕ} (line : List ℕ) (cut : Cut) {place : ℕ}
+    {at : IsAt cutter x left} → CutsNow cutter x left line cut place at
+    → CutsNow (alike cutter cutter.aim window) x left line cut place (at_alike cutter cutter.aim window x left at)
 unfolding at_alike
 cuts_alike window line cut now = grind (arith, common_steps)
 
-all_alike : {told : Bool} (cutter : CutterState) {next : CutterState} (window : Window) {cut : Cut} {place : ℕ} {left line : List ℕ} {old new : List Slot} {fault : Option Fault} → CutsAll told (alike cutter cutter.aim window) cut place left line [] old new next fault
+all_alike : {told : Bool} (cutter : CutterState) {next : CutterState} (window : Window) {cut : Cut} {place : ℕ}
+    {left line : List ℕ} {old new : List Slot} {fault : Option Fault}
+    → CutsAll told (alike cutter cutter.aim window) cut place left line [] old new next fault
     → CutsAll told cutter cut place left line [] old new next fault
 unfolding at_alike
 all_alike cutter window {cut} {left = left} {line} {fault = fault} all = record {
@@ -401,38 +480,54 @@ all_alike cutter window {cut} {left = left} {line} {fault = fault} all = record 
   went = where_well fault all.went (λ went. record { lines = went.lines; sound = went.sound; stands = λ x at now. went.stands x (at_alike cutter cutter.aim window x left at) (cuts_alike window line cut now); size = went.size });
 }
 
-pub cut_drained : {told : Bool} {cutter next : CutterState} {window : Window} {cut : Cut} {place : ℕ} {waiting line : List ℕ} {old new : List Slot} {fault : Option Fault} → waiting ≡ cutter.window.held ++ line → place ≡ cutter.lines - delimiters newline cutter.window.held
-    → CutsAll told (record cutter { window = window }) cut place waiting line [] old new next fault → CutsAll told cutter cut (cutter.lines - delimiters newline cutter.window.held) (cutter.window.held ++ line) line [] old new next fault
+pub cut_drained : {told : Bool} {cutter next : CutterState} {window : Window} {cut : Cut} {place : ℕ}
+    {waiting line : List ℕ} {old new : List Slot} {fault : Option Fault} → waiting ≡ cutter.window.held ++ line
+    → place ≡ cutter.lines - delimiters newline cutter.window.held
+    → CutsAll told (record cutter { window = window }) cut place waiting line [] old new next fault
+    → CutsAll told cutter cut (cutter.lines - delimiters newline cutter.window.held)
+    (cutter.window.held ++ line) line [] old new next fault
 cut_drained {told} {cutter} {next} {window} {cut} {waiting = waiting} {line} {old} {new} {fault} waiting_is place_is cuts =
     all_alike cutter window (subst (λ those. CutsAll told (record cutter { window = window }) cut (cutter.lines - delimiters newline cutter.window.held) those line [] old new next fault) waiting_is
     (subst (λ n. CutsAll told (record cutter { window = window }) cut n waiting line [] old new next fault) place_is cuts))
 
 -- how many lines wait
-pub waiting_count : (lines : ℕ) (held : List ℕ) {waiting : List ℕ} (line front : List ℕ) {size count place : ℕ} → waiting ≡ held ++ line → size ≡ length held → front ≡ take size waiting → count ≡ delimiters newline front → place ≡ lines - count → place ≡ lines - delimiters newline held
+pub waiting_count : (lines : ℕ) (held : List ℕ) {waiting : List ℕ} (line front : List ℕ) {size count place : ℕ}
+    → waiting ≡ held ++ line → size ≡ length held → front ≡ take size waiting → count ≡ delimiters newline front
+    → place ≡ lines - count → place ≡ lines - delimiters newline held
 waiting_count lines held line front {size} waiting_is size_is front_is count_is place_is = grind (arith, common_steps)
 
-pub waiting_size : (held line : List ℕ) {items : List ℕ} {n : ℕ} → items ≡ held ++ line → n ≡ length items → n - length line ≡ length held
+pub waiting_size : (held line : List ℕ) {items : List ℕ} {n : ℕ} → items ≡ held ++ line → n ≡ length items
+    → n - length line ≡ length held
 waiting_size held line {items} is long = grind (arith, common_steps)
 
 -- A line is cut, or isn't, and what is left of it is held together with the lines after it that aren't cut.
 
 -- What was found of the next line stays where lines are held.
 
-found_by : {told : Bool} {mid next : CutterState} {left : List ℕ} {old new : List Slot} (rest : List ℕ) (found : Option ℕ) → Holds told mid left old new next None → IfSome found (IsNextFound mid rest) → IfSome found (IsNextFound next rest)
+found_by : {told : Bool} {mid next : CutterState} {left : List ℕ} {old new : List Slot} (rest : List ℕ)
+    (found : Option ℕ) → Holds told mid left old new next None → IfSome found (IsNextFound mid rest)
+    → IfSome found (IsNextFound next rest)
 found_by rest (Some size) held is = grind (arith, common_steps)
 found_by rest None held is = is
 
-found_held : {told : Bool} {mid next : CutterState} {left : List ℕ} {old new : List Slot} (rest : List ℕ) (result : Result Passed Fault) → Holds told mid left old new next (fault_in result) → IfOk result (λ passed. IfSome passed.found (IsNextFound mid rest))
+found_held : {told : Bool} {mid next : CutterState} {left : List ℕ} {old new : List Slot} (rest : List ℕ)
+    (result : Result Passed Fault) → Holds told mid left old new next (fault_in result)
+    → IfOk result (λ passed. IfSome passed.found (IsNextFound mid rest))
     → IfOk result (λ passed. IfSome passed.found (IsNextFound next rest))
 found_held rest (Ok passed) held found = found_by rest passed.found held found
 found_held rest (Err fault) held found = tt
 
-ok_as : {P Q : Passed → Type 0} (result : Result Passed Fault) → ((passed : Passed) → P passed → Q passed) → IfOk result P → IfOk result Q
+ok_as : {P Q : Passed → Type 0} (result : Result Passed Fault) → ((passed : Passed) → P passed → Q passed)
+    → IfOk result P → IfOk result Q
 ok_as result follows holds = grind (arith, common_steps)
 
 -- What `go_on` owes.
-pub gone_on : {told : Bool} {cutter mid next : CutterState} (text : List ℕ) {rest : List ℕ} (kept : ℕ) {passed : Passed} {old new : List Slot} (result : Result Passed Fault) → kept ≤ length text → rest ≡ drop kept text → StopsAt cutter rest mid passed
-    → Holds told mid (mid.window.held ++ take (kept + passed.size) text) old new next (fault_in result) → IfOk result (λ all. (all.size ≡ kept + passed.size) × (all.found ≡ passed.found)) → GoesOn told cutter (take kept text) (drop kept text) old new next result
+pub gone_on : {told : Bool} {cutter mid next : CutterState} (text : List ℕ) {rest : List ℕ} (kept : ℕ) {passed : Passed}
+    {old new : List Slot} (result : Result Passed Fault) → kept ≤ length text → rest ≡ drop kept text
+    → StopsAt cutter rest mid passed
+    → Holds told mid (mid.window.held ++ take (kept + passed.size) text) old new next (fault_in result)
+    → IfOk result (λ all. (all.size ≡ kept + passed.size) × (all.found ≡ passed.found))
+    → GoesOn told cutter (take kept text) (drop kept text) old new next result
 gone_on {told} {cutter} {mid} {next} text kept {passed} {old} {new} result within rest_is stops held are =
     let stops_there = subst (λ those. StopsAt cutter those mid passed) rest_is stops in record {
       mid = mid;
@@ -445,8 +540,11 @@ gone_on {told} {cutter} {mid} {next} text kept {passed} {old} {new} result withi
 
 -- The lines after a cut, up to where the next operand cuts: none of the open section is written before them.
 
-there_of : {told : Bool} {now mid : CutterState} {aim : Turn} {x : List ℕ} (line : List ℕ) {left rest : List ℕ} {n : ℕ} {low : Part} {cutter : CutterState} {old new : List Slot} → IsFit now → Joins x (take n rest) → Tries now line (record now { aim = aim }) None → PassesOver (record now { aim = aim }) rest mid n
-    → (after : IsAfter told cutter x line now left low old new) → Reached (part_at now x left after.now) (more_lines now mid.lines aim) (x ++ take n rest) (left ++ take n rest)
+there_of : {told : Bool} {now mid : CutterState} {aim : Turn} {x : List ℕ} (line : List ℕ) {left rest : List ℕ} {n : ℕ}
+    {low : Part} {cutter : CutterState} {old new : List Slot} → IsFit now → Joins x (take n rest)
+    → Tries now line (record now { aim = aim }) None → PassesOver (record now { aim = aim }) rest mid n
+    → (after : IsAfter told cutter x line now left low old new)
+    → Reached (part_at now x left after.now) (more_lines now mid.lines aim) (x ++ take n rest) (left ++ take n rest)
 unfolding at_more at_alike
 there_of {now = now} {mid} {aim} {x} line {left} {rest} {n} fit whole tries over after =
     let here = alike now aim now.window in
@@ -462,8 +560,12 @@ there_of {now = now} {mid} {aim} {x} line {left} {rest} {n} fit whole tries over
 joins_by : {E : Type 0} {x rest : List ℕ} (n : ℕ) → (rest ≡ []) ⊎ E → (E → IsWhole x) → Joins x (take n rest)
 joins_by n fact ends = grind (arith, common_steps)
 
-spread_passes : {told : Bool} {cutter mid end next : CutterState} {cut : Cut} {place : ℕ} {line left rest : List ℕ} {n : ℕ} {old between new : List Slot} {fault : Option Fault} → Spread told cutter cut place line line old between mid left → (rest ≡ []) ⊎ (ends_with newline line ≡ true) → PassesOver mid rest end n
-    → Holds told end (end.window.held ++ (left ++ take n rest)) between new next fault → CutsAll told cutter cut place line line (take n rest) old new next fault
+spread_passes : {told : Bool} {cutter mid end next : CutterState} {cut : Cut} {place : ℕ} {line left rest : List ℕ}
+    {n : ℕ} {old between new : List Slot} {fault : Option Fault}
+    → Spread told cutter cut place line line old between mid left → (rest ≡ []) ⊎ (ends_with newline line ≡ true)
+    → PassesOver mid rest end n
+    → Holds told end (end.window.held ++ (left ++ take n rest)) between new next fault
+    → CutsAll told cutter cut place line line (take n rest) old new next fault
 spread_passes {told} {mid = mid} {end} {next} {line = line} {left} {rest} {n} {between = between} {new} {fault} spread complete over held =
     let now = spread.now in
     let over_now = subst (λ (m : CutterState). PassesOver m rest end n) spread.is over in
@@ -491,12 +593,19 @@ left_within text left size within (front, is) =
 
 -- What `cut_on` owes.
 
-gone_left : {told : Bool} {mid next : CutterState} {left rest tail : List ℕ} {kept : ℕ} {old new : List Slot} {result : Result Passed Fault} → kept ≡ length left → tail ≡ left ++ rest → GoesOn told mid (take kept tail) (drop kept tail) old new next result → GoesOn told mid left rest old new next result
+gone_left : {told : Bool} {mid next : CutterState} {left rest tail : List ℕ} {kept : ℕ} {old new : List Slot}
+    {result : Result Passed Fault} → kept ≡ length left → tail ≡ left ++ rest
+    → GoesOn told mid (take kept tail) (drop kept tail) old new next result
+    → GoesOn told mid left rest old new next result
 gone_left {told} {mid} {next} {left} {rest} {tail} {kept} {old} {new} {result} kept_is is gone = grind (arith, common_steps)
 
-pub cut_on : {told : Bool} {cutter mid next : CutterState} {cut : Cut} (text : List ℕ) {tail left : List ℕ} (size : ℕ) {kept : ℕ} {passed all : Passed} {old between new : List Slot} → size ≤ length text → (drop size text ≡ []) ⊎ (ends_with newline (take size text) ≡ true)
-    → Spread told cutter cut cutter.lines (take size text) (take size text) old between mid left → kept ≡ length left → tail ≡ left ++ drop size text → GoesOn told mid (take kept tail) (drop kept tail) between new next (Ok passed)
-    → all.size ≡ size - kept + passed.size → all.found ≡ passed.found → CutsOn told cutter cut (take size text) (drop size text) old new next (Ok all)
+pub cut_on : {told : Bool} {cutter mid next : CutterState} {cut : Cut} (text : List ℕ) {tail left : List ℕ} (size : ℕ)
+    {kept : ℕ} {passed all : Passed} {old between new : List Slot} → size ≤ length text
+    → (drop size text ≡ []) ⊎ (ends_with newline (take size text) ≡ true)
+    → Spread told cutter cut cutter.lines (take size text) (take size text) old between mid left → kept ≡ length left
+    → tail ≡ left ++ drop size text → GoesOn told mid (take kept tail) (drop kept tail) between new next (Ok passed)
+    → all.size ≡ size - kept + passed.size → all.found ≡ passed.found
+    → CutsOn told cutter cut (take size text) (drop size text) old new next (Ok all)
 cut_on {next = next} text {left = left} size {passed = passed} within complete spread kept_is tail_is goes size_is found_is =
     let gone = gone_left kept_is tail_is goes in
     let few : length left ≤ size = left_within text left size within spread.so_far.end in
@@ -509,15 +618,23 @@ cut_on {next = next} text {left = left} size {passed = passed} within complete s
       found = subst (λ found. IfSome found (IsNextFound next (drop gone.n (drop size text)))) (sym found_is) (found_by (drop gone.n (drop size text)) passed.found gone.held gone.found);
     }
 
-pub cut_not_on : {told : Bool} {cutter mid next : CutterState} {cut : Cut} {line tail left rest : List ℕ} {kept : ℕ} {old between new : List Slot} {fault : Fault} → (rest ≡ []) ⊎ (ends_with newline line ≡ true) → Spread told cutter cut cutter.lines line line old between mid left
-    → kept ≡ length left → tail ≡ left ++ rest → GoesOn told mid (take kept tail) (drop kept tail) between new next (Err fault) → CutsOn told cutter cut line rest old new next (Err fault)
+pub cut_not_on : {told : Bool} {cutter mid next : CutterState} {cut : Cut} {line tail left rest : List ℕ} {kept : ℕ}
+    {old between new : List Slot} {fault : Fault} → (rest ≡ []) ⊎ (ends_with newline line ≡ true)
+    → Spread told cutter cut cutter.lines line line old between mid left
+    → kept ≡ length left → tail ≡ left ++ rest
+    → GoesOn told mid (take kept tail) (drop kept tail) between new next (Err fault)
+    → CutsOn told cutter cut line rest old new next (Err fault)
 cut_not_on complete spread kept_is tail_is goes =
     let gone = gone_left kept_is tail_is goes in record { n = gone.n; within = gone.over.within; whole = gone.over.whole; all = spread_passes spread complete gone.over gone.held; size = tt; found = tt }
 
 -- What `stretch` owes. The first line isn't cut.
 
-ends_on : {cutter mid end : CutterState} (line : List ℕ) {rest : List ℕ} {n : ℕ} → IsLine line → (rest ≡ []) ⊎ (ends_with newline line ≡ true) → mid ≡ record cutter { lines = cutter.lines + 1; aim = mid.aim } → TriesNext cutter line mid None → PassesOver mid rest end n
-    → end ≡ more_lines cutter end.lines mid.aim → (x : List ℕ) → IsWhole x → IsLive cutter x → (end.lines ≡ line_count newline (x ++ (line ++ take n rest))) × EndsNow (more_lines cutter end.lines mid.aim) (x ++ (line ++ take n rest))
+ends_on : {cutter mid end : CutterState} (line : List ℕ) {rest : List ℕ} {n : ℕ} → IsLine line
+    → (rest ≡ []) ⊎ (ends_with newline line ≡ true) → mid ≡ record cutter { lines = cutter.lines + 1; aim = mid.aim }
+    → TriesNext cutter line mid None → PassesOver mid rest end n
+    → end ≡ more_lines cutter end.lines mid.aim → (x : List ℕ) → IsWhole x → IsLive cutter x
+    → (end.lines ≡ line_count newline (x ++ (line ++ take n rest)))
+    × EndsNow (more_lines cutter end.lines mid.aim) (x ++ (line ++ take n rest))
 ends_on {cutter} {mid} {end} line {rest} {n} one complete mid_is tries over end_is x whole live =
     let count : mid.lines ≡ line_count newline (x ++ line) = ap (λ (c : CutterState). c.lines) mid_is ∙ ap (λ k. k + 1) live.at.counted ∙ sym (count-line line whole one) in
     let both = over.ends (x ++ line) (joins_by n complete (λ ends. whole-append line whole (inr ends))) count (tries x whole live) in
@@ -526,8 +643,13 @@ ends_on {cutter} {mid} {end} line {rest} {n} one complete mid_is tries over end_
       subst (EndsNow (more_lines cutter end.lines mid.aim)) is (subst (λ (c : CutterState). EndsNow c ((x ++ line) ++ take n rest)) end_is both.1),
     )
 
-stretched : {told : Bool} {cutter next : CutterState} {text : List ℕ} {size n : ℕ} {old new : List Slot} (result : Result Passed Fault) → size ≤ length text → n ≤ length (drop size text) → (drop size text ≡ []) ⊎ (ends_with newline (take size text) ≡ true) → IsWhole (take n (drop size text))
-    → Takes told cutter (take size text ++ take n (drop size text)) old new next (fault_in result) → IfOk result (λ passed. passed.size ≡ length (take size text) + n) → IfOk result (λ passed. IfSome passed.found (IsNextFound next (drop n (drop size text)))) → Stretches told cutter text size old new next result
+stretched : {told : Bool} {cutter next : CutterState} {text : List ℕ} {size n : ℕ} {old new : List Slot}
+    (result : Result Passed Fault) → size ≤ length text → n ≤ length (drop size text)
+    → (drop size text ≡ []) ⊎ (ends_with newline (take size text) ≡ true) → IsWhole (take n (drop size text))
+    → Takes told cutter (take size text ++ take n (drop size text)) old new next (fault_in result)
+    → IfOk result (λ passed. passed.size ≡ length (take size text) + n)
+    → IfOk result (λ passed. IfSome passed.found (IsNextFound next (drop n (drop size text))))
+    → Stretches told cutter text size old new next result
 stretched {told} {cutter} {next} {text} {size} {n} {old} {new} result within more complete whole took size_is found = record {
   n = size + n;
   least = omega arith;
@@ -537,12 +659,17 @@ stretched {told} {cutter} {next} {text} {size} {n} {old} {new} result within mor
   size_is = ok_as result (λ passed is. is ∙ ap (λ k. k + n) (length-take-le size text within)) size_is;
   found = ok_as result (λ passed found. subst (λ those. IfSome passed.found (IsNextFound next those)) (drop-drop n size text) found) found;
 } where
-  by : (drop size text ≡ []) ⊎ (ends_with newline (take size text) ≡ true) → IsWhole text → IsWhole (take size text ++ take n (drop size text))
+  by : (drop size text ≡ []) ⊎ (ends_with newline (take size text) ≡ true) → IsWhole text
+      → IsWhole (take size text ++ take n (drop size text))
   by (inl none) all = subst IsWhole (sym (ap (λ those. take size text ++ take n those) none ∙ ap (λ those. take size text ++ those) (take_all n [] (omega arith) ∙ sym none) ∙ take-append-drop size text)) all
   by (inr ends) all = whole-append (take n (drop size text)) (inr ends) whole
 
-pub stretch_on : {told : Bool} {cutter mid next : CutterState} {text : List ℕ} {size : ℕ} {old new : List Slot} (result : Result Passed Fault) → IsFit cutter → (cutter.aim ≡ Below → ⊥) → size ≤ length text → IsLine (take size text) → (drop size text ≡ []) ⊎ (ends_with newline (take size text) ≡ true)
-    → mid ≡ record cutter { lines = cutter.lines + 1; aim = mid.aim } → TriesNext cutter (take size text) mid None → GoesOn told mid (take size text) (drop size text) old new next result → Stretches told cutter text size old new next result
+pub stretch_on : {told : Bool} {cutter mid next : CutterState} {text : List ℕ} {size : ℕ} {old new : List Slot}
+    (result : Result Passed Fault) → IsFit cutter → (cutter.aim ≡ Below → ⊥) → size ≤ length text
+    → IsLine (take size text) → (drop size text ≡ []) ⊎ (ends_with newline (take size text) ≡ true)
+    → mid ≡ record cutter { lines = cutter.lines + 1; aim = mid.aim } → TriesNext cutter (take size text) mid None
+    → GoesOn told mid (take size text) (drop size text) old new next result
+    → Stretches told cutter text size old new next result
 stretch_on {told} {cutter} {mid} {next} {text} {size} {old} {new} result fit differs within one complete mid_is tries gone =
     let end = gone.mid in
     let line = take size text in
@@ -556,25 +683,40 @@ stretch_on {told} {cutter} {mid} {next} {text} {size} {old} {new} result fit dif
     (ends_on line one complete mid_is tries gone.over end_is) (subst (λ (m : CutterState). Holds told m (m.window.held ++ (line ++ more)) old new next (fault_in result)) end_is gone.held)) gone.size (found_held (drop gone.n (drop size text)) result gone.held gone.found)
 
 -- It is cut, and none waits.
-pub stretch_cut : {told : Bool} {cutter mid next : CutterState} {text : List ℕ} {size : ℕ} {cut : Cut} {old new : List Slot} (result : Result Passed Fault) → IsFit cutter → (cutter.aim ≡ Below → ⊥) → size ≤ length text → IsLine (take size text) → (drop size text ≡ []) ⊎ (ends_with newline (take size text) ≡ true)
-    → mid ≡ record cutter { lines = cutter.lines + 1; aim = mid.aim } → mid.window.held ≡ [] → WillCut mid cut → TriesNext cutter (take size text) mid (Some cut) → CutsOn told mid cut (take size text) (drop size text) old new next result → Stretches told cutter text size old new next result
+pub stretch_cut : {told : Bool} {cutter mid next : CutterState} {text : List ℕ} {size : ℕ} {cut : Cut}
+    {old new : List Slot} (result : Result Passed Fault) → IsFit cutter → (cutter.aim ≡ Below → ⊥) → size ≤ length text
+    → IsLine (take size text) → (drop size text ≡ []) ⊎ (ends_with newline (take size text) ≡ true)
+    → mid ≡ record cutter { lines = cutter.lines + 1; aim = mid.aim } → mid.window.held ≡ [] → WillCut mid cut
+    → TriesNext cutter (take size text) mid (Some cut)
+    → CutsOn told mid cut (take size text) (drop size text) old new next result
+    → Stretches told cutter text size old new next result
 stretch_cut {told} {cutter} {mid} {next} {text} {size} {cut} {old} {new} result fit differs within one complete mid_is none will tries on =
     let line = take size text in
     let more = take on.n (drop size text) in
     stretched result within on.within complete on.whole (take_cut line more fit differs one mid_is will tries (alone (λ place those. CutsAll told mid cut place those line more old new next (fault_in result)) mid line none on.all)) on.size on.found
 
 -- It is cut, and some wait.
-pub stretch_first : {told : Bool} {cutter mid next : CutterState} {text : List ℕ} {size : ℕ} {cut : Cut} {old new : List Slot} (result : Result Passed Fault) → IsFit cutter → (cutter.aim ≡ Below → ⊥) → size ≤ length text → IsLine (take size text) → (drop size text ≡ []) ⊎ (ends_with newline (take size text) ≡ true)
-    → mid ≡ record cutter { lines = cutter.lines + 1; aim = mid.aim } → WillCut mid cut → TriesNext cutter (take size text) mid (Some cut) → CutsAll told mid cut (mid.lines - delimiters newline mid.window.held) (mid.window.held ++ take size text) (take size text) [] old new next (fault_in result)
-    → IfOk result (λ passed. (passed.size ≡ size) × (passed.found ≡ None)) → Stretches told cutter text size old new next result
+pub stretch_first : {told : Bool} {cutter mid next : CutterState} {text : List ℕ} {size : ℕ} {cut : Cut}
+    {old new : List Slot} (result : Result Passed Fault) → IsFit cutter → (cutter.aim ≡ Below → ⊥) → size ≤ length text
+    → IsLine (take size text) → (drop size text ≡ []) ⊎ (ends_with newline (take size text) ≡ true)
+    → mid ≡ record cutter { lines = cutter.lines + 1; aim = mid.aim } → WillCut mid cut
+    → TriesNext cutter (take size text) mid (Some cut)
+    → CutsAll told mid cut (mid.lines - delimiters newline mid.window.held) (mid.window.held ++ take size text)
+    (take size text) [] old new next (fault_in result)
+    → IfOk result (λ passed. (passed.size ≡ size) × (passed.found ≡ None))
+    → Stretches told cutter text size old new next result
 stretch_first {told} {cutter} {next = next} {text} {size} {old = old} {new} result fit differs within one complete mid_is will tries all are =
     stretched {n = 0} result within (omega arith) complete (inl refl) (take_cut (take size text) [] fit differs one mid_is will tries all)
     (ok_as result (λ passed both. both.0 ∙ (let long = length-take-le size text within in omega (arith, long))) are) (ok_as result (λ passed both. subst (λ found. IfSome found (IsNextFound next (drop 0 (drop size text)))) (sym both.1) tt) are)
 
 -- All of it goes nowhere.
-pub stretch_past : {told : Bool} {cutter next : CutterState} {text : List ℕ} {size : ℕ} {old new : List Slot} (passed : Passed) → size ≤ length text → Takes told cutter text old new next None → passed.size ≡ length text → passed.found ≡ None → Stretches told cutter text size old new next (Ok passed)
+pub stretch_past : {told : Bool} {cutter next : CutterState} {text : List ℕ} {size : ℕ} {old new : List Slot}
+    (passed : Passed) → size ≤ length text → Takes told cutter text old new next None → passed.size ≡ length text
+    → passed.found ≡ None → Stretches told cutter text size old new next (Ok passed)
 stretch_past {told} {cutter} {next} {text} {old = old} {new} passed within took size_is none = grind (arith, common_steps)
 
 -- The text is one line.
-pub stretched_line : {told : Bool} {cutter next : CutterState} {line : List ℕ} {old new : List Slot} {result : Result Passed Fault} → Stretches told cutter line (length line) old new next result → Takes told cutter line old new next (fault_in result)
+pub stretched_line : {told : Bool} {cutter next : CutterState} {line : List ℕ} {old new : List Slot}
+    {result : Result Passed Fault} → Stretches told cutter line (length line) old new next result
+    → Takes told cutter line old new next (fault_in result)
 stretched_line {told} {cutter} {next} {line} {old} {new} {result} stretch = grind (arith, common_steps)

@@ -42,7 +42,9 @@ NoneFrom operand count lines from = (k : ℕ) → k < length lines → from ≤ 
 
 -- where no line before the last one is matched, that line alone decides
 
-pub looks_past : (operand : Operand) (lines : List Line) (from : ℕ) → ((other : ℕ) → from ≤ other → other < length lines → is_match operand lines other ≡ false) → (from ≤ length lines → is_match operand lines (length lines) ≡ false) → MatchesNone operand lines from
+pub looks_past : (operand : Operand) (lines : List Line) (from : ℕ)
+    → ((other : ℕ) → from ≤ other → other < length lines → is_match operand lines other ≡ false)
+    → (from ≤ length lines → is_match operand lines (length lines) ≡ false) → MatchesNone operand lines from
 looks_past operand lines from looked none line from_on within = grind (arith, common_steps)
 
 -- What stays as it is while more lines come
@@ -53,7 +55,9 @@ EndsStill suppress count b total last (missed operand repetition) = (operand : O
 EndsStill suppress count b total last (above operand repetition matched cut) = total < cut
 EndsStill suppress count b total last ending = Unit {0}
 
-pub ends_still : {suppress : Bool} {a : List Line} (b : List Line) {first : State} {steps : List Step} {last : State} {ending : Ending} → Runs suppress a first steps last ending → EndsStill suppress (length a) b (length (a ++ b)) last ending
+pub ends_still : {suppress : Bool} {a : List Line} (b : List Line) {first : State} {steps : List Step} {last : State}
+    {ending : Ending} → Runs suppress a first steps last ending
+    → EndsStill suppress (length a) b (length (a ++ b)) last ending
     → Runs suppress (a ++ b) last [] last ending
 ends_still b (is_used_up state none) still = is_used_up state none
 ends_still {suppress} {a} b (misses state operand operands is none) still =
@@ -63,7 +67,9 @@ ends_still {suppress} {a} b (is_below state operand operands matched cut is at w
     is_below state operand operands matched cut is (cuts_still suppress a b state operand operand.target matched cut at) (let e : length (a ++ b) ≡ length a + length b = length-append a b in omega (arith, e, within)) low
 ends_still b (cuts state operand operands matched cut steps' last' ending' is at from within rest) still = ends_still b rest still
 
-pub stays : (suppress : Bool) (operands : List Operand) (a b : List Line) → EndsStill suppress (length a) b (length (a ++ b)) (plan suppress operands a).last (plan suppress operands a).ending → plan suppress operands (a ++ b) ≡ plan suppress operands a
+pub stays : (suppress : Bool) (operands : List Operand) (a b : List Line)
+    → EndsStill suppress (length a) b (length (a ++ b)) (plan suppress operands a).last
+    (plan suppress operands a).ending → plan suppress operands (a ++ b) ≡ plan suppress operands a
 stays suppress operands a b so =
     let here = plan_runs suppress operands a in
     plan_once suppress operands (a ++ b) _ _ _ (goes_on b _ _ here (ends_still b here so))
@@ -75,8 +81,10 @@ stays suppress operands a b so =
 pub capped : (real cap most total : ℕ) → most ≡ min real cap → most ≤ total → total < cap → most ≡ real
 capped real cap most total is within low = grind (arith, common_steps)
 
-pub falls : (suppress : Bool) (all : List Line) {total : ℕ} (state : State) {operand : Operand} {operands : List Operand} (matched real : ℕ) {most : ℕ} → length all ≡ total → state.operands ≡ operand ∷ operands
-    → CutsAt suppress all state operand operand.target matched real → most ≡ min real (2 ^ 64 - 1) → total < 2 ^ 64 - 1 → (turn : Turn) → FallsAt total state.current matched most turn → Turns suppress all state turn
+pub falls : (suppress : Bool) (all : List Line) {total : ℕ} (state : State) {operand : Operand}
+    {operands : List Operand} (matched real : ℕ) {most : ℕ} → length all ≡ total → state.operands ≡ operand ∷ operands
+    → CutsAt suppress all state operand operand.target matched real → most ≡ min real (2 ^ 64 - 1) → total < 2 ^ 64 - 1
+    → (turn : Turn) → FallsAt total state.current matched most turn → Turns suppress all state turn
 falls suppress all state {operand} {operands} matched real {most} count are at_cut is few (Above line cap) at = record {
   ending = above operand state.repetition matched real;
   runs = is_above state operand operands matched real are at_cut (let less : most ≤ real = (grind (arith, common_steps)) in omega (arith, less, at.2, count));
@@ -88,15 +96,21 @@ falls suppress all {total} state {operand} {operands} matched real {most} count 
 falls suppress all {total} state {operand} {operands} matched real {most} count are at_cut is few (Cuts line cut) at = grind (arith, common_steps)
 falls suppress all state matched real count are at_cut is few turn at = absurd at
 
-pub falls_number : (suppress : Bool) (all : List Line) {total : ℕ} (state : State) {found : Bool} {operand : Operand} {operands : List Operand} (number : ℕ) {most : ℕ} → state.operands ≡ operand ∷ operands → operand.target ≡ Number number → AreSeen suppress all total state found
-    → most ≡ min (number * (state.repetition + 1)) (2 ^ 64 - 1) → total < 2 ^ 64 - 1 → (turn : Turn) → FallsAt total state.current state.matched most turn → Turns suppress all state turn
+pub falls_number : (suppress : Bool) (all : List Line) {total : ℕ} (state : State) {found : Bool} {operand : Operand}
+    {operands : List Operand} (number : ℕ) {most : ℕ} → state.operands ≡ operand ∷ operands
+    → operand.target ≡ Number number → AreSeen suppress all total state found
+    → most ≡ min (number * (state.repetition + 1)) (2 ^ 64 - 1) → total < 2 ^ 64 - 1 → (turn : Turn)
+    → FallsAt total state.current state.matched most turn → Turns suppress all state turn
 falls_number suppress all state {operand = operand} number are target seen is few turn at = falls suppress all state state.matched (number * (state.repetition + 1)) seen.count are
     (subst (λ t. CutsAt suppress all state operand t state.matched (number * (state.repetition + 1))) (sym target) (refl, refl)) is few turn at
 
 -- where the last line has the operand's pattern, its search ends there
-pub falls_search : (suppress : Bool) (all : List Line) {total : ℕ} (state : State) {found : Bool} {operand : Operand} {operands : List Operand} {pattern : Pattern} {kept : Bool} (offset : Offset) {most : ℕ}
-    → state.operands ≡ operand ∷ operands → operand.target ≡ Search pattern kept offset → AreSeen suppress all total state found → search_line suppress state ≤ total → found ≡ true
-    → most ≡ min (moved offset total) (2 ^ 64 - 1) → total < 2 ^ 64 - 1 → (turn : Turn) → FallsAt total state.current total most turn → Turns suppress all state turn
+pub falls_search : (suppress : Bool) (all : List Line) {total : ℕ} (state : State) {found : Bool} {operand : Operand}
+    {operands : List Operand} {pattern : Pattern} {kept : Bool} (offset : Offset) {most : ℕ}
+    → state.operands ≡ operand ∷ operands → operand.target ≡ Search pattern kept offset
+    → AreSeen suppress all total state found → search_line suppress state ≤ total → found ≡ true
+    → most ≡ min (moved offset total) (2 ^ 64 - 1) → total < 2 ^ 64 - 1 → (turn : Turn)
+    → FallsAt total state.current total most turn → Turns suppress all state turn
 falls_search suppress all {total} state {operand = operand} {operands} {pattern} {kept} offset are target seen near is_found is few turn at = falls suppress all state total (moved offset total) seen.count are
     (subst (λ t. CutsAt suppress all state operand t total (moved offset total)) (sym target)
     (subst (λ n. CutsAt suppress all state operand (Search pattern kept offset) n (moved offset n)) seen.count (
@@ -105,43 +119,58 @@ falls_search suppress all {total} state {operand = operand} {operands} {pattern}
     ))) is few turn at
 
 -- and where it has not, or the search begins after it, no line matches
-pub misses_search : {suppress : Bool} (all : List Line) {total : ℕ} {state : State} {found : Bool} {operand : Operand} {operands : List Operand} {pattern : Pattern} {kept : Bool} {offset : Offset}
-    → state.operands ≡ operand ∷ operands → operand.target ≡ Search pattern kept offset → AreSeen suppress all total state found → (search_line suppress state ≤ total → found ≡ false) → EndsHere suppress all state Missed
+pub misses_search : {suppress : Bool} (all : List Line) {total : ℕ} {state : State} {found : Bool} {operand : Operand}
+    {operands : List Operand} {pattern : Pattern} {kept : Bool} {offset : Offset}
+    → state.operands ≡ operand ∷ operands → operand.target ≡ Search pattern kept offset
+    → AreSeen suppress all total state found → (search_line suppress state ≤ total → found ≡ false)
+    → EndsHere suppress all state Missed
 misses_search {suppress} all {total} {state} {operand = operand} {operands} are target seen none = record {
   ending = missed operand state.repetition;
   runs = misses state operand operands are (subst (Misses suppress all state operand) (sym target)
       (looks_past operand all (search_line suppress state) (λ other from less. seen.others operand operands are other from (omega (arith, less, seen.count)))
-      (λ near. let at : search_line suppress state ≤ total = omega (arith, seen.count, near) in ap (is_match operand all) seen.count ∙ seen.last operand operands are at ∙ none at)));
+      (λ near. let at : search_line suppress state ≤ total = omega (arith, seen.count, near) in ap
+      (is_match operand all) seen.count ∙ seen.last operand operands are at ∙ none at)));
   aims = tt;
 }
 
-pub left_is : (operands : List Operand) (at : ℕ) {operand : Operand} → at < length operands → operand ≡ get_or operands at operand → drop at operands ≡ operand ∷ drop (at + 1) operands
+pub left_is : (operands : List Operand) (at : ℕ) {operand : Operand} → at < length operands
+    → operand ≡ get_or operands at operand → drop at operands ≡ operand ∷ drop (at + 1) operands
 left_is operands at {operand} within is = grind (arith, common_steps)
 
-drop_next : (operands : List Operand) {rest : List Operand} {operand : Operand} (at : ℕ) → drop at operands ≡ operand ∷ rest → drop (suc at) operands ≡ rest
+drop_next : (operands : List Operand) {rest : List Operand} {operand : Operand} (at : ℕ)
+    → drop at operands ≡ operand ∷ rest → drop (suc at) operands ≡ rest
 drop_next [] zero are = absurd (cc)
 drop_next [] at are = absurd (cc)
 drop_next (one ∷ operands) zero are = ap (drop 1) are
 drop_next (one ∷ operands) (suc at) are = drop_next operands at are
 
-pub passes_on : (suppress : Bool) (operands : List Operand) {rest : List Operand} {operand : Operand} (at repetition matched cut : ℕ) {current next : ℕ} → drop at operands ≡ operand ∷ rest → has_more operand.times repetition ≡ false → current ≡ line_after suppress cut → next ≡ at + 1
-    → state_of operands (record { done = next; repetition = 0; current = current; matched = matched }) ≡ state_after suppress operand rest repetition matched cut
+pub passes_on : (suppress : Bool) (operands : List Operand) {rest : List Operand} {operand : Operand}
+    (at repetition matched cut : ℕ) {current next : ℕ} → drop at operands ≡ operand ∷ rest
+    → has_more operand.times repetition ≡ false → current ≡ line_after suppress cut → next ≡ at + 1
+    → state_of operands (record { done = next; repetition = 0; current = current; matched = matched })
+    ≡ state_after suppress operand rest repetition matched cut
 passes_on suppress operands {rest} {operand} at repetition matched cut {current} {next} are none is on = search (rules, drop_next, at, are)
 
 -- A cut moves on, and the numbers stay small.
 
-repeated_again : (total : ℕ) (state next : State) (target : Target) {matched : ℕ} (cut : ℕ) → Moves total state target matched cut → 1 ≤ cut → cut ≤ total → next.repetition ≡ state.repetition + 1 → next.matched ≡ matched
+repeated_again : (total : ℕ) (state next : State) (target : Target) {matched : ℕ} (cut : ℕ)
+    → Moves total state target matched cut → 1 ≤ cut → cut ≤ total → next.repetition ≡ state.repetition + 1
+    → next.matched ≡ matched
     → IsRepeatedBy total state target → IsRepeatedBy total next target
 repeated_again total state next (Number n) cut at some within again same few =
     let less : total - next.repetition < total - state.repetition = fewer_left total state next (Number n) cut at some within again same in omega (arith, less, again)
 repeated_again total state next (Search pattern kept offset) cut at some within again same few = omega (arith, at.0, few, again, same)
 
-repeated_by : (total : ℕ) (state : State) (operand : Operand) (operands : List Operand) {matched : ℕ} (cut : ℕ) → Moves total state operand.target matched cut → 1 ≤ cut → cut ≤ total → IsRepeated total state (operand ∷ operands)
-    → (more : Bool) (next : State) → next.repetition ≡ repetition_after more state.repetition → next.matched ≡ matched → IsRepeated total next (operands_after more operand operands)
+repeated_by : (total : ℕ) (state : State) (operand : Operand) (operands : List Operand) {matched : ℕ} (cut : ℕ)
+    → Moves total state operand.target matched cut → 1 ≤ cut → cut ≤ total → IsRepeated total state (operand ∷ operands)
+    → (more : Bool) (next : State) → next.repetition ≡ repetition_after more state.repetition → next.matched ≡ matched
+    → IsRepeated total next (operands_after more operand operands)
 repeated_by total state operand operands cut at some within few true next again same = repeated_again total state next operand.target cut at some within again same few
 repeated_by total state operand operands cut at some within few false next again same = search rules
 
-fits_after : (suppress : Bool) {total : ℕ} {state : State} {operand : Operand} {operands : List Operand} (matched cut : ℕ) → Fits total state → state.operands ≡ operand ∷ operands → Moves total state operand.target matched cut → matched ≤ total → state.current ≤ cut → cut ≤ total
+fits_after : (suppress : Bool) {total : ℕ} {state : State} {operand : Operand} {operands : List Operand}
+    (matched cut : ℕ) → Fits total state → state.operands ≡ operand ∷ operands
+    → Moves total state operand.target matched cut → matched ≤ total → state.current ≤ cut → cut ≤ total
     → Fits total (state_after suppress operand operands state.repetition matched cut)
 fits_after suppress {total} {state} {operand} {operands} matched cut fits are at few least within = record {
   some = let more : cut ≤ line_after suppress cut = line_some suppress cut in omega (arith, more, fits.some, least);
@@ -153,8 +182,12 @@ fits_after suppress {total} {state} {operand} {operands} matched cut fits are at
 
 -- Going on after a cut
 
-module _ {cutter : CutterState} {cut : Cut} {operand : Operand} (progress : Progress) {suppress : Bool} (by : suppress ≡ suppress_in cutter) (fit : IsFit cutter) (none : cutter.window.held ≡ []) (will : WillCut cutter cut) (here : operand ≡ get_or cutter.operands cutter.progress.done operand)
-    (next : (operands rest : List Operand) → drop cutter.progress.done operands ≡ operand ∷ rest → state_of operands progress ≡ state_after suppress operand rest cutter.progress.repetition cut.matched cut.line) where
+module _ {cutter : CutterState} {cut : Cut} {operand : Operand} (progress : Progress) {suppress : Bool}
+    (by : suppress ≡ suppress_in cutter) (fit : IsFit cutter) (none : cutter.window.held ≡ [])
+    (will : WillCut cutter cut) (here : operand ≡ get_or cutter.operands cutter.progress.done operand)
+    (next : (operands rest : List Operand) → drop cutter.progress.done operands ≡ operand ∷ rest
+    → state_of operands progress
+    ≡ state_after suppress operand rest cutter.progress.repetition cut.matched cut.line) where
   are : (state_in cutter).operands ≡ operand ∷ drop (cutter.progress.done + 1) cutter.operands
   are = left_is cutter.operands cutter.progress.done will.some here
 
@@ -172,38 +205,55 @@ module _ {cutter : CutterState} {cut : Cut} {operand : Operand} (progress : Prog
   state one more is = grind (arith, common_steps)
 
   -- the same operand is performed again
-  pub passes_again : progress.done ≡ cutter.progress.done → PassesCut cutter cut (record cutter { progress = progress }) None
+  pub passes_again : progress.done ≡ cutter.progress.done
+      → PassesCut cutter cut (record cutter { progress = progress }) None
   passes_again done = search (rules, fits, at, fewer, state)
 
   -- the next operand has got what it needs
   pub passes_next : (new : CutterState) (result : Result (Unit {0}) Fault)
-      → OnOk result (new ≡ record cutter { progress = progress; window = record { most = most_by (drop progress.done cutter.operands); delim = newline; held = [] }; sought = pattern_by (drop progress.done cutter.operands) })
-      → IfErr result (λ fault. (fault ≡ Memory) × (new.writer ≡ cutter.writer) × (new.operands ≡ cutter.operands) × (new.style ≡ cutter.style)) → PassesCut cutter cut new (fault_in result)
+      → OnOk result
+      (new
+      ≡ record cutter {
+        progress = progress;
+        window = record
+            { most = most_by (drop progress.done cutter.operands); delim = newline; held = [] };
+        sought = pattern_by
+            (drop progress.done cutter.operands);
+      })
+      → IfErr result (λ fault. (fault ≡ Memory) × (new.writer ≡ cutter.writer) × (new.operands ≡ cutter.operands)
+      × (new.style ≡ cutter.style)) → PassesCut cutter cut new (fault_in result)
   passes_next new (Ok done) is lacks = grind (arith, common_steps, fits, fewer, state)
   passes_next new (Err fault) is lacks = lacks
 
 -- What trying the next operand with the last line says.
 
-pub found_is : {cutter : CutterState} (line : List ℕ) {text : List ℕ} (number : ℕ) {found : Bool} (target : Target) → text ≡ without_newline line → cutter.sought ≡ pattern_in target → IsFound cutter text number found
+pub found_is : {cutter : CutterState} (line : List ℕ) {text : List ℕ} (number : ℕ) {found : Bool} (target : Target)
+    → text ≡ without_newline line → cutter.sought ≡ pattern_in target → IsFound cutter text number found
     → search_line (suppress_in cutter) (state_in cutter) ≤ number → is_match_of line target ≡ found
 found_is line number target is sought says near = grind (arith, common_steps)
 
-pub turn_ends : {suppress : Bool} {lines : List Line} {state : State} (turn : Turn) → IsNoCut turn → Turns suppress lines state turn → EndsHere suppress lines state turn
+pub turn_ends : {suppress : Bool} {lines : List Line} {state : State} (turn : Turn) → IsNoCut turn
+    → Turns suppress lines state turn → EndsHere suppress lines state turn
 turn_ends turn no_cut ends = grind (arith, common_steps)
 
 -- a search after a cut begins at the cut or after it, and after the line that was matched last
 
-pub cut_near : {cutter : CutterState} {x : List ℕ} (line : List ℕ) (cut : Cut) {turn : Turn} → turn ≡ Cuts cut.matched cut.line → IsFit cutter → Looked cutter x line → Turns (suppress_in cutter) (all_lines x) (state_in cutter) turn → StaysNear cutter cut
+pub cut_near : {cutter : CutterState} {x : List ℕ} (line : List ℕ) (cut : Cut) {turn : Turn}
+    → turn ≡ Cuts cut.matched cut.line → IsFit cutter → Looked cutter x line
+    → Turns (suppress_in cutter) (all_lines x) (state_in cutter) turn → StaysNear cutter cut
 cut_near {cutter} {x} line cut is fit looked turns = search rules
 
 -- what `try_last` owes
 
-module _ {cutter : CutterState} (line : List ℕ) {found : Bool} (turn : Turn) (fit : IsFit cutter) (says : IsFound cutter (without_newline line) cutter.lines found)
-    (turns : (lines : List Line) → AreSeen (suppress_in cutter) lines cutter.lines (state_in cutter) found → Turns (suppress_in cutter) lines (state_in cutter) turn) (x : List ℕ) (looked : Looked cutter x line) where
+module _ {cutter : CutterState} (line : List ℕ) {found : Bool} (turn : Turn) (fit : IsFit cutter)
+    (says : IsFound cutter (without_newline line) cutter.lines found)
+    (turns : (lines : List Line) → AreSeen (suppress_in cutter) lines cutter.lines (state_in cutter) found
+    → Turns (suppress_in cutter) lines (state_in cutter) turn) (x : List ℕ) (looked : Looked cutter x line) where
   turned : Turns (suppress_in cutter) (all_lines x) (state_in cutter) turn
   turned = turns (all_lines x) (grind (arith, common_steps))
 
-  pub tries_cut : (cut : Cut) → turn ≡ Cuts cut.matched cut.line → GoesPast (suppress_in cutter) (all_lines x) (state_in cutter) cut.matched cut.line × StaysNear cutter cut
+  pub tries_cut : (cut : Cut) → turn ≡ Cuts cut.matched cut.line
+      → GoesPast (suppress_in cutter) (all_lines x) (state_in cutter) cut.matched cut.line × StaysNear cutter cut
   tries_cut cut is = (subst (Turns (suppress_in cutter) (all_lines x) (state_in cutter)) is turned, cut_near line cut is fit looked turned)
 
   pub tries_none : IsNoCut turn → EndsNow (record cutter { aim = turn }) x
@@ -220,7 +270,9 @@ StaysOver cutter text lines turn = Unit {0}
 -- that is so where the next operand stands as it did
 
 -- what passing over a text leaves of the plan
-pub ends_over : {cutter : CutterState} {lines : ℕ} (text : List ℕ) → IsFit cutter → lines ≡ cutter.lines + line_count newline text → StaysOver cutter text lines cutter.aim → (x : List ℕ) → Joins x text → cutter.lines ≡ line_count newline x → EndsNow cutter x
+pub ends_over : {cutter : CutterState} {lines : ℕ} (text : List ℕ) → IsFit cutter
+    → lines ≡ cutter.lines + line_count newline text → StaysOver cutter text lines cutter.aim → (x : List ℕ)
+    → Joins x text → cutter.lines ≡ line_count newline x → EndsNow cutter x
     → (lines ≡ line_count newline (x ++ text)) × EndsNow (record cutter { lines = lines }) (x ++ text)
 ends_over {cutter} {lines} text fit count stays x before counted ends =
     let sum : line_count newline (x ++ text) ≡ line_count newline x + line_count newline text = count-append text before in
@@ -236,7 +288,9 @@ ends_over {cutter} {lines} text fit count stays x before counted ends =
       },
     )
 
-pub next_stays : {cutter : CutterState} {x : List ℕ} (line : List ℕ) {turn : Turn} → IsFit cutter → IsLive cutter x → IsWhole x → IsLine line → cutter.aim ≡ turn → StaysOver cutter line (cutter.lines + 1) turn → EndsNow (record cutter { lines = cutter.lines + 1 }) (x ++ line)
+pub next_stays : {cutter : CutterState} {x : List ℕ} (line : List ℕ) {turn : Turn} → IsFit cutter → IsLive cutter x
+    → IsWhole x → IsLine line → cutter.aim ≡ turn → StaysOver cutter line (cutter.lines + 1) turn
+    → EndsNow (record cutter { lines = cutter.lines + 1 }) (x ++ line)
 next_stays {cutter} {x} line fit live whole one aim stays =
     let count : line_count newline line ≡ 1 = ap length one in
     (ends_over line fit (omega (arith, count)) (subst (StaysOver cutter line (cutter.lines + 1)) (sym aim) stays) x (inl whole) live.at.counted live.ends).1
@@ -246,17 +300,22 @@ lines_are : {cutter : CutterState} {x : List ℕ} (live : IsLive cutter x) → l
 lines_are {x} live = grind (arith, common_steps)
 
 -- the line of a cut that was above the last one came in
-above_cuts : {suppress : Bool} (lines : List Line) (line : Line) {state : State} {total matched at : ℕ} (ending : Ending) → length lines ≡ total → state.current ≤ total + 1 → EndsAs suppress lines state ending → AimsAt (Above matched at) ending → at ≤ total + 1 → total + 1 < 2 ^ 64 - 1
+above_cuts : {suppress : Bool} (lines : List Line) (line : Line) {state : State} {total matched at : ℕ}
+    (ending : Ending) → length lines ≡ total → state.current ≤ total + 1 → EndsAs suppress lines state ending
+    → AimsAt (Above matched at) ending → at ≤ total + 1 → total + 1 < 2 ^ 64 - 1
     → GoesPast suppress (lines ++ line ∷ []) state matched at × (at ≡ total + 1)
 above_cuts lines line ending count within ends aims near few = grind (arith, common_steps)
 
-pub next_cut : {cutter : CutterState} {x : List ℕ} (line : List ℕ) {matched at : ℕ} → IsFit cutter → IsLive cutter x → IsWhole x → IsLine line → cutter.aim ≡ Above matched at → at ≤ cutter.lines + 1 → cutter.lines < 2 ^ 63
-    → GoesPast (suppress_in cutter) (all_lines (x ++ line)) (state_in cutter) matched at × (cutter.lines + 1 ≤ search_after (suppress_in cutter) (record { matched = matched; line = at }))
+pub next_cut : {cutter : CutterState} {x : List ℕ} (line : List ℕ) {matched at : ℕ} → IsFit cutter → IsLive cutter x
+    → IsWhole x → IsLine line → cutter.aim ≡ Above matched at → at ≤ cutter.lines + 1 → cutter.lines < 2 ^ 63
+    → GoesPast (suppress_in cutter) (all_lines (x ++ line)) (state_in cutter) matched at
+    × (cutter.lines + 1 ≤ search_after (suppress_in cutter) (record { matched = matched; line = at }))
 next_cut {cutter} {x} line {matched} {at} fit live whole one aim near few = grind (arith, common_steps, above_cuts, lines_are, ends_as, all_lines-line)
 
 -- where a pattern matched no line so far
 
-pub next_looked : {cutter : CutterState} {x : List ℕ} (line : List ℕ) (live : IsLive cutter x) → IsWhole x → IsLine line → cutter.aim ≡ Missed → Looked (record cutter { lines = cutter.lines + 1 }) (x ++ line) line
+pub next_looked : {cutter : CutterState} {x : List ℕ} (line : List ℕ) (live : IsLive cutter x) → IsWhole x → IsLine line
+    → cutter.aim ≡ Missed → Looked (record cutter { lines = cutter.lines + 1 }) (x ++ line) line
 next_looked {cutter} {x} line live whole one aim =
     let ends = ends_as _ _ _ _ _ _ live.ends.runs in
     let count = lines_are live in
@@ -267,17 +326,22 @@ next_looked {cutter} {x} line live whole one aim =
           ∙ (grind (arith, common_steps));
     }
 
-pub next_sought : {cutter : CutterState} {x : List ℕ} (live : IsLive cutter x) → IsFit cutter → cutter.aim ≡ Missed → cutter.sought ≡ None → ⊥
+pub next_sought : {cutter : CutterState} {x : List ℕ} (live : IsLive cutter x) → IsFit cutter → cutter.aim ≡ Missed
+    → cutter.sought ≡ None → ⊥
 next_sought {cutter} {x} live fit aim none = search rules
 
-pub next_tries : {cutter : CutterState} (next : CutterState) (line : List ℕ) (result : Option Cut) → IsFit cutter → IsLine line → cutter.aim ≡ Missed → next.lines ≡ cutter.lines + 1 → Tries (record cutter { lines = cutter.lines + 1 }) line next result → TriesNext cutter line next result
+pub next_tries : {cutter : CutterState} (next : CutterState) (line : List ℕ) (result : Option Cut) → IsFit cutter
+    → IsLine line → cutter.aim ≡ Missed → next.lines ≡ cutter.lines + 1
+    → Tries (record cutter { lines = cutter.lines + 1 }) line next result → TriesNext cutter line next result
 next_tries next line None fit one aim counted tries = λ x whole live. tries (x ++ line) (next_looked line live whole one aim)
 next_tries next line (Some cut) fit one aim counted tries = λ x whole live.
     let both = tries (x ++ line) (next_looked line live whole one aim) in let near = both.1 (inr (next_sought live fit aim)) in (both.0, omega (arith, near, counted))
 
 -- What stays so of a state when more lines come
 
-pub passes : {cutter : CutterState} {text : List ℕ} {lines n : ℕ} → IsSound cutter → n ≤ length text → IsWhole (take n text) → lines ≡ cutter.lines + line_count newline (take n text) → StaysOver cutter (take n text) lines cutter.aim
+pub passes : {cutter : CutterState} {text : List ℕ} {lines n : ℕ} → IsSound cutter → n ≤ length text
+    → IsWhole (take n text) → lines ≡ cutter.lines + line_count newline (take n text)
+    → StaysOver cutter (take n text) lines cutter.aim
     → PassesOver cutter text (record cutter { lines = lines }) n
 passes {cutter} {text} {lines} {n} sound within whole count stays = record {
   same = refl;
@@ -290,21 +354,27 @@ passes {cutter} {text} {lines} {n} sound within whole count stays = record {
 
 -- All lines of a text
 
-passes_all : {cutter : CutterState} {text : List ℕ} {n : ℕ} → IsSound cutter → IsWhole text → n ≡ delimiters newline text → StaysOver cutter text (cutter.lines + n) cutter.aim → PassesOver cutter text (record cutter { lines = cutter.lines + n }) (length text)
+passes_all : {cutter : CutterState} {text : List ℕ} {n : ℕ} → IsSound cutter → IsWhole text
+    → n ≡ delimiters newline text → StaysOver cutter text (cutter.lines + n) cutter.aim
+    → PassesOver cutter text (record cutter { lines = cutter.lines + n }) (length text)
 passes_all {cutter} {text} {n} sound whole count stays =
     let all : text ≡ take (length text) text = sym (take_all (length text) text (omega arith)) in
     let same : line_count newline text ≡ delimiters newline text = whole_count whole in
     let taken : line_count newline text ≡ line_count newline (take (length text) text) = ap (line_count newline) all in
     passes sound (omega arith) (subst IsWhole all whole) (omega (arith, count, same, taken)) (subst (λ those. StaysOver cutter those (cutter.lines + n) cutter.aim) all stays)
 
-pub passes_used_up : {cutter : CutterState} {text : List ℕ} {n : ℕ} → IsSound cutter → IsWhole text → n ≡ delimiters newline text → cutter.aim ≡ UsedUp → PassesOver cutter text (record cutter { lines = cutter.lines + n }) (length text)
+pub passes_used_up : {cutter : CutterState} {text : List ℕ} {n : ℕ} → IsSound cutter → IsWhole text
+    → n ≡ delimiters newline text → cutter.aim ≡ UsedUp
+    → PassesOver cutter text (record cutter { lines = cutter.lines + n }) (length text)
 passes_used_up {cutter} {text} {n} sound whole counted aim = passes_all sound whole counted (subst (StaysOver cutter text (cutter.lines + n)) (sym aim) tt)
 
 -- Lines before the line of a cut
 
 -- the lines that end there
 
-pub passes_below : {cutter : CutterState} {text : List ℕ} (line end : ℕ) → IsSound cutter → (matched : ℕ) × (cutter.aim ≡ Above matched line) → EndsAt newline (line - 1 - cutter.lines) text end → PassesOver cutter text (record cutter { lines = line - 1 }) end
+pub passes_below : {cutter : CutterState} {text : List ℕ} (line end : ℕ) → IsSound cutter
+    → (matched : ℕ) × (cutter.aim ≡ Above matched line) → EndsAt newline (line - 1 - cutter.lines) text end
+    → PassesOver cutter text (record cutter { lines = line - 1 }) end
 passes_below {cutter} {text} line end sound (matched, aim) ends =
     let will : WillMove cutter.operands cutter.lines cutter.progress matched line = subst (AimHolds cutter.operands cutter.lines cutter.progress) aim sound.aim in
     let less : cutter.lines < line = will.above in
@@ -312,7 +382,8 @@ passes_below {cutter} {text} line end sound (matched, aim) ends =
     passes sound ends.within (whole_by (take end text) _ refl (let all = ends.complete in omega (arith, count, all))) (omega (arith, less, count))
     (subst (StaysOver cutter (take end text) (line - 1)) (sym aim) (let e : line - 1 < line = omega (arith, less) in e))
 
-pub passes_short : {cutter : CutterState} {text : List ℕ} (line : ℕ) {count : ℕ} → IsSound cutter → IsWhole text → (matched : ℕ) × (cutter.aim ≡ Above matched line) → FallsShort newline (line - 1 - cutter.lines) text count
+pub passes_short : {cutter : CutterState} {text : List ℕ} (line : ℕ) {count : ℕ} → IsSound cutter → IsWhole text
+    → (matched : ℕ) × (cutter.aim ≡ Above matched line) → FallsShort newline (line - 1 - cutter.lines) text count
     → PassesOver cutter text (record cutter { lines = cutter.lines + count }) (length text)
 passes_short {cutter} {text} line {count} sound whole (matched, aim) short = search (rules, passes_all, StaysOver)
 
@@ -329,14 +400,17 @@ pub record Unmatched (cutter : CutterState) (text left : List ℕ) (next : Cutte
 
 -- the line up to the first newline
 
-pub first_ends : (x : List ℕ) (end : ℕ) → end < length x → Passes (is_byte newline) x end → ends_with newline (take (suc end) x) ≡ true
+pub first_ends : (x : List ℕ) (end : ℕ) → end < length x → Passes (is_byte newline) x end
+    → ends_with newline (take (suc end) x) ≡ true
 first_ends [] end within here = absurd (omega (arith, within))
 first_ends (byte ∷ x) zero within here = here
 first_ends (byte ∷ []) (suc end) within here = absurd (omega (arith, within))
 first_ends (byte ∷ next ∷ x) (suc end) within here = first_ends (next ∷ x) end (omega (arith, within)) here
 
 -- it is a complete line
-first_parts : (x : List ℕ) (end : ℕ) → end < length x → Passes (is_byte newline) x end → Nowhere (Passes (is_byte newline) x) 0 end → (take (suc end) x ≡ take end x ++ newline ∷ []) × HasNone newline (take end x)
+first_parts : (x : List ℕ) (end : ℕ) → end < length x → Passes (is_byte newline) x end
+    → Nowhere (Passes (is_byte newline) x) 0 end
+    → (take (suc end) x ≡ take end x ++ newline ∷ []) × HasNone newline (take end x)
 first_parts [] end within here none = absurd (omega (arith, within))
 first_parts (byte ∷ x) zero within here none = (ap (λ b. b ∷ []) (eqb-true byte newline here), tt)
 first_parts (byte ∷ x) (suc end) within here none =
@@ -349,15 +423,19 @@ without_last (byte ∷ text) none = ap (λ is. cond is [] (byte ∷ without_newl
 
 -- one more line
 
-none_more : (operand : Operand) (count : ℕ) (a b : List Line) (from : ℕ) → NoneFrom operand count a from → NoneFrom operand (count + length a) b from
+none_more : (operand : Operand) (count : ℕ) (a b : List Line) (from : ℕ) → NoneFrom operand count a from
+    → NoneFrom operand (count + length a) b from
     → NoneFrom operand count (a ++ b) from
 none_more operand count a b from those others k less near = grind (arith, common_steps)
 
-none_one : (operand : Operand) (count : ℕ) (line : Line) (from : ℕ) → (from ≤ count + 1 → line.marks operand ≡ false) → NoneFrom operand count (line ∷ []) from
+none_one : (operand : Operand) (count : ℕ) (line : Line) (from : ℕ) → (from ≤ count + 1 → line.marks operand ≡ false)
+    → NoneFrom operand count (line ∷ []) from
 none_one operand count line from here k less near = grind (arith, common_steps)
 
-one_more : {cutter : CutterState} {text left rest : List ℕ} {next : CutterState} (number end : ℕ) → Unmatched cutter text left next → number ≡ next.lines + 1 → end < length left → Passes (is_byte newline) left end
-    → Nowhere (Passes (is_byte newline) left) 0 end → IsFound next (take end left) number false → rest ≡ drop (suc end) left → Unmatched cutter text rest (record next { lines = number })
+one_more : {cutter : CutterState} {text left rest : List ℕ} {next : CutterState} (number end : ℕ)
+    → Unmatched cutter text left next → number ≡ next.lines + 1 → end < length left → Passes (is_byte newline) left end
+    → Nowhere (Passes (is_byte newline) left) 0 end → IsFound next (take end left) number false
+    → rest ≡ drop (suc end) left → Unmatched cutter text rest (record next { lines = number })
 one_more {cutter} {left} {rest} {next} number end so is within here none found rest_is =
     let line = take (suc end) left in
     let parts = first_parts left end within here none in
@@ -377,20 +455,27 @@ one_more {cutter} {left} {rest} {next} number end so is within here none found r
 
 -- the numbers are small
 
-pub few_counted : {cutter : CutterState} {text left : List ℕ} {next : CutterState} → Unmatched cutter text left next → next.lines + length left ≤ cutter.lines + length text
+pub few_counted : {cutter : CutterState} {text left : List ℕ} {next : CutterState} → Unmatched cutter text left next
+    → next.lines + length left ≤ cutter.lines + length text
 few_counted {cutter} {text} {left} {next} so = grind (arith, common_steps, line_count-le-length)
 
 -- what is left of a slice
-pub all_left : (left : List ℕ) {n : ℕ} (end : ℕ) → n ≡ length left → take (n - (end + 1)) (drop (end + 1) left) ≡ drop (suc end) left
+pub all_left : (left : List ℕ) {n : ℕ} (end : ℕ) → n ≡ length left
+    → take (n - (end + 1)) (drop (end + 1) left) ≡ drop (suc end) left
 all_left left {n} end is = grind (arith, common_steps)
 
 -- the same of a cutter that looked at the line
-pub one_more_at : {cutter : CutterState} {text left rest : List ℕ} {next now : CutterState} (end : ℕ) {found : Bool} → Unmatched cutter text left next → now ≡ next → end < length left → Passes (is_byte newline) left end → Nowhere (Passes (is_byte newline) left) 0 end
-    → IsFound next (take end left) (next.lines + 1) found → found ≡ false → rest ≡ drop (suc end) left → Unmatched cutter text rest (record now { lines = now.lines + 1 })
+pub one_more_at : {cutter : CutterState} {text left rest : List ℕ} {next now : CutterState} (end : ℕ) {found : Bool}
+    → Unmatched cutter text left next → now ≡ next → end < length left → Passes (is_byte newline) left end
+    → Nowhere (Passes (is_byte newline) left) 0 end
+    → IsFound next (take end left) (next.lines + 1) found → found ≡ false → rest ≡ drop (suc end) left
+    → Unmatched cutter text rest (record now { lines = now.lines + 1 })
 one_more_at {cutter} {text} {left} {rest} {next} end so is within here none finds not rest_is = search (rules, one_more)
 
 -- all that were looked at are passed over
-pub all_passed_at : {cutter : CutterState} {text left : List ℕ} {next now : CutterState} → IsSound cutter → cutter.aim ≡ Missed → Unmatched cutter text left next → now ≡ next → PassesOver cutter text now (length text - length left)
+pub all_passed_at : {cutter : CutterState} {text left : List ℕ} {next now : CutterState} → IsSound cutter
+    → cutter.aim ≡ Missed → Unmatched cutter text left next → now ≡ next
+    → PassesOver cutter text now (length text - length left)
 all_passed_at {cutter} {text} {left} {next} sound aim so is =
     let long : length text ≡ length so.front + length left = ap length so.all ∙ length-append so.front left in
     let count : length so.front ≡ length text - length left = omega (arith, long) in
@@ -401,13 +486,17 @@ all_passed_at {cutter} {text} {left} {next} sound aim so is =
 
 -- Lines that are seen to have no match
 
-marks_clear : (operand : Operand) (x : List ℕ) → ((pattern : Pattern) → pattern_in operand.target ≡ Some pattern → AreClear pattern x) → (k : ℕ) → k < length (all_lines x) → (get_or (all_lines x) k unmarked).marks operand ≡ false
+marks_clear : (operand : Operand) (x : List ℕ)
+    → ((pattern : Pattern) → pattern_in operand.target ≡ Some pattern → AreClear pattern x) → (k : ℕ)
+    → k < length (all_lines x) → (get_or (all_lines x) k unmarked).marks operand ≡ false
 marks_clear operand x clear k less =
     let few : k < line_count newline x = (let e : length (all_lines x) ≡ line_count newline x = length-all_lines x in omega (arith, e, less)) in
     ap (λ (l : Line). l.marks operand) (get_or-map marked (lines_of newline x) k [] unmarked few)
     ∙ (grind (arith, common_steps))
 
-pub more_clear : {cutter : CutterState} {text left rest : List ℕ} {next after : CutterState} {n : ℕ} → Unmatched cutter text left next → PassesClear next left after n → rest ≡ drop n left → Unmatched cutter text rest after
+pub more_clear : {cutter : CutterState} {text left rest : List ℕ} {next after : CutterState} {n : ℕ}
+    → Unmatched cutter text left next → PassesClear next left after n → rest ≡ drop n left
+    → Unmatched cutter text rest after
 more_clear {cutter} {left} {rest} {next} {after} {n} so clear rest_is =
     let t = take n left in record {
       front = so.front ++ t;
@@ -420,25 +509,34 @@ more_clear {cutter} {left} {rest} {next} {after} {n} so clear rest_is =
           (λ k less near. marks_clear operand t (λ pattern is. clear.clear pattern (ap (λ (those : CutterState). those.sought) so.same ∙ same ∙ is)) k less));
     }
 
-pub counts_clear : {cutter now : CutterState} {text : List ℕ} {n count : ℕ} → cutter ≡ now → n ≤ length text → IsWhole (take n text) → count ≡ delimiters newline (take n text) → ((pattern : Pattern) → now.sought ≡ Some pattern → AreClear pattern (take n text))
+pub counts_clear : {cutter now : CutterState} {text : List ℕ} {n count : ℕ} → cutter ≡ now → n ≤ length text
+    → IsWhole (take n text) → count ≡ delimiters newline (take n text)
+    → ((pattern : Pattern) → now.sought ≡ Some pattern → AreClear pattern (take n text))
     → PassesClear now text (record cutter { lines = cutter.lines + count }) n
 counts_clear {cutter} {text} {n} {count} is within whole counted clear = search (rules, whole_count)
 
 -- what is left is complete lines
-pub left_whole : {cutter : CutterState} {text left : List ℕ} {next : CutterState} → IsWhole text → Unmatched cutter text left next → IsWhole left
+pub left_whole : {cutter : CutterState} {text left : List ℕ} {next : CutterState} → IsWhole text
+    → Unmatched cutter text left next → IsWhole left
 left_whole {left} whole so = subst IsWhole (ap (drop (length so.front)) so.all ∙ drop_at so.front left (length so.front) refl) (whole_drop (length so.front) whole)
 
 -- the numbers are small
-pub fits_clear : {cutter now : CutterState} (text : List ℕ) {n count : ℕ} → cutter ≡ now → now.lines + length text < 2 ^ 64 → n ≤ length text → count ≡ delimiters newline (take n text) → cutter.lines + count < 2 ^ 64
+pub fits_clear : {cutter now : CutterState} (text : List ℕ) {n count : ℕ} → cutter ≡ now
+    → now.lines + length text < 2 ^ 64 → n ≤ length text → count ≡ delimiters newline (take n text)
+    → cutter.lines + count < 2 ^ 64
 fits_clear {cutter} {now} text {n} is fits within counted = search (rules, delimiters-le-length, length-take-le)
 
-pub stops_unfound : {cutter : CutterState} {text : List ℕ} {next : CutterState} {n : ℕ} (passed : Passed) → PassesOver cutter text next n → passed.size ≡ n → passed.found ≡ None → StopsAt cutter text next passed
+pub stops_unfound : {cutter : CutterState} {text : List ℕ} {next : CutterState} {n : ℕ} (passed : Passed)
+    → PassesOver cutter text next n → passed.size ≡ n → passed.found ≡ None → StopsAt cutter text next passed
 stops_unfound {cutter} {text} {next} passed over size_is found_is = grind (arith, common_steps)
 
 -- The line in which the pattern was found is the next one.
 
-pub next_found : {cutter : CutterState} {text left : List ℕ} {next now : CutterState} (end : ℕ) {found : Bool} → cutter.aim ≡ Missed → Unmatched cutter text left next → now ≡ next → end < length left → Passes (is_byte newline) left end → Nowhere (Passes (is_byte newline) left) 0 end
-    → IsFound next (take end left) (next.lines + 1) found → found ≡ true → IsNextFound now (drop (length text - length left) text) (end + 1)
+pub next_found : {cutter : CutterState} {text left : List ℕ} {next now : CutterState} (end : ℕ) {found : Bool}
+    → cutter.aim ≡ Missed → Unmatched cutter text left next → now ≡ next → end < length left
+    → Passes (is_byte newline) left end → Nowhere (Passes (is_byte newline) left) 0 end
+    → IsFound next (take end left) (next.lines + 1) found → found ≡ true
+    → IsNextFound now (drop (length text - length left) text) (end + 1)
 next_found {text} {left} {next} end {found} aim so now_is within here none finds sure =
     let long : length text ≡ length so.front + length left = ap length so.all ∙ length-append so.front left in
     let left_is : drop (length text - length left) text ≡ left = ap (drop (length text - length left)) so.all ∙ drop_at so.front left (length text - length left) (omega (arith, long)) in
@@ -468,7 +566,9 @@ ends_none (byte ∷ next ∷ text) none = ends_none (next ∷ text) none.1
 
 -- A complete line that ends by the place contains no match.
 
-line_clear : (pattern : Pattern) {text : List ℕ} (place : ℕ) (front line more rest : List ℕ) → IsClear pattern text place → text ≡ front ++ (line ++ more) ++ rest → length front + length (line ++ more) ≤ place → IsComplete newline line
+line_clear : (pattern : Pattern) {text : List ℕ} (place : ℕ) (front line more rest : List ℕ)
+    → IsClear pattern text place → text ≡ front ++ (line ++ more) ++ rest → length front + length (line ++ more) ≤ place
+    → IsComplete newline line
     → contains pattern (without_newline line) ≡ false
 line_clear pattern {text} place front line more rest clear all within (bytes, is, none) =
     let after = newline ∷ (more ++ rest) in
@@ -479,8 +579,11 @@ line_clear pattern {text} place front line more rest clear all within (bytes, is
     ∙ sym (append_assoc front bytes after) in
     ap (contains pattern) (ap without_newline is ∙ without_last bytes none) ∙ clear front bytes after parts (omega (arith, long, longer, within))
 
-each_clear : (pattern : Pattern) {text : List ℕ} (place : ℕ) (front : List ℕ) (lines : List (List ℕ)) (rest : List ℕ) → IsClear pattern text place → text ≡ front ++ joined lines ++ rest → length front + length (joined lines) ≤ place → AreLines newline lines
-    → (0 < length lines → ends_with newline (joined lines) ≡ true) → (k : ℕ) → k < length lines → contains pattern (without_newline (get_or lines k [])) ≡ false
+each_clear : (pattern : Pattern) {text : List ℕ} (place : ℕ) (front : List ℕ) (lines : List (List ℕ)) (rest : List ℕ)
+    → IsClear pattern text place → text ≡ front ++ joined lines ++ rest → length front + length (joined lines) ≤ place
+    → AreLines newline lines
+    → (0 < length lines → ends_with newline (joined lines) ≡ true) → (k : ℕ) → k < length lines
+    → contains pattern (without_newline (get_or lines k [])) ≡ false
 each_clear pattern place front [] rest clear all within are ends k less = absurd (omega (arith, less))
 each_clear pattern place front (line ∷ []) rest clear all within (inl complete) ends zero less = line_clear pattern place front line [] rest clear all within complete
 each_clear pattern place front (line ∷ []) rest clear all within (inr unended) ends zero less = grind (arith, common_steps, false≢true, ends_none, append-nil)
@@ -493,10 +596,12 @@ each_clear pattern place front (line ∷ next ∷ lines) rest clear all within a
     (all ∙ ap (λ those. those ++ rest) (sym (append_assoc front line (joined (next ∷ lines))))) (omega (arith, both, these, within)) are.1
     (λ some. sym (ends_with-append newline line (joined (next ∷ lines)) (grind (arith, common_steps))) ∙ ends (omega arith)) k (omega (arith, less))
 
-whole_ends : {x : List ℕ} → IsWhole x → 0 < length (lines_of newline x) → ends_with newline (joined (lines_of newline x)) ≡ true
+whole_ends : {x : List ℕ} → IsWhole x → 0 < length (lines_of newline x)
+    → ends_with newline (joined (lines_of newline x)) ≡ true
 whole_ends fact some = grind (arith, common_steps, joined-lines_of)
 
-pub clear_front : (pattern : Pattern) (text : List ℕ) (place n : ℕ) → IsClear pattern text place → n ≤ place → n ≤ length text → IsWhole (take n text) → AreClear pattern (take n text)
+pub clear_front : (pattern : Pattern) (text : List ℕ) (place n : ℕ) → IsClear pattern text place → n ≤ place
+    → n ≤ length text → IsWhole (take n text) → AreClear pattern (take n text)
 clear_front pattern text place n clear low within whole =
     let x = take n text in
     let joined_is : joined (lines_of newline x) ≡ x = joined-lines_of newline x in
@@ -514,13 +619,16 @@ none_at [] n d less none is = absurd (omega (arith, less))
 none_at (byte ∷ text) zero d less none is = none.0 is
 none_at (byte ∷ text) (suc n) d less none is = none_at text n d (omega (arith, less)) none.1 is
 
-pub text_ended : (line : List ℕ) {last : ℕ} (d : ℕ) → IsLine line → last ≡ get_or line (length line - 1) d → last ≡ newline → take (length line - 1) line ≡ without_newline line
+pub text_ended : (line : List ℕ) {last : ℕ} (d : ℕ) → IsLine line → last ≡ get_or line (length line - 1) d
+    → last ≡ newline → take (length line - 1) line ≡ without_newline line
 text_ended line d one read is = grind (arith, common_steps, one_line, take_at, without_last, none_at)
 
-pub text_open : (line : List ℕ) {last : ℕ} (d : ℕ) → IsLine line → last ≡ get_or line (length line - 1) d → (last ≡ newline → ⊥) → line ≡ without_newline line
+pub text_open : (line : List ℕ) {last : ℕ} (d : ℕ) → IsLine line → last ≡ get_or line (length line - 1) d
+    → (last ≡ newline → ⊥) → line ≡ without_newline line
 text_open line d one read differs = grind (arith, common_steps, one_line, without_none)
 
 -- where a text ends after a newline, lines end
 
-pub ends_there : (text : List ℕ) (n : ℕ) → n ≤ length text → (0 < n → Passes (is_byte newline) text (n - 1)) → IsWhole (take n text)
+pub ends_there : (text : List ℕ) (n : ℕ) → n ≤ length text → (0 < n → Passes (is_byte newline) text (n - 1))
+    → IsWhole (take n text)
 ends_there text n within here = search (rules, cases_lt, first_ends)

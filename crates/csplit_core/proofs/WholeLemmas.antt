@@ -16,7 +16,8 @@ after_within suppress cut total within = grind (arith, common_steps)
 
 -- Few lines wait.
 
-pub few_wait : (suppress : Bool) (operands : List Operand) (x : List Line) → length (waiting_lines x (plan suppress operands x)) ≤ most_waiting (plan suppress operands x).ending
+pub few_wait : (suppress : Bool) (operands : List Operand) (x : List Line)
+    → length (waiting_lines x (plan suppress operands x)) ≤ most_waiting (plan suppress operands x).ending
 few_wait suppress operands x = grind (arith, common_steps)
 
 -- No line is lost.
@@ -26,12 +27,14 @@ lines_in-append [] b = refl
 lines_in-append (one ∷ a) b = ap (λ those. one.lines ++ those) (lines_in-append a b) ∙ sym (append_assoc one.lines (lines_in a) (lines_in b))
 
 -- the lines up to a cut, and those from it on
-pub between_rest : (first cut : ℕ) (lines : List Line) → 1 ≤ first → first ≤ cut → lines_between first cut lines ++ drop (cut - 1) lines ≡ drop (first - 1) lines
+pub between_rest : (first cut : ℕ) (lines : List Line) → 1 ≤ first → first ≤ cut
+    → lines_between first cut lines ++ drop (cut - 1) lines ≡ drop (first - 1) lines
 between_rest first cut lines some least =
     ap (λ those. lines_between first cut lines ++ those) (ap (λ n. drop n lines) (let e : cut - 1 ≡ first - 1 + (cut - first) = omega (arith, some, least) in e) ∙ sym (drop-drop (cut - first) (first - 1) lines))
     ∙ take-append-drop (cut - first) (drop (first - 1) lines)
 
-steps_and_rest : {lines : List Line} {first : State} {steps : List Step} {last : State} {ending : Ending} → Runs false lines first steps last ending → 1 ≤ first.current
+steps_and_rest : {lines : List Line} {first : State} {steps : List Step} {last : State} {ending : Ending}
+    → Runs false lines first steps last ending → 1 ≤ first.current
     → lines_in (map (section_of lines) steps) ++ drop (last.current - 1) lines ≡ drop (first.current - 1) lines
 steps_and_rest {lines} (cuts state operand operands matched cut steps' last' ending' is at from within rest) some =
     append_assoc (lines_between state.current cut lines) (lines_in (map (section_of lines) steps')) (drop (last'.current - 1) lines)
@@ -40,8 +43,10 @@ steps_and_rest {lines} (cuts state operand operands matched cut steps' last' end
 steps_and_rest run some = refl
 
 -- the steps' sections, then these lines, where they are what is left
-all_with : (closed : Bool) (operands : List Operand) {x : List Line} (end rest : List Line) → end ++ rest ≡ drop ((plan false operands x).last.current - 1) x
-    → lines_in (map (section_of x) (plan false operands x).steps ++ section (is_last_kept (plan false operands x).ending) closed end ∷ []) ++ rest ≡ x
+all_with : (closed : Bool) (operands : List Operand) {x : List Line} (end rest : List Line)
+    → end ++ rest ≡ drop ((plan false operands x).last.current - 1) x
+    → lines_in (map (section_of x) (plan false operands x).steps
+    ++ section (is_last_kept (plan false operands x).ending) closed end ∷ []) ++ rest ≡ x
 all_with closed operands {x} end rest is =
     ap (λ those. those ++ rest) (lines_in-append (map (section_of x) (plan false operands x).steps) (section (is_last_kept (plan false operands x).ending) closed end ∷ [])
     ∙ ap (λ those. lines_in (map (section_of x) (plan false operands x).steps) ++ those) (append-nil end))
@@ -55,10 +60,12 @@ none_lost operands x live = grind (arith, common_steps, all_with)
 pub ends_after_all : (total : ℕ) (ending : Ending) → is_final ending ≡ false → whole_end total ending ≡ suc total
 ends_after_all total ending live = grind (arith, common_steps)
 
-pub rest_is_all : (x : List Line) (current : ℕ) → 1 ≤ current → lines_between current (suc (length x)) x ≡ drop (current - 1) x
+pub rest_is_all : (x : List Line) (current : ℕ) → 1 ≤ current
+    → lines_between current (suc (length x)) x ≡ drop (current - 1) x
 rest_is_all x current some = grind (arith, common_steps)
 
-pub none_lost_at_end : (operands : List Operand) (x : List Line) → is_final (plan false operands x).ending ≡ false → lines_in (whole_sections x (plan false operands x)) ≡ x
+pub none_lost_at_end : (operands : List Operand) (x : List Line) → is_final (plan false operands x).ending ≡ false
+    → lines_in (whole_sections x (plan false operands x)) ≡ x
 none_lost_at_end operands x live =
     let plan' = plan false operands x in
     let some = (are_within false x (start operands) _ _ _ (plan_runs false operands x) (omega arith)).1 in

@@ -23,7 +23,8 @@ use Rattle.ends_core.specs.laws.WorkLaws as law
 -- Some continuations
 
 -- after enough further lines or bytes all that came in stands before the last n
-far : (delim : ℕ) (unit : Counted) (n : ℕ) (x : List ℕ) → length x < length (but_last_of delim unit n (x ++ replicate (n + 1) delim))
+far : (delim : ℕ) (unit : Counted) (n : ℕ) (x : List ℕ)
+    → length x < length (but_last_of delim unit n (x ++ replicate (n + 1) delim))
 far delim unit n x = elim (cases_lt (length x) (length (but_last_of delim unit n (x ++ replicate (n + 1) delim)))) [
   | inl past ↦ past
   | inr within ↦ absurd (too_many within)
@@ -42,7 +43,8 @@ far delim unit n x = elim (cases_lt (length x) (length (but_last_of delim unit n
 
 -- Heads
 
-pub head_agreed : (delim : ℕ) (unit : Counted) (but_last : Bool) (n : ℕ) {x : List ℕ} → IsAgreed (head_work delim unit but_last n) x ((head_work delim unit but_last n).settled x)
+pub head_agreed : (delim : ℕ) (unit : Counted) (but_last : Bool) (n : ℕ) {x : List ℕ}
+    → IsAgreed (head_work delim unit but_last n) x ((head_work delim unit but_last n).settled x)
 head_agreed delim unit but_last n {x} = agreed_now (head_work delim unit but_last n) x (common (head_work delim unit but_last n) (law.head_lawful delim unit but_last n) x) refl
 
 -- Where the bytes of an input go that is cut in two after its front: one before the cut goes to one place, and one after it to another.
@@ -54,33 +56,39 @@ record Cuts (spots_of : List ℕ → ℕ → List Spot) (front_of : List ℕ →
   apart : (k i : ℕ) → early i ≢ late k i
 
 -- the first n of a text with fewer, which goes on, have all of it
-first_long : (delim : ℕ) (unit : Counted) (n : ℕ) (x y : List ℕ) → measure delim unit x < n → length x ≤ length (first_of delim unit n (x ++ y))
+first_long : (delim : ℕ) (unit : Counted) (n : ℕ) (x y : List ℕ) → measure delim unit x < n
+    → length x ≤ length (first_of delim unit n (x ++ y))
 first_long delim unit n x y short = grind (arith, common_steps, first_of-append, first_of-short)
 
 module _ {spots_of : List ℕ → ℕ → List Spot} (delim : ℕ) (unit : Counted) (n : ℕ) where
-  first_decided : Cuts spots_of (first_of delim unit n) → (x : List ℕ) (i : ℕ) → i < length x → (y z : List ℕ) → spots_of (x ++ y) i ≡ spots_of (x ++ z) i
+  first_decided : Cuts spots_of (first_of delim unit n) → (x : List ℕ) (i : ℕ) → i < length x → (y z : List ℕ)
+      → spots_of (x ++ y) i ≡ spots_of (x ++ z) i
   first_decided cuts x i less y z = search (rules, cases_lt, first_long, first_of-full, length-append)
 
   first_undecided : Cuts spots_of (first_of delim unit n) → {x : List ℕ} → IsUndecided spots_of x []
   first_undecided cuts {x} = nothing_waits (first_decided cuts x)
 
-  last_decided : Cuts spots_of (but_last_of delim unit n) → (x : List ℕ) (i : ℕ) → i < length (but_last_of delim unit n x) → (y : List ℕ)
+  last_decided : Cuts spots_of (but_last_of delim unit n) → (x : List ℕ) (i : ℕ)
+      → i < length (but_last_of delim unit n x) → (y : List ℕ)
       → spots_of (x ++ y) i ≡ spots_of x i
   last_decided cuts x i less y = search (rules, but_last_of-append, length-append)
 
-  last_undecided : Cuts spots_of (but_last_of delim unit n) → delim < 256 → {x : List ℕ} → IsUndecided spots_of x (last_of delim unit n x)
+  last_undecided : Cuts spots_of (but_last_of delim unit n) → delim < 256 → {x : List ℕ}
+      → IsUndecided spots_of x (last_of delim unit n x)
   last_undecided cuts byte {x} = record {
     before = but_last_of delim unit n x;
     are_last = sym (ends_together delim unit n x);
     differ = λ i past within. ([], replicate (n + 1) delim, none_comes, copies_come (n + 1) delim byte, differ i past within);
     decided = λ i less y z can also. last_decided cuts x i less y ∙ sym (last_decided cuts x i less z);
   } where
-    differ : (i : ℕ) → length (but_last_of delim unit n x) ≤ i → i < length x → spots_of (x ++ []) i ≢ spots_of (x ++ replicate (n + 1) delim) i
+    differ : (i : ℕ) → length (but_last_of delim unit n x) ≤ i → i < length x
+        → spots_of (x ++ []) i ≢ spots_of (x ++ replicate (n + 1) delim) i
     differ i past within same = cuts.apart (length (but_last_of delim unit n x)) i
         (sym (cuts.before (x ++ replicate (n + 1) delim) i (omega (arith, within, far delim unit n x))) ∙ sym same ∙ ap (λ all. spots_of all i) (append-nil x)
         ∙ cuts.after x i past within)
 
-head_cuts : (delim : ℕ) (unit : Counted) (but_last : Bool) (n : ℕ) → Cuts (head_spots delim unit but_last n) (head_of delim unit but_last n)
+head_cuts : (delim : ℕ) (unit : Counted) (but_last : Bool) (n : ℕ)
+    → Cuts (head_spots delim unit but_last n) (head_of delim unit but_last n)
 head_cuts delim unit but_last n = record {
   early = λ i. spot 0 i ∷ [];
   late = λ k i. [];
@@ -89,7 +97,8 @@ head_cuts delim unit but_last n = record {
   apart = λ k i. some_spot (spot 0 i) [];
 }
 
-pub head_undecided : (delim : ℕ) → delim < 256 → (unit : Counted) (but_last : Bool) (n : ℕ) {x : List ℕ} → IsUndecided (head_spots delim unit but_last n) x (head_waiting delim unit but_last n x)
+pub head_undecided : (delim : ℕ) → delim < 256 → (unit : Counted) (but_last : Bool) (n : ℕ) {x : List ℕ}
+    → IsUndecided (head_spots delim unit but_last n) x (head_waiting delim unit but_last n x)
 head_undecided delim byte unit false n = first_undecided delim unit n (head_cuts delim unit false n)
 head_undecided delim byte unit true n = last_undecided delim unit n (head_cuts delim unit true n) byte
 
@@ -99,7 +108,8 @@ abbrev pub tail_first : (delim : ℕ) (unit : Counted) (from_nth : Bool) (n : �
 tail_first delim unit true n x = first_of delim unit (n - 1) x
 tail_first delim unit false n x = but_last_of delim unit n x
 
-pub tail_together : (delim : ℕ) (unit : Counted) (from_nth : Bool) (n : ℕ) {x : List ℕ} → tail_first delim unit from_nth n x ++ tail_of delim unit from_nth n x ≡ x
+pub tail_together : (delim : ℕ) (unit : Counted) (from_nth : Bool) (n : ℕ) {x : List ℕ}
+    → tail_first delim unit from_nth n x ++ tail_of delim unit from_nth n x ≡ x
 tail_together delim unit true n {x} = first_then_after delim unit (n - 1) x
 tail_together delim unit false n {x} = ends_together delim unit n x
 
@@ -107,14 +117,17 @@ module _ (delim : ℕ) (unit : Counted) (from_nth : Bool) (n : ℕ) (x : List �
   tail_long : length x ≡ length (tail_first delim unit from_nth n x) + length (tail_of delim unit from_nth n x)
   tail_long = ap length (sym (tail_together delim unit from_nth n)) ∙ length-append (tail_first delim unit from_nth n x) (tail_of delim unit from_nth n x)
 
-  pub tail_nowhere : (i : ℕ) → i < length (tail_first delim unit from_nth n x) → tail_spots delim unit from_nth n x i ≡ []
+  pub tail_nowhere : (i : ℕ) → i < length (tail_first delim unit from_nth n x)
+      → tail_spots delim unit from_nth n x i ≡ []
   tail_nowhere i less = search (rules, lt-ltb, tail_long)
 
   pub tail_there : (i : ℕ) → length (tail_first delim unit from_nth n x) ≤ i
-      → tail_spots delim unit from_nth n x i ≡ spots_from 0 (tail_of delim unit from_nth n x ∷ []) (i - length (tail_first delim unit from_nth n x))
+      → tail_spots delim unit from_nth n x i
+      ≡ spots_from 0 (tail_of delim unit from_nth n x ∷ []) (i - length (tail_first delim unit from_nth n x))
   tail_there i past = search (rules, tail_long, le-ltb)
 
-tail_cuts : (delim : ℕ) (unit : Counted) (from_nth : Bool) (n : ℕ) → Cuts (tail_spots delim unit from_nth n) (tail_first delim unit from_nth n)
+tail_cuts : (delim : ℕ) (unit : Counted) (from_nth : Bool) (n : ℕ)
+    → Cuts (tail_spots delim unit from_nth n) (tail_first delim unit from_nth n)
 tail_cuts delim unit from_nth n = record {
   early = λ i. [];
   late = λ k i. spot 0 (i - k) ∷ [];
@@ -125,7 +138,8 @@ tail_cuts delim unit from_nth n = record {
   apart = λ k i is. some_spot (spot 0 (i - k)) [] (sym is);
 }
 
-pub tail_undecided : (delim : ℕ) → delim < 256 → (unit : Counted) (from_nth : Bool) (n : ℕ) {x : List ℕ} → IsUndecided (tail_spots delim unit from_nth n) x (tail_waiting delim unit from_nth n x)
+pub tail_undecided : (delim : ℕ) → delim < 256 → (unit : Counted) (from_nth : Bool) (n : ℕ) {x : List ℕ}
+    → IsUndecided (tail_spots delim unit from_nth n) x (tail_waiting delim unit from_nth n x)
 tail_undecided delim byte unit true n = first_undecided delim unit (n - 1) (tail_cuts delim unit true n)
 tail_undecided delim byte unit false n = last_undecided delim unit n (tail_cuts delim unit false n) byte
 
@@ -156,17 +170,20 @@ delimiters_size delim Lines {k} = line_count-closed delim (replicate (suc k) del
 delimiters_size delim Bytes {k} = length-replicate (suc k) delim
 
 -- after a complete line these are the last n
-last_exact : (delim : ℕ) (unit : Counted) {n : ℕ} (front : List ℕ) {back : List ℕ} → ends_with delim front ≡ true → size delim unit back ≡ n → last_of delim unit n (front ++ back) ≡ back
+last_exact : (delim : ℕ) (unit : Counted) {n : ℕ} (front : List ℕ) {back : List ℕ} → ends_with delim front ≡ true
+    → size delim unit back ≡ n → last_of delim unit n (front ++ back) ≡ back
 last_exact delim Lines {n} front {back} ends is = grind (arith, common_steps, lines_of-append, drop-append_seam, joined-lines_of)
 last_exact delim Bytes {n} front {back} ends is = grind (arith, common_steps)
 
-last_after : (delim : ℕ) (unit : Counted) {n : ℕ} (x : List ℕ) {back : List ℕ} → size delim unit back ≡ n → last_of delim unit n (x ++ delim ∷ back) ≡ back
+last_after : (delim : ℕ) (unit : Counted) {n : ℕ} (x : List ℕ) {back : List ℕ} → size delim unit back ≡ n
+    → last_of delim unit n (x ++ delim ∷ back) ≡ back
 last_after delim unit {n} x {back} is =
     ap (last_of delim unit n) (sym (append_assoc x (delim ∷ []) back))
     ∙ last_exact delim unit (x ++ delim ∷ []) (ends_with-append delim x (delim ∷ []) (omega arith) ∙ eq-eqb delim delim refl) is
 
 -- texts with different first bytes have no beginning in common
-none_common : (one two : ℕ) (rest more bytes : List ℕ) → one ≢ two → IsBeginning bytes (one ∷ rest) → IsBeginning bytes (two ∷ more) → length bytes ≤ 0
+none_common : (one two : ℕ) (rest more bytes : List ℕ) → one ≢ two → IsBeginning bytes (one ∷ rest)
+    → IsBeginning bytes (two ∷ more) → length bytes ≤ 0
 none_common one two rest more [] differ begins also = omega arith
 none_common one two rest more (byte ∷ bytes) differ begins also = grind (arith, common_steps)
 
@@ -180,7 +197,8 @@ pub record Apart (delim : ℕ) (unit : Counted) (n : ℕ) (x : List ℕ) : Type 
   pub z : List ℕ
   pub y_comes : CanCome y
   pub z_comes : CanCome z
-  pub nothing_common : (bytes : List ℕ) → IsBeginning bytes (last_of delim unit n (x ++ y)) → IsBeginning bytes (last_of delim unit n (x ++ z)) → length bytes ≤ 0
+  pub nothing_common : (bytes : List ℕ) → IsBeginning bytes (last_of delim unit n (x ++ y))
+      → IsBeginning bytes (last_of delim unit n (x ++ z)) → length bytes ≤ 0
 
 apart : {delim : ℕ} → delim < 256 → {unit : Counted} (n : ℕ) {x : List ℕ} → Apart delim unit n x
 apart {delim} byte {unit} zero {x} = record {
@@ -200,12 +218,14 @@ apart {delim} byte {unit} (suc k) {x} = record {
       (subst (IsBeginning bytes) (last_after delim unit x (others_size delim unit)) also);
 }
 
-last_longest : {delim : ℕ} {unit : Counted} {n : ℕ} {x : List ℕ} → Apart delim unit n x → (place : ℕ) → place < 1 → (y : List ℕ) × (z : List ℕ) × CanCome y × CanCome z
+last_longest : {delim : ℕ} {unit : Counted} {n : ℕ} {x : List ℕ} → Apart delim unit n x → (place : ℕ) → place < 1
+    → (y : List ℕ) × (z : List ℕ) × CanCome y × CanCome z
     × ((bytes : List ℕ) → IsBeginning bytes (output_at ((tail_work delim unit false n).whole (x ++ y)) place) → IsBeginning bytes (output_at ((tail_work delim unit false n).whole (x ++ z)) place) → length bytes ≤ length (output_at nothing place))
 last_longest apart zero less = grind (arith, common_steps)
 last_longest apart (suc place) less = search rules
 
-pub tail_agreed : (delim : ℕ) → delim < 256 → (unit : Counted) (from_nth : Bool) (n : ℕ) {x : List ℕ} → IsAgreed (tail_work delim unit from_nth n) x ((tail_work delim unit from_nth n).settled x)
+pub tail_agreed : (delim : ℕ) → delim < 256 → (unit : Counted) (from_nth : Bool) (n : ℕ) {x : List ℕ}
+    → IsAgreed (tail_work delim unit from_nth n) x ((tail_work delim unit from_nth n).settled x)
 tail_agreed delim byte unit true n {x} = agreed_now (tail_work delim unit true n) x (common (tail_work delim unit true n) (law.tail_lawful delim unit true n) x) refl
 tail_agreed delim byte unit false n {x} = record {
   common = λ y can. common (tail_work delim unit false n) (law.tail_lawful delim unit false n) x y;
@@ -215,11 +235,14 @@ tail_agreed delim byte unit false n {x} = record {
 
 -- Spots are right: each of them writes one stretch of its input, and nothing else.
 
-head_together : (delim : ℕ) (unit : Counted) (but_last : Bool) (n : ℕ) (x : List ℕ) → (rest : List ℕ) × (x ≡ head_of delim unit but_last n x ++ rest)
+head_together : (delim : ℕ) (unit : Counted) (but_last : Bool) (n : ℕ) (x : List ℕ)
+    → (rest : List ℕ) × (x ≡ head_of delim unit but_last n x ++ rest)
 head_together delim unit false n x = (after_of delim unit n x, sym (first_then_after delim unit n x))
 head_together delim unit true n x = (last_of delim unit n x, sym (ends_together delim unit n x))
 
-pub head_stretch : (delim : ℕ) (unit : Counted) (but_last : Bool) (n : ℕ) → IsStretch (λ x. only_out (head_of delim unit but_last n x)) (head_spots delim unit but_last n) 0 (λ x. head_of delim unit but_last n x ∷ [])
+pub head_stretch : (delim : ℕ) (unit : Counted) (but_last : Bool) (n : ℕ)
+    → IsStretch (λ x. only_out (head_of delim unit but_last n x)) (head_spots delim unit but_last n) 0
+    (λ x. head_of delim unit but_last n x ∷ [])
 head_stretch delim unit but_last n = record {
   before = λ x. [];
   rest = λ x. x;
@@ -230,10 +253,13 @@ head_stretch delim unit but_last n = record {
   there = λ x i past. ap (spots_from 0 (head_of delim unit but_last n x ∷ [])) (omega arith);
 }
 
-pub head_placed : (delim : ℕ) (unit : Counted) (but_last : Bool) (n : ℕ) → ArePlaced (head_work delim unit but_last n) (head_spots delim unit but_last n)
+pub head_placed : (delim : ℕ) (unit : Counted) (but_last : Bool) (n : ℕ)
+    → ArePlaced (head_work delim unit but_last n) (head_spots delim unit but_last n)
 head_placed delim unit but_last n = stretch_placed (head_work delim unit but_last n) 0 (head_stretch delim unit but_last n)
 
-pub tail_stretch : (delim : ℕ) (unit : Counted) (from_nth : Bool) (n : ℕ) → IsStretch (λ x. only_out (tail_of delim unit from_nth n x)) (tail_spots delim unit from_nth n) 0 (λ x. tail_of delim unit from_nth n x ∷ [])
+pub tail_stretch : (delim : ℕ) (unit : Counted) (from_nth : Bool) (n : ℕ)
+    → IsStretch (λ x. only_out (tail_of delim unit from_nth n x)) (tail_spots delim unit from_nth n) 0
+    (λ x. tail_of delim unit from_nth n x ∷ [])
 tail_stretch delim unit from_nth n = record {
   before = tail_first delim unit from_nth n;
   rest = tail_of delim unit from_nth n;
@@ -244,5 +270,6 @@ tail_stretch delim unit from_nth n = record {
   there = tail_there delim unit from_nth n;
 }
 
-pub tail_placed : (delim : ℕ) (unit : Counted) (from_nth : Bool) (n : ℕ) → ArePlaced (tail_work delim unit from_nth n) (tail_spots delim unit from_nth n)
+pub tail_placed : (delim : ℕ) (unit : Counted) (from_nth : Bool) (n : ℕ)
+    → ArePlaced (tail_work delim unit from_nth n) (tail_spots delim unit from_nth n)
 tail_placed delim unit from_nth n = stretch_placed (tail_work delim unit from_nth n) 0 (tail_stretch delim unit from_nth n)

@@ -41,7 +41,9 @@ use Rattle.seg_core.proofs.Delimiters.{delimiters-le-length, delimiters-take-add
 use Rattle.seg_core.proofs.FirstLines.{delimiters-first_lines}
 
 -- what is a function of what was asked for is the same where the same was asked for
-same_for : {A : Type 0} (f : Stretch → ℕ → Counted → ℕ → A) {old new : Ends} → SameAsked old new → f (stretch_of new) (delim_of new) (unit_of new) (count_of new) ≡ f (stretch_of old) (delim_of old) (unit_of old) (count_of old)
+same_for : {A : Type 0} (f : Stretch → ℕ → Counted → ℕ → A) {old new : Ends} → SameAsked old new
+    → f (stretch_of new) (delim_of new) (unit_of new) (count_of new)
+    ≡ f (stretch_of old) (delim_of old) (unit_of old) (count_of old)
 same_for f {old} {new} same = grind (arith, common_steps)
 
 pub same_work : {old new : Ends} → SameAsked old new → work new ≡ work old
@@ -79,7 +81,8 @@ pub rest_out : (ends : Ends) → Makes ends (due_at_end ends) (work ends).whole
 rest_out (Last kept) x holds = ap only_out holds.waits
 rest_out ends x holds = grind (arith, common_steps)
 
-module _ (told : Bool) (ends : Ends) (bytes : List ℕ) {whole : List ℕ → Part} (makes : Makes ends bytes whole) {old new : List Slot} where
+module _ (told : Bool) (ends : Ends) (bytes : List ℕ) {whole : List ℕ → Part} (makes : Makes ends bytes whole)
+    {old new : List Slot} where
   pub puts_out : new ≡ with_written 0 (told_of told bytes) old → PutsOut terms ends whole told old new
   puts_out wrote before x at = subst (λ part. OutputsAt told before part new) (makes x at.holds) (out_more told before _ old new bytes at.outputs wrote)
 
@@ -93,44 +96,57 @@ minus_both : (n a b : ℕ) → (n - a) - b ≡ n - (a + b)
 minus_both n a b = omega arith
 
 -- what waits after the piece
-waits_next : (ends : Ends) {x : List ℕ} (piece : List ℕ) → Holds ends x → left_waiting ends piece ≡ waiting ends (x ++ piece)
+waits_next : (ends : Ends) {x : List ℕ} (piece : List ℕ) → Holds ends x
+    → left_waiting ends piece ≡ waiting ends (x ++ piece)
 waits_next (ButLast kept) {x} piece holds = grind (arith, common_steps, last_of-append)
 waits_next (Last kept) {x} piece holds = grind (arith, common_steps, last_of-append)
 waits_next ends piece holds = refl
 
-waits_now : (ends : Ends) {next : Ends} {x : List ℕ} (piece : List ℕ) → SameAsked ends next → waiting_of next ≡ left_waiting ends piece → Holds ends x → waiting_of next ≡ waiting next (x ++ piece)
+waits_now : (ends : Ends) {next : Ends} {x : List ℕ} (piece : List ℕ) → SameAsked ends next
+    → waiting_of next ≡ left_waiting ends piece → Holds ends x → waiting_of next ≡ waiting next (x ++ piece)
 waits_now ends {x} piece same waits holds = waits ∙ waits_next ends piece holds ∙ sym (same_for (λ s d u n. (work_in s d u n).waiting (x ++ piece)) same)
 
-left_now : (ends : Ends) {next : Ends} {x : List ℕ} (piece : List ℕ) → SameAsked ends next → left_of next ≡ left_of ends - measure (delim_of ends) (unit_of ends) piece → Holds ends x → keeps (stretch_of next) ≡ false
+left_now : (ends : Ends) {next : Ends} {x : List ℕ} (piece : List ℕ) → SameAsked ends next
+    → left_of next ≡ left_of ends - measure (delim_of ends) (unit_of ends) piece → Holds ends x
+    → keeps (stretch_of next) ≡ false
     → left_of next ≡ front_in (stretch_of next) (count_of next) - measure (delim_of next) (unit_of next) (x ++ piece)
 left_now ends {next} {x} piece same left holds none =
     left ∙ ap (λ m. m - measure (delim_of ends) (unit_of ends) piece) (holds.left (ap keeps (sym same.stretch) ∙ none)) ∙ minus_both _ _ _
     ∙ ap (λ m. front_in (stretch_of ends) (count_of ends) - m) (sym (measure-append (delim_of ends) (unit_of ends) x piece))
     ∙ sym (same_for (λ s d u n. front_in s n - measure d u (x ++ piece)) same)
 
-missing_now : (ends : Ends) {next : Ends} {x : List ℕ} (piece : List ℕ) → SameAsked ends next → missing_of next ≡ missing_of ends - length piece → Holds ends x → missing_of next ≡ least_of next - length (x ++ piece)
+missing_now : (ends : Ends) {next : Ends} {x : List ℕ} (piece : List ℕ) → SameAsked ends next
+    → missing_of next ≡ missing_of ends - length piece → Holds ends x
+    → missing_of next ≡ least_of next - length (x ++ piece)
 missing_now ends {x = x} piece same missing holds = omega (arith, missing, same.least, holds.missing, length-append x piece)
 
 none_lacks : (ends : Ends) → keeps (stretch_of ends) ≡ false → may_lack ends ≡ false
 none_lacks (First count front) none = cc
 none_lacks ends none = cc
 
-full_lacks : (ends : Ends) (x : List ℕ) → waiting_of ends ≡ waiting ends x → FullLacksNone ends → unit_of ends ≡ Bytes → count_of ends ≤ length x → may_lack ends ≡ false
+full_lacks : (ends : Ends) (x : List ℕ) → waiting_of ends ≡ waiting ends x → FullLacksNone ends → unit_of ends ≡ Bytes
+    → count_of ends ≤ length x → may_lack ends ≡ false
 full_lacks (ButLast kept) x waits full bytes enough = grind (arith, common_steps)
 full_lacks (Last kept) x waits full bytes enough = grind (arith, common_steps)
 full_lacks ends x waits full bytes enough = refl
 
 -- how many bytes come in after a head
 
-pub past_after : (delim : ℕ) (unit : Counted) (n : ℕ) (x : List ℕ) → length x - length (first_of delim unit n x) ≡ length (after_of delim unit n x)
+pub past_after : (delim : ℕ) (unit : Counted) (n : ℕ) (x : List ℕ)
+    → length x - length (first_of delim unit n x) ≡ length (after_of delim unit n x)
 past_after delim unit n x = omega (arith, sym (ap length (first_then_after delim unit n x)) ∙ length-append (first_of delim unit n x) (after_of delim unit n x))
 
-past_next : (ends : Ends) {x : List ℕ} (piece : List ℕ) → Holds ends x → past_of ends + length (unused_of ends piece) ≡ past_in (stretch_of ends) (delim_of ends) (unit_of ends) (count_of ends) (x ++ piece)
+past_next : (ends : Ends) {x : List ℕ} (piece : List ℕ) → Holds ends x
+    → past_of ends + length (unused_of ends piece)
+    ≡ past_in (stretch_of ends) (delim_of ends) (unit_of ends) (count_of ends) (x ++ piece)
 past_next (First count front) {x} piece holds = grind (arith, common_steps, after_of-append, past_after)
 past_next ends piece holds = refl
 
-pub takes_in : (ends : Ends) {next : Ends} (piece : List ℕ) → SameAsked ends next → past_of next ≡ past_of ends + length (unused_of ends piece)
-    → missing_of next ≡ missing_of ends - length piece → left_of next ≡ left_of ends - measure (delim_of ends) (unit_of ends) piece → waiting_of next ≡ left_waiting ends piece → FullLacksNone next → TakesIn Holds piece ends next
+pub takes_in : (ends : Ends) {next : Ends} (piece : List ℕ) → SameAsked ends next
+    → past_of next ≡ past_of ends + length (unused_of ends piece)
+    → missing_of next ≡ missing_of ends - length piece
+    → left_of next ≡ left_of ends - measure (delim_of ends) (unit_of ends) piece
+    → waiting_of next ≡ left_waiting ends piece → FullLacksNone next → TakesIn Holds piece ends next
 takes_in ends {next} piece same past missing left waits full x holds =
     let waits_next = waits_now ends piece same waits holds in record {
       byte = rw same.delim holds.byte;
@@ -144,7 +160,8 @@ takes_in ends {next} piece same past missing left waits full x holds =
 
 -- a head is complete exactly where it is done
 
-incomplete : (delim : ℕ) (unit : Counted) (but_last : Bool) (n : ℕ) (x : List ℕ) → delim < 256 → (not but_last && nat_le n (measure delim unit x)) ≡ false → IsDone delim unit but_last n x → ⊥
+incomplete : (delim : ℕ) (unit : Counted) (but_last : Bool) (n : ℕ) (x : List ℕ) → delim < 256
+    → (not but_last && nat_le n (measure delim unit x)) ≡ false → IsDone delim unit but_last n x → ⊥
 incomplete delim unit false n x byte short done =
     let few : measure delim unit x < n = leb-false n (measure delim unit x) short in
     let same : x ++ 0 ∷ [] ≡ x = sym (first_of-more delim unit n x 0 few) ∙ done (0 ∷ []) (All-replicate (λ byte. byte < 256) 1 0 (lit< tt)) ∙ first_of-short delim unit n {x = x} few in
@@ -152,11 +169,13 @@ incomplete delim unit false n x byte short done =
 incomplete delim unit true n x byte short done =
     but_last_grows delim unit n x (replicate (n + 1) delim) (let many = measure-delimiters delim unit {k = n + 1} in omega arith) (done (replicate (n + 1) delim) (All-replicate (λ byte. byte < 256) (n + 1) delim byte))
 
-head_exact : (delim : ℕ) (unit : Counted) (but_last : Bool) (n : ℕ) (x : List ℕ) (full : Bool) → delim < 256 → full ≡ (head_work delim unit but_last n).is_complete x → IsTrue full ↔ IsDone delim unit but_last n x
+head_exact : (delim : ℕ) (unit : Counted) (but_last : Bool) (n : ℕ) (x : List ℕ) (full : Bool) → delim < 256
+    → full ≡ (head_work delim unit but_last n).is_complete x → IsTrue full ↔ IsDone delim unit but_last n x
 head_exact delim unit but_last n x true byte is = (λ yes y bytes. (full_head delim unit but_last n x y (sym is)).1, λ done. refl)
 head_exact delim unit but_last n x false byte is = (λ yes. absurd (false≢true yes), λ done. absurd (incomplete delim unit but_last n x byte (sym is) done))
 
-pub done_is_exact : (ends : Ends) {x : List ℕ} {full : Bool} → Holds ends x → full ≡ (work ends).is_complete x → IsTrue full ↔ is_done ends x
+pub done_is_exact : (ends : Ends) {x : List ℕ} {full : Bool} → Holds ends x → full ≡ (work ends).is_complete x
+    → IsTrue full ↔ is_done ends x
 done_is_exact (First count front) {x} {full} holds is = head_exact front.delim front.unit false count x full holds.byte is
 done_is_exact (ButLast kept) {x} {full} holds is = head_exact (kept_delim kept) (kept_unit kept) true (most_of kept) x full holds.byte is
 done_is_exact ends holds is = grind (arith, common_steps)
@@ -173,7 +192,8 @@ lacks_kept ends lacking = cc
 -- why a call stopped
 pub met : (told : Bool) (ends : Ends) (needs : Means → Needs) (Lacks : Type 0) (Fails : Verdict → Type 0)
     {lacks : Bool} {bytes : List ℕ} {old new : List Slot} {f : Fault}
-    → (lacks ≡ true → ((needs (on_output (keeps (stretch_of ends)))).memory ≡ true) × Lacks) → IsTrue (is_writable old 0) → Stops told lacks bytes old new f
+    → (lacks ≡ true → ((needs (on_output (keeps (stretch_of ends)))).memory ≡ true) × Lacks)
+    → IsTrue (is_writable old 0) → Stops told lacks bytes old new f
     → IsMet (work ends).means (needs (work ends).means) Lacks Fails old new f
 met told ends needs Lacks Fails {old = old} {new} {f} room can stops =
     subst (λ means. IsMet means (needs means) Lacks Fails old new f) (sym (on_means (stretch_of ends) (delim_of ends) (unit_of ends) (count_of ends)))
@@ -181,26 +201,32 @@ met told ends needs Lacks Fails {old = old} {new} {f} room can stops =
 
 -- how its end stopped
 
-pub ends_changed : (told : Bool) {ends : Ends} {missing : ℕ} {slots : List Slot} {f : Fault} → missing_of ends ≡ missing → f ≡ fault_is.Verdict Changed → 0 < missing → EndsBadly told ends slots slots f
+pub ends_changed : (told : Bool) {ends : Ends} {missing : ℕ} {slots : List Slot} {f : Fault} → missing_of ends ≡ missing
+    → f ≡ fault_is.Verdict Changed → 0 < missing → EndsBadly told ends slots slots f
 ends_changed told are is some = rw is (changed (omega (arith, are, some)) refl)
 
-pub ends_stopped : (told : Bool) {ends : Ends} {kept : Kept} {n : ℕ} {old new : List Slot} {f : Fault} → ends ≡ Last kept → n ≡ length (held_of kept) → Stops told false (take n (held_of kept)) old new f → EndsBadly told ends old new f
+pub ends_stopped : (told : Bool) {ends : Ends} {kept : Kept} {n : ℕ} {old new : List Slot} {f : Fault}
+    → ends ≡ Last kept → n ≡ length (held_of kept) → Stops told false (take n (held_of kept)) old new f
+    → EndsBadly told ends old new f
 ends_stopped told {kept = kept} {n} {old} {new} {f} is all stops = rw is (stopped f (subst (λ bytes. Stops told false bytes old new f) (take_all n (held_of kept) (omega (arith, all))) stops))
 
-pub ends_cut : (told : Bool) (ends : Ends) {old new : List Slot} {f : Fault} → EndsBadly told ends old new f → CutsOff terms ends (work ends).whole told old new f
+pub ends_cut : (told : Bool) (ends : Ends) {old new : List Slot} {f : Fault} → EndsBadly told ends old new f
+    → CutsOff terms ends (work ends).whole told old new f
 ends_cut told (First count front) {new = new} (changed some same) before x at = judged refl _ at.outputs same
 ends_cut told (ButLast kept) (changed some same) before x at = absurd (omega (arith, some))
 ends_cut told (FromNth count front) (changed some same) before x at = judged refl _ at.outputs same
 ends_cut told (Last kept) (changed some same) before x at = absurd (omega (arith, some))
 ends_cut told ends (stopped f stops) before x at = cuts_off told ends (due_at_end ends) (rest_out ends) stops before x at
 
-pub ends_met : (told : Bool) (ends : Ends) {old new : List Slot} {f : Fault} → IsTrue (is_writable old 0) → EndsBadly told ends old new f → IsMetThere terms ends old new f
+pub ends_met : (told : Bool) (ends : Ends) {old new : List Slot} {f : Fault} → IsTrue (is_writable old 0)
+    → EndsBadly told ends old new f → IsMetThere terms ends old new f
 ends_met told ends can (changed some same) = λ x holds. fewer_came (least_of ends) x (omega (arith, some, holds.missing))
 ends_met told ends can (stopped f stops) = met told ends (λ means. means.closing) _ (EndsThere terms ends) (λ never. absurd (false≢true never)) can stops
 
 -- what a call owes for its result, from what the call within it gave
 
-pub on_ok_each : {P P2 P3 Q : Type 0} (result : Result (Unit {0}) Fault) → (P → P2 → P3 → Q) → OnOk result P → OnOk result P2 → OnOk result P3 → OnOk result Q
+pub on_ok_each : {P P2 P3 Q : Type 0} (result : Result (Unit {0}) Fault) → (P → P2 → P3 → Q) → OnOk result P
+    → OnOk result P2 → OnOk result P3 → OnOk result Q
 on_ok_each (Ok u) also is too three = also is too three
 on_ok_each (Err f) also is too three = tt
 
@@ -215,12 +241,17 @@ pub passed_none : (ends : Ends) → ends ≡ passed ends []
 passed_none (FromNth count front) = ap (FromNth count) (stays front front.unit).1
 passed_none ends = refl
 
-pub passed_front : {told : Bool} {slot count n : ℕ} {ends next : Ends} {front now : Front} {old new : List Source} → ends ≡ FromNth n front → next ≡ FromNth n now
-    → PassesOver told slot count (λ x. (after_of front.delim front.unit front.left x ≡ []) × (now ≡ record front { left = front.left - measure front.delim front.unit x; missing = front.missing - length x })) old new
+pub passed_front : {told : Bool} {slot count n : ℕ} {ends next : Ends} {front now : Front} {old new : List Source}
+    → ends ≡ FromNth n front → next ≡ FromNth n now
+    → PassesOver told slot count (λ x. (after_of front.delim front.unit front.left x ≡ [])
+    × (now
+    ≡ record front
+    { left = front.left - measure front.delim front.unit x; missing = front.missing - length x })) old new
     → PassesOver told slot count (λ x. IsSilent ends x × (next ≡ passed ends x)) old new
 passed_front {n = n} is after passes = passes_so _ passes (λ x long keeps. rw (is, after) (keeps.0, ap (FromNth n) keeps.1))
 
-took_in : (ends : Ends) {x : List ℕ} → Holds ends [] → terms.size ends ≡ 0 → IsSilent ends x → TookIn terms ends (passed ends x) x
+took_in : (ends : Ends) {x : List ℕ} → Holds ends [] → terms.size ends ≡ 0 → IsSilent ends x
+    → TookIn terms ends (passed ends x) x
 took_in (FromNth count front) {x} fresh none silent = record {
   same = refl;
   size = omega arith;
@@ -241,31 +272,38 @@ took_in ends {x} fresh none silent = rw silent (record {
   going = inl refl;
 })
 
-pub loads : (told : Bool) {slot count : ℕ} {ends next : Ends} {old new : List Source} → Holds ends [] → terms.size ends ≡ 0
-    → PassesOver told slot count (λ x. IsSilent ends x × (next ≡ passed ends x)) old new → Loads terms told slot count ends next old new
+pub loads : (told : Bool) {slot count : ℕ} {ends next : Ends} {old new : List Source} → Holds ends []
+    → terms.size ends ≡ 0
+    → PassesOver told slot count (λ x. IsSilent ends x × (next ≡ passed ends x)) old new
+    → Loads terms told slot count ends next old new
 loads told {ends = ends} {next} fresh none passes = passes_so _ passes (λ x long keeps. subst (λ after. TookIn terms ends after x) (sym keeps.1) (took_in ends fresh none keeps.0))
 
 -- What waits in an engine that was fed a text.
 module _ (engine : GuardState Ends) (x : List ℕ) (holds : HoldsIn Holds engine x) where
-  pub head_waits : stretch_of engine.stage ≡ all_but_last → waiting_of engine.stage ≡ last_of (delim_of engine.stage) (unit_of engine.stage) (count_of engine.stage) x
+  pub head_waits : stretch_of engine.stage ≡ all_but_last
+      → waiting_of engine.stage ≡ last_of (delim_of engine.stage) (unit_of engine.stage) (count_of engine.stage) x
   head_waits is = holds.within.waits ∙ ap (λ s. (work_in s (delim_of engine.stage) (unit_of engine.stage) (count_of engine.stage)).waiting x) is
 
-  pub tail_waits : stretch_of engine.stage ≡ the_last → waiting_of engine.stage ≡ last_of (delim_of engine.stage) (unit_of engine.stage) (count_of engine.stage) x
+  pub tail_waits : stretch_of engine.stage ≡ the_last
+      → waiting_of engine.stage ≡ last_of (delim_of engine.stage) (unit_of engine.stage) (count_of engine.stage) x
   tail_waits is = holds.within.waits ∙ ap (λ s. (work_in s (delim_of engine.stage) (unit_of engine.stage) (count_of engine.stage)).waiting x) is
 
-  pub loses_nothing : stretch_of engine.stage ≡ all_but_last → ((work engine.stage).settled x).out ++ waiting_of engine.stage ≡ x
+  pub loses_nothing : stretch_of engine.stage ≡ all_but_last
+      → ((work engine.stage).settled x).out ++ waiting_of engine.stage ≡ x
   loses_nothing is = search (rules, head_waits, ends_together)
 
 first_within : (delim : ℕ) (unit : Counted) (n : ℕ) (x : List ℕ) → length (first_of delim unit n x) ≤ length x
 first_within delim unit n x = omega (arith, sym (length-append (first_of delim unit n x) (after_of delim unit n x)) ∙ ap length (first_then_after delim unit n x))
 
 -- the first n of a text are as many, where it has them
-first_measures : (delim : ℕ) (unit : Counted) (n : ℕ) (x : List ℕ) → n ≤ measure delim unit x → n ≤ measure delim unit (first_of delim unit n x)
+first_measures : (delim : ℕ) (unit : Counted) (n : ℕ) (x : List ℕ) → n ≤ measure delim unit x
+    → n ≤ measure delim unit (first_of delim unit n x)
 first_measures delim Lines n x full = omega (arith, delimiters-first_lines delim n x full)
 first_measures delim Bytes n x full = omega (arith, length-take n x, full)
 
 -- of n lines or bytes the last byte is needed
-last_needed : (delim : ℕ) (unit : Counted) (n : ℕ) {k : ℕ} {used : List ℕ} → length used ≡ suc k → first_of delim unit n used ≡ used → measure delim unit (take k used) < n
+last_needed : (delim : ℕ) (unit : Counted) (n : ℕ) {k : ℕ} {used : List ℕ} → length used ≡ suc k
+    → first_of delim unit n used ≡ used → measure delim unit (take k used) < n
 last_needed delim unit n {k} {used} long again = elim (cases_lt (measure delim unit (take k used)) n) [
   | inl short ↦ short
   | inr full ↦ absurd (omega (
@@ -277,7 +315,8 @@ last_needed delim unit n {k} {used} long again = elim (cases_lt (measure delim u
   ))
 ]
 
-needed_by : (delim : ℕ) (unit : Counted) (n k : ℕ) {used : List ℕ} → length used ≡ k → first_of delim unit n used ≡ used → IsNeeded (head_work delim unit false n).is_complete 1 used
+needed_by : (delim : ℕ) (unit : Counted) (n k : ℕ) {used : List ℕ} → length used ≡ k → first_of delim unit n used ≡ used
+    → IsNeeded (head_work delim unit false n).is_complete 1 used
 needed_by delim unit n zero {used} long again = inl (nil_from_length used long)
 needed_by delim unit n (suc k) {used} long again = inr (
   take k used,
@@ -287,25 +326,29 @@ needed_by delim unit n (suc k) {used} long again = inr (
   lt-leb n (measure delim unit (take k used)) (last_needed delim unit n long again),
 )
 
-first_needed : (delim : ℕ) (unit : Counted) (n : ℕ) (x : List ℕ) → IsNeeded (head_work delim unit false n).is_complete 1 (first_of delim unit n x)
+first_needed : (delim : ℕ) (unit : Counted) (n : ℕ) (x : List ℕ)
+    → IsNeeded (head_work delim unit false n).is_complete 1 (first_of delim unit n x)
 first_needed delim unit n x = elim (cases_lt (measure delim unit (first_of delim unit n x)) n) [
   | inl short ↦ inr (first_of delim unit n x, [], sym (append-nil (first_of delim unit n x)), omega arith, lt-leb n (measure delim unit (first_of delim unit n x)) short)
   | inr full ↦ needed_by delim unit n (length (first_of delim unit n x)) refl
       (sym (first_of-full delim unit n (first_of delim unit n x) (after_of delim unit n x) full) ∙ ap (first_of delim unit n) (first_then_after delim unit n x))
 ]
 
-first_enough : (delim : ℕ) (unit : Counted) (n : ℕ) (x : List ℕ) → (after_of delim unit n x ≡ []) ⊎ ((head_work delim unit false n).is_complete (first_of delim unit n x) ≡ true)
+first_enough : (delim : ℕ) (unit : Counted) (n : ℕ) (x : List ℕ)
+    → (after_of delim unit n x ≡ []) ⊎ ((head_work delim unit false n).is_complete (first_of delim unit n x) ≡ true)
 first_enough delim unit n x = elim (cases_lt (measure delim unit x) n) [
   | inl short ↦ inl (after-past delim unit n x short)
   | inr full ↦ inr (le-leb n (measure delim unit (first_of delim unit n x)) (first_measures delim unit n x full))
 ]
 
 -- a head uses the first n, and nothing that stands after them
-pub first_used : (delim : ℕ) (unit : Counted) (n : ℕ) {x : List ℕ} → IsSpare (head_work delim unit false n) x (length (after_of delim unit n x))
+pub first_used : (delim : ℕ) (unit : Counted) (n : ℕ) {x : List ℕ}
+    → IsSpare (head_work delim unit false n) x (length (after_of delim unit n x))
 first_used delim unit n {x} = search (rules, first_then_after, first_needed, first_enough)
 
 -- what was needed to the last byte is its own first n
-needed_whole : (delim : ℕ) (unit : Counted) (n : ℕ) {used : List ℕ} → IsNeeded (head_work delim unit false n).is_complete 1 used → first_of delim unit n used ≡ used
+needed_whole : (delim : ℕ) (unit : Counted) (n : ℕ) {used : List ℕ}
+    → IsNeeded (head_work delim unit false n).is_complete 1 used → first_of delim unit n used ≡ used
 needed_whole delim unit n (inl none) = ap (first_of delim unit n) none ∙ first_of-nil delim unit n ∙ sym none
 needed_whole delim unit n (inr (before, piece, is, few, going)) = ap (first_of delim unit n) is ∙ with_piece piece few ∙ sym is where
   short : measure delim unit before < n
@@ -316,16 +359,23 @@ needed_whole delim unit n (inr (before, piece, is, few, going)) = ap (first_of d
   with_piece (byte ∷ []) few = first_of-more delim unit n before byte short
   with_piece (byte ∷ next ∷ piece) few = absurd (omega (arith, few))
 
-pub written_used : (delim : ℕ) (unit : Counted) (n : ℕ) {used rest : List ℕ} → IsNeeded (head_work delim unit false n).is_complete 1 used → (rest ≡ []) ⊎ ((head_work delim unit false n).is_complete used ≡ true) → first_of delim unit n (used ++ rest) ≡ used
+pub written_used : (delim : ℕ) (unit : Counted) (n : ℕ) {used rest : List ℕ}
+    → IsNeeded (head_work delim unit false n).is_complete 1 used
+    → (rest ≡ []) ⊎ ((head_work delim unit false n).is_complete used ≡ true)
+    → first_of delim unit n (used ++ rest) ≡ used
 written_used delim unit n {used} needed (inl none) = grind (arith, common_steps, append-nil, needed_whole)
 written_used delim unit n {used} {rest} needed (inr complete) = grind (arith, common_steps, first_of-full, leb-true, needed_whole)
 
-pub rest_left : (delim : ℕ) (unit : Counted) (n : ℕ) (used : List ℕ) {rest : List ℕ} → IsNeeded (head_work delim unit false n).is_complete 1 used → (rest ≡ []) ⊎ ((head_work delim unit false n).is_complete used ≡ true) → after_of delim unit n (used ++ rest) ≡ rest
+pub rest_left : (delim : ℕ) (unit : Counted) (n : ℕ) (used : List ℕ) {rest : List ℕ}
+    → IsNeeded (head_work delim unit false n).is_complete 1 used
+    → (rest ≡ []) ⊎ ((head_work delim unit false n).is_complete used ≡ true)
+    → after_of delim unit n (used ++ rest) ≡ rest
 rest_left delim unit n used {rest} needed enough =
     append_cancel_left used _ _ (ap (λ those. those ++ after_of delim unit n (used ++ rest)) (sym (written_used delim unit n needed enough)) ∙ first_then_after delim unit n (used ++ rest))
 
 -- which bytes aren't used is decided by when the output is complete
-spare_so : {one other : Work} {x : List ℕ} {n : ℕ} → one.is_complete ≡ other.is_complete → IsSpare one x n → IsSpare other x n
+spare_so : {one other : Work} {x : List ℕ} {n : ℕ} → one.is_complete ≡ other.is_complete → IsSpare one x n
+    → IsSpare other x n
 spare_so same spare = record {
   used = spare.used;
   rest = spare.rest;
@@ -342,7 +392,8 @@ spare_here ends {x} holds = all_used (work ends) x refl
 -- a text that goes on from x, cut in two where more stands before the cut than in x: the cut is after x, and what is before
 -- it and after x has no more delimiters than bytes
 
-goes_past : (delim : ℕ) (x piece used rest : List ℕ) → x ++ piece ≡ used ++ rest → delimiters delim x < delimiters delim used → length x < length used
+goes_past : (delim : ℕ) (x piece used rest : List ℕ) → x ++ piece ≡ used ++ rest
+    → delimiters delim x < delimiters delim used → length x < length used
 goes_past delim x piece used rest is more = elim (cases_lt (length x) (length used)) [
   | inl past ↦ past
   | inr short ↦
@@ -351,7 +402,8 @@ goes_past delim x piece used rest is more = elim (cases_lt (length x) (length us
       absurd (omega (arith, more, ap (delimiters delim) front, delimiters-take-le delim (length used) x))
 ]
 
-few_between : (delim : ℕ) (x piece used rest : List ℕ) → x ++ piece ≡ used ++ rest → length x < length used → delimiters delim used + length x ≤ delimiters delim x + length used
+few_between : (delim : ℕ) (x piece used rest : List ℕ) → x ++ piece ≡ used ++ rest → length x < length used
+    → delimiters delim used + length x ≤ delimiters delim x + length used
 few_between delim x piece used rest is past =
     let all : take (length x + (length used - length x)) (x ++ piece) ≡ used
     = ap (λ k. take k (x ++ piece)) (omega (arith, past)) ∙ ap (take (length used)) is ∙ take_at used rest (length used) refl in
@@ -365,7 +417,9 @@ few_between delim x piece used rest is past =
       past,
     )
 
-few_spare : (delim : ℕ) (unit : Counted) (count : ℕ) {left n : ℕ} (x piece : List ℕ) {work : Work} (spare : IsSpare work (x ++ piece) n) → left ≡ count - measure delim unit x → measure delim unit x < count → count ≤ measure delim unit spare.used
+few_spare : (delim : ℕ) (unit : Counted) (count : ℕ) {left n : ℕ} (x piece : List ℕ) {work : Work}
+    (spare : IsSpare work (x ++ piece) n) → left ≡ count - measure delim unit x → measure delim unit x < count
+    → count ≤ measure delim unit spare.used
     → length piece ≤ piece_for unit left → n ≤ ahead_of unit
 few_spare delim Bytes count x piece spare is going enough within =
     omega (arith, is, going, enough, within, spare.long, sym (length-append x piece) ∙ ap length spare.joined ∙ length-append spare.used spare.rest)

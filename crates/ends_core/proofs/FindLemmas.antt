@@ -23,7 +23,8 @@ use Rattle.ends_core.proofs.AgreedLemmas.{none_last}
 
 -- Where the last lines of a text begin
 
-count_step : (is : Bool) (byte n : ℕ) (lines : List (List ℕ)) → length lines ≡ n + 1 → length (if is then (byte ∷ []) ∷ lines else onto_first byte lines) ≡ (if is then n + 1 else n) + 1
+count_step : (is : Bool) (byte n : ℕ) (lines : List (List ℕ)) → length lines ≡ n + 1
+    → length (if is then (byte ∷ []) ∷ lines else onto_first byte lines) ≡ (if is then n + 1 else n) + 1
 count_step true byte n lines is = omega arith
 count_step false byte n [] is = omega arith
 count_step false byte n (line ∷ lines) is = is
@@ -52,11 +53,13 @@ all_lines : (delim : ℕ) (x : List ℕ) → 0 < length x → line_count delim x
 all_lines delim x some = ap (line_count delim) (sym (take-append-drop (length x - 1) x)) ∙ lines_and_one delim (but_one x) (drop (length x - 1) x) (one_left x some)
 
 -- a text of n lines after a complete one is the last n lines
-last_are : (delim : ℕ) {n : ℕ} (front : List ℕ) {y : List ℕ} → ends_with delim front ≡ true → line_count delim y ≡ n → y ≡ last_lines delim n (front ++ y)
+last_are : (delim : ℕ) {n : ℕ} (front : List ℕ) {y : List ℕ} → ends_with delim front ≡ true → line_count delim y ≡ n
+    → y ≡ last_lines delim n (front ++ y)
 last_are delim {n} front {y} closed count = grind (arith, common_steps, lines_of-append, drop_at, joined-lines_of)
 
 -- they begin after the delimiter that is the n-th from the end, where the last byte isn't counted
-pub begins_last : {delim n at : ℕ} (x : List ℕ) → 0 < length x → BeginsAt delim n (but_one x) at → drop at x ≡ last_lines delim n x
+pub begins_last : {delim n at : ℕ} (x : List ℕ) → 0 < length x → BeginsAt delim n (but_one x) at
+    → drop at x ≡ last_lines delim n x
 begins_last {delim} {n} {at} x some begins =
     let shorter = but_one_shorter x some in
     let within : at ≤ length (but_one x) = begins.within in
@@ -74,7 +77,8 @@ few_last delim {n} (byte ∷ x) few =
     sym (ap (λ k. after_lines delim k (byte ∷ x)) none ∙ joined-lines_of delim (byte ∷ x))
 
 -- a block of the text is one of the text without its last byte
-block_of : (x : List ℕ) (from size : ℕ) → from + size ≤ length x - 1 → take size (drop from x) ≡ take size (drop from (but_one x))
+block_of : (x : List ℕ) (from size : ℕ) → from + size ≤ length x - 1
+    → take size (drop from x) ≡ take size (drop from (but_one x))
 block_of x from size within =
     let more = length x - 1 - from in
     let all : from + more ≡ length x - 1 = omega (arith, within) in
@@ -88,7 +92,9 @@ abbrev pub IsWanted : ℕ → ℕ → ℕ → ℕ → List ℕ → Type 0
 IsWanted delim count wanted end x = count ≡ wanted + delimiters delim (drop end (but_one x))
 
 -- those in the block needn't be found before it
-pub wanted_before : {delim count wanted end : ℕ} (from size : ℕ) {found : ℕ} (x : List ℕ) {block : List ℕ} → IsWanted delim count wanted end x → from + size ≡ end → end ≤ length x - 1 → block ≡ take size (drop from x) → FallsShort delim wanted block found
+pub wanted_before : {delim count wanted end : ℕ} (from size : ℕ) {found : ℕ} (x : List ℕ) {block : List ℕ}
+    → IsWanted delim count wanted end x → from + size ≡ end → end ≤ length x - 1 → block ≡ take size (drop from x)
+    → FallsShort delim wanted block found
     → IsWanted delim count (wanted - found) from x
 wanted_before {delim} {end} from size x {block} is place within are short =
     let here : block ≡ take size (drop from (but_one x)) = are ∙ block_of x from size (omega (arith, place, within)) in
@@ -98,7 +104,9 @@ wanted_before {delim} {end} from size x {block} is place within are short =
     let counted = short.counted in let fewer = short.fewer in omega (arith, is, all, counted, fewer)
 
 -- the wanted one stands in the block
-pub begins_in : {delim count wanted end : ℕ} (from size : ℕ) {at : ℕ} (x : List ℕ) {block : List ℕ} → IsWanted delim count wanted end x → from + size ≡ end → end ≤ length x - 1 → block ≡ take size (drop from x) → BeginsAt delim wanted block at → BeginsAt delim count (but_one x) (from + at)
+pub begins_in : {delim count wanted end : ℕ} (from size : ℕ) {at : ℕ} (x : List ℕ) {block : List ℕ}
+    → IsWanted delim count wanted end x → from + size ≡ end → end ≤ length x - 1 → block ≡ take size (drop from x)
+    → BeginsAt delim wanted block at → BeginsAt delim count (but_one x) (from + at)
 begins_in {delim} {end} from size {at} x {block} is place within are begins =
     let here : block ≡ take size (drop from (but_one x)) = are ∙ block_of x from size (omega (arith, place, within)) in
     let all : drop from (but_one x) ≡ block ++ drop end (but_one x) = block_then (but_one x) from size ∙ ap (λ those. those ++ drop (from + size) (but_one x)) (sym here) ∙ ap (λ k. block ++ drop k (but_one x)) place in
@@ -121,13 +129,16 @@ begins_in {delim} {end} from size {at} x {block} is place within are begins =
       take_of (suc at) (byte ∷ block) rest few = ap (λ those. byte ∷ those) (take_of at block rest (omega (arith, few)))
 
 -- the walk came to the front
-pub all_wanted : (delim : ℕ) {count wanted : ℕ} (end : ℕ) {x : List ℕ} → IsWanted delim count wanted end x → end ≡ 0 → 0 < wanted → x ≡ last_lines delim count x
+pub all_wanted : (delim : ℕ) {count wanted : ℕ} (end : ℕ) {x : List ℕ} → IsWanted delim count wanted end x → end ≡ 0
+    → 0 < wanted → x ≡ last_lines delim count x
 all_wanted delim {count} end {x} is front some = grind (arith, common_steps, few_last)
 
 -- Where they begin in what an input shows
 
 -- looks into the front of the buffer
-pub looked_block : {most slot : ℕ} (size : ℕ) (buffer : List ℕ) {old mid new : List Source} → HasLooked most slot old mid → IsTrue (is_readable old slot) → length buffer ≤ most → new ≡ changed_at slot (looks (length (take size buffer))) mid
+pub looked_block : {most slot : ℕ} (size : ℕ) (buffer : List ℕ) {old mid new : List Source}
+    → HasLooked most slot old mid → IsTrue (is_readable old slot) → length buffer ≤ most
+    → new ≡ changed_at slot (looks (length (take size buffer))) mid
     → HasLooked most slot old new
 looked_block {most} size buffer so_far can few is = looked_again {least = most} so_far (looked_once (looked_readable so_far can) (omega (arith, few, length-take size buffer)) is) (omega arith)
 
@@ -146,7 +157,8 @@ text_shown false {len} shown counted = (replicate len 0, λ never. absurd (false
 text_shown true {len} None counted = absurd (none-some len (sym (counted refl)))
 text_shown true (Some text) counted = (text, λ tells. refl, let same = counted refl in cc)
 
-pub seen_none : (told : Bool) {left : Content} (delim count : ℕ) {len : ℕ} → (told ≡ true → Some len ≡ count_shown left) → SeenFrom told left delim count count (len - 1) len
+pub seen_none : (told : Bool) {left : Content} (delim count : ℕ) {len : ℕ} → (told ≡ true → Some len ≡ count_shown left)
+    → SeenFrom told left delim count count (len - 1) len
 seen_none told {left} delim count {len} counted =
     let text = text_shown told left.shown counted in record {
       text = text.0;
@@ -156,15 +168,18 @@ seen_none told {left} delim count {len} counted =
     }
 
 -- texts that are as long and the same from a place on are so without their last byte
-but_one_end : {k : ℕ} (x y : List ℕ) → k ≤ length x - 1 → drop k x ≡ drop k y → length x ≡ length y → drop k (but_one x) ≡ drop k (but_one y)
+but_one_end : {k : ℕ} (x y : List ℕ) → k ≤ length x - 1 → drop k x ≡ drop k y → length x ≡ length y
+    → drop k (but_one x) ≡ drop k (but_one y)
 but_one_end {k} x y within same also =
     let more = length x - 1 - k in
     ap (λ n. drop k (take n x)) (omega (arith, within)) ∙ drop-take k more x ∙ ap (take more) same ∙ sym (drop-take k more y)
     ∙ ap (λ n. drop k (take n y)) (omega (arith, within, also))
 
 -- a look shows a block of the text
-pub block_seen : (told : Bool) {left : Content} {delim count wanted end len : ℕ} (from size : ℕ) {block : List ℕ} → SeenFrom told left delim count wanted end len → from + size ≡ end → end ≤ len - 1 → length block ≡ size
-    → (told ≡ true → ShowsOf left from block) → (seen : SeenFrom told left delim count wanted end len) × (block ≡ take size (drop from seen.text))
+pub block_seen : (told : Bool) {left : Content} {delim count wanted end len : ℕ} (from size : ℕ) {block : List ℕ}
+    → SeenFrom told left delim count wanted end len → from + size ≡ end → end ≤ len - 1 → length block ≡ size
+    → (told ≡ true → ShowsOf left from block)
+    → (seen : SeenFrom told left delim count wanted end len) × (block ≡ take size (drop from seen.text))
 block_seen true from size {block} seen place within long shows =
     let (text, is, there) = shows refl in
     let shown = seen.shown refl in
@@ -186,12 +201,14 @@ block_seen false {left} {delim} {wanted = wanted} {end} {len} from size {block} 
     )
 
 -- where a part that is so long begins
-place_is : (delim : ℕ) (unit : Counted) (n : ℕ) {at : ℕ} (text : List ℕ) → at ≤ length text → drop at text ≡ last_of delim unit n text → at ≡ place_of delim unit n text
+place_is : (delim : ℕ) (unit : Counted) (n : ℕ) {at : ℕ} (text : List ℕ) → at ≤ length text
+    → drop at text ≡ last_of delim unit n text → at ≡ place_of delim unit n text
 place_is delim unit n {at} text within is = omega (arith, within, sym (ap length is) ∙ length-drop at text)
 
 module _ {told : Bool} {left : Content} {delim count wanted end len : ℕ} where
   -- the wanted delimiter stands in a block
-  pub found_in : (from size : ℕ) {at : ℕ} {block : List ℕ} → SeenFrom told left delim count wanted end len → from + size ≡ end → 0 < end → end ≤ len - 1 → length block ≡ size → (told ≡ true → ShowsOf left from block)
+  pub found_in : (from size : ℕ) {at : ℕ} {block : List ℕ} → SeenFrom told left delim count wanted end len
+      → from + size ≡ end → 0 < end → end ≤ len - 1 → length block ≡ size → (told ≡ true → ShowsOf left from block)
       → BeginsAt delim wanted block at → SeenLast told left delim Lines count (record { place = from + at; len = len })
   found_in from size {at} seen place some within long shows begins =
       let now = block_seen told from size seen place within long shows in
@@ -206,7 +223,8 @@ module _ {told : Bool} {left : Content} {delim count wanted end len : ℕ} where
       }
 
   -- or not in it
-  pub seen_more : (from size : ℕ) {found : ℕ} {block : List ℕ} → SeenFrom told left delim count wanted end len → from + size ≡ end → end ≤ len - 1 → length block ≡ size → (told ≡ true → ShowsOf left from block)
+  pub seen_more : (from size : ℕ) {found : ℕ} {block : List ℕ} → SeenFrom told left delim count wanted end len
+      → from + size ≡ end → end ≤ len - 1 → length block ≡ size → (told ≡ true → ShowsOf left from block)
       → FallsShort delim wanted block found → SeenFrom told left delim count (wanted - found) from len
   seen_more from size seen place within long shows short =
       let now = block_seen told from size seen place within long shows in
@@ -218,7 +236,8 @@ module _ {told : Bool} {left : Content} {delim count wanted end len : ℕ} where
       }
 
   -- the walk came to the front: all lines are among the last
-  pub found_all : SeenFrom told left delim count wanted end len → end ≡ 0 → 0 < wanted → SeenLast told left delim Lines count (record { place = 0; len = len })
+  pub found_all : SeenFrom told left delim count wanted end len → end ≡ 0 → 0 < wanted
+      → SeenLast told left delim Lines count (record { place = 0; len = len })
   found_all seen front some = record {
     text = seen.text;
     shown = seen.shown;
@@ -227,7 +246,9 @@ module _ {told : Bool} {left : Content} {delim count wanted end len : ℕ} where
   }
 
 -- none are wanted
-pub found_none : (told : Bool) {left : Content} (delim : ℕ) {count len : ℕ} → count ≡ 0 → (told ≡ true → Some len ≡ count_shown left) → SeenLast told left delim Lines count (record { place = len; len = len })
+pub found_none : (told : Bool) {left : Content} (delim : ℕ) {count len : ℕ} → count ≡ 0
+    → (told ≡ true → Some len ≡ count_shown left)
+    → SeenLast told left delim Lines count (record { place = len; len = len })
 found_none told {left} delim {count} none counted =
     let text = text_shown told left.shown counted in record {
       text = text.0;
@@ -237,7 +258,9 @@ found_none told {left} delim {count} none counted =
     }
 
 -- bytes need no look
-pub found_bytes : (told : Bool) {left : Content} (delim count : ℕ) {len : ℕ} → (told ≡ true → Some len ≡ count_shown left) → SeenLast told left delim Bytes count (record { place = len - count; len = len })
+pub found_bytes : (told : Bool) {left : Content} (delim count : ℕ) {len : ℕ}
+    → (told ≡ true → Some len ≡ count_shown left)
+    → SeenLast told left delim Bytes count (record { place = len - count; len = len })
 found_bytes told {left} delim count {len} counted =
     let text = text_shown told left.shown counted in record {
       text = text.0;

@@ -24,24 +24,29 @@ pub tail_shown_lawful : (delim : ℕ) (unit : Counted) (n : ℕ) (text : List �
 tail_shown_lawful delim unit n text = tail_lawful_by 0 Bytes true (suc (place_of delim unit n text)) (changed_below (length text))
 
 -- as many bytes stand before the last n as those have
-pub place_of-length : (delim : ℕ) (unit : Counted) (n : ℕ) (text : List ℕ) → place_of delim unit n text ≡ length (but_last_of delim unit n text)
+pub place_of-length : (delim : ℕ) (unit : Counted) (n : ℕ) (text : List ℕ)
+    → place_of delim unit n text ≡ length (but_last_of delim unit n text)
 place_of-length delim unit n text =
     omega (arith, sym (length-append (but_last_of delim unit n text) (last_of delim unit n text)) ∙ ap length (ends_together delim unit n text))
 
 pub place_of-le-length : (delim : ℕ) (unit : Counted) (n : ℕ) (text : List ℕ) → place_of delim unit n text ≤ length text
 place_of-le-length delim unit n text = omega arith
 
-pub whole-head_shown : (delim : ℕ) (unit : Counted) (n : ℕ) (text : List ℕ) → (head_shown delim unit n text).whole text ≡ (head_work delim unit true n).whole text
+pub whole-head_shown : (delim : ℕ) (unit : Counted) (n : ℕ) (text : List ℕ)
+    → (head_shown delim unit n text).whole text ≡ (head_work delim unit true n).whole text
 whole-head_shown delim unit n text = ap only_out (rw (place_of-length delim unit n text) (sym (but_last_is_take delim unit n text)))
 
-pub whole-tail_shown : (delim : ℕ) (unit : Counted) (n : ℕ) (text : List ℕ) → (tail_shown delim unit n text).whole text ≡ (tail_work delim unit false n).whole text
+pub whole-tail_shown : (delim : ℕ) (unit : Counted) (n : ℕ) (text : List ℕ)
+    → (tail_shown delim unit n text).whole text ≡ (tail_work delim unit false n).whole text
 whole-tail_shown delim unit n text = ap only_out
     (ap (λ k. drop k text) (omega (arith, place_of-length delim unit n text)) ∙ sym (last_is_drop delim unit n text))
 
-pub verdict-head_shown : (delim : ℕ) (unit : Counted) (n : ℕ) (text : List ℕ) → (head_shown delim unit n text).verdict text ≡ None
+pub verdict-head_shown : (delim : ℕ) (unit : Counted) (n : ℕ) (text : List ℕ)
+    → (head_shown delim unit n text).verdict text ≡ None
 verdict-head_shown delim unit n text = enough_came (place_of delim unit n text) text (place_of-le-length delim unit n text)
 
-pub verdict-tail_shown : (delim : ℕ) (unit : Counted) (n : ℕ) (text : List ℕ) → (tail_shown delim unit n text).verdict text ≡ None
+pub verdict-tail_shown : (delim : ℕ) (unit : Counted) (n : ℕ) (text : List ℕ)
+    → (tail_shown delim unit n text).verdict text ≡ None
 verdict-tail_shown delim unit n text = enough_came (length text) text (omega arith)
 
 pub head_shown-placed : (delim : ℕ) (unit : Counted) (n : ℕ) (text : List ℕ)

@@ -22,12 +22,17 @@ use Rattle.watch_core.proofs.WorldLemmas.{append_leads, append_grows}
 -- a look more with_file no text
 
 -- what an appended file adds
-pub grown : (file : ℕ) (front : List ℕ) {rest whole : List ℕ} → whole ≡ front ++ rest → gain_between (version (record { file = file; contents = front })) (version (record { file = file; contents = whole })) ≡ rest
+pub grown : (file : ℕ) (front : List ℕ) {rest whole : List ℕ} → whole ≡ front ++ rest
+    → gain_between (version (record { file = file; contents = front }))
+    (version (record { file = file; contents = whole })) ≡ rest
 grown file front {rest} is = grind (arith, common_steps, eq-eqb, le-leb, drop_front)
 
 -- A version that stands inside a run adds nothing of its own.
 pub inside : (file : ℕ) (first : List ℕ) {middle last : List ℕ} → IsBeginning first middle → IsBeginning middle last
-    → gain_between (version (record { file = file; contents = first })) (version (record { file = file; contents = middle })) ++ gain_between (version (record { file = file; contents = middle })) (version (record { file = file; contents = last }))
+    → gain_between (version (record { file = file; contents = first }))
+    (version (record { file = file; contents = middle }))
+    ++ gain_between (version (record { file = file; contents = middle }))
+    (version (record { file = file; contents = last }))
     ≡ gain_between (version (record { file = file; contents = first })) (version (record { file = file; contents = last }))
 inside file first {middle} {last} (some, is) (more, is_more) = grind (arith, common_steps, grown)
 
@@ -35,11 +40,15 @@ pub led_same : (snapshot : Snapshot) (file : ℕ) → entries_led snapshot (Some
 led_same snapshot file = search rules
 
 -- a look after no edit gives nothing
-still : {v : Version} (snapshot : Snapshot) (entries : List Entry) → snapshot.holds v.file ≡ v.contents → gains_later (version v) (version_in snapshot v.file ∷ entries) ≡ gains_later (version v) entries
+still : {v : Version} (snapshot : Snapshot) (entries : List Entry) → snapshot.holds v.file ≡ v.contents
+    → gains_later (version v) (version_in snapshot v.file ∷ entries) ≡ gains_later (version v) entries
 still {v} snapshot entries same = grind (arith, common_steps, grown, append-nil)
 
-through : {v : Version} (extra next : Snapshot) (entries : List Entry) → (extra.holds v.file ≡ v.contents) ⊎ (IsBeginning v.contents (extra.holds v.file) × IsBeginning (extra.holds v.file) (next.holds v.file))
-    → gains_later (version v) (version_in extra v.file ∷ version_in next v.file ∷ entries) ≡ gains_later (version v) (version_in next v.file ∷ entries)
+through : {v : Version} (extra next : Snapshot) (entries : List Entry)
+    → (extra.holds v.file ≡ v.contents)
+    ⊎ (IsBeginning v.contents (extra.holds v.file) × IsBeginning (extra.holds v.file) (next.holds v.file))
+    → gains_later (version v) (version_in extra v.file ∷ version_in next v.file ∷ entries)
+    ≡ gains_later (version v) (version_in next v.file ∷ entries)
 through {v} extra next entries (inl same) = still extra (version_in next v.file ∷ entries) same
 through {v} extra next entries (inr (first, more)) = grind (arith, common_steps, inside)
 
@@ -47,8 +56,11 @@ through {v} extra next entries (inr (first, more)) = grind (arith, common_steps,
 -- appended to until the next, and a name that is followed leads where it led.
 pub one_look_more : (by_name : Bool) {name : List ℕ} (last : Entry) (extra next : Snapshot) (later : List Snapshot)
     → (by_name ≡ true → extra.leads name ≡ file_of last)
-    → ((v : Version) → last ≡ version v → (extra.holds v.file ≡ v.contents) ⊎ (IsBeginning v.contents (extra.holds v.file) × IsBeginning (extra.holds v.file) (next.holds v.file)))
-    → gains_later last (entries_later by_name name (file_of last) (extra ∷ next ∷ later)) ≡ gains_later last (entries_later by_name name (file_of last) (next ∷ later))
+    → ((v : Version) → last ≡ version v
+    → (extra.holds v.file ≡ v.contents)
+    ⊎ (IsBeginning v.contents (extra.holds v.file) × IsBeginning (extra.holds v.file) (next.holds v.file)))
+    → gains_later last (entries_later by_name name (file_of last) (extra ∷ next ∷ later))
+    ≡ gains_later last (entries_later by_name name (file_of last) (next ∷ later))
 one_look_more true gap extra next later leads grows = rw (leads refl) refl
 one_look_more false gap extra next later leads grows = refl
 one_look_more true {name} (version v) extra next later leads grows = grind (arith, common_steps, led_same, through)
@@ -59,19 +71,26 @@ one_look_more false {name} (version v) extra next later leads grows = through ex
 -- files that names lead to are there, and no two names lead to one
 record Sound (world : World) : Type 0 where
   known : (name : List ℕ) (file : ℕ) → led_to world.links name ≡ Some file → file < length world.files
-  one : (name other : List ℕ) (file : ℕ) → led_to world.links name ≡ Some file → led_to world.links other ≡ Some file → name ≡ other
+  one : (name other : List ℕ) (file : ℕ) → led_to world.links name ≡ Some file → led_to world.links other ≡ Some file
+      → name ≡ other
 
-sound_changes : {world : World} (file : Option ℕ) (change : List ℕ → List ℕ) → Sound world → Sound (with_file file change world)
+sound_changes : {world : World} (file : Option ℕ) (change : List ℕ → List ℕ) → Sound world
+    → Sound (with_file file change world)
 sound_changes None change sound = sound
 sound_changes {world} (Some file) change sound = grind (arith, common_steps, length-changed_at)
 
-sound_replace : {world : World} {name : List ℕ} (bytes : List ℕ) → Sound world → Sound (edited (replace name bytes) world)
+sound_replace : {world : World} {name : List ℕ} (bytes : List ℕ) → Sound world
+    → Sound (edited (replace name bytes) world)
 sound_replace {world} {name} bytes sound = record { known = λ a file is. knows a file (bytes_eq name a) is; one = λ a b file is also. ones a b file (bytes_eq name a) (bytes_eq name b) refl refl is also } where
-  knows : (a : List ℕ) (file : ℕ) (test : Bool) → (if test then Some (length world.files) else led_to world.links a) ≡ Some file → file < length (world.files ++ bytes ∷ [])
+  knows : (a : List ℕ) (file : ℕ) (test : Bool)
+      → (if test then Some (length world.files) else led_to world.links a) ≡ Some file
+      → file < length (world.files ++ bytes ∷ [])
   knows a file true is = let n = length-append world.files (bytes ∷ []) in let e : length world.files ≡ file = cc in omega (arith, n, e)
   knows a file false is = let n = length-append world.files (bytes ∷ []) in let k : file < length world.files = sound.known a file is in omega (arith, n, k)
 
-  ones : (a b : List ℕ) (file : ℕ) (test other : Bool) → bytes_eq name a ≡ test → bytes_eq name b ≡ other → (if test then Some (length world.files) else led_to world.links a) ≡ Some file → (if other then Some (length world.files) else led_to world.links b) ≡ Some file → a ≡ b
+  ones : (a b : List ℕ) (file : ℕ) (test other : Bool) → bytes_eq name a ≡ test → bytes_eq name b ≡ other
+      → (if test then Some (length world.files) else led_to world.links a) ≡ Some file
+      → (if other then Some (length world.files) else led_to world.links b) ≡ Some file → a ≡ b
   ones a b file true true same also is one = sym ((bytes_eq-Decides name a).0 same) ∙ (bytes_eq-Decides name b).0 also
   ones a b file true false same also is one = absurd (let e : length world.files ≡ file = cc in let k : file < length world.files = sound.known b file one in omega (arith, e, k))
   ones a b file false true same also is one = absurd (let e : length world.files ≡ file = cc in let k : file < length world.files = sound.known a file is in omega (arith, e, k))
@@ -79,11 +98,13 @@ sound_replace {world} {name} bytes sound = record { known = λ a file is. knows 
 
 sound_remove : {world : World} {name : List ℕ} → Sound world → Sound (edited (remove name) world)
 sound_remove {world} {name} sound = record { known = λ a file is. knows a file (bytes_eq name a) is; one = λ a b file is also. ones a b file (bytes_eq name a) (bytes_eq name b) is also } where
-  knows : (a : List ℕ) (file : ℕ) (test : Bool) → (if test then None else led_to world.links a) ≡ Some file → file < length world.files
+  knows : (a : List ℕ) (file : ℕ) (test : Bool) → (if test then None else led_to world.links a) ≡ Some file
+      → file < length world.files
   knows a file true is = absurd (cc)
   knows a file false is = sound.known a file is
 
-  ones : (a b : List ℕ) (file : ℕ) (test other : Bool) → (if test then None else led_to world.links a) ≡ Some file → (if other then None else led_to world.links b) ≡ Some file → a ≡ b
+  ones : (a b : List ℕ) (file : ℕ) (test other : Bool) → (if test then None else led_to world.links a) ≡ Some file
+      → (if other then None else led_to world.links b) ≡ Some file → a ≡ b
   ones a b file true other is one = absurd (cc)
   ones a b file false true is one = absurd (cc)
   ones a b file false false is one = sound.one a b file is one
@@ -100,14 +121,17 @@ sound_all : (world : World) (edits : List Edit) → Sound world → Sound (edite
 sound_all world [] sound = sound
 sound_all world (edit ∷ edits) sound = sound_all (edited edit world) edits (sound_edited {world = world} edit sound)
 
-one_append : (world : World) (other bytes : List ℕ) (file : ℕ) → IsBeginning ((seen_in world).holds file) ((seen_in (edited (append other bytes) world)).holds file)
+one_append : (world : World) (other bytes : List ℕ) (file : ℕ)
+    → IsBeginning ((seen_in world).holds file) ((seen_in (edited (append other bytes) world)).holds file)
 one_append world other bytes file = elim (append_grows world other bytes file) [
   | inl same ↦ ([], same ∙ sym (append-nil _))
   | inr both ↦ (bytes, both.1)
 ]
 
 -- a file that a name leads to keeps its bytes, where the name is not cut
-uncut : (world : World) (name : List ℕ) (file : ℕ) (edits : List Edit) → Sound world → led_to world.links name ≡ Some file → IsUncut name edits → AreSeen edits → IsBeginning ((seen_in world).holds file) ((seen_in (edited_by edits world)).holds file)
+uncut : (world : World) (name : List ℕ) (file : ℕ) (edits : List Edit) → Sound world
+    → led_to world.links name ≡ Some file → IsUncut name edits → AreSeen edits
+    → IsBeginning ((seen_in world).holds file) ((seen_in (edited_by edits world)).holds file)
 uncut world name file [] sound leads no_cut seen = begins_itself _
 uncut world name file (truncate other n ∷ []) sound leads no_cut seen = search (rules, begins_itself, changed_elsewhere, false≢true, bytes_eq-Decides)
 uncut world name file (replace other bytes ∷ []) sound leads no_cut seen = grind (arith, common_steps, get_or_append_left, begins_itself)
@@ -141,7 +165,8 @@ gained by_name name last looks = gains_later last (entries_later by_name name (f
 abbrev last_seen : Bool → List ℕ → Entry → Snapshot → Entry
 last_seen by_name name last snapshot = last_from last (entries_at_look by_name name (file_of last) snapshot)
 
-matches_now : (by_name : Bool) (name : List ℕ) (last : Entry) (snapshot : Snapshot) → Matches snapshot (last_seen by_name name last snapshot)
+matches_now : (by_name : Bool) (name : List ℕ) (last : Entry) (snapshot : Snapshot)
+    → Matches snapshot (last_seen by_name name last snapshot)
 matches_now true name gap snapshot = by (snapshot.leads name) where
   by : (led : Option ℕ) → Matches snapshot (last_from gap (entries_led snapshot None led))
   by None = tt
@@ -149,21 +174,28 @@ matches_now true name gap snapshot = by (snapshot.leads name) where
 matches_now false name gap snapshot = tt
 matches_now false name (version v) snapshot = refl
 matches_now true name (version v) snapshot = by (snapshot.leads name) where
-  some : (file : ℕ) (test : Bool) → Matches snapshot (last_from (version_in snapshot v.file) (if test then [] else version_in snapshot file ∷ []))
+  some : (file : ℕ) (test : Bool)
+      → Matches snapshot (last_from (version_in snapshot v.file) (if test then [] else version_in snapshot file ∷ []))
   some file true = refl
   some file false = refl
 
-  by : (led : Option ℕ) → Matches snapshot (last_from (version v) (version_in snapshot v.file ∷ entries_led snapshot (Some v.file) led))
+  by : (led : Option ℕ)
+      → Matches snapshot (last_from (version v) (version_in snapshot v.file ∷ entries_led snapshot (Some v.file) led))
   by None = tt
   by (Some file) = some file (is_file file (Some v.file))
 
-stays_now : {by_name : Bool} {name : List ℕ} (last : Entry) {world : World} → Sound world → Stays by_name name world (last_seen by_name name last (seen_in world))
+stays_now : {by_name : Bool} {name : List ℕ} (last : Entry) {world : World} → Sound world
+    → Stays by_name name world (last_seen by_name name last (seen_in world))
 stays_now {by_name} {name} last {world} sound = grind (arith, common_steps, matches_now, look_leaves, false≢true)
 
-same_first : (by_name : Bool) (name : List ℕ) (last : Entry) (snapshot : Snapshot) (looks others : List Snapshot) → gained by_name name (last_seen by_name name last snapshot) looks ≡ gained by_name name (last_seen by_name name last snapshot) others → gained by_name name last (snapshot ∷ looks) ≡ gained by_name name last (snapshot ∷ others)
+same_first : (by_name : Bool) (name : List ℕ) (last : Entry) (snapshot : Snapshot) (looks others : List Snapshot)
+    → gained by_name name (last_seen by_name name last snapshot) looks
+    ≡ gained by_name name (last_seen by_name name last snapshot) others
+    → gained by_name name last (snapshot ∷ looks) ≡ gained by_name name last (snapshot ∷ others)
 same_first by_name name last snapshot looks others same = grind (arith, common_steps)
 
-idle_look : (by_name : Bool) {name : List ℕ} (last : Entry) {world : World} (looks : List Snapshot) → Stays by_name name world last → gained by_name name last (seen_in world ∷ looks) ≡ gained by_name name last looks
+idle_look : (by_name : Bool) {name : List ℕ} (last : Entry) {world : World} (looks : List Snapshot)
+    → Stays by_name name world last → gained by_name name last (seen_in world ∷ looks) ≡ gained by_name name last looks
 idle_look false gap looks stays = refl
 idle_look true {name} gap {world} looks stays = grind (arith, common_steps)
 idle_look false {name} (version v) {world} looks stays = still (seen_in world) (entries_later false name (Some v.file) looks) stays.matches
@@ -177,13 +209,18 @@ singles (edit ∷ edits) = (edit ∷ []) ∷ singles edits
 abbrev Refines : Bool → List ℕ → List (List Edit) → Type 0
 Refines by_name name groups = (world : World) (last : Entry) → Stays by_name name world last → gained by_name name last (snapshots_from world groups) ≡ gained by_name name last (snapshots_from world (singles (all_edits groups)))
 
-one_group : {by_name : Bool} {name : List ℕ} (group : List Edit) (groups : List (List Edit)) → AreSeen group → Refines by_name name groups → Refines by_name name (group ∷ groups)
+one_group : {by_name : Bool} {name : List ℕ} (group : List Edit) (groups : List (List Edit)) → AreSeen group
+    → Refines by_name name groups → Refines by_name name (group ∷ groups)
 one_group {by_name} [] groups seen rest world last stays = idle_look by_name last _ stays ∙ rest world last stays
 one_group {by_name} {name} (edit ∷ []) groups seen rest world last stays = grind (arith, common_steps, same_first, stays_now, sound_edited)
 one_group {by_name} {name} (append other bytes ∷ next ∷ edits) groups seen rest world last stays =
     sym (one_look_more by_name last (seen_in (edited (append other bytes) world)) (seen_in (edited_by (next ∷ edits) (edited (append other bytes) world))) (snapshots_from (edited_by (next ∷ edits) (edited (append other bytes) world)) groups) (λ is. append_leads world other bytes name ∙ stays.leads is) grows)
     ∙ same_first by_name name last (seen_in (edited (append other bytes) world)) (snapshots_from (edited (append other bytes) world) ((next ∷ edits) ∷ groups)) (snapshots_from (edited (append other bytes) world) (singles (all_edits ((next ∷ edits) ∷ groups)))) (one_group (next ∷ edits) groups seen.1 rest (edited (append other bytes) world) _ (stays_now last (sound_edited (append other bytes) stays.sound))) where
-      grows : (v : Version) → last ≡ version v → ((seen_in (edited (append other bytes) world)).holds v.file ≡ v.contents) ⊎ (IsBeginning v.contents ((seen_in (edited (append other bytes) world)).holds v.file) × IsBeginning ((seen_in (edited (append other bytes) world)).holds v.file) ((seen_in (edited_by (next ∷ edits) (edited (append other bytes) world))).holds v.file))
+      grows : (v : Version) → last ≡ version v
+          → ((seen_in (edited (append other bytes) world)).holds v.file ≡ v.contents)
+          ⊎ (IsBeginning v.contents ((seen_in (edited (append other bytes) world)).holds v.file)
+          × IsBeginning ((seen_in (edited (append other bytes) world)).holds v.file)
+          ((seen_in (edited_by (next ∷ edits) (edited (append other bytes) world))).holds v.file))
       grows v is = let was : (seen_in world).holds v.file ≡ v.contents = subst (Matches (seen_in world)) is stays.matches in elim (append_grows world other bytes v.file) [
         | inl same ↦ inl (same ∙ was)
         | inr both ↦ inr ((bytes, both.1 ∙ ap (λ held. held ++ bytes) was), uncut (edited (append other bytes) world) other v.file (next ∷ edits) (sound_edited (append other bytes) stays.sound) (append_leads world other bytes other ∙ both.0) seen.0 seen.1)
@@ -202,7 +239,8 @@ one_group {by_name} {name} (bar other is ∷ next ∷ edits) groups seen rest wo
     let still : Stays by_name name (edited (bar other is) world) last = record { sound = sound_edited (bar other is) stays.sound; leads = stays.leads; matches = same_matches last stays.matches } in
     one_group (next ∷ edits) groups seen rest (edited (bar other is) world) last still
     ∙ sym (idle_look by_name last (snapshots_from (edited (bar other is) world) (singles (all_edits ((next ∷ edits) ∷ groups)))) still) where
-      same_matches : (last : Entry) → Matches (seen_in world) last → Matches (seen_in (edited (bar other is) world)) last
+      same_matches : (last : Entry) → Matches (seen_in world) last
+          → Matches (seen_in (edited (bar other is) world)) last
       same_matches gap matches = tt
       same_matches (version v) matches = matches
 
@@ -211,13 +249,17 @@ refines [] seen world last stays = refl
 refines (group ∷ groups) seen world last stays = one_group group groups seen.0 (refines groups seen.1) world last stays
 
 -- after the first look
-from_first : (start : List ℕ → List ℕ) (by_name : Bool) (name : List ℕ) {world : World} (groups : List (List Edit)) → Sound world → AllSeen groups → (led : Option ℕ) → led_to world.links name ≡ led
-    → gains_after start [] (entries_led (seen_in world) None led ++ entries_later by_name name led (snapshots_from world groups))
+from_first : (start : List ℕ → List ℕ) (by_name : Bool) (name : List ℕ) {world : World} (groups : List (List Edit))
+    → Sound world → AllSeen groups → (led : Option ℕ) → led_to world.links name ≡ led
+    → gains_after start [] (entries_led (seen_in world) None led
+    ++ entries_later by_name name led (snapshots_from world groups))
     ≡ gains_after start [] (entries_led (seen_in world) None led ++ entries_later by_name name led (snapshots_from world (singles (all_edits groups))))
 from_first start by_name name {world} groups sound seen None is = refines groups seen world gap (record { sound = sound; leads = λ _. is; matches = tt })
 from_first start by_name name {world} groups sound seen (Some file) is = grind (arith, common_steps, refines)
 
-pub text_of_singles : (start : List ℕ → List ℕ) (by_name : Bool) (name : List ℕ) (first : List Edit) (groups : List (List Edit)) → AllSeen groups
+pub text_of_singles : (start : List ℕ → List ℕ) (by_name : Bool) (name : List ℕ) (first : List Edit)
+    (groups : List (List Edit)) → AllSeen groups
     → AreKept (entries_of by_name name (snapshots_of (first ∷ groups)))
-    → name_text start (entries_of by_name name (snapshots_of (first ∷ groups))) ≡ gains_after start [] (entries_of by_name name (snapshots_of (first ∷ singles (all_edits groups))))
+    → name_text start (entries_of by_name name (snapshots_of (first ∷ groups)))
+    ≡ gains_after start [] (entries_of by_name name (snapshots_of (first ∷ singles (all_edits groups))))
 text_of_singles start by_name name first groups seen kept = grind (arith, common_steps, text_is_gains, from_first, sound_all)

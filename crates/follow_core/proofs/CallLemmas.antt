@@ -29,18 +29,25 @@ use Rattle.ports_core.specs.declared.fault.Fault.TheVariants as fault
 -- the message of a failure that was said
 
 -- that memory is exhausted is said without a reason
-unreasoned : (calling : Calling) (why : Reason) {said : List ℕ} → said ≡ line_of (tail_by calling) why (message_of fault.Memory []) → said ≡ failure_text fault.Memory []
+unreasoned : (calling : Calling) (why : Reason) {said : List ℕ}
+    → said ≡ line_of (tail_by calling) why (message_of fault.Memory []) → said ≡ failure_text fault.Memory []
 unreasoned OwnName why is = is
 unreasoned Cutters why is = is
 
-opening_said : {told : Bool} {calling : Calling} {why : Reason} (place : ℕ) (name : List ℕ) {old new : Slot} → SaysFor told (tail_by calling) why (message_of (fault.Open place) name) old new → Tells told calling (failure_text (fault.Open place) name) old new
+opening_said : {told : Bool} {calling : Calling} {why : Reason} (place : ℕ) (name : List ℕ) {old new : Slot}
+    → SaysFor told (tail_by calling) why (message_of (fault.Open place) name) old new
+    → Tells told calling (failure_text (fault.Open place) name) old new
 opening_said {calling} {why} place name says = record { said = says.said; is = inr (name, inl (refl, elim says.is [ inl same ↦ inl (why, same) | inr memory ↦ inr (unreasoned calling why memory) ])); printed = says.printed }
 
-reading_said : {told : Bool} {calling : Calling} {why : Reason} (place : ℕ) (name : List ℕ) {old new : Slot} → SaysFor told (tail_by calling) why (message_of (fault.Read place) name) old new → Tells told calling (failure_text (fault.Read place) name) old new
+reading_said : {told : Bool} {calling : Calling} {why : Reason} (place : ℕ) (name : List ℕ) {old new : Slot}
+    → SaysFor told (tail_by calling) why (message_of (fault.Read place) name) old new
+    → Tells told calling (failure_text (fault.Read place) name) old new
 reading_said {calling} {why} place name says = record { said = says.said; is = inr (name, inr (refl, elim says.is [ inl same ↦ inl (why, same) | inr memory ↦ inr (unreasoned calling why memory) ])); printed = says.printed }
 
 -- of a name that can't be read, or opened
-pub failure_said : {told : Bool} {calling : Calling} {why : Reason} (read : Bool) (place : ℕ) (name : List ℕ) {old new : List Slot} → SaysOn told (tail_by calling) why (message_of (if read then fault.Read place else fault.Open place) name) old new
+pub failure_said : {told : Bool} {calling : Calling} {why : Reason} (read : Bool) (place : ℕ) (name : List ℕ)
+    {old new : List Slot}
+    → SaysOn told (tail_by calling) why (message_of (if read then fault.Read place else fault.Open place) name) old new
     → OnError (Tells told calling (failure_text (if read then fault.Read place else fault.Open place) name)) old new
 failure_said true place name says = λ output error others are. let said = says output error others are in (said.0, reading_said place name said.1, said.2)
 failure_said false place name says = λ output error others are. let said = says output error others are in (said.0, opening_said place name said.1, said.2)
@@ -49,11 +56,14 @@ failure_said false place name says = λ output error others are. let said = says
 pub no_failure : (notice : Notice) (name : List ℕ) → IsFailure (notice_of notice name) → ⊥
 no_failure notice name failure = grind (arith, common_steps)
 
-pub tells_state : (told : Bool) (calling : Calling) (lines : List (List ℕ)) (old new : Slot) → TellsAll told calling lines old new → new.state ≡ old.state
+pub tells_state : (told : Bool) (calling : Calling) (lines : List (List ℕ)) (old new : Slot)
+    → TellsAll told calling lines old new → new.state ≡ old.state
 tells_state told calling [] old new is = cc
 tells_state told calling (line ∷ lines) old new tells = tells_state told calling lines tells.0 new tells.2 ∙ printed_open told tells.1.said old tells.0 tells.1.printed
 
-pub tells_after : (told : Bool) (calling : Calling) (lines more : List (List ℕ)) (old mid new : Slot) → TellsAll told calling lines old mid → TellsAll told calling more mid new → TellsAll told calling (lines ++ more) old new
+pub tells_after : (told : Bool) (calling : Calling) (lines more : List (List ℕ)) (old mid new : Slot)
+    → TellsAll told calling lines old mid → TellsAll told calling more mid new
+    → TellsAll told calling (lines ++ more) old new
 tells_after told calling [] more old mid new so_far tells = grind (arith, common_steps)
 tells_after told calling (first ∷ lines) more old mid new so_far tells = (so_far.0, so_far.1, tells_after told calling lines more so_far.0 mid new so_far.2 tells)
 
@@ -62,14 +72,17 @@ tells_after told calling (first ∷ lines) more old mid new so_far tells = (so_f
 pub no_memory : {told : Bool} {text : List ℕ} {slots : List Slot} → Short told text slots slots fault.Memory
 no_memory {told} {slots} = no_room 0 (omega arith) (none_written told 0)
 
-pub short_more : {told : Bool} {text : List ℕ} (more : List ℕ) {old new : List Slot} {why : Fault} → Short told text old new why → Short told (text ++ more) old new why
+pub short_more : {told : Bool} {text : List ℕ} (more : List ℕ) {old new : List Slot} {why : Fault}
+    → Short told text old new why → Short told (text ++ more) old new why
 short_more {told} {text} more {old} (short_broke n cut) = short_broke n (record {
   within = let a : length (text ++ more) ≡ length text + length more = length-append text more in let b : n < length text = cut.within in omega arith;
   slots = cut.slots ∙ ap (λ bytes. with_broken 0 (with_written 0 (told_of told bytes) old)) (sym (take-append-le n text more (let b : n < length text = cut.within in omega arith)));
 })
 short_more {told} {text} more {old} (no_room n within is) = no_room n (let a : length (text ++ more) ≡ length text + length more = length-append text more in omega (arith, within)) (is ∙ ap (λ bytes. with_written 0 (told_of told bytes) old) (sym (take-append-le n text more within)))
 
-pub short_later : {told : Bool} (first : List ℕ) {text : List ℕ} {old mid new : List Slot} {n : ℕ} → mid ≡ with_written 0 (told_of told first) old → BrokeAfter told mid new 0 text n → Short told (first ++ text) old new (fault.Write 0)
+pub short_later : {told : Bool} (first : List ℕ) {text : List ℕ} {old mid new : List Slot} {n : ℕ}
+    → mid ≡ with_written 0 (told_of told first) old → BrokeAfter told mid new 0 text n
+    → Short told (first ++ text) old new (fault.Write 0)
 short_later {told} first {text} {old} {mid} {new} {n} one cut = short_broke (length first + n) (subst (λ rest. BrokeAfter told old new 0 (first ++ rest) (length first + n)) (append-nil text) (broke_later told first text [] one cut))
 
 pub itself : (name : List ℕ) → bytes_eq name name ≡ true
@@ -77,7 +90,8 @@ itself name = search rules
 
 -- bytes in two pieces are bytes in one, whether the first was given as the file was opened
 in_two : (printer : PrinterState) (opened : Bool) (name first second : List ℕ)
-    → (text_under printer opened name first ++ text_under (printer_under printer opened name first) false name second ≡ text_under printer opened name (first ++ second))
+    → (text_under printer opened name first ++ text_under (printer_under printer opened name first) false name second
+    ≡ text_under printer opened name (first ++ second))
     × (printer_under (printer_under printer opened name first) false name second ≡ printer_under printer opened name (first ++ second))
 in_two printer opened name first second = by printer.headers opened first (is_last name printer.last) refl where
   by : (headers opened : Bool) (first : List ℕ) (last : Bool) → is_last name printer.last ≡ last
@@ -90,15 +104,19 @@ in_two printer opened name first second = by printer.headers opened first (is_la
   by true false (byte ∷ first) true is = rw (is, is, and-false (not (is_empty second))) (refl, refl)
   by true false (byte ∷ first) false is = rw (is, itself name, and-false (not (is_empty second))) (append_assoc _ (byte ∷ first) second, refl)
 
-pub short_after : {told : Bool} (first : List ℕ) {second : List ℕ} {old mid new : List Slot} {why : Fault} → mid ≡ with_written 0 (told_of told first) old → Short told second mid new why → Short told (first ++ second) old new why
+pub short_after : {told : Bool} (first : List ℕ) {second : List ℕ} {old mid new : List Slot} {why : Fault}
+    → mid ≡ with_written 0 (told_of told first) old → Short told second mid new why
+    → Short told (first ++ second) old new why
 short_after first one (short_broke n cut) = short_later first one cut
 short_after {told} first {second} {old} {mid} {new} one (no_room n within is) = no_room (length first + n)
     (let a : length (first ++ second) ≡ length first + length second = length-append first second in omega (arith, within))
     (written_both told 0 first (take n second) old one is ∙ ap (λ bytes. with_written 0 (told_of told bytes) old) (sym (take-append-add first second n)))
 
 -- a text after another that came whole, or a beginning of it
-text_after : (told : Bool) (first second : List ℕ) (old : List Slot) {mid : List Slot} (new : List Slot) (over : Option Fault)
-    → mid ≡ with_written 0 (told_of told first) old → CameTo told second mid new over → CameTo told (first ++ second) old new over
+text_after : (told : Bool) (first second : List ℕ) (old : List Slot) {mid : List Slot} (new : List Slot)
+    (over : Option Fault)
+    → mid ≡ with_written 0 (told_of told first) old → CameTo told second mid new over
+    → CameTo told (first ++ second) old new over
 text_after told first second old {mid} new None one is = written_both told 0 first second old one is
 text_after told first second old new (Some why) one short = short_after first one short
 
@@ -107,29 +125,38 @@ text_after told first second old new (Some why) one short = short_after first on
 pub wrote_none : (told : Bool) (calling : Calling) {slots : List Slot} → WroteBy told calling [] [] slots slots None
 wrote_none told calling = search rules
 
-pub wrote_text : (told : Bool) (calling : Calling) (text : List ℕ) {old : List Slot} (new : List Slot) (over : Option Fault) → CameTo told text old new over → WroteBy told calling text [] old new over
+pub wrote_text : (told : Bool) (calling : Calling) (text : List ℕ) {old : List Slot} (new : List Slot)
+    (over : Option Fault) → CameTo told text old new over → WroteBy told calling text [] old new over
 wrote_text told calling text new over came = grind (arith, common_steps)
 
-pub wrote_line : {told : Bool} {calling : Calling} {line : List ℕ} {old new : List Slot} → OnError (Tells told calling line) old new → WroteBy told calling [] (line ∷ []) old new None
+pub wrote_line : {told : Bool} {calling : Calling} {line : List ℕ} {old new : List Slot}
+    → OnError (Tells told calling line) old new → WroteBy told calling [] (line ∷ []) old new None
 wrote_line {told} {calling} tells = search rules
 
 -- by the same printer
-pub wrote_by : (told : Bool) {one other : Calling} (text : List ℕ) (lines : List (List ℕ)) (old new : List Slot) (over : Option Fault) → one ≡ other → WroteBy told one text lines old new over → WroteBy told other text lines old new over
+pub wrote_by : (told : Bool) {one other : Calling} (text : List ℕ) (lines : List (List ℕ)) (old new : List Slot)
+    (over : Option Fault) → one ≡ other → WroteBy told one text lines old new over
+    → WroteBy told other text lines old new over
 wrote_by told text lines old new over is wrote = subst (λ calling. WroteBy told calling text lines old new over) is wrote
 
 -- a text and lines after others, or a beginning of them, as one text and its lines
-pub wrote_after : (told : Bool) (calling : Calling) (text more : List ℕ) {both : List ℕ} (lines further : List (List ℕ)) {all : List (List ℕ)} {old mid : List Slot} (new : List Slot)
-    (over : Option Fault) → text ++ more ≡ both → lines ++ further ≡ all → WroteBy told calling text lines old mid None → WroteBy told calling more further mid new over
+pub wrote_after : (told : Bool) (calling : Calling) (text more : List ℕ) {both : List ℕ} (lines further : List (List ℕ))
+    {all : List (List ℕ)} {old mid : List Slot} (new : List Slot)
+    (over : Option Fault) → text ++ more ≡ both → lines ++ further ≡ all → WroteBy told calling text lines old mid None
+    → WroteBy told calling more further mid new over
     → WroteBy told calling both all old new over
 wrote_after told calling text more lines further {old} new over same also first second = grind (arith, common_steps, tells_after, text_after)
 
 -- what is given in two steps
 
-pub came_none : {told : Bool} {printer : PrinterState} {name : List ℕ} {slots : List Slot} → Came told printer false name [] [] slots printer slots None
+pub came_none : {told : Bool} {printer : PrinterState} {name : List ℕ} {slots : List Slot}
+    → Came told printer false name [] [] slots printer slots None
 came_none {told} {printer} = search rules
 
-pub came_after : {told opened : Bool} {printer mid after : PrinterState} {name first second : List ℕ} {lines more : List (List ℕ)} {old now new : List Slot}
-    {over : Option Fault} → Came told printer opened name first lines old mid now None → Came told mid false name second more now after new over
+pub came_after : {told opened : Bool} {printer mid after : PrinterState} {name first second : List ℕ}
+    {lines more : List (List ℕ)} {old now new : List Slot}
+    {over : Option Fault} → Came told printer opened name first lines old mid now None
+    → Came told mid false name second more now after new over
     → Came told printer opened name (first ++ second) (lines ++ more) old after new over
 came_after {opened} {printer} {name} {first} {second} {over} one two =
     let (text, last) = in_two printer opened name first second in record {
@@ -140,11 +167,13 @@ came_after {opened} {printer} {name} {first} {second} {over} one two =
 
 -- bytes that are put
 
-put_after : {done first : List ℕ} (bytes due : List ℕ) (over : Option Fault) → done ≡ first → ArePut over bytes due → ArePut over (done ++ bytes) (first ++ due)
+put_after : {done first : List ℕ} (bytes due : List ℕ) (over : Option Fault) → done ≡ first → ArePut over bytes due
+    → ArePut over (done ++ bytes) (first ++ due)
 put_after bytes due None same is = λ i. same i ++ is i
 put_after {done} bytes due (Some why) same (rest, is) = (rest, (λ i. sym same i ++ is i) ∙ sym (append_assoc done bytes rest))
 
-pub puts_after : {told opened : Bool} {printer mid after : PrinterState} {name first second : List ℕ} {old now new : List Slot} {over : Option Fault}
+pub puts_after : {told opened : Bool} {printer mid after : PrinterState} {name first second : List ℕ}
+    {old now new : List Slot} {over : Option Fault}
     → Puts told opened printer name first old mid now None → Puts told false mid name second now after new over
     → Puts told opened printer name (first ++ second) old after new over
 puts_after {second} {over} one two = record {
@@ -153,17 +182,21 @@ puts_after {second} {over} one two = record {
   came = came_after one.came two.came;
 }
 
-pub puts_nothing : {told : Bool} {printer : PrinterState} {name : List ℕ} {slots : List Slot} → Puts told false printer name [] slots printer slots None
+pub puts_nothing : {told : Bool} {printer : PrinterState} {name : List ℕ} {slots : List Slot}
+    → Puts told false printer name [] slots printer slots None
 puts_nothing = record { bytes = []; are = refl; came = came_none }
 
 front_same : {X : Type 0} {given due : List X} → given ≡ due → IsFront given due
 front_same {X} {given} is = search rules
 
 -- bytes were put under the header that was due, or a beginning of both
-pub puts : {told opened : Bool} {printer after : PrinterState} {name bytes : List ℕ} {old mid new : List Slot} {due : Bool} (over : Option Fault)
+pub puts : {told opened : Bool} {printer after : PrinterState} {name bytes : List ℕ} {old mid new : List Slot}
+    {due : Bool} (over : Option Fault)
     → due ≡ has_header printer.headers printer.last opened name bytes
-    → mid ≡ with_written 0 (told_of told (if due then header_of name (is_none printer.last) else [])) old → CameTo told bytes mid new over
-    → after ≡ record printer { last = if due then Some name else printer.last } → Puts told opened printer name bytes old after new over
+    → mid ≡ with_written 0 (told_of told (if due then header_of name (is_none printer.last) else [])) old
+    → CameTo told bytes mid new over
+    → after ≡ record printer { last = if due then Some name else printer.last }
+    → Puts told opened printer name bytes old after new over
 puts {told} {opened} {printer} {after} {name} {bytes} {old} {new} over is header came shown = record {
   bytes = bytes;
   are = whole over;
@@ -177,7 +210,8 @@ puts {told} {opened} {printer} {after} {name} {bytes} {old} {new} over is header
   whole (Some why) = front_same refl
 
 -- the header was not
-pub puts_none : {told opened : Bool} {printer after : PrinterState} {name bytes : List ℕ} {old new : List Slot} {due : Bool} {why : Fault}
+pub puts_none : {told opened : Bool} {printer after : PrinterState} {name bytes : List ℕ} {old new : List Slot}
+    {due : Bool} {why : Fault}
     → due ≡ has_header printer.headers printer.last opened name bytes
     → Short told (if due then header_of name (is_none printer.last) else []) old new why
     → Puts told opened printer name bytes old after new (Some why)

@@ -32,8 +32,10 @@ not_shorter : (p n : ℕ) → nat_le p n ≡ not (nat_lt n p)
 not_shorter p n = grind (arith, nat_tests)
 
 -- what the open file has past what was seen of it, or all where it is shorter, is what its entry gives
-caught : (snapshot : Snapshot) (last : Entry) {file position len : ℕ} → StandsAt last (Some file) position → len ≡ length (snapshot.holds file)
-    → notes_past position len ++ gives (drop (if nat_lt len position then 0 else position) (snapshot.holds file)) ∷ [] ≡ events_later last (version_in snapshot file ∷ [])
+caught : (snapshot : Snapshot) (last : Entry) {file position len : ℕ} → StandsAt last (Some file) position
+    → len ≡ length (snapshot.holds file)
+    → notes_past position len ++ gives (drop (if nat_lt len position then 0 else position) (snapshot.holds file)) ∷ []
+    ≡ events_later last (version_in snapshot file ∷ [])
 caught snapshot gap {file} stands long = absurd (none-some file (sym stands.file))
 caught snapshot (version v) {file} stands long =
     let same = eq-eqb v.file file (sym (same_Some file v.file stands.file)) in
@@ -41,36 +43,50 @@ caught snapshot (version v) {file} stands long =
       held : List ℕ
       held = snapshot.holds file
 
-      by : (test : Bool) → (if test then notes Truncated ∷ [] else []) ++ gives (drop (if test then 0 else length v.contents) held) ∷ []
+      by : (test : Bool)
+          → (if test then notes Truncated ∷ [] else [])
+          ++ gives (drop (if test then 0 else length v.contents) held) ∷ []
           ≡ (map (λ notice. notes notice) (if not test then [] else Truncated ∷ []) ++ gives (if not test then drop (length v.contents) held else held) ∷ []) ++ []
       by true = refl
       by false = refl
 
-caught_open : (snapshot : Snapshot) (last : Entry) {opened : Option ℕ} {file position len : ℕ} → opened ≡ Some file → StandsAt last opened position → len ≡ length (held_at snapshot opened)
-    → notes_past position len ++ gives (drop (if nat_lt len position then 0 else position) (held_at snapshot opened)) ∷ [] ≡ events_later last (entries_open snapshot opened)
+caught_open : (snapshot : Snapshot) (last : Entry) {opened : Option ℕ} {file position len : ℕ} → opened ≡ Some file
+    → StandsAt last opened position → len ≡ length (held_at snapshot opened)
+    → notes_past position len
+    ++ gives (drop (if nat_lt len position then 0 else position) (held_at snapshot opened)) ∷ []
+    ≡ events_later last (entries_open snapshot opened)
 caught_open snapshot last {opened} {position} {len} is = subst (λ o. StandsAt last o position → len ≡ length (held_at snapshot o)
-    → notes_past position len ++ gives (drop (if nat_lt len position then 0 else position) (held_at snapshot o)) ∷ [] ≡ events_later last (entries_open snapshot o)) (sym is) (caught snapshot last)
+    → notes_past position len ++ gives (drop (if nat_lt len position then 0 else position) (held_at snapshot o)) ∷ []
+    ≡ events_later last (entries_open snapshot o)) (sym is) (caught snapshot last)
 
 -- a beginning of it, where a read failed
-past_before : (position len left : ℕ) (bytes : List ℕ) → notes_past position len ++ all_but left (gives bytes ∷ []) ≡ all_but left (notes_past position len ++ gives bytes ∷ [])
+past_before : (position len left : ℕ) (bytes : List ℕ)
+    → notes_past position len ++ all_but left (gives bytes ∷ [])
+    ≡ all_but left (notes_past position len ++ gives bytes ∷ [])
 past_before position len left bytes = by (nat_lt len position) where
-  by : (test : Bool) → (if test then notes Truncated ∷ [] else []) ++ all_but left (gives bytes ∷ []) ≡ all_but left ((if test then notes Truncated ∷ [] else []) ++ gives bytes ∷ [])
+  by : (test : Bool)
+      → (if test then notes Truncated ∷ [] else []) ++ all_but left (gives bytes ∷ [])
+      ≡ all_but left ((if test then notes Truncated ∷ [] else []) ++ gives bytes ∷ [])
   by true = refl
   by false = refl
 
 -- reads begin at the front or at the position
-begins_so : (test : Bool) {from start position : ℕ} → from ≡ (if test then 0 else position) → start ≡ from → (start ≡ 0) ⊎ (start ≡ position)
+begins_so : (test : Bool) {from start position : ℕ} → from ≡ (if test then 0 else position) → start ≡ from
+    → (start ≡ 0) ⊎ (start ≡ position)
 begins_so true is at = inl (at ∙ is)
 begins_so false is at = inr (at ∙ is)
 
-told_short : (snapshot : Snapshot) (name : List ℕ) (opened : Option ℕ) (position len : ℕ) → is_some opened ≡ true → Found snapshot name (holds_many opened len)
+told_short : (snapshot : Snapshot) (name : List ℕ) (opened : Option ℕ) (position len : ℕ) → is_some opened ≡ true
+    → Found snapshot name (holds_many opened len)
     → (notice : Notice) → IsPast position len notice → ToldShort snapshot name opened position notice
 told_short snapshot name opened position len some found notice (is, short) = (is, (some, len, found, short))
 
-module _ {told_in told : Bool} {snapshot : Snapshot} {place : ℕ} {name : List ℕ} {position : ℕ} {watched : List Watched} {printer : PrinterState} {slots : List Slot} where
+module _ {told_in told : Bool} {snapshot : Snapshot} {place : ℕ} {name : List ℕ} {position : ℕ} {watched : List Watched}
+    {printer : PrinterState} {slots : List Slot} where
   -- ways out of catching up
 
-  pub adds_none : (watched_at watched place).opened ≡ None → Adds told_in told snapshot place name position watched printer slots watched printer slots (Ok position)
+  pub adds_none : (watched_at watched place).opened ≡ None
+      → Adds told_in told snapshot place name position watched printer slots watched printer slots (Ok position)
   adds_none is = record {
     fate = sound;
     ends = λ last stands. due_as (λ t. let none = ap (λ file. events_later last (entries_open snapshot file)) (sym is) in (none, none)) (nothing_due tt);
@@ -80,8 +96,10 @@ module _ {told_in told : Bool} {snapshot : Snapshot} {place : ℕ} {name : List 
     reads = tt;
   }
 
-  pub adds_unmeasured : {file : ℕ} {watched_new : List Watched} {why : Fault} → (watched_at watched place).opened ≡ Some file → why ≡ fault.Read place
-      → watched_new ≡ changed_at place (breaks (λ file. Len file)) watched → snapshot.breaks ≡ true → Adds told_in told snapshot place name position watched printer slots watched_new printer slots (Err (Broke why))
+  pub adds_unmeasured : {file : ℕ} {watched_new : List Watched} {why : Fault}
+      → (watched_at watched place).opened ≡ Some file → why ≡ fault.Read place
+      → watched_new ≡ changed_at place (breaks (λ file. Len file)) watched → snapshot.breaks ≡ true
+      → Adds told_in told snapshot place name position watched printer slots watched_new printer slots (Err (Broke why))
   adds_unmeasured is fault broken can = record {
     fate = unmeasured (watched_at watched place).opened;
     ends = λ last stands. broke_first (can, tt);
@@ -91,11 +109,14 @@ module _ {told_in told : Bool} {snapshot : Snapshot} {place : ℕ} {name : List 
     reads = (refl, ap is_some is);
   }
 
-  pub adds_untold : {file len : ℕ} {after : PrinterState} {watched_new : List Watched} {slots_new : List Slot} {before : List Event} {why : Fault} → (watched_at watched place).opened ≡ Some file
+  pub adds_untold : {file len : ℕ} {after : PrinterState} {watched_new : List Watched} {slots_new : List Slot}
+      {before : List Event} {why : Fault} → (watched_at watched place).opened ≡ Some file
       → (told_in ≡ true → len ≡ length (held_at snapshot (watched_at watched place).opened))
       → Found snapshot (watched_at watched place).name (holds_many (watched_at watched place).opened len)
-      → Ends told_in (Noted (IsPast position len)) told false printer name (notes_past position len) before slots after slots_new (Some (Over why)) → watched_new ≡ watched
-      → Adds told_in told snapshot place name position watched printer slots watched_new after slots_new (Err (Over why))
+      → Ends told_in (Noted (IsPast position len)) told false printer name
+      (notes_past position len) before slots after slots_new (Some (Over why)) → watched_new ≡ watched
+      → Adds told_in told snapshot place name position watched printer slots watched_new after slots_new
+      (Err (Over why))
   adds_untold {file} {len} {why} is long found line same = record {
     fate = sound;
     ends = λ last stands. due_by (λ t. (caught_open snapshot last is (stands t) (long t), tt)) (stops_early (gives _ ∷ []) (found_as (λ events noted. noted_found _ (FromEither (watched_at watched place).opened position) snapshot (watched_at watched place).name sound (Some why) events
@@ -107,12 +128,17 @@ module _ {told_in told : Bool} {snapshot : Snapshot} {place : ℕ} {name : List 
   }
 
   -- a line where the file is shorter, and then the bytes: from the front there, else from the position on
-  pub adds_copied : {file len from : ℕ} {seen : Snapshot} {watched_mid watched_new : List Watched} {inside after : PrinterState} {mid slots_new : List Slot} {none : List Event} {result : Result ℕ Stop}
-      → inside ≡ printer → (watched_at watched place).opened ≡ Some file → (told_in ≡ true → len ≡ length (held_at snapshot (watched_at watched place).opened))
+  pub adds_copied : {file len from : ℕ} {seen : Snapshot} {watched_mid watched_new : List Watched}
+      {inside after : PrinterState} {mid slots_new : List Slot} {none : List Event} {result : Result ℕ Stop}
+      → inside ≡ printer → (watched_at watched place).opened ≡ Some file
+      → (told_in ≡ true → len ≡ length (held_at snapshot (watched_at watched place).opened))
       → Found snapshot (watched_at watched place).name (holds_many (watched_at watched place).opened len)
       → seen ≡ snapshot → watched_mid ≡ watched
-      → from ≡ (if nat_lt len position then 0 else position) → Ends true (Noted (IsPast position len)) told false inside name (notes_past position len) none slots inside mid None
-      → Copies told_in told seen from place name watched_mid inside mid watched_new after slots_new (stop_in result) → IfOk result (λ n. n ≡ len)
+      → from ≡ (if nat_lt len position then 0 else position)
+      → Ends true (Noted (IsPast position len)) told false inside name
+      (notes_past position len) none slots inside mid None
+      → Copies told_in told seen from place name watched_mid inside mid watched_new after slots_new (stop_in result)
+      → IfOk result (λ n. n ≡ len)
       → Adds told_in told snapshot place name position watched printer slots watched_new after slots_new result
   adds_copied {file} {len} {from} {watched_new} {inside} {after} {mid} {slots_new} {result} viewed is long found saw unchanged begins line copied count = rw (← viewed) (record {
     fate = unread opened copies.at;
@@ -131,7 +157,8 @@ module _ {told_in told : Bool} {snapshot : Snapshot} {place : ℕ} {name : List 
     known : List ℕ
     known = (watched_at watched place).name
 
-    copies : Copies told_in told snapshot from place name watched inside mid watched_new after slots_new (stop_in result)
+    copies : Copies told_in told snapshot from place name watched inside mid watched_new after slots_new
+        (stop_in result)
     copies = rw (saw, unchanged) at copied
 
     contents : List ℕ
@@ -146,7 +173,8 @@ module _ {told_in told : Bool} {snapshot : Snapshot} {place : ℕ} {name : List 
     read (Some (Over why)) = tt
 
     due : (last : Entry) → StandsAt last opened position → len ≡ length (held_at snapshot opened)
-        → (notes_past position len ++ gives (drop from contents) ∷ [] ≡ events_later last (entries_open snapshot opened))
+        → (notes_past position len ++ gives (drop from contents) ∷ []
+        ≡ events_later last (entries_open snapshot opened))
         × (notes_past position len ++ all_but (length contents - copies.at) (gives (drop from contents) ∷ []) ≡ all_but (left_from snapshot opened copies.at) (events_later last (entries_open snapshot opened)))
     due last stands size =
         let all = ap (λ those. notes_past position len ++ gives (drop from those) ∷ []) holds
@@ -161,7 +189,8 @@ module _ {told_in told : Bool} {snapshot : Snapshot} {place : ℕ} {name : List 
 -- nothing is due where nothing changed
 pub nothing_led : (snapshot : Snapshot) (last : Entry) (led : Option ℕ) {opened : Option ℕ} → opened ≡ file_of last
     → change_between opened led ≡ None
-    → (events_later last (entries_led snapshot opened led) ≡ []) × (last_from last (entries_led snapshot opened led) ≡ last) × (led ≡ opened)
+    → (events_later last (entries_led snapshot opened led) ≡ [])
+    × (last_from last (entries_led snapshot opened led) ≡ last) × (led ≡ opened)
 nothing_led snapshot gap None here is = rw here (refl, refl, refl)
 nothing_led snapshot gap (Some file) here is = let none = rw here at is in absurd (cc)
 nothing_led snapshot (version v) None here is = let none = rw here at is in absurd (cc)
@@ -184,13 +213,16 @@ all_held snapshot None = []
 all_held snapshot (Some file) = gives (snapshot.holds file) ∷ []
 
 -- is due
-fresh_dues : (snapshot : Snapshot) (file : Option ℕ) → events_later (fresh file) (entries_open snapshot file) ≡ all_held snapshot file
+fresh_dues : (snapshot : Snapshot) (file : Option ℕ)
+    → events_later (fresh file) (entries_open snapshot file) ≡ all_held snapshot file
 fresh_dues snapshot None = refl
 fresh_dues snapshot (Some file) = rw (eq-eqb file file refl, le-leb 0 (length (snapshot.holds file)) (omega arith)) refl
 
 -- where something changed, that is told, and then the name is as its file was just opened
-change_led : (snapshot : Snapshot) (last : Entry) (led : Option ℕ) {opened : Option ℕ} {change : Notice} → opened ≡ file_of last
-    → change_between opened led ≡ Some change → (events_later last (entries_led snapshot opened led) ≡ notes change ∷ all_held snapshot led)
+change_led : (snapshot : Snapshot) (last : Entry) (led : Option ℕ) {opened : Option ℕ} {change : Notice}
+    → opened ≡ file_of last
+    → change_between opened led ≡ Some change
+    → (events_later last (entries_led snapshot opened led) ≡ notes change ∷ all_held snapshot led)
     × (last_from last (entries_led snapshot opened led) ≡ last_from (fresh led) (entries_open snapshot led)) × (is_same led opened ≡ false)
 change_led snapshot gap None here is = let none = rw here at is in absurd (cc)
 change_led snapshot gap (Some file) {change} here is = let found : Appeared ≡ change = cc (rw here at is) in rw here (ap (λ those. notes those ∷ gives (snapshot.holds file) ∷ []) found, refl, refl)
@@ -202,12 +234,15 @@ change_led snapshot (version v) (Some file) {change} here is =
     rw (here, both.0, other) (ap (λ those. notes those ∷ gives (snapshot.holds file) ∷ []) both.1, refl, refl)
 
 -- what is told of the change, and what of it comes before a call on the new file that fails
-held_notes : (snapshot : Snapshot) (file : Option ℕ) (change : Notice) → notes_in (notes change ∷ all_held snapshot file) ≡ notes change ∷ []
+held_notes : (snapshot : Snapshot) (file : Option ℕ) (change : Notice)
+    → notes_in (notes change ∷ all_held snapshot file) ≡ notes change ∷ []
 held_notes snapshot None change = refl
 held_notes snapshot (Some file) change = refl
 
-led_then : (snapshot : Snapshot) (file : Option ℕ) (change : Notice) (opened : Option ℕ) (fate : Fate) → ReadsOf opened fate
-    → led_before snapshot fate (notes change ∷ all_held snapshot file) ≡ notes change ∷ came_before snapshot fate (all_held snapshot file)
+led_then : (snapshot : Snapshot) (file : Option ℕ) (change : Notice) (opened : Option ℕ) (fate : Fate)
+    → ReadsOf opened fate
+    → led_before snapshot fate (notes change ∷ all_held snapshot file)
+    ≡ notes change ∷ came_before snapshot fate (all_held snapshot file)
 led_then snapshot file change opened (unmeasured those) reads = held_notes snapshot file change
 led_then snapshot file change opened (unread those from) reads = refl
 led_then snapshot file change opened sound reads = absurd reads
@@ -215,7 +250,8 @@ led_then snapshot file change opened unled reads = absurd reads
 led_then snapshot file change opened unopened reads = absurd reads
 led_then snapshot file change opened (unsought those from) reads = absurd reads
 
-other_file : (opened file : Option ℕ) {led : Option ℕ} (fate : Fate) → ReadsOf file fate → file ≡ led → is_same led opened ≡ false → is_kept opened fate ≡ false
+other_file : (opened file : Option ℕ) {led : Option ℕ} (fate : Fate) → ReadsOf file fate → file ≡ led
+    → is_same led opened ≡ false → is_kept opened fate ≡ false
 other_file opened file (unmeasured those) reads same other = ap (λ one. is_same one opened) (reads.0 ∙ same) ∙ other
 other_file opened file (unread those from) reads same other = ap (λ one. is_same one opened) (reads.0 ∙ same) ∙ other
 other_file opened file sound reads same other = absurd reads
@@ -223,7 +259,8 @@ other_file opened file unled reads same other = absurd reads
 other_file opened file unopened reads same other = absurd reads
 other_file opened file (unsought those from) reads same other = absurd reads
 
-reads_meet : (by_name : Bool) (file : Option ℕ) (fate : Fate) → ReadsOf file fate → (seeks : Bool) → can_meet false by_name seeks fate ≡ true
+reads_meet : (by_name : Bool) (file : Option ℕ) (fate : Fate) → ReadsOf file fate → (seeks : Bool)
+    → can_meet false by_name seeks fate ≡ true
 reads_meet by_name file (unmeasured those) reads seeks = refl
 reads_meet by_name file (unread those from) reads seeks = refl
 reads_meet by_name file sound reads seeks = absurd reads
@@ -232,40 +269,52 @@ reads_meet by_name file unopened reads seeks = absurd reads
 reads_meet by_name file (unsought those from) reads seeks = absurd reads
 
 -- what was found to have changed is told
-told_led : (snapshot : Snapshot) (name : List ℕ) (opened led : Option ℕ) {change : Notice} → Found snapshot name (leads_to led) → change_between opened led ≡ Some change → (held : ℕ) → IsSeen snapshot name opened held change
+told_led : (snapshot : Snapshot) (name : List ℕ) (opened led : Option ℕ) {change : Notice}
+    → Found snapshot name (leads_to led) → change_between opened led ≡ Some change → (held : ℕ)
+    → IsSeen snapshot name opened held change
 told_led snapshot name None None {change} found is held = absurd (cc)
 told_led snapshot name (Some file) None {change} found is held = let those : Inaccessible ≡ change = cc in rw (← those) (refl, found)
 told_led snapshot name None (Some file) {change} found is held = let those : Appeared ≡ change = cc in rw (← those) (refl, file, found)
 told_led snapshot name (Some other) (Some file) {change} found is held = other_led (file == other) refl is where
-  other_led : (same : Bool) → (file == other) ≡ same → (if same then None else Some Replaced) ≡ Some change → IsSeen snapshot name (Some other) held change
+  other_led : (same : Bool) → (file == other) ≡ same → (if same then None else Some Replaced) ≡ Some change
+      → IsSeen snapshot name (Some other) held change
   other_led true same is = absurd (cc)
   other_led false same is = let those : Replaced ≡ change = cc in rw (← those) (refl, file, found, same)
 
-pub told_now : (snapshot : Snapshot) {old now : List Watched} (place : ℕ) {led id : Option ℕ} {result : Option Notice} {change : Notice} → result ≡ change_between id led → id ≡ (watched_at now place).opened → now ≡ old
-    → Found snapshot (watched_at old place).name (leads_to led) → result ≡ Some change → (held : ℕ) → IsSeen snapshot (watched_at old place).name (watched_at old place).opened held change
+pub told_now : (snapshot : Snapshot) {old now : List Watched} (place : ℕ) {led id : Option ℕ} {result : Option Notice}
+    {change : Notice} → result ≡ change_between id led → id ≡ (watched_at now place).opened → now ≡ old
+    → Found snapshot (watched_at old place).name (leads_to led) → result ≡ Some change → (held : ℕ)
+    → IsSeen snapshot (watched_at old place).name (watched_at old place).opened held change
 told_now snapshot {old} place {led} is opened same found changed = told_led snapshot (watched_at old place).name (watched_at old place).opened led found
     (ap (λ file. change_between file led) (sym (opened ∙ ap (λ those. (watched_at those place).opened) same)) ∙ sym is ∙ changed)
 
 -- where nothing changed of a name without a file, it leads nowhere
-pub none_seen : (snapshot : Snapshot) {old now : List Watched} (place : ℕ) {led id : Option ℕ} {result : Option Notice} → result ≡ change_between id led → id ≡ (watched_at now place).opened → now ≡ old
-    → Found snapshot (watched_at old place).name (leads_to led) → result ≡ None → (watched_at old place).opened ≡ None → LeftOpen snapshot (watched_at old place).name None 0
+pub none_seen : (snapshot : Snapshot) {old now : List Watched} (place : ℕ) {led id : Option ℕ} {result : Option Notice}
+    → result ≡ change_between id led → id ≡ (watched_at now place).opened → now ≡ old
+    → Found snapshot (watched_at old place).name (leads_to led) → result ≡ None → (watched_at old place).opened ≡ None
+    → LeftOpen snapshot (watched_at old place).name None 0
 none_seen snapshot {old} place {led} is opened same found unchanged none = inl (nowhere led found
     (ap (λ file. change_between file led) (sym (opened ∙ ap (λ those. (watched_at those place).opened) same ∙ none)) ∙ sym is ∙ unchanged)) where
-      nowhere : (led : Option ℕ) → Found snapshot (watched_at old place).name (leads_to led) → change_between None led ≡ None → Found snapshot (watched_at old place).name (leads_to None)
+      nowhere : (led : Option ℕ) → Found snapshot (watched_at old place).name (leads_to led)
+          → change_between None led ≡ None → Found snapshot (watched_at old place).name (leads_to None)
       nowhere None found unchanged = found
       nowhere (Some file) found unchanged = absurd (cc)
 
 -- what is known of a name: where names are followed, of one without a file that it leads nowhere
-pub long_by : (snapshot : Snapshot) (name : List ℕ) (held : ℕ) (by_name : Bool) (opened : Option ℕ) → (opened ≡ None → by_name ≡ true → LeftOpen snapshot name None 0)
+pub long_by : (snapshot : Snapshot) (name : List ℕ) (held : ℕ) (by_name : Bool) (opened : Option ℕ)
+    → (opened ≡ None → by_name ≡ true → LeftOpen snapshot name None 0)
     → IsLong false snapshot name opened held → IsLong by_name snapshot name opened held
 long_by snapshot name held by_name None lost long = lost refl
 long_by snapshot name held by_name (Some file) lost long = long
 
-module _ {told_in told by_name : Bool} {snapshot : Snapshot} {led : Option ℕ} {place : ℕ} {name : List ℕ} {position : ℕ} {watched : List Watched} {printer : PrinterState} {slots : List Slot} where
+module _ {told_in told by_name : Bool} {snapshot : Snapshot} {led : Option ℕ} {place : ℕ} {name : List ℕ} {position : ℕ}
+    {watched : List Watched} {printer : PrinterState} {slots : List Slot} where
   -- ways out of following a name
 
-  pub leads_unled : {watched_new : List Watched} {why : Fault} → why ≡ fault.Open place → watched_new ≡ changed_at place (breaks (λ file. Look)) watched → snapshot.breaks ≡ true
-      → Leads told_in told by_name snapshot led place name position watched printer slots watched_new printer slots (Err (Broke why))
+  pub leads_unled : {watched_new : List Watched} {why : Fault} → why ≡ fault.Open place
+      → watched_new ≡ changed_at place (breaks (λ file. Look)) watched → snapshot.breaks ≡ true
+      → Leads told_in told by_name snapshot led place name position watched printer slots watched_new printer slots
+      (Err (Broke why))
   leads_unled fault broken can = record {
     fate = unled;
     ends = λ last stands. broke_first (can, tt);
@@ -276,9 +325,12 @@ module _ {told_in told by_name : Bool} {snapshot : Snapshot} {led : Option ℕ} 
     met = λ seeks. refl;
   }
 
-  pub leads_same : {watched_new : List Watched} → (told_in ≡ true → change_between (watched_at watched place).opened led ≡ None)
-      → ((watched_at watched place).opened ≡ None → by_name ≡ true → LeftOpen snapshot (watched_at watched place).name None 0) → watched_new ≡ watched
-      → Leads told_in told by_name snapshot led place name position watched printer slots watched_new printer slots (Ok position)
+  pub leads_same : {watched_new : List Watched}
+      → (told_in ≡ true → change_between (watched_at watched place).opened led ≡ None)
+      → ((watched_at watched place).opened ≡ None → by_name ≡ true
+      → LeftOpen snapshot (watched_at watched place).name None 0) → watched_new ≡ watched
+      → Leads told_in told by_name snapshot led place name position watched printer slots watched_new printer slots
+      (Ok position)
   leads_same none lost same = record {
     fate = sound;
     ends = λ last stands. due_as (λ t. let due = (nothing_led snapshot last led (stands t).file (none t)).0 in (sym due, sym due)) (nothing_due tt);
@@ -289,10 +341,14 @@ module _ {told_in told by_name : Bool} {snapshot : Snapshot} {led : Option ℕ} 
     met = tt;
   }
 
-  pub leads_unsaid : {watched_new : List Watched} {after : PrinterState} {slots_new : List Slot} {before : List Event} {change : Notice} {why : Fault}
-      → (told_in ≡ true → change_between (watched_at watched place).opened led ≡ Some change) → ToldLed by_name snapshot (watched_at watched place).name (watched_at watched place).opened change
-      → Ends told_in (Noted (λ notice. notice ≡ change)) told false printer name (notes change ∷ []) before slots after slots_new (Some (Over why)) → watched_new ≡ watched
-      → Leads told_in told by_name snapshot led place name position watched printer slots watched_new after slots_new (Err (Over why))
+  pub leads_unsaid : {watched_new : List Watched} {after : PrinterState} {slots_new : List Slot} {before : List Event}
+      {change : Notice} {why : Fault}
+      → (told_in ≡ true → change_between (watched_at watched place).opened led ≡ Some change)
+      → ToldLed by_name snapshot (watched_at watched place).name (watched_at watched place).opened change
+      → Ends told_in (Noted (λ notice. notice ≡ change)) told false printer name
+      (notes change ∷ []) before slots after slots_new (Some (Over why)) → watched_new ≡ watched
+      → Leads told_in told by_name snapshot led place name position watched printer slots watched_new after slots_new
+      (Err (Over why))
   leads_unsaid {why} changed seen line same = record {
     fate = sound;
     ends = λ last stands. due_by (λ t. (sym (change_led snapshot last led (stands t).file (changed t)).0, tt))
@@ -305,11 +361,15 @@ module _ {told_in told by_name : Bool} {snapshot : Snapshot} {led : Option ℕ} 
   }
 
   -- it was told, and what the name leads to couldn't be opened
-  pub leads_unopened : {now watched_new : List Watched} {mid : List Slot} {before : List Event} {change : Notice} {why : Fault}
-      → (told_in ≡ true → change_between (watched_at watched place).opened led ≡ Some change) → ToldLed by_name snapshot (watched_at watched place).name (watched_at watched place).opened change
-      → Ends told_in (Noted (λ notice. notice ≡ change)) told false printer name (notes change ∷ []) before slots printer mid None → now ≡ watched → why ≡ fault.Open place
+  pub leads_unopened : {now watched_new : List Watched} {mid : List Slot} {before : List Event} {change : Notice}
+      {why : Fault}
+      → (told_in ≡ true → change_between (watched_at watched place).opened led ≡ Some change)
+      → ToldLed by_name snapshot (watched_at watched place).name (watched_at watched place).opened change
+      → Ends told_in (Noted (λ notice. notice ≡ change)) told false printer name
+      (notes change ∷ []) before slots printer mid None → now ≡ watched → why ≡ fault.Open place
       → watched_new ≡ changed_at place (breaks (λ file. Open)) now → snapshot.breaks ≡ true
-      → Leads told_in told by_name snapshot led place name position watched printer slots watched_new printer mid (Err (Broke why))
+      → Leads told_in told by_name snapshot led place name position watched printer slots watched_new printer mid
+      (Err (Broke why))
   leads_unopened {change} {why} changed seen line same fault broken can = record {
     fate = unopened;
     ends = λ last stands. due_as (λ t. let due = (change_led snapshot last led (stands t).file (changed t)).0 in
@@ -326,13 +386,20 @@ module _ {told_in told by_name : Bool} {snapshot : Snapshot} {led : Option ℕ} 
     known = (watched_at watched place).name
 
   -- it was told, and all that the file holds was given, or a beginning
-  pub leads_opened : {now : Snapshot} {mid slots_new : List Slot} {after : PrinterState} {watched_mid watched_new : List Watched} {file : Option ℕ} {before : List Event} {change : Notice} {result : Result ℕ Stop}
-      → IsTrue (is_watchable watched place) → (told_in ≡ true → change_between (watched_at watched place).opened led ≡ Some change)
-      → ToldLed by_name snapshot (watched_at watched place).name (watched_at watched place).opened change → Found snapshot (watched_at watched place).name (opens_as file)
-      → Ends told_in (Noted (λ notice. notice ≡ change)) told false printer name (notes change ∷ []) before slots printer mid None → now ≡ snapshot
-      → watched_mid ≡ changed_at place (opens file) watched → (told_in ≡ true → file ≡ led) → (told_in ≡ true → (watched_at watched_mid place).opened ≡ led)
+  pub leads_opened : {now : Snapshot} {mid slots_new : List Slot} {after : PrinterState}
+      {watched_mid watched_new : List Watched} {file : Option ℕ} {before : List Event} {change : Notice}
+      {result : Result ℕ Stop}
+      → IsTrue (is_watchable watched place)
+      → (told_in ≡ true → change_between (watched_at watched place).opened led ≡ Some change)
+      → ToldLed by_name snapshot (watched_at watched place).name (watched_at watched place).opened change
+      → Found snapshot (watched_at watched place).name (opens_as file)
+      → Ends told_in (Noted (λ notice. notice ≡ change)) told false printer name
+      (notes change ∷ []) before slots printer mid None → now ≡ snapshot
+      → watched_mid ≡ changed_at place (opens file) watched → (told_in ≡ true → file ≡ led)
+      → (told_in ≡ true → (watched_at watched_mid place).opened ≡ led)
       → Adds told_in told now place name 0 watched_mid printer mid watched_new after slots_new result
-      → Leads told_in told by_name snapshot led place name position watched printer slots watched_new after slots_new result
+      → Leads told_in told by_name snapshot led place name position watched printer slots watched_new after slots_new
+      result
   leads_opened {mid} {slots_new} {after} {watched_mid} {watched_new} {file} {change} {result} can changed seen opening line same opened leads is adding = record {
     fate = adds.fate;
     ends = λ last stands. due_by (λ t. dues last (stands t) t) (goes_after (WereFound (ToldLed by_name snapshot known (watched_at watched place).opened) FromFront snapshot known adds.fate (stop_in result))
@@ -370,13 +437,16 @@ module _ {told_in told by_name : Bool} {snapshot : Snapshot} {led : Option ℕ} 
       is_now : (watched_at watched_mid place).opened ≡ None → file ≡ None
       is_now none = sym (ap (λ those. (watched_at those place).opened) opened ∙ ap (λ (w : Watched). w.opened) (opened_there watched place can)) ∙ none
 
-    still_long : (result : Result ℕ Stop) → IfOk result (HoldsMany snapshot (watched_at watched_mid place)) → Keeps place watched_mid watched_new adds.fate (stop_in result)
-        → IfOk result (IsLong by_name snapshot (watched_at watched_new place).name (watched_at watched_new place).opened)
+    still_long : (result : Result ℕ Stop) → IfOk result (HoldsMany snapshot (watched_at watched_mid place))
+        → Keeps place watched_mid watched_new adds.fate (stop_in result)
+        → IfOk result
+        (IsLong by_name snapshot (watched_at watched_new place).name (watched_at watched_new place).opened)
     still_long (Ok len) long keeps = rw keeps (long_by snapshot (watched_at watched_mid place).name len by_name now_open (λ none by. lost none) long)
     still_long (Err stop) long keeps = tt
 
     dues : (last : Entry) → StandsAt last (watched_at watched place).opened position → told_in ≡ true
-        → (notes change ∷ events_later (fresh now_open) (entries_open snapshot now_open) ≡ events_later last (entries_led snapshot (watched_at watched place).opened led))
+        → (notes change ∷ events_later (fresh now_open) (entries_open snapshot now_open)
+        ≡ events_later last (entries_led snapshot (watched_at watched place).opened led))
         × IfBroke (stop_in result) (notes change ∷ came_before snapshot adds.fate (events_later (fresh now_open) (entries_open snapshot now_open))
         ≡ led_before snapshot adds.fate (events_later last (entries_led snapshot (watched_at watched place).opened led)))
     dues last stands t =
@@ -391,7 +461,8 @@ module _ {told_in told by_name : Bool} {snapshot : Snapshot} {led : Option ℕ} 
 
 -- what a look adds: where names aren't followed, as if the name led to the open file
 pub at_look : (by_name : Bool) (name : List ℕ) (opened : Option ℕ) (snapshot : Snapshot)
-    → entries_open snapshot opened ++ entries_led snapshot opened (open_after_look by_name name opened snapshot) ≡ entries_at_look by_name name opened snapshot
+    → entries_open snapshot opened ++ entries_led snapshot opened (open_after_look by_name name opened snapshot)
+    ≡ entries_at_look by_name name opened snapshot
 at_look true name opened snapshot = refl
 at_look false name None snapshot = refl
 at_look false name (Some file) snapshot = search rules
@@ -405,7 +476,8 @@ same_file None some = absurd (false≢true some)
 same_file (Some id) some = eq-eqb id id refl
 
 -- where a call on the open file failed, what comes before it is given
-kept_given : (snapshot : Snapshot) (due : Due) (opened : Option ℕ) (fate : Fate) → ReadsOf opened fate → came_before snapshot fate due.came ≡ given_by due snapshot opened fate
+kept_given : (snapshot : Snapshot) (due : Due) (opened : Option ℕ) (fate : Fate) → ReadsOf opened fate
+    → came_before snapshot fate due.came ≡ given_by due snapshot opened fate
 kept_given snapshot due opened (unmeasured file) reads = rw (reads.0, same_file opened reads.1) refl
 kept_given snapshot due opened (unread file from) reads = rw (reads.0, same_file opened reads.1) refl
 kept_given snapshot due opened sound reads = absurd reads
@@ -414,14 +486,16 @@ kept_given snapshot due opened unopened reads = absurd reads
 kept_given snapshot due opened (unsought file from) reads = absurd reads
 
 -- and where another did, all that came to the open file
-led_given : (snapshot : Snapshot) (due : Due) (opened : Option ℕ) (fate : Fate) → is_kept opened fate ≡ false → due.came ++ led_before snapshot fate due.led ≡ given_by due snapshot opened fate
+led_given : (snapshot : Snapshot) (due : Due) (opened : Option ℕ) (fate : Fate) → is_kept opened fate ≡ false
+    → due.came ++ led_before snapshot fate due.led ≡ given_by due snapshot opened fate
 led_given snapshot due opened fate other = rw other refl
 
 -- from the front, or of the open file from the position on
 abbrev pub FromFrontOr : Option ℕ → ℕ → Option ℕ → ℕ → Type 0
 FromFrontOr opened position file from = (from ≡ 0) ⊎ ((file ≡ opened) × (is_some opened ≡ true) × (from ≡ position))
 
-from_either : {opened : Option ℕ} {position : ℕ} (file : Option ℕ) (from : ℕ) → FromEither opened position file from → FromFrontOr opened position file from
+from_either : {opened : Option ℕ} {position : ℕ} (file : Option ℕ) (from : ℕ) → FromEither opened position file from
+    → FromFrontOr opened position file from
 from_either file from (same, some, inl at) = inl at
 from_either file from (same, some, inr at) = inr (same, some, at)
 
@@ -429,26 +503,36 @@ from_either file from (same, some, inr at) = inr (same, some, at)
 abbrev pub ToldAgain : (by_name : Bool) → Snapshot → List ℕ → Option ℕ → ℕ → Notice → Type 0
 ToldAgain by_name snapshot name opened position notice = (opened ≡ None → by_name ≡ true) × IsSeen snapshot name opened position notice
 
-seen_short : (by_name : Bool) (snapshot : Snapshot) (name : List ℕ) (opened : Option ℕ) (position : ℕ) (notice : Notice) → ToldShort snapshot name opened position notice → ToldAgain by_name snapshot name opened position notice
+seen_short : (by_name : Bool) (snapshot : Snapshot) (name : List ℕ) (opened : Option ℕ) (position : ℕ) (notice : Notice)
+    → ToldShort snapshot name opened position notice → ToldAgain by_name snapshot name opened position notice
 seen_short by_name snapshot name opened position notice (is, seen) = (λ none. absurd (false≢true (sym (ap is_some none) ∙ seen.0)), rw is seen)
 
 -- before it is told what failed
-pub record LooksAgain (told_in told by_name : Bool) (snapshot : Snapshot) (place : ℕ) (name : List ℕ) (position : ℕ) (watched : List Watched)
-    (printer : PrinterState) (slots : List Slot) (watched_new : List Watched) (after : PrinterState) (slots_new : List Slot) (result : Result ℕ Stop) : Type 0 where
+pub record LooksAgain (told_in told by_name : Bool) (snapshot : Snapshot) (place : ℕ) (name : List ℕ) (position : ℕ)
+    (watched : List Watched)
+    (printer : PrinterState) (slots : List Slot) (watched_new : List Watched) (after : PrinterState)
+    (slots_new : List Slot) (result : Result ℕ Stop) : Type 0 where
   pub fate : Fate
   pub ends : let opened = (watched_at watched place).opened in (last : Entry) → (told_in ≡ true → StandsAt last opened position)
       → let due = due_later by_name name opened last snapshot in
       Ends told_in (WereFound (ToldAgain by_name snapshot (watched_at watched place).name opened position) (FromFrontOr opened position) snapshot (watched_at watched place).name fate (stop_in result)) told false printer name (due.came ++ due.led) (given_by due snapshot opened fate) slots after slots_new (stop_in result)
-  pub long : IfOk result (IsLong by_name snapshot (watched_at watched_new place).name (watched_at watched_new place).opened)
+  pub long : IfOk result
+      (IsLong by_name snapshot (watched_at watched_new place).name (watched_at watched_new place).opened)
   pub stands : let opened = (watched_at watched place).opened in IfOk result (λ len. told_in ≡ true → (last : Entry) → StandsAt last opened position
-      → StandsAt (last_from last (entries_at_look by_name name opened snapshot)) (open_after_look by_name name opened snapshot) len)
-  pub follows : Follows told_in (open_after_look by_name name (watched_at watched place).opened snapshot) place watched watched_new fate (stop_in result)
+      → StandsAt (last_from last (entries_at_look by_name name opened snapshot))
+      (open_after_look by_name name opened snapshot) len)
+  pub follows : Follows told_in
+      (open_after_look by_name name (watched_at watched place).opened snapshot) place watched watched_new fate
+      (stop_in result)
   pub met : IfBroke (stop_in result) ((seeks : Bool) → can_meet false by_name seeks fate ≡ true)
 
-module _ {told_in told : Bool} {snapshot : Snapshot} {place : ℕ} {name : List ℕ} {position : ℕ} {watched : List Watched} {printer : PrinterState} {slots : List Slot} where
-  pub stopped_looks : (by_name : Bool) {watched_new : List Watched} {after : PrinterState} {slots_new : List Slot} {stop : Stop}
+module _ {told_in told : Bool} {snapshot : Snapshot} {place : ℕ} {name : List ℕ} {position : ℕ} {watched : List Watched}
+    {printer : PrinterState} {slots : List Slot} where
+  pub stopped_looks : (by_name : Bool) {watched_new : List Watched} {after : PrinterState} {slots_new : List Slot}
+      {stop : Stop}
       → Adds told_in told snapshot place name position watched printer slots watched_new after slots_new (Err stop)
-      → LooksAgain told_in told by_name snapshot place name position watched printer slots watched_new after slots_new (Err stop)
+      → LooksAgain told_in told by_name snapshot place name position watched printer slots watched_new after slots_new
+      (Err stop)
   stopped_looks by_name {watched_new} {stop} adds = record {
     fate = adds.fate;
     ends = λ last stands. let due = due_later by_name name (watched_at watched place).opened last snapshot in
@@ -461,11 +545,15 @@ module _ {told_in told : Bool} {snapshot : Snapshot} {place : ℕ} {name : List 
   }
 
   -- one call after another
-  looks_both : {by_name : Bool} {watched_new : List Watched} {mid after : PrinterState} {slots_mid slots_new : List Slot} {len : ℕ} {result : Result ℕ Stop}
+  looks_both : {by_name : Bool} {watched_new : List Watched} {mid after : PrinterState}
+      {slots_mid slots_new : List Slot} {len : ℕ} {result : Result ℕ Stop}
       → Adds told_in told snapshot place name position watched printer slots watched mid slots_mid (Ok len)
-      → (leads : Leads told_in told by_name snapshot (open_after_look by_name name (watched_at watched place).opened snapshot) place name len watched mid slots_mid watched_new after slots_new result)
+      → (leads : Leads told_in told by_name snapshot
+      (open_after_look by_name name (watched_at watched place).opened snapshot) place name len watched mid slots_mid
+      watched_new after slots_new result)
       → IfBroke (stop_in result) ((seeks : Bool) → can_meet false by_name seeks leads.fate ≡ true)
-      → LooksAgain told_in told by_name snapshot place name position watched printer slots watched_new after slots_new result
+      → LooksAgain told_in told by_name snapshot place name position watched printer slots watched_new after slots_new
+      result
   looks_both {by_name} {result} adds leads met =
       let known = (watched_at watched place).name in let opened = (watched_at watched place).opened in record {
         fate = leads.fate;
@@ -483,16 +571,21 @@ module _ {told_in told : Bool} {snapshot : Snapshot} {place : ℕ} {name : List 
         met = met;
       }
 
-  pub caught_looks : {by_name : Bool} {watched_new : List Watched} {after : PrinterState} {slots_new : List Slot} {len : ℕ} → by_name ≡ false
+  pub caught_looks : {by_name : Bool} {watched_new : List Watched} {after : PrinterState} {slots_new : List Slot}
+      {len : ℕ} → by_name ≡ false
       → Adds told_in told snapshot place name position watched printer slots watched_new after slots_new (Ok len)
-      → LooksAgain told_in told by_name snapshot place name position watched printer slots watched_new after slots_new (Ok len)
+      → LooksAgain told_in told by_name snapshot place name position watched printer slots watched_new after slots_new
+      (Ok len)
   caught_looks is adding = let adds = rw adding.keeps at adding in rw (is, adding.keeps) (looks_both adds (leads_same (λ t. unchanged (watched_at watched place).opened) (λ none by. absurd (false≢true by)) refl) tt)
 
-  pub led_looks : {by_name : Bool} {now : Snapshot} {watched_mid watched_new : List Watched} {mid after : PrinterState} {slots_mid slots_new : List Slot}
+  pub led_looks : {by_name : Bool} {now : Snapshot} {watched_mid watched_new : List Watched} {mid after : PrinterState}
+      {slots_mid slots_new : List Slot}
       {len : ℕ} {result : Result ℕ Stop} → by_name ≡ true → now ≡ snapshot
       → Adds told_in told snapshot place name position watched printer slots watched_mid mid slots_mid (Ok len)
-      → Leads told_in told true now (now.leads name) place name len watched_mid mid slots_mid watched_new after slots_new result
-      → LooksAgain told_in told by_name snapshot place name position watched printer slots watched_new after slots_new result
+      → Leads told_in told true now
+      (now.leads name) place name len watched_mid mid slots_mid watched_new after slots_new result
+      → LooksAgain told_in told by_name snapshot place name position watched printer slots watched_new after slots_new
+      result
   led_looks is seen adding leading =
       let adds = rw adding.keeps at adding in let leads = rw (seen, adding.keeps) at leading in
       rw is (looks_both adds leads leads.met)

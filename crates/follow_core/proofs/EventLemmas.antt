@@ -13,19 +13,22 @@ bytes-append [] more = refl
 bytes-append (notes notice ∷ events) more = bytes-append events more
 bytes-append (gives bytes ∷ events) more = ap (λ rest. bytes ++ rest) (bytes-append events more) ∙ sym (append_assoc bytes (bytes_in events) (bytes_in more))
 
-pub lines-append : (name : List ℕ) (events more : List Event) → lines_in name (events ++ more) ≡ lines_in name events ++ lines_in name more
+pub lines-append : (name : List ℕ) (events more : List Event)
+    → lines_in name (events ++ more) ≡ lines_in name events ++ lines_in name more
 lines-append name [] more = refl
 lines-append name (notes notice ∷ events) more = ap (λ rest. notice_of notice name ∷ rest) (lines-append name events more)
 lines-append name (gives bytes ∷ events) more = lines-append name events more
 
-pub events-append : (last : Entry) (entries more : List Entry) → events_later last (entries ++ more) ≡ events_later last entries ++ events_later (last_from last entries) more
+pub events-append : (last : Entry) (entries more : List Entry)
+    → events_later last (entries ++ more) ≡ events_later last entries ++ events_later (last_from last entries) more
 events-append last [] more = refl
 events-append last (entry ∷ entries) more = ap (λ rest. events_between last entry ++ rest) (events-append entry entries more)
     ∙ sym (append_assoc (events_between last entry) (events_later entry entries) (events_later (last_from entry entries) more))
 
 -- the bytes that entries give are what they add
 
-noted_bytes : (notices : List Notice) (events : List Event) → bytes_in (map (λ notice. notes notice) notices ++ events) ≡ bytes_in events
+noted_bytes : (notices : List Notice) (events : List Event)
+    → bytes_in (map (λ notice. notes notice) notices ++ events) ≡ bytes_in events
 noted_bytes [] events = refl
 noted_bytes (notice ∷ notices) events = noted_bytes notices events
 
@@ -37,7 +40,8 @@ bytes_between : (last entry : Entry) → bytes_in (events_between last entry) �
 bytes_between last gap = ap bytes_in (sym (append-nil (map (λ notice. notes notice) (notices_between last gap)))) ∙ noted_bytes (notices_between last gap) [] ∙ sym (gap_adds last)
 bytes_between last (version v) = noted_bytes (notices_between last (version v)) (gives (gain_between last (version v)) ∷ []) ∙ append-nil _
 
-pub bytes_later : (last : Entry) (entries : List Entry) → bytes_in (events_later last entries) ≡ gains_later last entries
+pub bytes_later : (last : Entry) (entries : List Entry)
+    → bytes_in (events_later last entries) ≡ gains_later last entries
 bytes_later last [] = refl
 bytes_later last (entry ∷ entries) = bytes-append (events_between last entry) (events_later entry entries) ∙ (λ i. bytes_between last entry i ++ bytes_later entry entries i)
 
@@ -52,7 +56,8 @@ begins_more more begins_none = begins_none
 begins_more more (begins_within bytes) = begins_within bytes
 begins_more more (begins_on begins) = begins_on (begins_more more begins)
 
-pub begins_after : (front : List Event) {part all : List Event} → Begins part all → Begins (front ++ part) (front ++ all)
+pub begins_after : (front : List Event) {part all : List Event} → Begins part all
+    → Begins (front ++ part) (front ++ all)
 begins_after [] begins = begins
 begins_after (event ∷ front) begins = begins_on (begins_after front begins)
 

@@ -27,16 +27,20 @@ use Rattle.follow_core.proofs.RunLemmas.{failed-append, last-append, messages-ap
 
 -- A look at one name after another.
 
-pub nothing_shared : {told : Bool} {printer : PrinterState} {slots : List Slot} → AllShared told printer [] slots printer slots
+pub nothing_shared : {told : Bool} {printer : PrinterState} {slots : List Slot}
+    → AllShared told printer [] slots printer slots
 nothing_shared {told} {printer} {slots} = record { printer_is = refl; slots = wrote_none told printer.calling }
 
 -- further shares
 
-text_all : (printer : PrinterState) {mid : PrinterState} (shares more : List Share) → mid ≡ record printer { last = last_header_from printer.headers printer.last shares }
-    → text_from printer.headers printer.last shares ++ text_from mid.headers mid.last more ≡ text_from printer.headers printer.last (shares ++ more)
+text_all : (printer : PrinterState) {mid : PrinterState} (shares more : List Share)
+    → mid ≡ record printer { last = last_header_from printer.headers printer.last shares }
+    → text_from printer.headers printer.last shares ++ text_from mid.headers mid.last more
+    ≡ text_from printer.headers printer.last (shares ++ more)
 text_all printer shares more is = search (rules, text-append)
 
-pub all_both : {told : Bool} {printer mid after : PrinterState} {shares more : List Share} {old now new : List Slot} → AllShared told printer shares old mid now
+pub all_both : {told : Bool} {printer mid after : PrinterState} {shares more : List Share} {old now new : List Slot}
+    → AllShared told printer shares old mid now
     → AllShared told mid more now after new → AllShared told printer (shares ++ more) old after new
 all_both {told} {printer} {mid} {shares} {more} {now} {new} all rest = record {
   printer_is = rest.printer_is ∙ ap (λ (p : PrinterState). record p { last = last_header_from p.headers p.last more }) all.printer_is
@@ -54,8 +58,10 @@ shared_short {told} {printer} {share} {old} {new} {why} one = record {
 
 -- names that were not looked at yet
 
-pub visited_none : {told_in told : Bool} {ways : Ways} {looks : List Look} {snapshot : Snapshot} {names : List NameState} {printer : PrinterState} {slots : List Slot}
-    {watched : List Watched} → AllStand told_in ways looks names watched → VisitedTo told_in told ways looks snapshot 0 names printer slots printer slots watched names false
+pub visited_none : {told_in told : Bool} {ways : Ways} {looks : List Look} {snapshot : Snapshot}
+    {names : List NameState} {printer : PrinterState} {slots : List Slot}
+    {watched : List Watched} → AllStand told_in ways looks names watched
+    → VisitedTo told_in told ways looks snapshot 0 names printer slots printer slots watched names false
 visited_none {ways} stand = record {
   fates = replicate ways.first sound;
   shares = [];
@@ -71,23 +77,29 @@ visited_none {ways} stand = record {
 
 -- one name more
 
-shares_one : (ways : Ways) (looks : List Look) (look : Look) (from : ℕ) (names : List (List ℕ)) (name : List ℕ) → shares_at_look_from ways looks look from (names ++ name ∷ []) ≡ shares_at_look_from ways looks look from names ++ share_of ways looks look (from + length names) name ∷ []
+shares_one : (ways : Ways) (looks : List Look) (look : Look) (from : ℕ) (names : List (List ℕ)) (name : List ℕ)
+    → shares_at_look_from ways looks look from (names ++ name ∷ [])
+    ≡ shares_at_look_from ways looks look from names ++ share_of ways looks look (from + length names) name ∷ []
 shares_one ways looks look from [] name = ap (λ place. share_of ways looks look place name ∷ []) (omega arith)
 shares_one ways looks look from (first ∷ names) name =
     ap (λ rest. share_of ways looks look from first ∷ rest) (shares_one ways looks look (from + 1) names name
     ∙ ap (λ place. shares_at_look_from ways looks look (from + 1) names ++ share_of ways looks look place name ∷ []) (omega arith))
 
-fate_there : (fates : List Fate) (fate : Fate) {all : List Fate} → IsFront (fates ++ fate ∷ []) all → {place : ℕ} → length fates ≡ place → slice_index_or all place sound ≡ fate
+fate_there : (fates : List Fate) (fate : Fate) {all : List Fate} → IsFront (fates ++ fate ∷ []) all → {place : ℕ}
+    → length fates ≡ place → slice_index_or all place sound ≡ fate
 fate_there fates fate {all} (rest, is) {place} count = ap (λ those. slice_index_or those place sound) (is ∙ append_assoc fates (fate ∷ []) rest)
     ∙ ap (λ n. slice_index_or (fates ++ fate ∷ rest) n sound) (sym count) ∙ get_or-append_seam fates fate rest sound
 
-front_before : (fates : List Fate) (fate : Fate) {all : List Fate} → IsFront (fates ++ fate ∷ []) all → IsFront fates all
+front_before : (fates : List Fate) (fate : Fate) {all : List Fate} → IsFront (fates ++ fate ∷ []) all
+    → IsFront fates all
 front_before fates fate (rest, is) = (fate ∷ rest, is ∙ append_assoc fates (fate ∷ []) rest)
 
-pub text_there : (names now : List NameState) {place : ℕ} → texts now ≡ texts names → place < length now → get_or (texts names) place [] ≡ (state_at now place).text
+pub text_there : (names now : List NameState) {place : ℕ} → texts now ≡ texts names → place < length now
+    → get_or (texts names) place [] ≡ (state_at now place).text
 text_there names now {place} same within = search (rules, get_or-map)
 
-pub texts_set : (names : List NameState) {place : ℕ} (default one : NameState) → place < length names → one.text ≡ (get_or names place default).text → texts (set names place one) ≡ texts names
+pub texts_set : (names : List NameState) {place : ℕ} (default one : NameState) → place < length names
+    → one.text ≡ (get_or names place default).text → texts (set names place one) ≡ texts names
 texts_set names {place} default one within same = map-set_same (λ (n : NameState). n.text) names place one default same
 
 pub length_texts : (names now : List NameState) → texts now ≡ texts names → length (texts names) ≡ length now
@@ -97,8 +109,11 @@ pub same_length : (names now : List NameState) → texts now ≡ texts names →
 same_length names now same = sym (length-map names (λ (n : NameState). n.text)) ∙ length_texts names now same
 
 -- the shares of the names before a place, and of the one at it
-shares_next : (ways : Ways) (looks : List Look) (look : Look) (names now : List NameState) {place : ℕ} → texts now ≡ texts names → place < length now
-    → shares_at_look_from ways looks look ways.first (take place (texts names)) ++ share_of ways looks look (ways.first + place) (state_at now place).text ∷ [] ≡ shares_at_look_from ways looks look ways.first (take (suc place) (texts names))
+shares_next : (ways : Ways) (looks : List Look) (look : Look) (names now : List NameState) {place : ℕ}
+    → texts now ≡ texts names → place < length now
+    → shares_at_look_from ways looks look ways.first (take place (texts names))
+    ++ share_of ways looks look (ways.first + place) (state_at now place).text ∷ []
+    ≡ shares_at_look_from ways looks look ways.first (take (suc place) (texts names))
 shares_next ways looks look names now {place} same within =
     let count : length (take place (texts names)) ≡ place = length-take-le place (texts names) (subst (λ n. place ≤ n) (sym (length_texts names now same)) (omega arith)) in
     let below : place < length (texts names) = subst (λ n. place < n) (sym (length_texts names now same)) within in
@@ -108,26 +123,34 @@ shares_next ways looks look names now {place} same within =
     ∙ ap (shares_at_look_from ways looks look ways.first) (sym (take-suc (texts names) place [] below))
 
 -- the names before a place, and the one at it
-count_taken : (names now : List NameState) {place : ℕ} → texts now ≡ texts names → place < length now → length (take place (texts names)) ≡ place
+count_taken : (names now : List NameState) {place : ℕ} → texts now ≡ texts names → place < length now
+    → length (take place (texts names)) ≡ place
 count_taken names now {place} same within = length-take-le place (texts names) (subst (λ n. place ≤ n) (sym (length_texts names now same)) (omega arith))
 
-names_next : (names now : List NameState) {place : ℕ} → texts now ≡ texts names → place < length now → take place (texts names) ++ (state_at now place).text ∷ [] ≡ take (suc place) (texts names)
+names_next : (names now : List NameState) {place : ℕ} → texts now ≡ texts names → place < length now
+    → take place (texts names) ++ (state_at now place).text ∷ [] ≡ take (suc place) (texts names)
 names_next names now {place} same within = ap (λ name. take place (texts names) ++ name ∷ []) (sym (text_there names now same within))
     ∙ sym (take-suc (texts names) place [] (subst (λ n. place < n) (sym (length_texts names now same)) within))
 
 -- what a look gives for one name more
-one_given : (looks : List Look) (look : Look) (from : ℕ) (names : List (List ℕ)) (name : List ℕ) {shares : List Share} {share : Share} → AreAtLook looks look from names shares
-    → IsGiven looks look (from + length names) name share → AreAtLook looks look from (names ++ name ∷ []) (shares ++ share ∷ [])
+one_given : (looks : List Look) (look : Look) (from : ℕ) (names : List (List ℕ)) (name : List ℕ) {shares : List Share}
+    {share : Share} → AreAtLook looks look from names shares
+    → IsGiven looks look (from + length names) name share
+    → AreAtLook looks look from (names ++ name ∷ []) (shares ++ share ∷ [])
 one_given looks look from [] name {share} no_names given = names_more (subst (λ n. IsGiven looks look n name share) (let e : from + 0 ≡ from = omega arith in e) given) no_names
 one_given looks look from (first ∷ names) name {share} (names_more is rest) given =
     names_more is (one_given looks look (from + 1) names name rest (subst (λ n. IsGiven looks look n name share) (let e : from + suc (length names) ≡ (from + 1) + length names = omega arith in e) given))
 
-pub visited_more : {told_in told : Bool} {ways : Ways} {looks : List Look} {snapshot : Snapshot} {names now : List NameState} {one : NameState} {place : ℕ}
-    {printer mid after : PrinterState} {old slots new : List Slot} {watched watched_new : List Watched} {before failed : Bool} → place < length now
+pub visited_more : {told_in told : Bool} {ways : Ways} {looks : List Look} {snapshot : Snapshot}
+    {names now : List NameState} {one : NameState} {place : ℕ}
+    {printer mid after : PrinterState} {old slots new : List Slot} {watched watched_new : List Watched}
+    {before failed : Bool} → place < length now
     → Visits told_in told ways snapshot (ways.first + place)
     (state_at now place).text (state_at now place).standing watched mid slots one.standing watched_new after new (Ok failed)
-    → one.text ≡ (state_at now place).text → VisitedTo told_in told ways looks snapshot place names printer old mid slots watched now before
-    → VisitedTo told_in told ways looks snapshot (place + 1) names printer old after new watched_new (set now place one) (before || failed)
+    → one.text ≡ (state_at now place).text
+    → VisitedTo told_in told ways looks snapshot place names printer old mid slots watched now before
+    → VisitedTo told_in told ways looks snapshot (place + 1) names printer old after new watched_new (set now place one)
+    (before || failed)
 visited_more {told_in} {told} {ways} {looks} {snapshot} {names} {now} {one} {place} {mid} {after} {slots} {new} {watched} {watched_new} {before} {failed} within visits same sofar = record {
   fates = sofar.fates ++ visited.fate ∷ [];
   shares = sofar.shares ++ visited.share ∷ [];
@@ -150,29 +173,38 @@ visited_more {told_in} {told} {ways} {looks} {snapshot} {names} {now} {one} {pla
   done = λ all front other below. there all front other below (cases_eq other place);
   rest = λ other above inside. stays looks other (λ at. omega arith) (sofar.rest other (omega arith) (subst (λ n. other < n) (length-set now place one) inside));
 } where
-  visited : Visited told_in told ways looks snapshot (ways.first + place) (state_at now place).text mid slots after new (watched_at watched_new (ways.first + place)) one.standing failed
+  visited : Visited told_in told ways looks snapshot (ways.first + place) (state_at now place).text mid slots after new
+      (watched_at watched_new (ways.first + place)) one.standing failed
   visited = visits.visited looks (sofar.rest place (omega arith) within)
 
   -- another name
-  stays : (looks : List Look) (other : ℕ) → (other ≡ place → ⊥) → StandsAmong told_in ways looks now watched other → StandsAmong told_in ways looks (set now place one) watched_new other
+  stays : (looks : List Look) (other : ℕ) → (other ≡ place → ⊥) → StandsAmong told_in ways looks now watched other
+      → StandsAmong told_in ways looks (set now place one) watched_new other
   stays looks other elsewhere stands = rw (get_or-set_other now place other one no_state elsewhere, visits.others.others (ways.first + other) (λ at. elsewhere (omega (arith, at)))) stands
 
-  there : (all : List Fate) → IsFront (sofar.fates ++ visited.fate ∷ []) all → (other : ℕ) → other < place + 1 → (other ≡ place) ⊎ (other ≡ place → ⊥)
-      → StandsAmong told_in ways (looks ++ record { snapshot = snapshot; fates = all } ∷ []) (set now place one) watched_new other
+  there : (all : List Fate) → IsFront (sofar.fates ++ visited.fate ∷ []) all → (other : ℕ) → other < place + 1
+      → (other ≡ place) ⊎ (other ≡ place → ⊥)
+      → StandsAmong told_in ways (looks ++ record { snapshot = snapshot; fates = all } ∷ [])
+      (set now place one) watched_new other
   there all front other below (inr elsewhere) = stays (looks ++ record { snapshot = snapshot; fates = all } ∷ []) other elsewhere
       (sofar.done all (front_before sofar.fates visited.fate front) other (omega arith))
   there all front other below (inl at) = rw (at, get_or-set_same now place one no_state within, same) (visited.stands all (fate_there sofar.fates visited.fate front sofar.count))
 
 -- a name that isn't broken
-pub unbroken_watched : {ways : Ways} {looks : List Look} {place : ℕ} {name : List ℕ} {watched : Watched} → watched.name ≡ name → watched.failed ≡ None → is_dropped place looks ≡ false → IsWatched ways looks place name watched
+pub unbroken_watched : {ways : Ways} {looks : List Look} {place : ℕ} {name : List ℕ} {watched : Watched}
+    → watched.name ≡ name → watched.failed ≡ None → is_dropped place looks ≡ false
+    → IsWatched ways looks place name watched
 unbroken_watched named unbroken kept = record { named = named; broke = unbroken_in unbroken kept; closed = λ is. absurd (false≢true (sym (ap is_some unbroken) ∙ is)) }
 
 -- one look more, through which it comes
-watched_sound : {ways : Ways} (looks : List Look) (look : Look) {place : ℕ} {name : List ℕ} {watched : Watched} → fate_at place look ≡ sound → IsWatched ways looks place name watched → IsWatched ways (looks ++ look ∷ []) place name watched
+watched_sound : {ways : Ways} (looks : List Look) (look : Look) {place : ℕ} {name : List ℕ} {watched : Watched}
+    → fate_at place look ≡ sound → IsWatched ways looks place name watched
+    → IsWatched ways (looks ++ look ∷ []) place name watched
 watched_sound looks look fine is = record { named = is.named; broke = broken_sound looks look fine is.broke; closed = is.closed }
 
 -- how a name is watched, as it stands
-pub watched_there : (told : Bool) {ways : Ways} {looks : List Look} {place : ℕ} (name : List ℕ) (watched : Watched) (standing : Standing) → Stands told ways looks place name watched standing → IsWatched ways looks place name watched
+pub watched_there : (told : Bool) {ways : Ways} {looks : List Look} {place : ℕ} (name : List ℕ) (watched : Watched)
+    (standing : Standing) → Stands told ways looks place name watched standing → IsWatched ways looks place name watched
 watched_there told {place} name watched New stands = unbroken_watched (ap (λ (w : Watched). w.name) stands.1) (ap (λ (w : Watched). w.failed) stands.1) (ap (is_dropped place) stands.0)
 watched_there told name watched (Followed position) stands = unbroken_watched stands.named stands.unbroken stands.kept
 watched_there told name watched Left stands = elim stands.why [
@@ -181,25 +213,33 @@ watched_there told name watched Left stands = elim stands.why [
 ]
 
 -- what is so of each name stays so where a file of one was opened, if it does of that one
-opens_keeps : (Is : Watched → Type 0) (names : List Watched) (place other : ℕ) (file : Option ℕ) → Is (watched_at names other)
-    → (other ≡ place → Is (opens file (watched_at names other))) → Is (watched_at (changed_at place (opens file) names) other)
+opens_keeps : (Is : Watched → Type 0) (names : List Watched) (place other : ℕ) (file : Option ℕ)
+    → Is (watched_at names other)
+    → (other ≡ place → Is (opens file (watched_at names other)))
+    → Is (watched_at (changed_at place (opens file) names) other)
 opens_keeps Is [] place other file is here = is
 opens_keeps Is (name ∷ names) zero zero file is here = here refl
 opens_keeps Is (name ∷ names) zero (suc other) file is here = is
 opens_keeps Is (name ∷ names) (suc place) zero file is here = is
 opens_keeps Is (name ∷ names) (suc place) (suc other) file is here = opens_keeps Is names place other file is (λ same. here (ap suc same))
 
-opens_unbroken : {ways : Ways} {looks : List Look} {place : ℕ} {name : List ℕ} {watched : Watched} {file : Option ℕ} → watched.failed ≡ None → IsWatched ways looks place name watched
+opens_unbroken : {ways : Ways} {looks : List Look} {place : ℕ} {name : List ℕ} {watched : Watched} {file : Option ℕ}
+    → watched.failed ≡ None → IsWatched ways looks place name watched
     → IsWatched ways looks place name (opens file watched)
 opens_unbroken unbroken is = record { named = is.named; broke = is.broke; closed = λ broken. absurd (false≢true (sym (ap is_some unbroken) ∙ broken)) }
 
 -- a look that was stopped at a name
-pub visited_short : {told_in told : Bool} {ways : Ways} {looks : List Look} {snapshot : Snapshot} {names now : List NameState} {standing : Standing} {place : ℕ}
-    {printer mid after : PrinterState} {old slots new : List Slot} {watched watched_new : List Watched} {before : Bool} {why : Fault} → place < length now
+pub visited_short : {told_in told : Bool} {ways : Ways} {looks : List Look} {snapshot : Snapshot}
+    {names now : List NameState} {standing : Standing} {place : ℕ}
+    {printer mid after : PrinterState} {old slots new : List Slot} {watched watched_new : List Watched} {before : Bool}
+    {why : Fault} → place < length now
     → Visits told_in told ways snapshot (ways.first + place)
     (state_at now place).text (state_at now place).standing watched mid slots standing watched_new after new (Err why)
-    → VisitedTo told_in told ways looks snapshot place names printer old mid slots watched now before → length watched_new ≡ ways.first + length names
-    → (whole part : List Share) × Begun told_in ways (texts names) looks snapshot watched_new whole part × (printed : PrinterState) × (reached : List Slot) × AllShared told printer whole old printed reached × AllShort told printed part reached new why
+    → VisitedTo told_in told ways looks snapshot place names printer old mid slots watched now before
+    → length watched_new ≡ ways.first + length names
+    → (whole part : List Share) × Begun told_in ways (texts names) looks snapshot watched_new whole part
+    × (printed : PrinterState) × (reached : List Slot) × AllShared told printer whole old printed reached
+    × AllShort told printed part reached new why
 visited_short {told_in} {told} {ways} {looks} {snapshot} {names} {now} {place} {mid} {slots} {new} {watched} {watched_new} {why} within visits sofar many = (
   sofar.shares,
   stopped.1.share ∷ [],
@@ -224,19 +264,23 @@ visited_short {told_in} {told} {ways} {looks} {snapshot} {names} {now} {place} {
   front : IsFront sofar.fates sofar.fates
   front = ([], sym (append-nil sofar.fates))
 
-  stopped : (is_dropped number looks ≡ false) × Stopped told_in told ways looks snapshot (state_at now place).text mid slots new why
+  stopped : (is_dropped number looks ≡ false)
+      × Stopped told_in told ways looks snapshot (state_at now place).text mid slots new why
   stopped = visits.stopped looks (sofar.rest place (omega arith) within)
 
   look : Look
   look = record { snapshot = snapshot; fates = sofar.fates }
 
-  share_is : told_in ≡ true → share_by ways (state_at now place).text looks look sound ≡ share_of ways looks look number (get_or (texts names) place [])
+  share_is : told_in ≡ true
+      → share_by ways (state_at now place).text looks look sound
+      ≡ share_of ways looks look number (get_or (texts names) place [])
   share_is t =
       let count = sofar.count in
       rw (text_there names now sofar.same within, stopped.0, get_or_past sofar.fates number sound (omega (arith, count))) refl
 
   watched_now : (other : ℕ) → other < length now → (other < place) ⊎ (place ≤ other)
-      → IsWatched ways (looks ++ look ∷ []) (ways.first + other) (state_at now other).text (watched_at watched (ways.first + other))
+      → IsWatched ways (looks ++ look ∷ []) (ways.first + other) (state_at now other).text
+      (watched_at watched (ways.first + other))
   watched_now other inside (inl less) = watched_there told_in (state_at now other).text (watched_at watched (ways.first + other)) (state_at now other).standing (sofar.done sofar.fates front other less)
   watched_now other inside (inr more) =
       let count = sofar.count in
@@ -248,14 +292,19 @@ visited_short {told_in} {told} {ways} {looks} {snapshot} {names} {now} {place} {
   unbroken other at = rw at ((watched_there told_in (state_at now place).text (watched_at watched number) (state_at now place).standing (sofar.rest place (omega arith) within)).broke.call
       ∙ none_of (failed_in number looks) stopped.0)
 
-  still : (other : ℕ) → other < length now → IsWatched ways (looks ++ look ∷ []) (ways.first + other) (slice_index_or (texts names) other []) (watched_at watched_new (ways.first + other))
+  still : (other : ℕ) → other < length now
+      → IsWatched ways (looks ++ look ∷ []) (ways.first + other) (slice_index_or (texts names) other [])
+      (watched_at watched_new (ways.first + other))
   still other inside =
       let now_is = watched_now other inside (cases_lt other place) in
       rw (text_there names now sofar.same inside, opened.1) (opens_keeps (IsWatched ways (looks ++ look ∷ []) (ways.first + other) (state_at now other).text) watched number (ways.first + other) opened.0 now_is
       (λ same. opens_unbroken (unbroken other (omega (arith, same))) now_is))
 
-pub next_ready : (first : ℕ) (names : List NameState) (one : NameState) {place : ℕ} {watched watched_new : List Watched} → place < length names → AllReady names first watched → KeepsOthers (first + place) watched watched_new → CanVisit one (watched_at watched_new (first + place)) → AllReady (set names place one) first watched_new
+pub next_ready : (first : ℕ) (names : List NameState) (one : NameState) {place : ℕ} {watched watched_new : List Watched}
+    → place < length names → AllReady names first watched → KeepsOthers (first + place) watched watched_new
+    → CanVisit one (watched_at watched_new (first + place)) → AllReady (set names place one) first watched_new
 next_ready first names one {place} {watched_new} within ready keeps can other inside = by (cases_eq other place) where
-  by : (other ≡ place) ⊎ (other ≡ place → ⊥) → CanVisit (state_at (set names place one) other) (watched_at watched_new (first + other))
+  by : (other ≡ place) ⊎ (other ≡ place → ⊥)
+      → CanVisit (state_at (set names place one) other) (watched_at watched_new (first + other))
   by (inl at) = subst (λ n. CanVisit (state_at (set names place one) n) (watched_at watched_new (first + n))) (sym at) (subst (λ (n : NameState). CanVisit n (watched_at watched_new (first + place))) (sym (get_or-set_same names place one no_state within)) can)
   by (inr elsewhere) = subst (λ (n : NameState). CanVisit n (watched_at watched_new (first + other))) (sym (get_or-set_other names place other one no_state elsewhere)) (subst (CanVisit (state_at names other)) (sym (keeps.others (first + other) (λ at. elsewhere (omega (arith, at))))) (ready other (subst (λ n. other < n) (length-set names place one) inside)))

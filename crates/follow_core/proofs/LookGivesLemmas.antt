@@ -40,7 +40,8 @@ use Rattle.follow_core.proofs.LookLemmas.{first_last, last_file, looked_last, fa
 
 -- The outputs have what the look gives for the name, by how the name came through it, and by which call it broke. Where the files
 -- don't tell their bytes, they have something.
-pub record Looked (told_in told : Bool) (ways : Ways) (before : List Look) (snapshot : Snapshot) (name : List ℕ) (printer : PrinterState)
+pub record Looked (told_in told : Bool) (ways : Ways) (before : List Look) (snapshot : Snapshot) (name : List ℕ)
+    (printer : PrinterState)
     (old : List Slot) (after : PrinterState) (new : List Slot) (has_failed : Bool) (fate : Fate) : Type 0 where
   pub share : Share
   pub is_share : told_in ≡ true → (fates : List Fate) → share ≡ share_by ways name before (seeing snapshot fates) fate
@@ -49,7 +50,8 @@ pub record Looked (told_in told : Bool) (ways : Ways) (before : List Look) (snap
   pub shared : Shared told printer share old after new None
 
 -- the message of a failure is told after what was given
-said_after : {told : Bool} {printer after : PrinterState} {opened : Bool} {name bytes : List ℕ} {lines : List (List ℕ)} {line : List ℕ} {old mid new : List Slot}
+said_after : {told : Bool} {printer after : PrinterState} {opened : Bool} {name bytes : List ℕ} {lines : List (List ℕ)}
+    {line : List ℕ} {old mid new : List Slot}
     → Came told printer opened name bytes lines old after mid None → OnError (Tells told printer.calling line) mid new
     → Came told printer opened name bytes (lines ++ line ∷ []) old after new None
 said_after {printer} {opened} {name} {bytes} came says = record {
@@ -58,12 +60,15 @@ said_after {printer} {opened} {name} {bytes} came says = record {
 }
 
 -- no failure is told after it
-all_came : {told : Bool} {printer after : PrinterState} {opened : Bool} {name bytes : List ℕ} (lines : List (List ℕ)) {old new : List Slot} {over : Option Fault}
-    → Came told printer opened name bytes lines old after new over → Came told printer opened name bytes (lines ++ failure_line name None) old after new over
+all_came : {told : Bool} {printer after : PrinterState} {opened : Bool} {name bytes : List ℕ} (lines : List (List ℕ))
+    {old new : List Slot} {over : Option Fault}
+    → Came told printer opened name bytes lines old after new over
+    → Came told printer opened name bytes (lines ++ failure_line name None) old after new over
 all_came {told} {printer} {after} {opened} {name} {bytes} lines {old} {new} {over} came = subst (λ those. Came told printer opened name bytes those old after new over) (sym (append-nil lines)) came
 
 fault_line : (place : ℕ) (name : List ℕ) (fate : Fate) → is_some (failed_by fate None) ≡ true
-    → (failure_text (fault_by place fate) name ∷ [] ≡ failure_line name (failure_of fate)) × (is_some (failure_of fate) ≡ true)
+    → (failure_text (fault_by place fate) name ∷ [] ≡ failure_line name (failure_of fate))
+    × (is_some (failure_of fate) ≡ true)
 fault_line place name sound broke = absurd (false≢true broke)
 fault_line place name unled broke = (refl, refl)
 fault_line place name unopened broke = (refl, refl)
@@ -75,19 +80,30 @@ abbrev shared_as : (opened : Bool) → List ℕ → List Event → Option Fault 
 shared_as opened name events failure = record { name = name; is_opened = opened; events = events; failure = failure }
 
 -- of a name that came through, whatever its fate was to be
-sound_found : {told_in told opened : Bool} {Tells : Notice → Type 0} (Begin : Option ℕ → ℕ → Type 0) (snapshot : Snapshot) (known : List ℕ) (fate : Fate) {printer after : PrinterState} {name : List ℕ} {due before : List Event} {old new : List Slot}
-    → Ends told_in (WereFound Tells Begin snapshot known fate None) told opened printer name due before old after new None
-    → Ends told_in (WereFound Tells Begin snapshot known sound None) told opened printer name due before old after new None
+sound_found : {told_in told opened : Bool} {Tells : Notice → Type 0} (Begin : Option ℕ → ℕ → Type 0)
+    (snapshot : Snapshot) (known : List ℕ) (fate : Fate) {printer after : PrinterState} {name : List ℕ}
+    {due before : List Event} {old new : List Slot}
+    → Ends told_in
+    (WereFound Tells Begin snapshot known fate None) told opened printer name due before old after new None
+    → Ends told_in
+    (WereFound Tells Begin snapshot known sound None) told opened printer name due before old after new None
 sound_found Begin snapshot known fate ends = record { events = ends.events; are = ends.are; found = ends.found; came = ends.came }
 
 -- what a name that came through is due is its share
-due_share : {told_in : Bool} {ways : Ways} {before : List Look} {snapshot : Snapshot} {name : List ℕ} {due : Due} {opened : Option ℕ} → IsDue told_in ways before snapshot name due opened
-    → told_in ≡ true → (fates : List Fate) → shared_as (is_first before) name (due.came ++ due.led) None ≡ share_by ways name before (seeing snapshot fates) sound
+due_share : {told_in : Bool} {ways : Ways} {before : List Look} {snapshot : Snapshot} {name : List ℕ} {due : Due}
+    {opened : Option ℕ} → IsDue told_in ways before snapshot name due opened
+    → told_in ≡ true → (fates : List Fate)
+    → shared_as (is_first before) name (due.came ++ due.led) None
+    ≡ share_by ways name before (seeing snapshot fates) sound
 due_share {before} {name} dues t fates = let is = dues.is t fates in rw is.0 (ap (λ (those : Due). shared_as (is_first before) name (those.came ++ those.led) None) is.1)
 
-module _ {told_in told : Bool} {ways : Ways} {before : List Look} {snapshot : Snapshot} {name : List ℕ} {due : Due} {opened : Option ℕ} {printer after : PrinterState} {old mid : List Slot} (dues : IsDue told_in ways before snapshot name due opened) where
+module _ {told_in told : Bool} {ways : Ways} {before : List Look} {snapshot : Snapshot} {name : List ℕ} {due : Due}
+    {opened : Option ℕ} {printer after : PrinterState} {old mid : List Slot}
+    (dues : IsDue told_in ways before snapshot name due opened) where
   -- all that is due was given
-  pub looked_whole : {none : List Event} → Ends told_in (WereFound (IsTold before snapshot name) (StartsIn before name) snapshot name sound None) told (is_first before) printer name (due.came ++ due.led) none old after mid None
+  pub looked_whole : {none : List Event}
+      → Ends told_in (WereFound (IsTold before snapshot name) (StartsIn before name) snapshot name sound None) told
+      (is_first before) printer name (due.came ++ due.led) none old after mid None
       → (is_first before ≡ true → (file : ℕ) × Found snapshot name (opens_as (Some file)))
       → Looked told_in told ways before snapshot name printer old after mid false sound
   looked_whole ends there = record {
@@ -99,10 +115,15 @@ module _ {told_in told : Bool} {ways : Ways} {before : List Look} {snapshot : Sn
   }
 
   -- a call failed: what comes before was given, and the message follows
-  pub looked_broke : (place : ℕ) {new : List Slot} {why : Fault} (fate : Fate) → is_some (failed_by fate None) ≡ true → why ≡ fault_by place fate
+  pub looked_broke : (place : ℕ) {new : List Slot} {why : Fault} (fate : Fate) → is_some (failed_by fate None) ≡ true
+      → why ≡ fault_by place fate
       → (not (is_unopened fate) && is_first before) ≡ is_first before
-      → Ends told_in (WereFound (IsTold before snapshot name) (StartsIn before name) snapshot name fate (Some (Broke why))) told (is_first before) printer name (due.came ++ due.led) (given_by due snapshot opened fate) old after mid (Some (Broke why))
-      → (is_first before ≡ true → (file : ℕ) × Found snapshot name (opens_as (Some file))) → ((reason : Reason) × SaysOn told (tail_by printer.calling) reason (message_of why name) mid new)
+      → Ends told_in
+      (WereFound (IsTold before snapshot name) (StartsIn before name) snapshot name fate (Some (Broke why))) told
+      (is_first before) printer name (due.came ++ due.led) (given_by due snapshot opened fate) old after mid
+      (Some (Broke why))
+      → (is_first before ≡ true → (file : ℕ) × Found snapshot name (opens_as (Some file)))
+      → ((reason : Reason) × SaysOn told (tail_by printer.calling) reason (message_of why name) mid new)
       → Looked told_in told ways before snapshot name printer old after new true fate
   looked_broke place {new} {why} fate broke fault openly ends there says =
       let line = fault_line place name fate broke in record {
@@ -113,8 +134,10 @@ module _ {told_in told : Bool} {ways : Ways} {before : List Look} {snapshot : Sn
         shared = subst (λ last. Came told printer (is_first before) name (bytes_in ends.events) (lines_in name ends.events ++ last) old after new None) line.0
             (said_after ends.came (failure_said (is_read fate) place name (subst (λ those. SaysOn told (tail_by printer.calling) says.0 (message_of those name) mid new) fault says.1)));
       } where
-        share_is : told_in ≡ true → (fates : List Fate) → is_some (failure_of fate) ≡ true → (events : List Event) → events ≡ given_by due snapshot opened fate
-            → shared_as (is_first before) name events (failure_of fate) ≡ share_by ways name before (seeing snapshot fates) fate
+        share_is : told_in ≡ true → (fates : List Fate) → is_some (failure_of fate) ≡ true → (events : List Event)
+            → events ≡ given_by due snapshot opened fate
+            → shared_as (is_first before) name events (failure_of fate)
+            ≡ share_by ways name before (seeing snapshot fates) fate
         share_is t fates fails events are =
             let is = dues.is t fates in
             rw (fails, openly) (ap (λ those. shared_as (is_first before) name those (failure_of fate)) (are
@@ -133,9 +156,11 @@ abbrev pub last_in : Ways → List ℕ → Look → List Look → Entry
 last_in ways name before looks = last_of (entries_in ways name (before ∷ looks))
 
 -- what is due then
-pub later_due : {told_in : Bool} {ways : Ways} {name : List ℕ} {before : Look} {looks : List Look} {snapshot : Snapshot} {opened : Option ℕ} {position : ℕ}
+pub later_due : {told_in : Bool} {ways : Ways} {name : List ℕ} {before : Look} {looks : List Look} {snapshot : Snapshot}
+    {opened : Option ℕ} {position : ℕ}
     → (told_in ≡ true → StandsAt (last_in ways name before looks) opened position)
-    → IsDue told_in ways (before ∷ looks) snapshot name (due_later ways.by_name name opened (last_in ways name before looks) snapshot) opened
+    → IsDue told_in ways (before ∷ looks) snapshot name
+    (due_later ways.by_name name opened (last_in ways name before looks) snapshot) opened
 later_due {ways} {name} {before} {looks} {snapshot} stands = record {
   is = λ t fates. let here = (stands t).file ∙ sym (last_file ways name before looks) in
       (refl, ap (λ file. due_later ways.by_name name file (last_in ways name before looks) snapshot) here, here);
@@ -143,13 +168,18 @@ later_due {ways} {name} {before} {looks} {snapshot} stands = record {
 
 -- Whatever looks were made before at a name that stood so: what is due at this one was given, call by call, before it is told what
 -- failed. Then this much of the file was seen to which the name led.
-pub record Gave (told_in told : Bool) (ways : Ways) (looks : List Look) (snapshot : Snapshot) (place : ℕ) (name : List ℕ) (led : Option ℕ)
-    (printer : PrinterState) (slots : List Slot) (after : PrinterState) (slots_new : List Slot) (fate : Fate) (result : Result ℕ Stop) : Type 0 where
+pub record Gave (told_in told : Bool) (ways : Ways) (looks : List Look) (snapshot : Snapshot) (place : ℕ)
+    (name : List ℕ) (led : Option ℕ)
+    (printer : PrinterState) (slots : List Slot) (after : PrinterState) (slots_new : List Slot) (fate : Fate)
+    (result : Result ℕ Stop) : Type 0 where
   pub kept : is_dropped place looks ≡ false
   pub due : Due
   pub opened : Option ℕ
   pub is_due : IsDue told_in ways looks snapshot name due opened
-  pub ends : Ends told_in (WereFound (IsTold looks snapshot name) (StartsIn looks name) snapshot name fate (stop_in result)) told (is_first looks) printer name (due.came ++ due.led) (given_by due snapshot opened fate) slots after slots_new (stop_in result)
+  pub ends : Ends told_in
+      (WereFound (IsTold looks snapshot name) (StartsIn looks name) snapshot name fate (stop_in result)) told
+      (is_first looks) printer name (due.came ++ due.led) (given_by due snapshot opened fate) slots after slots_new
+      (stop_in result)
   pub there : is_first looks ≡ true → (file : ℕ) × Found snapshot name (opens_as (Some file))
   pub last : IfOk result (λ len. told_in ≡ true → (ways.by_name ≡ false → is_some led ≡ true)
       × ((fates : List Fate) → StandsAt (last_of (entries_in ways name (looks ++ seeing snapshot fates ∷ []))) led len))
@@ -157,11 +187,13 @@ pub record Gave (told_in told : Bool) (ways : Ways) (looks : List Look) (snapsho
   pub openly : IfBroke (stop_in result) ((not (is_unopened fate) && is_first looks) ≡ is_first looks)
 
 -- this file of it is open now
-opened_now : (place : ℕ) {file : Option ℕ} (old : List Watched) {new : List Watched} → new ≡ changed_at place (opens file) old → IsTrue (is_watchable old place)
+opened_now : (place : ℕ) {file : Option ℕ} (old : List Watched) {new : List Watched}
+    → new ≡ changed_at place (opens file) old → IsTrue (is_watchable old place)
     → watched_at new place ≡ record (watched_at old place) { opened = file }
 opened_now place old is can = ap (λ those. watched_at those place) is ∙ opened_there old place can
 
-broken_now : (place : ℕ) (old : List Watched) {new : List Watched} {fate : Fate} {why : Fault} → BrokeAt place old new fate why → IsTrue (is_watchable old place)
+broken_now : (place : ℕ) (old : List Watched) {new : List Watched} {fate : Fate} {why : Fault}
+    → BrokeAt place old new fate why → IsTrue (is_watchable old place)
     → watched_at new place ≡ record (watched_at old place) { opened = None; failed = failed_by fate None }
 broken_now place old {fate} is can = ap (λ those. watched_at those place) is.names
     ∙ changed_there no_name place (λ watched. record watched { opened = None; failed = failed_by fate None }) old (watchable_within old place can)
@@ -183,11 +215,15 @@ last_seen : (looks : List Look) (look : Look) → latest (snapshots (looks ++ lo
 last_seen looks look = ap latest (map-append (λ (l : Look). l.snapshot) looks (look ∷ [])) ∙ latest-last (snapshots looks) look.snapshot
 
 -- a name that came through it stands at its last entry
-through_stands : {told : Bool} {ways : Ways} (looks : List Look) (look : Look) {place : ℕ} {name : List ℕ} {file led : Option ℕ} {len : ℕ}
-    (old : List Watched) {new : List Watched} → (watched_at old place).name ≡ name → IsTrue (is_watchable old place) → is_dropped place looks ≡ false
+through_stands : {told : Bool} {ways : Ways} (looks : List Look) (look : Look) {place : ℕ} {name : List ℕ}
+    {file led : Option ℕ} {len : ℕ}
+    (old : List Watched) {new : List Watched} → (watched_at old place).name ≡ name → IsTrue (is_watchable old place)
+    → is_dropped place looks ≡ false
     → new ≡ changed_at place (opens file) old → fate_at place look ≡ sound → (told ≡ true → file ≡ led)
-    → (told ≡ true → (ways.by_name ≡ false → is_some led ≡ true) × StandsAt (last_of (entries_in ways name (looks ++ look ∷ []))) led len)
-    → IsLong ways.by_name look.snapshot (watched_at new place).name (watched_at new place).opened len → IsFollowed told ways (looks ++ look ∷ []) place name (watched_at new place) len
+    → (told ≡ true → (ways.by_name ≡ false → is_some led ≡ true)
+    × StandsAt (last_of (entries_in ways name (looks ++ look ∷ []))) led len)
+    → IsLong ways.by_name look.snapshot (watched_at new place).name (watched_at new place).opened len
+    → IsFollowed told ways (looks ++ look ∷ []) place name (watched_at new place) len
 through_stands {ways} looks look {place} {name} {len} old {new} named can kept is at leads last long =
     let now = opened_now place old is can in
     record {
@@ -201,10 +237,13 @@ through_stands {ways} looks look {place} {name} {len} old {new} named can kept i
     }
 
 -- what a look gave, and how the name stands then
-looked_visited : {told_in told : Bool} {ways : Ways} {looks : List Look} {snapshot : Snapshot} {place : ℕ} {name : List ℕ} {printer after : PrinterState}
-    {slots slots_new : List Slot} {watched : Watched} {has_failed : Bool} {standing : Standing} (fate : Fate) → is_dropped place looks ≡ false
+looked_visited : {told_in told : Bool} {ways : Ways} {looks : List Look} {snapshot : Snapshot} {place : ℕ}
+    {name : List ℕ} {printer after : PrinterState}
+    {slots slots_new : List Slot} {watched : Watched} {has_failed : Bool} {standing : Standing} (fate : Fate)
+    → is_dropped place looks ≡ false
     → Looked told_in told ways looks snapshot name printer slots after slots_new has_failed fate
-    → ((fates : List Fate) → fate_at place (seeing snapshot fates) ≡ fate → Stands told_in ways (looks ++ seeing snapshot fates ∷ []) place name watched standing)
+    → ((fates : List Fate) → fate_at place (seeing snapshot fates) ≡ fate
+    → Stands told_in ways (looks ++ seeing snapshot fates ∷ []) place name watched standing)
     → Visited told_in told ways looks snapshot place name printer slots after slots_new watched standing has_failed
 looked_visited fate kept looked stands = record {
   fate = fate;
@@ -216,17 +255,21 @@ looked_visited fate kept looked stands = record {
   stands = stands;
 }
 
-module _ {told_in told : Bool} {ways : Ways} {snapshot : Snapshot} {place : ℕ} {name : List ℕ} {standing : Standing} {old new : List Watched} {printer after : PrinterState} {slots slots_new : List Slot} where
+module _ {told_in told : Bool} {ways : Ways} {snapshot : Snapshot} {place : ℕ} {name : List ℕ} {standing : Standing}
+    {old new : List Watched} {printer after : PrinterState} {slots slots_new : List Slot} where
   visits_by : (now : Standing) {failed : Bool} (change : Watched → Watched) → new ≡ changed_at place change old
       → CanVisit (record { text = name; standing = now }) (watched_at new place)
       → ((looks : List Look) → Stands told_in ways looks place name (watched_at old place) standing
-      → Visited told_in told ways looks snapshot place name printer slots after slots_new (watched_at new place) now failed)
+      → Visited told_in told ways looks snapshot place name printer slots after slots_new
+      (watched_at new place) now failed)
       → Visits told_in told ways snapshot place name standing old printer slots now new after slots_new (Ok failed)
   visits_by now change is ready visited = record { visited = visited; stopped = tt; ready = ready; others = keeps_others change is; halts = tt }
 
   -- it broke
-  drops : (fate : Fate) (why : Fault) → (watched_at old place).name ≡ name → IsTrue (is_watchable old place) → BrokeAt place old new fate why
-      → ((looks : List Look) → Stands told_in ways looks place name (watched_at old place) standing → (is_dropped place looks ≡ false)
+  drops : (fate : Fate) (why : Fault) → (watched_at old place).name ≡ name → IsTrue (is_watchable old place)
+      → BrokeAt place old new fate why
+      → ((looks : List Look) → Stands told_in ways looks place name (watched_at old place) standing
+      → (is_dropped place looks ≡ false)
       × Looked told_in told ways looks snapshot name printer slots after slots_new true fate × (can_meet (is_first looks) ways.by_name ways.seeks fate ≡ true))
       → Visits told_in told ways snapshot place name standing old printer slots Left new after slots_new (Ok true)
   drops fate why named can broke gave = visits_by Left _ broke.names tt (λ looks stands.
@@ -247,16 +290,20 @@ module _ {told_in told : Bool} {ways : Ways} {snapshot : Snapshot} {place : ℕ}
       → IsTrue (is_watchable old place) → Follows told_in led place old new fate None
       → ((looks : List Look) → Stands told_in ways looks place name (watched_at old place) standing
       → Gave told_in told ways looks snapshot place name led printer slots after slots_new fate (Ok len))
-      → IsLong ways.by_name snapshot (watched_at new place).name (watched_at new place).opened len → Visits told_in told ways snapshot place name standing old printer slots (Followed len) new after slots_new (Ok false)
+      → IsLong ways.by_name snapshot (watched_at new place).name (watched_at new place).opened len
+      → Visits told_in told ways snapshot place name standing old printer slots (Followed len) new after slots_new
+      (Ok false)
   gave_through {len} fate named can (file, is, leads) gave long =
       visits_by (Followed len) (opens file) is (rw (opened_now place old is can) (named, none_there (watched_at old place).failed can)) (λ looks stands.
       let made = gave looks stands in looked_visited sound made.kept (looked_whole made.is_due (sound_found (StartsIn looks name) snapshot name fate made.ends) made.there)
       (λ fates at. through_stands looks (seeing snapshot fates) old named can made.kept is at leads (λ t. ((made.last t).0, (made.last t).1 fates)) long))
 
-  pub gave_fails : {led : Option ℕ} {mid : List Slot} (fate : Fate) (stop : Stop) {now : Standing} {result : Result Bool Fault} → (watched_at old place).name ≡ name
+  pub gave_fails : {led : Option ℕ} {mid : List Slot} (fate : Fate) (stop : Stop) {now : Standing}
+      {result : Result Bool Fault} → (watched_at old place).name ≡ name
       → IsTrue (is_watchable old place) → Follows told_in led place old new fate (Some stop)
       → ((looks : List Look) → Stands told_in ways looks place name (watched_at old place) standing
-      → Gave told_in told ways looks snapshot place name led printer slots after mid fate (Err stop)) → TellsStop told after.calling name mid now slots_new stop result
+      → Gave told_in told ways looks snapshot place name led printer slots after mid fate (Err stop))
+      → TellsStop told after.calling name mid now slots_new stop result
       → Visits told_in told ways snapshot place name standing old printer slots now new after slots_new result
   gave_fails {mid} fate (Broke why) named can broke gave (tells, left, says) = rw (tells, left) (drops fate why named can broke (λ looks stands.
       let made = gave looks stands in (made.kept, looked_broke made.is_due place fate broke.broke broke.fault_is made.openly made.ends made.there (says.0, subst (λ (p : PrinterState). SaysOn told (tail_by p.calling) says.0 (message_of why name) mid slots_new) (made.ends.came.printer_is refl) says.1), made.met)))
@@ -280,10 +327,14 @@ module _ {told_in told : Bool} {ways : Ways} {snapshot : Snapshot} {place : ℕ}
 
 -- ways out of the first look
 
-pub first_missing : {told_in told : Bool} {ways : Ways} {snapshot : Snapshot} {place : ℕ} {name : List ℕ} {printer : PrinterState}
-    {slots slots_new : List Slot} {old new : List Watched} {is_there : Bool} {reason : Reason} → Reopens told_in snapshot old new place is_there → is_there ≡ false
-    → (watched_at old place).name ≡ name → IsTrue (is_watchable old place) → SaysOn told (tail_by printer.calling) reason (message_of (Open place) name) slots slots_new
-    → Visits told_in told ways snapshot place name New old printer slots (if ways.by_name then Followed 0 else Left) new printer slots_new (Ok true)
+pub first_missing : {told_in told : Bool} {ways : Ways} {snapshot : Snapshot} {place : ℕ} {name : List ℕ}
+    {printer : PrinterState}
+    {slots slots_new : List Slot} {old new : List Watched} {is_there : Bool} {reason : Reason}
+    → Reopens told_in snapshot old new place is_there → is_there ≡ false
+    → (watched_at old place).name ≡ name → IsTrue (is_watchable old place)
+    → SaysOn told (tail_by printer.calling) reason (message_of (Open place) name) slots slots_new
+    → Visits told_in told ways snapshot place name New old printer slots
+    (if ways.by_name then Followed 0 else Left) new printer slots_new (Ok true)
 first_missing {told_in} {told} {ways} {snapshot} {place} {name} {printer} {slots} {slots_new} {old} {new} reopens gone named can says =
     visits_by _ (opens reopens.file) reopens.names (ready ways.by_name)
     (λ looks fresh. rw fresh.0 (looked_visited sound refl looked (λ fates at. stands fates at ways.by_name refl))) where
@@ -305,12 +356,15 @@ first_missing {told_in} {told} {ways} {snapshot} {place} {name} {printer} {slots
       unbroken : (watched_at new place).failed ≡ None
       unbroken = ap (λ (w : Watched). w.failed) (opened_now place old reopens.names can) ∙ none_there (watched_at old place).failed can
 
-      ready : (by_name : Bool) → CanVisit (record { text = name; standing = if by_name then Followed 0 else Left }) (watched_at new place)
+      ready : (by_name : Bool)
+          → CanVisit (record { text = name; standing = if by_name then Followed 0 else Left }) (watched_at new place)
       ready true = (ap (λ (w : Watched). w.name) (opened_now place old reopens.names can) ∙ named, unbroken)
       ready false = tt
 
-      stands : (fates : List Fate) → fate_at place (seeing snapshot fates) ≡ sound → (by_name : Bool) → ways.by_name ≡ by_name
-          → Stands told_in ways (seeing snapshot fates ∷ []) place name (watched_at new place) (if by_name then Followed 0 else Left)
+      stands : (fates : List Fate) → fate_at place (seeing snapshot fates) ≡ sound → (by_name : Bool)
+          → ways.by_name ≡ by_name
+          → Stands told_in ways (seeing snapshot fates ∷ []) place name (watched_at new place)
+          (if by_name then Followed 0 else Left)
       stands fates at true way = through_stands [] (seeing snapshot fates) old named can refl reopens.names at (λ t. reopens.leads t ∙ ap snapshot.leads named) (λ t. (
         λ other. absurd (false≢true (sym other ∙ way)),
         subst (λ len. StandsAt (last_of (entries_in ways name (seeing snapshot fates ∷ []))) (snapshot.leads name) len)
@@ -318,9 +372,12 @@ first_missing {told_in} {told} {ways} {snapshot} {place} {name} {printer} {slots
       )) (rw (ap (λ (w : Watched). w.opened) (opened_now place old reopens.names can) ∙ none_of reopens.file (reopens.found ∙ gone)) (λ by. inr lost))
       stands fates at false way = record { begun = refl; named = ap (λ (w : Watched). w.name) (opened_now place old reopens.names can) ∙ named; why = inr (record { way = way; unbroken = unbroken; kept = kept_more place [] (seeing snapshot fates) refl at; closed = ap (λ (w : Watched). w.opened) (opened_now place old reopens.names can) ∙ none_of reopens.file (reopens.found ∙ gone); unopened = nowhere }) }
 
-pub first_unopened : {told_in told : Bool} {ways : Ways} {snapshot : Snapshot} {place : ℕ} {name : List ℕ} {printer : PrinterState}
-    {slots slots_new : List Slot} {old new : List Watched} {why : Fault} {now : Standing} {result : Result Bool Fault} → (watched_at old place).name ≡ name → IsTrue (is_watchable old place)
-    → why ≡ Open place → new ≡ changed_at place (breaks (λ file. broken.Open)) old → snapshot.breaks ≡ true → TellsStop told printer.calling name slots now slots_new (Broke why) result
+pub first_unopened : {told_in told : Bool} {ways : Ways} {snapshot : Snapshot} {place : ℕ} {name : List ℕ}
+    {printer : PrinterState}
+    {slots slots_new : List Slot} {old new : List Watched} {why : Fault} {now : Standing} {result : Result Bool Fault}
+    → (watched_at old place).name ≡ name → IsTrue (is_watchable old place)
+    → why ≡ Open place → new ≡ changed_at place (breaks (λ file. broken.Open)) old → snapshot.breaks ≡ true
+    → TellsStop told printer.calling name slots now slots_new (Broke why) result
     → Visits told_in told ways snapshot place name New old printer slots now new printer slots_new result
 first_unopened {place} {name} {old} {why} named can is broke fails (tells, left, says) =
     rw (tells, left) (drops unopened why named can (broke_at (λ file. broken.Open) refl refl is broke)
@@ -357,13 +414,17 @@ first_opens (unsought file from) read = refl
 first_opens (unread file from) read = refl
 
 -- the file was opened: its start part was given under its header, or what comes before a call that failed
-pub first_gave : {told_in told : Bool} {ways : Ways} {snapshot : Snapshot} {place : ℕ} {name contents : List ℕ} {printer inside after : PrinterState}
-    {slots slots_new : List Slot} {old mid : List Watched} (new : List Watched) {is_there : Bool} {fate : Fate} {result : Result ℕ Stop} → inside ≡ printer
+pub first_gave : {told_in told : Bool} {ways : Ways} {snapshot : Snapshot} {place : ℕ} {name contents : List ℕ}
+    {printer inside after : PrinterState}
+    {slots slots_new : List Slot} {old mid : List Watched} (new : List Watched) {is_there : Bool} {fate : Fate}
+    {result : Result ℕ Stop} → inside ≡ printer
     → Reopens told_in snapshot old mid place is_there → is_there ≡ true → (watched_at old place).name ≡ name
     → (told_in ≡ true → contents ≡ held_at snapshot (snapshot.leads name)) → Keeps place mid new fate (stop_in result)
     → IfBroke (stop_in result) (can_meet true ways.by_name ways.seeks fate ≡ true)
     → IfOk result (λ len. told_in ≡ true → len ≡ length contents)
-    → Ends told_in (WereFound Nothing Anywhere snapshot name fate (stop_in result)) told true inside name (gives (ways.start contents) ∷ []) (led_before snapshot fate (gives (ways.start contents) ∷ [])) slots after slots_new (stop_in result)
+    → Ends told_in (WereFound Nothing Anywhere snapshot name fate (stop_in result)) told true inside name
+    (gives (ways.start contents) ∷ [])
+    (led_before snapshot fate (gives (ways.start contents) ∷ [])) slots after slots_new (stop_in result)
     → (looks : List Look) → Stands told_in ways looks place name (watched_at old place) New
     → Gave told_in told ways looks snapshot place name (snapshot.leads name) printer slots after slots_new fate result
 first_gave {told_in} {told} {ways} {snapshot} {place} {name} {contents} {after} {slots} {slots_new} {mid} new {fate} {result} viewed reopens there named same keeps met long ends looks fresh =
@@ -394,25 +455,33 @@ first_gave {told_in} {told} {ways} {snapshot} {place} {name} {contents} {after} 
       found : told_in ≡ true → (id : ℕ) × (snapshot.leads name ≡ Some id)
       found t = some_of (snapshot.leads name) (ap is_some (sym (reopens.leads t ∙ ap snapshot.leads named)) ∙ reopens.found ∙ there)
 
-      opens_so : (result : Result ℕ Stop) → Keeps place mid new fate (stop_in result) → IfBroke (stop_in result) ((not (is_unopened fate) && true) ≡ true)
+      opens_so : (result : Result ℕ Stop) → Keeps place mid new fate (stop_in result)
+          → IfBroke (stop_in result) ((not (is_unopened fate) && true) ≡ true)
       opens_so (Ok len) keeps = tt
       opens_so (Err (Broke why)) keeps = first_opens fate keeps.1
       opens_so (Err (Over why)) keeps = tt
 
-pub first_long : {told_in : Bool} {snapshot : Snapshot} {place : ℕ} {old mid new : List Watched} {is_there : Bool} (seen : Snapshot) (len : ℕ) (by_name : Bool) → Reopens told_in snapshot old mid place is_there
-    → is_there ≡ true → IsTrue (is_watchable old place) → new ≡ mid → IsLong false seen (watched_at new place).name (watched_at new place).opened len
+pub first_long : {told_in : Bool} {snapshot : Snapshot} {place : ℕ} {old mid new : List Watched} {is_there : Bool}
+    (seen : Snapshot) (len : ℕ) (by_name : Bool) → Reopens told_in snapshot old mid place is_there
+    → is_there ≡ true → IsTrue (is_watchable old place) → new ≡ mid
+    → IsLong false seen (watched_at new place).name (watched_at new place).opened len
     → IsLong by_name seen (watched_at new place).name (watched_at new place).opened len
 first_long {place} {old} {new} seen len by_name reopens there can same long =
     long_by seen (watched_at new place).name len by_name (watched_at new place).opened (λ none by. absurd (false≢true (sym (ap is_some none) ∙ (ap (λ those. is_some (watched_at those place).opened) same ∙ ap (λ (w : Watched). is_some w.opened) (opened_now place old reopens.names can) ∙ reopens.found ∙ there)))) long
 
-pub first_started : {told_in told : Bool} {ways : Ways} {snapshot now : Snapshot} {place : ℕ} {name : List ℕ} {printer inside middle after : PrinterState}
-    {slots slots_mid slots_new : List Slot} {old mid : List Watched} (new : List Watched) {is_there : Bool} {none : List Event} {result : Result ℕ Stop} → inside ≡ printer
-    → Reopens told_in snapshot old mid place is_there → is_there ≡ true → (watched_at old place).name ≡ name → IsTrue (is_watchable old place) → now ≡ snapshot
+pub first_started : {told_in told : Bool} {ways : Ways} {snapshot now : Snapshot} {place : ℕ} {name : List ℕ}
+    {printer inside middle after : PrinterState}
+    {slots slots_mid slots_new : List Slot} {old mid : List Watched} (new : List Watched) {is_there : Bool}
+    {none : List Event} {result : Result ℕ Stop} → inside ≡ printer
+    → Reopens told_in snapshot old mid place is_there → is_there ≡ true → (watched_at old place).name ≡ name
+    → IsTrue (is_watchable old place) → now ≡ snapshot
     → ((Is : List Event → Type 0) → Is [] → Ends told_in Is told true inside name [] none slots middle slots_mid None)
-    → (starts : Starts told_in told ways.seeks now ways.start place name mid middle slots_mid new after slots_new (stop_in result))
+    → (starts : Starts told_in told ways.seeks now ways.start place name mid middle slots_mid new after slots_new
+    (stop_in result))
     → IfOk result (λ len. told_in ≡ true → len ≡ length (open_contents now (watched_at mid place)))
     → (looks : List Look) → Stands told_in ways looks place name (watched_at old place) New
-    → Gave told_in told ways looks snapshot place name (snapshot.leads name) printer slots after slots_new starts.fate result
+    → Gave told_in told ways looks snapshot place name
+    (snapshot.leads name) printer slots after slots_new starts.fate result
 first_started {told_in} {told} {ways} {snapshot} {now} {place} {name} {inside} {after} {slots} {slots_new} {old} {mid} new {result} viewed reopens there named can same header starts long =
     let contents = held_at now (watched_at mid place).opened in
     first_gave new viewed reopens there named
@@ -426,11 +495,15 @@ first_started {told_in} {told} {ways} {snapshot} {now} {place} {name} {inside} {
       known = ap (λ (w : Watched). w.name) (opened_now place old reopens.names can) ∙ named
 
 -- a later look at a name whose file was seen so far
-pub later_gave : {told_in told : Bool} {ways : Ways} {snapshot : Snapshot} {place : ℕ} {name : List ℕ} {position : ℕ} {printer after : PrinterState}
+pub later_gave : {told_in told : Bool} {ways : Ways} {snapshot : Snapshot} {place : ℕ} {name : List ℕ} {position : ℕ}
+    {printer after : PrinterState}
     {slots slots_new : List Slot} {old new : List Watched} {result : Result ℕ Stop}
-    → (again : LooksAgain told_in told ways.by_name snapshot place name position old printer slots new after slots_new result)
+    → (again : LooksAgain told_in told ways.by_name snapshot place name position old printer slots new after slots_new
+    result)
     → (looks : List Look) → Stands told_in ways looks place name (watched_at old place) (Followed position)
-    → Gave told_in told ways looks snapshot place name (open_after_look ways.by_name name (watched_at old place).opened snapshot) printer slots after slots_new again.fate result
+    → Gave told_in told ways looks snapshot place name
+    (open_after_look ways.by_name name (watched_at old place).opened snapshot) printer slots after slots_new again.fate
+    result
 later_gave again [] followed = absurd (false≢true (sym followed.begun))
 later_gave {told_in} {ways} {snapshot} {place} {name} {position} {old} {result} again (before ∷ looks) followed = record {
   kept = followed.kept;
@@ -449,20 +522,25 @@ later_gave {told_in} {ways} {snapshot} {place} {name} {position} {old} {result} 
   opened : Option ℕ
   opened = (watched_at old place).opened
 
-  at_last : told_in ≡ true → (fates : List Fate) → last_of (entries_in ways name ((before ∷ looks) ++ seeing snapshot fates ∷ []))
+  at_last : told_in ≡ true → (fates : List Fate)
+      → last_of (entries_in ways name ((before ∷ looks) ++ seeing snapshot fates ∷ []))
       ≡ last_from (last_in ways name before looks) (entries_at_look ways.by_name name opened snapshot)
   at_last t fates = looked_last ways name before looks (seeing snapshot fates)
       ∙ ap (λ file. last_from (last_in ways name before looks) (entries_at_look ways.by_name name file snapshot)) (last_file ways name before looks ∙ sym (followed.stands t).file)
 
-  begins : (file : Option ℕ) (from : ℕ) → FromFrontOr opened position file from → StartsIn (before ∷ looks) name file from
+  begins : (file : Option ℕ) (from : ℕ) → FromFrontOr opened position file from
+      → StartsIn (before ∷ looks) name file from
   begins file from (inl front) = inr (inl front)
   begins file from (inr (same, some, at)) = inr (inr (rw (same, at) (held_many ways.by_name (latest (snapshots (before ∷ looks))) name position opened some followed.long)))
 
-  left_open : (opened : Option ℕ) (by_name : Bool) → (opened ≡ None → by_name ≡ true) → IsLong by_name (latest (snapshots (before ∷ looks))) name opened position → LeftOpen (latest (snapshots (before ∷ looks))) name opened position
+  left_open : (opened : Option ℕ) (by_name : Bool) → (opened ≡ None → by_name ≡ true)
+      → IsLong by_name (latest (snapshots (before ∷ looks))) name opened position
+      → LeftOpen (latest (snapshots (before ∷ looks))) name opened position
   left_open None by_name can long = long (can refl)
   left_open (Some file) by_name can long = long
 
-  tells : (notice : Notice) → ToldAgain ways.by_name snapshot name opened position notice → IsTold (before ∷ looks) snapshot name notice
+  tells : (notice : Notice) → ToldAgain ways.by_name snapshot name opened position notice
+      → IsTold (before ∷ looks) snapshot name notice
   tells notice (can, seen) = (refl, opened, position, left_open opened ways.by_name can followed.long, seen)
 
   never_first : (stop : Option Stop) → IfBroke stop ((not (is_unopened again.fate) && false) ≡ false)
@@ -473,23 +551,29 @@ later_gave {told_in} {ways} {snapshot} {place} {name} {position} {old} {result} 
 -- a name that is looked at no more
 
 -- where no file is open, and names aren't followed, nothing is due
-left_due : {told_in : Bool} {ways : Ways} (looks : List Look) {snapshot : Snapshot} {place : ℕ} {name : List ℕ} {watched : Watched} → is_first looks ≡ false
-    → IsMissed told_in ways looks place name watched → IsDue told_in ways looks snapshot name (record { came = []; led = [] }) None
+left_due : {told_in : Bool} {ways : Ways} (looks : List Look) {snapshot : Snapshot} {place : ℕ} {name : List ℕ}
+    {watched : Watched} → is_first looks ≡ false
+    → IsMissed told_in ways looks place name watched
+    → IsDue told_in ways looks snapshot name (record { came = []; led = [] }) None
 left_due [] first missed = absurd (false≢true (sym first))
 left_due {ways} (before ∷ looks) {snapshot} {name} first missed = record {
   is = λ t fates.
       let here = sym (missed.unopened t) ∙ last_file ways name before looks in
       (refl, gap_gives ways.by_name (last_in ways name before looks) here missed.way ∙ ap (λ file. due_later ways.by_name name file (last_in ways name before looks) snapshot) (sym (missed.unopened t)), sym (missed.unopened t));
 } where
-  gap_gives : (by_name : Bool) (last : Entry) → None ≡ file_of last → by_name ≡ false → record { came = []; led = [] } ≡ due_later by_name name None last snapshot
+  gap_gives : (by_name : Bool) (last : Entry) → None ≡ file_of last → by_name ≡ false
+      → record { came = []; led = [] } ≡ due_later by_name name None last snapshot
   gap_gives by_name gap here way = rw way refl
   gap_gives by_name (version v) here way = absurd (cc)
 
-still_open : (name : List ℕ) (opened : Option ℕ) (snaps : List Snapshot) → open_after_later false name opened snaps ≡ opened
+still_open : (name : List ℕ) (opened : Option ℕ) (snaps : List Snapshot)
+    → open_after_later false name opened snaps ≡ opened
 still_open name opened [] = refl
 still_open name opened (snapshot ∷ snaps) = still_open name opened snaps
 
-still_left : {told : Bool} {ways : Ways} (looks : List Look) (look : Look) {place : ℕ} {name : List ℕ} {watched : Watched} → fate_at place look ≡ sound → IsLeft told ways looks place name watched → IsLeft told ways (looks ++ look ∷ []) place name watched
+still_left : {told : Bool} {ways : Ways} (looks : List Look) (look : Look) {place : ℕ} {name : List ℕ}
+    {watched : Watched} → fate_at place look ≡ sound → IsLeft told ways looks place name watched
+    → IsLeft told ways (looks ++ look ∷ []) place name watched
 still_left [] look fine left = absurd (false≢true (sym left.begun))
 still_left {ways} (before ∷ looks) look {place} {name} {watched} fine left = record {
   begun = refl;
@@ -506,9 +590,11 @@ still_left {ways} (before ∷ looks) look {place} {name} {watched} fine left = r
   ];
 }
 
-pub left_visited : {told_in told : Bool} {ways : Ways} {snapshot : Snapshot} {place : ℕ} {name : List ℕ} {printer : PrinterState} {slots : List Slot}
+pub left_visited : {told_in told : Bool} {ways : Ways} {snapshot : Snapshot} {place : ℕ} {name : List ℕ}
+    {printer : PrinterState} {slots : List Slot}
     {watched : Watched}
-    (looks : List Look) → IsLeft told_in ways looks place name watched → Visited told_in told ways looks snapshot place name printer slots printer slots watched Left false
+    (looks : List Look) → IsLeft told_in ways looks place name watched
+    → Visited told_in told ways looks snapshot place name printer slots printer slots watched Left false
 left_visited {snapshot} {place} {name} looks left = elim left.why [
   | inl dropped ↦ record {
     fate = sound;
@@ -524,7 +610,9 @@ left_visited {snapshot} {place} {name} looks left = elim left.why [
 
 -- where no call can fail
 
-sound_at : {before : List Look} (look : Look) (place : ℕ) {name : List ℕ} {share : Share} → IsGiven before look place name share → failed_in place before ≡ None → look.snapshot.breaks ≡ false → fate_at place look ≡ sound
+sound_at : {before : List Look} (look : Look) (place : ℕ) {name : List ℕ} {share : Share}
+    → IsGiven before look place name share → failed_in place before ≡ None → look.snapshot.breaks ≡ false
+    → fate_at place look ≡ sound
 sound_at look place (inl (dropped, is)) kept unbroken = absurd (false≢true (sym (ap is_some kept) ∙ dropped))
 sound_at look place (inr (none, inl found)) kept unbroken = elim found.broke [
   | inl fine ↦ fine
@@ -532,7 +620,8 @@ sound_at look place (inr (none, inl found)) kept unbroken = elim found.broke [
 ]
 sound_at look place (inr (none, inr missing)) kept unbroken = missing.kept
 
-sound_among : {before : List Look} {look : Look} (from : ℕ) (names : List (List ℕ)) {shares : List Share} → AreAtLook before look from names shares → look.snapshot.breaks ≡ false
+sound_among : {before : List Look} {look : Look} (from : ℕ) (names : List (List ℕ)) {shares : List Share}
+    → AreAtLook before look from names shares → look.snapshot.breaks ≡ false
     → (place : ℕ) → place < length names → failed_in (from + place) before ≡ None → fate_at (from + place) look ≡ sound
 sound_among from [] given unbroken place within kept = absurd (omega (arith, within))
 sound_among {before} {look} from (name ∷ names) (names_more given rest) unbroken zero within kept =
@@ -541,11 +630,14 @@ sound_among {before} {look} from (name ∷ names) (names_more given rest) unbrok
     let at : from + 1 + place ≡ from + suc place = omega arith in
     rw at at (sound_among (from + 1) names rest unbroken place (omega (arith, within)) (rw (← at) at kept))
 
-none_breaks_before : (looks : List Look) (look : Look) → NoneBreaks (looks ++ look ∷ []) → NoneBreaks looks × (look.snapshot.breaks ≡ false)
+none_breaks_before : (looks : List Look) (look : Look) → NoneBreaks (looks ++ look ∷ [])
+    → NoneBreaks looks × (look.snapshot.breaks ≡ false)
 none_breaks_before [] look none = (tt, none.0)
 none_breaks_before (first ∷ looks) look none = let rest = none_breaks_before looks look none.1 in ((none.0, rest.0), rest.1)
 
-pub names_stay : (ways : Ways) (names : List (List ℕ)) (looks : List Look) (shares : List Share) → AreFound ways names looks shares → NoneBreaks looks → (place : ℕ) → place < length names → failed_in (ways.first + place) looks ≡ None
+pub names_stay : (ways : Ways) (names : List (List ℕ)) (looks : List Look) (shares : List Share)
+    → AreFound ways names looks shares → NoneBreaks looks → (place : ℕ) → place < length names
+    → failed_in (ways.first + place) looks ≡ None
 names_stay ways names looks shares no_looks none place within = refl
 names_stay ways names looks shares (looks_more {looks = before} {look} {shares = given} found at_look) none place within =
     let (so_far, unbroken) = none_breaks_before before look none in

@@ -26,11 +26,15 @@ pub record Some_entries (entries : List Entry) : Type 0 where
   pub rest : List Entry
   pub are : entries ≡ first ∷ rest
 
-first_some : (snapshot : Snapshot) (led : Option ℕ) (more : List Entry) → Some_entries (entries_led snapshot None led ++ more)
+first_some : (snapshot : Snapshot) (led : Option ℕ) (more : List Entry)
+    → Some_entries (entries_led snapshot None led ++ more)
 first_some snapshot None more = record { first = gap; rest = more; are = refl }
 first_some snapshot (Some file) more = record { first = version_in snapshot file; rest = more; are = refl }
 
-pub entries_more : (ways : Ways) (name : List ℕ) (before : Look) (looks : List Look) (look : Look) → entries_in ways name ((before ∷ looks) ++ look ∷ []) ≡ entries_in ways name (before ∷ looks) ++ entries_at_look ways.by_name name (open_after ways.by_name name (snapshots (before ∷ looks))) look.snapshot
+pub entries_more : (ways : Ways) (name : List ℕ) (before : Look) (looks : List Look) (look : Look)
+    → entries_in ways name ((before ∷ looks) ++ look ∷ [])
+    ≡ entries_in ways name (before ∷ looks)
+    ++ entries_at_look ways.by_name name (open_after ways.by_name name (snapshots (before ∷ looks))) look.snapshot
 entries_more ways name before looks look = search (rules, map-append, entries-append)
 
 -- what a look adds to the entries
@@ -39,16 +43,19 @@ added ways name [] look = entries_in ways name (look ∷ [])
 added ways name (before ∷ looks) look = entries_at_look ways.by_name name (opened_in ways name (before ∷ looks)) look.snapshot
 
 -- a look only adds entries
-entries_go_on : (ways : Ways) (name : List ℕ) (looks : List Look) (look : Look) → entries_in ways name (looks ++ look ∷ []) ≡ entries_in ways name looks ++ added ways name looks look
+entries_go_on : (ways : Ways) (name : List ℕ) (looks : List Look) (look : Look)
+    → entries_in ways name (looks ++ look ∷ []) ≡ entries_in ways name looks ++ added ways name looks look
 entries_go_on ways name [] look = refl
 entries_go_on ways name (before ∷ looks) look = entries_more ways name before looks look
 
 -- what further entries add to a name that has some
-adds_later : (start : List ℕ → List ℕ) {entries : List Entry} (more : List Entry) → Some_entries entries → gains_after start entries more ≡ gains_later (last_of entries) more
+adds_later : (start : List ℕ → List ℕ) {entries : List Entry} (more : List Entry) → Some_entries entries
+    → gains_after start entries more ≡ gains_later (last_of entries) more
 adds_later start more some = rw some.are refl
 
 -- and it gives what they add
-gain_adds : (ways : Ways) (name : List ℕ) (looks : List Look) (look : Look) → gain ways name looks look ≡ gains_after ways.start (entries_in ways name looks) (added ways name looks look)
+gain_adds : (ways : Ways) (name : List ℕ) (looks : List Look) (look : Look)
+    → gain ways name looks look ≡ gains_after ways.start (entries_in ways name looks) (added ways name looks look)
 gain_adds ways name [] look = append-nil (gains_after ways.start [] (entries_in ways name (look ∷ [])))
 gain_adds ways name (before ∷ looks) look =
     let opened = opened_in ways name (before ∷ looks) in let last = last_of (entries_in ways name (before ∷ looks)) in
@@ -57,12 +64,17 @@ gain_adds ways name (before ∷ looks) look =
     ∙ sym (adds_later ways.start _ (first_some before.snapshot (before.snapshot.leads name) _))
 
 -- so the text goes on by what a look gives, where a file that is appended to keeps its bytes
-pub look_goes_on : (ways : Ways) (name : List ℕ) (looks : List Look) (look : Look) → AreKept (entries_in ways name (looks ++ look ∷ [])) → name_text ways.start (entries_in ways name (looks ++ look ∷ [])) ≡ name_text ways.start (entries_in ways name looks) ++ gain ways name looks look
+pub look_goes_on : (ways : Ways) (name : List ℕ) (looks : List Look) (look : Look)
+    → AreKept (entries_in ways name (looks ++ look ∷ []))
+    → name_text ways.start (entries_in ways name (looks ++ look ∷ []))
+    ≡ name_text ways.start (entries_in ways name looks) ++ gain ways name looks look
 look_goes_on ways name looks look kept = ap (name_text ways.start) (entries_go_on ways name looks look)
     ∙ text_goes_on ways.start (entries_in ways name looks) (added ways name looks look) (subst AreKept (entries_go_on ways name looks look) kept)
     ∙ ap (λ those. name_text ways.start (entries_in ways name looks) ++ those) (sym (gain_adds ways name looks look))
 
-gains_are : (ways : Ways) (name : List ℕ) (before looks : List Look) → gains_after ways.start [] (entries_in ways name before) ++ gains_from ways name before looks ≡ gains_after ways.start [] (entries_in ways name (before ++ looks))
+gains_are : (ways : Ways) (name : List ℕ) (before looks : List Look)
+    → gains_after ways.start [] (entries_in ways name before) ++ gains_from ways name before looks
+    ≡ gains_after ways.start [] (entries_in ways name (before ++ looks))
 gains_are ways name before [] = append-nil _ ∙ ap (λ those. gains_after ways.start [] (entries_in ways name those)) (sym (append-nil before))
 gains_are ways name before (look ∷ looks) =
     sym (append_assoc (gains_after ways.start [] (entries_in ways name before)) (gain ways name before look) (gains_from ways name (before ++ look ∷ []) looks))
@@ -72,22 +84,27 @@ gains_are ways name before (look ∷ looks) =
     ∙ ap (λ those. gains_after ways.start [] (entries_in ways name those)) (append_assoc before (look ∷ []) looks)
 
 -- and what all looks give is the text
-pub looks_give_text : (ways : Ways) (name : List ℕ) (looks : List Look) → AreKept (entries_in ways name looks) → gains_from ways name [] looks ≡ name_text ways.start (entries_in ways name looks)
+pub looks_give_text : (ways : Ways) (name : List ℕ) (looks : List Look) → AreKept (entries_in ways name looks)
+    → gains_from ways name [] looks ≡ name_text ways.start (entries_in ways name looks)
 looks_give_text ways name looks kept = gains_are ways name [] looks ∙ sym (text_is_gains ways.start (entries_in ways name looks) kept)
 
 -- the last entry of a name: the file that is open, and how much of it was seen
 
 -- what a look leaves open is the file of its last entry, which was seen whole
 pub look_leaves : (by_name : Bool) (name : List ℕ) (opened : Option ℕ) (snapshot : Snapshot) (last : Entry)
-    → StandsAt (last_from last (entries_at_look by_name name opened snapshot)) (open_after_look by_name name opened snapshot)
+    → StandsAt (last_from last (entries_at_look by_name name opened snapshot))
+    (open_after_look by_name name opened snapshot)
     (length (held_at snapshot (open_after_look by_name name opened snapshot)))
 look_leaves true name opened snapshot last = by opened (snapshot.leads name) where
   same : (file other : ℕ) (test : Bool) → (file == other) ≡ test
-      → StandsAt (last_from (version_in snapshot other) (if test then [] else version_in snapshot file ∷ [])) (Some file) (length (snapshot.holds file))
+      → StandsAt (last_from (version_in snapshot other) (if test then [] else version_in snapshot file ∷ []))
+      (Some file) (length (snapshot.holds file))
   same file other true is = record { file = ap Some (eqb-true file other is); seen = ap (λ those. length (snapshot.holds those)) (eqb-true file other is) }
   same file other false is = record { file = refl; seen = refl }
 
-  by : (opened led : Option ℕ) → StandsAt (last_from last (entries_open snapshot opened ++ entries_led snapshot opened led)) led (length (held_at snapshot led))
+  by : (opened led : Option ℕ)
+      → StandsAt (last_from last (entries_open snapshot opened ++ entries_led snapshot opened led)) led
+      (length (held_at snapshot led))
   by None None = record { file = refl; seen = refl }
   by None (Some file) = record { file = refl; seen = refl }
   by (Some other) None = record { file = refl; seen = refl }
@@ -97,28 +114,37 @@ look_leaves false name (Some file) snapshot last = record { file = refl; seen = 
 
 -- the first look
 pub first_last : (ways : Ways) {name : List ℕ} (look : Look)
-    → StandsAt (last_of (entries_in ways name (look ∷ []))) (look.snapshot.leads name) (length (held_at look.snapshot (look.snapshot.leads name)))
+    → StandsAt (last_of (entries_in ways name (look ∷ []))) (look.snapshot.leads name)
+    (length (held_at look.snapshot (look.snapshot.leads name)))
 first_last ways {name} look = by (look.snapshot.leads name) where
-  by : (led : Option ℕ) → StandsAt (last_of (entries_led look.snapshot None led ++ [])) led (length (held_at look.snapshot led))
+  by : (led : Option ℕ)
+      → StandsAt (last_of (entries_led look.snapshot None led ++ [])) led (length (held_at look.snapshot led))
   by None = record { file = refl; seen = refl }
   by (Some file) = record { file = refl; seen = refl }
 
-later_file : (by_name : Bool) (name : List ℕ) {opened : Option ℕ} (last : Entry) (snaps : List Snapshot) → opened ≡ file_of last → open_after_later by_name name opened snaps ≡ file_of (last_from last (entries_later by_name name opened snaps))
+later_file : (by_name : Bool) (name : List ℕ) {opened : Option ℕ} (last : Entry) (snaps : List Snapshot)
+    → opened ≡ file_of last
+    → open_after_later by_name name opened snaps ≡ file_of (last_from last (entries_later by_name name opened snaps))
 later_file by_name name last [] is = is
 later_file by_name name {opened} last (snapshot ∷ snaps) is =
     later_file by_name name (last_from last (entries_at_look by_name name opened snapshot)) snaps (look_leaves by_name name opened snapshot last).file
     ∙ ap file_of (sym (last_from-append last (entries_at_look by_name name opened snapshot) _))
 
 -- the open file is that of the last entry
-pub last_file : (ways : Ways) (name : List ℕ) (before : Look) (looks : List Look) → open_after ways.by_name name (snapshots (before ∷ looks)) ≡ file_of (last_of (entries_in ways name (before ∷ looks)))
+pub last_file : (ways : Ways) (name : List ℕ) (before : Look) (looks : List Look)
+    → open_after ways.by_name name (snapshots (before ∷ looks))
+    ≡ file_of (last_of (entries_in ways name (before ∷ looks)))
 last_file ways name before looks = search (rules, later_file)
 
 -- one look more: the last of its entries
-last_more : {entries all : List Entry} (more : List Entry) → Some_entries entries → all ≡ entries ++ more → last_of all ≡ last_from (last_of entries) more
+last_more : {entries all : List Entry} (more : List Entry) → Some_entries entries → all ≡ entries ++ more
+    → last_of all ≡ last_from (last_of entries) more
 last_more more some is = rw (is, some.are) (last_from-append some.first some.rest more)
 
 pub looked_last : (ways : Ways) (name : List ℕ) (before : Look) (looks : List Look) (look : Look)
-    → last_of (entries_in ways name ((before ∷ looks) ++ look ∷ [])) ≡ last_from (last_of (entries_in ways name (before ∷ looks))) (entries_at_look ways.by_name name (opened_in ways name (before ∷ looks)) look.snapshot)
+    → last_of (entries_in ways name ((before ∷ looks) ++ look ∷ []))
+    ≡ last_from (last_of (entries_in ways name (before ∷ looks)))
+    (entries_at_look ways.by_name name (opened_in ways name (before ∷ looks)) look.snapshot)
 looked_last ways name before looks look = last_more _ (first_some before.snapshot (before.snapshot.leads name) _) (entries_more ways name before looks look)
 
 -- a name that no look broke came through each
@@ -131,7 +157,8 @@ came_through (unsought file from) later none = absurd (cc)
 came_through (unread file from) later none = absurd (cc)
 
 -- the call by which a name broke, which didn't break at the looks before
-pub failed_more : (place : ℕ) (looks : List Look) (look : Look) {fate : Fate} → failed_in place looks ≡ None → fate_at place look ≡ fate → failed_in place (looks ++ look ∷ []) ≡ failed_by fate None
+pub failed_more : (place : ℕ) (looks : List Look) (look : Look) {fate : Fate} → failed_in place looks ≡ None
+    → fate_at place look ≡ fate → failed_in place (looks ++ look ∷ []) ≡ failed_by fate None
 failed_more place [] look kept at = ap (λ those. failed_by those None) at
 failed_more place (first ∷ looks) look kept at =
     let through = came_through (fate_at place first) (failed_in place looks) kept in
@@ -139,40 +166,48 @@ failed_more place (first ∷ looks) look kept at =
     ∙ failed_more place looks look (sym (ap (λ those. failed_by those (failed_in place looks)) through) ∙ kept) at
 
 -- a look that it comes through changes nothing
-pub failed_sound : (place : ℕ) (looks : List Look) (look : Look) → fate_at place look ≡ sound → failed_in place (looks ++ look ∷ []) ≡ failed_in place looks
+pub failed_sound : (place : ℕ) (looks : List Look) (look : Look) → fate_at place look ≡ sound
+    → failed_in place (looks ++ look ∷ []) ≡ failed_in place looks
 failed_sound place [] look fine = ap (λ those. failed_by those None) fine
 failed_sound place (first ∷ looks) look fine = ap (failed_by (fate_at place first)) (failed_sound place looks look fine)
 
 -- the fates that looks can meet
 
-met_none : (is_first by_name seeks : Bool) (place : ℕ) (looks : List Look) → failed_in place looks ≡ None → are_met is_first by_name seeks place looks ≡ true
+met_none : (is_first by_name seeks : Bool) (place : ℕ) (looks : List Look) → failed_in place looks ≡ None
+    → are_met is_first by_name seeks place looks ≡ true
 met_none is_first by_name seeks place [] none = refl
 met_none is_first by_name seeks place (look ∷ looks) none =
     let through = came_through (fate_at place look) (failed_in place looks) none in
     rw through (met_none false by_name seeks place looks (rw through at none))
 
-met_more : (first by_name seeks : Bool) (place : ℕ) (looks : List Look) (look : Look) → are_met first by_name seeks place looks ≡ true
-    → can_meet (is_first looks && first) by_name seeks (fate_at place look) ≡ true → are_met first by_name seeks place (looks ++ look ∷ []) ≡ true
+met_more : (first by_name seeks : Bool) (place : ℕ) (looks : List Look) (look : Look)
+    → are_met first by_name seeks place looks ≡ true
+    → can_meet (is_first looks && first) by_name seeks (fate_at place look) ≡ true
+    → are_met first by_name seeks place (looks ++ look ∷ []) ≡ true
 met_more first by_name seeks place [] look so_far met = rw met refl
 met_more first by_name seeks place (one ∷ looks) look so_far met =
     let both = and_parts (can_meet first by_name seeks (fate_at place one)) (are_met false by_name seeks place looks) so_far in
     rw both.0 (met_more false by_name seeks place looks look both.1 (rw (and-false (is_first looks)) met))
 
 -- a name that is not dropped is not broken
-pub unbroken_in : {ways : Ways} {looks : List Look} {place : ℕ} {failed : Option Broken} → failed ≡ None → is_dropped place looks ≡ false → BrokeIn ways looks place failed
+pub unbroken_in : {ways : Ways} {looks : List Look} {place : ℕ} {failed : Option Broken} → failed ≡ None
+    → is_dropped place looks ≡ false → BrokeIn ways looks place failed
 unbroken_in {ways} {looks} {place} unbroken kept =
     let none = none_of (failed_in place looks) kept in record { call = unbroken ∙ sym none; met = met_none true ways.by_name ways.seeks place looks none }
 
 -- one look more, through which it comes
-pub broken_sound : {ways : Ways} (looks : List Look) (look : Look) {place : ℕ} {failed : Option Broken} → fate_at place look ≡ sound → BrokeIn ways looks place failed → BrokeIn ways (looks ++ look ∷ []) place failed
+pub broken_sound : {ways : Ways} (looks : List Look) (look : Look) {place : ℕ} {failed : Option Broken}
+    → fate_at place look ≡ sound → BrokeIn ways looks place failed → BrokeIn ways (looks ++ look ∷ []) place failed
 broken_sound {ways} looks look {place} fine so_far = record {
   call = so_far.call ∙ sym (failed_sound place looks look fine);
   met = met_more true ways.by_name ways.seeks place looks look so_far.met (rw fine refl);
 }
 
 -- or it broke at that look
-pub broken_more : {ways : Ways} (looks : List Look) (look : Look) {place : ℕ} {failed : Option Broken} {fate : Fate} → failed ≡ failed_by fate None
-    → is_dropped place looks ≡ false → fate_at place look ≡ fate → can_meet (is_first looks) ways.by_name ways.seeks fate ≡ true → BrokeIn ways (looks ++ look ∷ []) place failed
+pub broken_more : {ways : Ways} (looks : List Look) (look : Look) {place : ℕ} {failed : Option Broken} {fate : Fate}
+    → failed ≡ failed_by fate None
+    → is_dropped place looks ≡ false → fate_at place look ≡ fate
+    → can_meet (is_first looks) ways.by_name ways.seeks fate ≡ true → BrokeIn ways (looks ++ look ∷ []) place failed
 broken_more {ways} looks look {place} {fate} broke kept at met =
     let none = none_of (failed_in place looks) kept in record {
       call = broke ∙ sym (failed_more place looks look none at);
@@ -185,7 +220,8 @@ abbrev pub seeing : Snapshot → List Fate → Look
 seeing snapshot fates = record { snapshot = snapshot; fates = fates }
 
 -- what is due of a name at a look after these, at which it isn't missing; before it this file was open
-pub record IsDue (told_in : Bool) (ways : Ways) (before : List Look) (snapshot : Snapshot) (name : List ℕ) (due : Due) (opened : Option ℕ) : Type 0 where
+pub record IsDue (told_in : Bool) (ways : Ways) (before : List Look) (snapshot : Snapshot) (name : List ℕ) (due : Due)
+    (opened : Option ℕ) : Type 0 where
   pub is : told_in ≡ true → (fates : List Fate)
       → ((is_first before && is_missing (entries_in ways name (before ++ seeing snapshot fates ∷ []))) ≡ false)
       × (due ≡ due_at ways name before (seeing snapshot fates)) × (opened ≡ opened_in ways name before)

@@ -39,22 +39,28 @@ use Rattle.follow_core.proofs.FollowLemmas.{nothing_shared, all_both, text_there
 -- names that are looked at
 
 -- as many names
-length_names : (follow : FollowState) {names : List (List ℕ)} → texts follow.names ≡ names → length follow.names ≡ length names
+length_names : (follow : FollowState) {names : List (List ℕ)} → texts follow.names ≡ names
+    → length follow.names ≡ length names
 length_names follow same = sym (length-map follow.names (λ (n : NameState). n.text)) ∙ ap length same
 
 -- they stand as the looks before left them
-stand_from : {told_in told : Bool} {calling : Calling} {ways : Ways} {headers : Bool} {names : List (List ℕ)} {looks : List Look} {first : List Slot} {follow : FollowState}
-    {watched : List Watched} {slots : List Slot} → follow.stage ≡ Looking → Holds told_in told calling ways headers names looks first follow watched slots
+stand_from : {told_in told : Bool} {calling : Calling} {ways : Ways} {headers : Bool} {names : List (List ℕ)}
+    {looks : List Look} {first : List Slot} {follow : FollowState}
+    {watched : List Watched} {slots : List Slot} → follow.stage ≡ Looking
+    → Holds told_in told calling ways headers names looks first follow watched slots
     → StandFrom told_in (ways_of ways.first follow.by_name follow.start) looks follow.first follow.names watched
 stand_from {told_in} {ways} {looks} {follow} {watched} looking holds =
     let (stand, many) = subst (StandsIn told_in ways looks follow.names watched) looking holds.stand in
     subst (λ way. StandFrom told_in way looks follow.first follow.names watched) holds.asked
     (record { numbered = λ some. holds.numbered looking (subst (λ n. 0 < n) (length_names follow holds.same) some); stand = stand; many = many })
 
-look_made : {told_in told : Bool} {snapshot : Snapshot} {old : FollowState} {names : List NameState} {watched watched_new : List Watched} {printer : PrinterState}
+look_made : {told_in told : Bool} {snapshot : Snapshot} {old : FollowState} {names : List NameState}
+    {watched watched_new : List Watched} {printer : PrinterState}
     {slots slots_new : List Slot} {failed : Bool} → old.stage ≡ Looking
-    → VisitsAll told_in told snapshot old.by_name old.start old.first old.names watched old.printer slots names watched_new printer slots_new (Ok failed)
-    → LooksOn told_in told snapshot old watched slots (record old { names = names; printer = printer; has_failed = old.has_failed || failed }) watched_new slots_new
+    → VisitsAll told_in told snapshot old.by_name old.start old.first old.names watched old.printer slots names
+    watched_new printer slots_new (Ok failed)
+    → LooksOn told_in told snapshot old watched slots
+    (record old { names = names; printer = printer; has_failed = old.has_failed || failed }) watched_new slots_new
 look_made {told_in} {told} {snapshot} {old} {names} {watched} {watched_new} {printer} {slots} {slots_new} {failed} looking visits calling ways headers asked looks first holds = (
   visited.fates,
   record {
@@ -78,7 +84,8 @@ look_made {told_in} {told} {snapshot} {old} {names} {watched} {watched_new} {pri
   stood : StandFrom told_in (ways_of ways.first old.by_name old.start) looks old.first old.names watched
   stood = stand_from looking holds
 
-  visited : VisitedTo told_in told ways looks snapshot (length old.names) old.names old.printer slots printer slots_new watched_new names failed
+  visited : VisitedTo told_in told ways looks snapshot
+      (length old.names) old.names old.printer slots printer slots_new watched_new names failed
   visited = subst (λ way. VisitedTo told_in told way looks snapshot (length old.names) old.names old.printer slots printer slots_new watched_new names failed) (sym holds.asked)
       (visits.visited ways.first looks stood)
 
@@ -94,9 +101,11 @@ look_made {told_in} {told} {snapshot} {old} {names} {watched} {watched_new} {pri
   size : length (texts old.names) ≡ length old.names
   size = length-map old.names (λ (n : NameState). n.text)
 
-look_stopped : {told_in told : Bool} {snapshot : Snapshot} {old : FollowState} {names : List NameState} {watched watched_new : List Watched}
+look_stopped : {told_in told : Bool} {snapshot : Snapshot} {old : FollowState} {names : List NameState}
+    {watched watched_new : List Watched}
     {printer : PrinterState} {slots slots_new : List Slot} {why : Fault} → old.stage ≡ Looking
-    → VisitsAll told_in told snapshot old.by_name old.start old.first old.names watched old.printer slots names watched_new printer slots_new (Err why)
+    → VisitsAll told_in told snapshot old.by_name old.start old.first old.names watched old.printer slots names
+    watched_new printer slots_new (Err why)
     → StopsOn told_in told snapshot old watched slots watched_new slots_new why
 look_stopped {told_in} {told} {snapshot} {old} {watched_new} {slots} {slots_new} {why} looking visits calling ways headers names looks first holds =
     let (whole, part, begun, printer, reached, shared, short) = visits.stopped ways.first looks (stand_from looking holds) in record {
@@ -115,14 +124,17 @@ look_stopped {told_in} {told} {snapshot} {old} {watched_new} {slots} {slots_new}
 -- whatever looks were made, the names broke just where they tell so
 abbrev pub Unbroken : (told_in told : Bool) → FollowState → List Watched → List Slot → List Watched → Type 0
 Unbroken told_in told old watched slots watched_new = (calling : Calling) (ways : Ways) (headers : Bool) (names : List (List ℕ)) (looks : List Look) (first : List Slot)
-    → Holds told_in told calling ways headers names looks first old watched slots → AreWatched ways looks names watched_new
+    → Holds told_in told calling ways headers names looks first old watched slots
+    → AreWatched ways looks names watched_new
 
 -- names that were added
 
-added_at : (before : List Watched) (names : List (List ℕ)) {place : ℕ} → place < length names → watched_at (before ++ map added names) (length before + place) ≡ added (slice_index_or names place [])
+added_at : (before : List Watched) (names : List (List ℕ)) {place : ℕ} → place < length names
+    → watched_at (before ++ map added names) (length before + place) ≡ added (slice_index_or names place [])
 added_at before names {place} within = get_or-append-add before (map added names) place no_name ∙ get_or-map added names place [] no_name within
 
-added_stand : (told : Bool) (ways : Ways) (before : List Watched) (names : List (List ℕ)) → ways.first ≡ length before → AllStand told ways [] (map new_state names) (before ++ map added names)
+added_stand : (told : Bool) (ways : Ways) (before : List Watched) (names : List (List ℕ)) → ways.first ≡ length before
+    → AllStand told ways [] (map new_state names) (before ++ map added names)
 added_stand told ways before names first_is place within =
     let inside : place < length names = subst (λ n. place < n) (length-map names new_state) within in
     subst (λ (n : NameState). Stands told ways [] (ways.first + place) n.text (watched_at (before ++ map added names) (ways.first + place)) n.standing) (sym (get_or-map new_state names place [] no_state inside))
@@ -133,7 +145,8 @@ can_at text New = (refl, refl)
 can_at text (Followed position) = (refl, refl)
 can_at text Left = tt
 
-added_ready : (names : List NameState) {first : ℕ} (before : List Watched) → (0 < length names → first ≡ length before) → AllReady names first (before ++ map added (texts names))
+added_ready : (names : List NameState) {first : ℕ} (before : List Watched) → (0 < length names → first ≡ length before)
+    → AllReady names first (before ++ map added (texts names))
 added_ready names {first} before first_is place within = subst (CanVisit (state_at names place)) (sym there) (can_at (state_at names place).text (state_at names place).standing) where
   there : watched_at (before ++ map added (texts names)) (first + place) ≡ added (state_at names place).text
   there = ap (λ n. watched_at (before ++ map added (texts names)) (n + place)) (first_is (omega (arith, within)))
@@ -147,8 +160,11 @@ pub record IsAdded (old mid : FollowState) (watched watched_mid : List Watched) 
   pub watched_is : watched_mid ≡ watched ++ map added (texts old.names)
   pub first_is : 0 < length old.names → mid.first ≡ length watched
 
-held_added : {told_in told : Bool} {calling : Calling} {ways : Ways} {headers : Bool} {names : List (List ℕ)} {looks : List Look} {first : List Slot} {old mid : FollowState} {watched watched_mid : List Watched} {slots : List Slot} → IsAdded old mid watched watched_mid
-    → Holds told_in told calling ways headers names looks first old watched slots → Holds told_in told calling ways headers names looks first mid watched_mid slots
+held_added : {told_in told : Bool} {calling : Calling} {ways : Ways} {headers : Bool} {names : List (List ℕ)}
+    {looks : List Look} {first : List Slot} {old mid : FollowState} {watched watched_mid : List Watched}
+    {slots : List Slot} → IsAdded old mid watched watched_mid
+    → Holds told_in told calling ways headers names looks first old watched slots
+    → Holds told_in told calling ways headers names looks first mid watched_mid slots
 held_added {told_in} {told} {calling} {ways} {headers} {names} {looks} {first} {old} {watched} {watched_mid} {slots} is holds =
     subst (λ (f : FollowState). Holds told_in told calling ways headers names looks first f watched_mid slots) (sym is.mid_is) (record {
       asked = holds.asked;
@@ -170,10 +186,13 @@ held_added {told_in} {told} {calling} {ways} {headers} {names} {looks} {first} {
       new = subst (StandsIn told_in ways looks old.names watched) is.fresh holds.stand
 
 -- a name that others added is before them
-other_added : {old mid : FollowState} {watched watched_mid : List Watched} → IsAdded old mid watched watched_mid → (number : ℕ) → IsOther old watched number → IsOther mid watched_mid number × (watched_at watched_mid number ≡ watched_at watched number)
+other_added : {old mid : FollowState} {watched watched_mid : List Watched} → IsAdded old mid watched watched_mid
+    → (number : ℕ) → IsOther old watched number
+    → IsOther mid watched_mid number × (watched_at watched_mid number ≡ watched_at watched number)
 other_added {old} {watched} {watched_mid} is number other = search (rules, get_or_append_left)
 
-pub added_begins : {told_in : Bool} {old mid : FollowState} {watched watched_mid : List Watched} → IsAdded old mid watched watched_mid → Begins told_in old watched mid watched_mid
+pub added_begins : {told_in : Bool} {old mid : FollowState} {watched watched_mid : List Watched}
+    → IsAdded old mid watched watched_mid → Begins told_in old watched mid watched_mid
 added_begins {old} {mid} {watched} {watched_mid} is = record {
   stage = ap (λ (f : FollowState). f.stage) is.mid_is;
   ready = subst (λ (f : FollowState). AllReady f.names f.first watched_mid) (sym is.mid_is) (subst (AllReady old.names mid.first) (sym is.watched_is) (added_ready old.names watched is.first_is));
@@ -183,45 +202,63 @@ added_begins {old} {mid} {watched} {watched_mid} is = record {
 
 -- whether a further look can give something
 
-open_there : {ways : Ways} (looks : List Look) {place : ℕ} {name : List ℕ} {watched : Watched} {position : ℕ} → IsFollowed true ways looks place name watched position → (by_name : Bool) → ways.by_name ≡ by_name → (by_name || is_some (open_after ways.by_name name (snapshots looks))) ≡ true
+open_there : {ways : Ways} (looks : List Look) {place : ℕ} {name : List ℕ} {watched : Watched} {position : ℕ}
+    → IsFollowed true ways looks place name watched position → (by_name : Bool) → ways.by_name ≡ by_name
+    → (by_name || is_some (open_after ways.by_name name (snapshots looks))) ≡ true
 open_there looks followed true is = refl
 open_there [] followed false is = absurd (false≢true (sym followed.begun))
 open_there {ways} (before ∷ looks) {name} followed false is =
     ap is_some (last_file ways name before looks ∙ sym (followed.stands refl).file) ∙ followed.there refl is
 
-goes_on_there : (ways : Ways) (looks : List Look) (place : ℕ) (name : List ℕ) (watched : Watched) (standing : Standing) → Stands true ways looks place name watched standing → goes_on_as ways.by_name standing ≡ goes_on_at ways looks place name
+goes_on_there : (ways : Ways) (looks : List Look) (place : ℕ) (name : List ℕ) (watched : Watched) (standing : Standing)
+    → Stands true ways looks place name watched standing
+    → goes_on_as ways.by_name standing ≡ goes_on_at ways looks place name
 goes_on_there ways looks place name watched New stands = sym (ap (λ those. goes_on_at ways those place name) stands.0 ∙ or_none ways.by_name)
 goes_on_there ways looks place name watched (Followed position) stands =
     sym (ap (λ dropped. not dropped && (ways.by_name || is_some (open_after ways.by_name name (snapshots looks)))) stands.kept ∙ open_there looks stands ways.by_name refl)
 goes_on_there ways looks place name watched Left stands = search (rules, and_none)
 
-alive_from : (ways : Ways) (looks : List Look) (from : ℕ) (names : List NameState) → ((place : ℕ) → place < length names → goes_on_as ways.by_name (state_at names place).standing ≡ goes_on_at ways looks (from + place) (state_at names place).text) → any_goes_on ways.by_name names ≡ is_alive_from ways looks from (texts names)
+alive_from : (ways : Ways) (looks : List Look) (from : ℕ) (names : List NameState)
+    → ((place : ℕ) → place < length names
+    → goes_on_as ways.by_name (state_at names place).standing
+    ≡ goes_on_at ways looks (from + place) (state_at names place).text)
+    → any_goes_on ways.by_name names ≡ is_alive_from ways looks from (texts names)
 alive_from ways looks from [] all = refl
 alive_from ways looks from (name ∷ names) all =
     ap (λ rest. goes_on_as ways.by_name name.standing || rest) (alive_from ways looks (1 + from) names (λ place within. all (suc place) (omega arith) ∙ ap (λ at. goes_on_at ways looks at (state_at names place).text) (omega arith)))
     ∙ ap (λ one. one || is_alive_from ways looks (1 + from) (texts names)) (all 0 (omega arith) ∙ ap (λ at. goes_on_at ways looks at name.text) (omega arith))
 
-new_there : {names : List NameState} {place : ℕ} → place < length names → names ≡ map new_state (texts names) → (state_at names place).standing ≡ New
+new_there : {names : List NameState} {place : ℕ} → place < length names → names ≡ map new_state (texts names)
+    → (state_at names place).standing ≡ New
 new_there {names} {place} within new =
     let inside : place < length (texts names) = subst (λ n. place < n) (sym (length-map names (λ (n : NameState). n.text))) within in
     ap (λ (those : List NameState). (state_at those place).standing) new
     ∙ ap (λ (n : NameState). n.standing) (get_or-map new_state (texts names) place [] no_state inside)
 
-fresh_alive : (ways : Ways) {looks : List Look} {names : List NameState} → looks ≡ [] → names ≡ map new_state (texts names) → (place : ℕ) → place < length names → goes_on_as ways.by_name (state_at names place).standing ≡ goes_on_at ways looks (ways.first + place) (state_at names place).text
+fresh_alive : (ways : Ways) {looks : List Look} {names : List NameState} → looks ≡ []
+    → names ≡ map new_state (texts names) → (place : ℕ) → place < length names
+    → goes_on_as ways.by_name (state_at names place).standing
+    ≡ goes_on_at ways looks (ways.first + place) (state_at names place).text
 fresh_alive ways {names} none new place within = search (rules, new_there, or_none)
 
-pub alive_is : {told : Bool} {calling : Calling} {ways : Ways} {headers : Bool} {names : List (List ℕ)} {looks : List Look} {first slots : List Slot} {follow : FollowState} {watched : List Watched} → Holds true told calling ways headers names looks first follow watched slots → any_goes_on follow.by_name follow.names ≡ is_alive ways names looks
+pub alive_is : {told : Bool} {calling : Calling} {ways : Ways} {headers : Bool} {names : List (List ℕ)}
+    {looks : List Look} {first slots : List Slot} {follow : FollowState} {watched : List Watched}
+    → Holds true told calling ways headers names looks first follow watched slots
+    → any_goes_on follow.by_name follow.names ≡ is_alive ways names looks
 alive_is {ways} {looks} {follow} {watched} holds = search (rules, alive_from, fresh_alive, goes_on_there)
 
 -- none of the names goes on
 
-none_before : (by_name : Bool) (names : List NameState) (place : ℕ) → place < length names → any_goes_on by_name names ≡ false → goes_on_as by_name (state_at names place).standing ≡ false
+none_before : (by_name : Bool) (names : List NameState) (place : ℕ) → place < length names
+    → any_goes_on by_name names ≡ false → goes_on_as by_name (state_at names place).standing ≡ false
 none_before by_name [] place within none = absurd (omega (arith, within))
 none_before by_name (name ∷ names) zero within none = (or_parts (goes_on_as by_name name.standing) (any_goes_on by_name names) none).0
 none_before by_name (name ∷ names) (suc place) within none = none_before by_name names place (omega (arith, within)) (or_parts (goes_on_as by_name name.standing) (any_goes_on by_name names) none).1
 
-no_more_of : (told : Bool) (ways : Ways) (looks : List Look) (place : ℕ) (name : List ℕ) (watched : Watched) (standing : Standing) → Stands told ways looks place name watched standing → 0 < length looks
-    → goes_on_as ways.by_name standing ≡ false → (is_some watched.failed ≡ true) ⊎ ((ways.by_name ≡ false) × (watched.opened ≡ None))
+no_more_of : (told : Bool) (ways : Ways) (looks : List Look) (place : ℕ) (name : List ℕ) (watched : Watched)
+    (standing : Standing) → Stands told ways looks place name watched standing → 0 < length looks
+    → goes_on_as ways.by_name standing ≡ false
+    → (is_some watched.failed ≡ true) ⊎ ((ways.by_name ≡ false) × (watched.opened ≡ None))
 no_more_of told ways looks place name watched New stands some none = absurd (let empty = ap length stands.0 in omega (arith, some, empty))
 no_more_of told ways looks place name watched (Followed position) stands some none = absurd (false≢true (sym none))
 no_more_of told ways looks place name watched Left stands some none = elim stands.why [
@@ -229,8 +266,10 @@ no_more_of told ways looks place name watched Left stands some none = elim stand
   | inr missed ↦ inr (missed.way, missed.closed)
 ]
 
-pub none_going : {told_in told : Bool} {calling : Calling} {ways : Ways} {headers : Bool} {names : List (List ℕ)} {looks : List Look} {first slots : List Slot} {follow : FollowState} {watched : List Watched}
-    → Holds told_in told calling ways headers names looks first follow watched slots → 0 < length looks → any_goes_on follow.by_name follow.names ≡ false → NoneGoesOn ways watched
+pub none_going : {told_in told : Bool} {calling : Calling} {ways : Ways} {headers : Bool} {names : List (List ℕ)}
+    {looks : List Look} {first slots : List Slot} {follow : FollowState} {watched : List Watched}
+    → Holds told_in told calling ways headers names looks first follow watched slots → 0 < length looks
+    → any_goes_on follow.by_name follow.names ≡ false → NoneGoesOn ways watched
 none_going {told_in} {ways} {looks} {follow} {watched} holds some none = stage follow.stage holds.stand where
   way : ways.by_name ≡ follow.by_name
   way = ap (λ (those : Ways). those.by_name) holds.asked
@@ -246,27 +285,31 @@ none_going {told_in} {ways} {looks} {follow} {watched} holds some none = stage f
 -- why a look was stopped
 
 -- following isn't over
-can_print : (old : FollowState) (watched : List Watched) (slots : List Slot) → (old.stage ≡ Over → ⊥) → CanLook old watched slots → CanPrint slots
+can_print : (old : FollowState) (watched : List Watched) (slots : List Slot) → (old.stage ≡ Over → ⊥)
+    → CanLook old watched slots → CanPrint slots
 can_print old watched slots live can = by old.stage live can where
   by : (stage : Stage) → (stage ≡ Over → ⊥) → CanLook (record old { stage = stage }) watched slots → CanPrint slots
   by Fresh live can = can
   by Looking live can = can.1
   by Over live can = absurd (live refl)
 
-cause_is : {old : FollowState} {slots slots_new : List Slot} {why : Fault} (watched : List Watched) → (old.stage ≡ Over → ⊥) → CanLook old watched slots → HasStopped why slots_new → IsCause old slots slots_new why
+cause_is : {old : FollowState} {slots slots_new : List Slot} {why : Fault} (watched : List Watched)
+    → (old.stage ≡ Over → ⊥) → CanLook old watched slots → HasStopped why slots_new → IsCause old slots slots_new why
 cause_is {old} {slots} {slots_new} watched live can (inl memory, error) = subst (IsCause old slots slots_new) (sym memory) lacks_memory
 cause_is {old} {slots} {slots_new} watched live can (inr (is, broken), error) = subst (IsCause old slots slots_new) (sym is) (output_broke (not-true _ (and_parts _ _ (can_print old watched slots live can).0).1, broken))
 
 -- by what the names broke
 
 -- a name that was only added
-just_added : (before : List Watched) (names : List (List ℕ)) (watched rest : List Watched) {place : ℕ} → before ++ map added names ≡ watched ++ rest → length before + place < length watched → place < length names
+just_added : (before : List Watched) (names : List (List ℕ)) (watched rest : List Watched) {place : ℕ}
+    → before ++ map added names ≡ watched ++ rest → length before + place < length watched → place < length names
     → watched_at watched (length before + place) ≡ added (slice_index_or names place [])
 just_added before names watched rest {place} are within inside =
     sym (get_or_append_left watched rest no_name (length before + place) within) ∙ ap (λ those. watched_at those (length before + place)) (sym are) ∙ added_at before names inside
 
 -- before the first look none broke, of those that were added
-none_broken : {ways : Ways} {looks : List Look} (names : List (List ℕ)) (before watched : List Watched) → looks ≡ [] → length before ≡ ways.first → IsFront watched (before ++ map added names) → AreWatched ways looks names watched
+none_broken : {ways : Ways} {looks : List Look} (names : List (List ℕ)) (before watched : List Watched) → looks ≡ []
+    → length before ≡ ways.first → IsFront watched (before ++ map added names) → AreWatched ways looks names watched
 none_broken {ways} names before watched none first_is (rest, are) = subst (λ (those : List Look). AreWatched ways those names watched) (sym none) (
   (let size = sizes in omega (arith, size, first_is)),
   (λ above. absurd (omega (arith, above))),
@@ -277,7 +320,10 @@ none_broken {ways} names before watched none first_is (rest, are) = subst (λ (t
   sizes : length before + length names ≡ length watched + length rest
   sizes = ap (λ n. length before + n) (sym (length-map names added)) ∙ sym (length-append before (map added names)) ∙ ap length are ∙ length-append watched rest
 
-pub watched_are : {told_in told : Bool} {calling : Calling} {ways : Ways} {headers : Bool} {names : List (List ℕ)} {looks : List Look} {first slots : List Slot} {follow : FollowState} {watched : List Watched} → Holds told_in told calling ways headers names looks first follow watched slots → AreWatched ways looks names watched
+pub watched_are : {told_in told : Bool} {calling : Calling} {ways : Ways} {headers : Bool} {names : List (List ℕ)}
+    {looks : List Look} {first slots : List Slot} {follow : FollowState} {watched : List Watched}
+    → Holds told_in told calling ways headers names looks first follow watched slots
+    → AreWatched ways looks names watched
 watched_are {told_in} {ways} {names} {looks} {follow} {watched} holds = stage follow.stage holds.stand where
   count : length follow.names ≡ length names
   count = length_names follow holds.same
@@ -298,7 +344,8 @@ watched_are {told_in} {ways} {names} {looks} {follow} {watched} holds = stage fo
 -- A look from where following stands
 
 -- there was no memory to begin one: some names were added, or all, and no call was made on one
-pub makes_none : {told_in told : Bool} {snapshot : Snapshot} {seen seen_new : List Snapshot} {old new : FollowState} {watched watched_new : List Watched}
+pub makes_none : {told_in told : Bool} {snapshot : Snapshot} {seen seen_new : List Snapshot} {old new : FollowState}
+    {watched watched_new : List Watched}
     {slots : List Slot} {why : Fault} → Unbroken told_in told old watched slots watched_new
     → ((number : ℕ) → IsOther old watched number → watched_at watched_new number ≡ watched_at watched number)
     → (old.stage ≡ Over → ⊥) → CanLook old watched slots → why ≡ fault.Memory → seen_new ≡ seen
@@ -327,7 +374,8 @@ makes_none {told} {old} {watched} {slots} unbroken others live can is same = rec
   others = others;
 }
 
-pub makes_few : {told_in told : Bool} {snapshot : Snapshot} {seen seen_new : List Snapshot} {old new : FollowState} {watched watched_new : List Watched}
+pub makes_few : {told_in told : Bool} {snapshot : Snapshot} {seen seen_new : List Snapshot} {old new : FollowState}
+    {watched watched_new : List Watched}
     {slots : List Slot} {why : Fault} → old.stage ≡ Fresh → AddsSome (texts old.names) watched watched_new
     → (old.stage ≡ Over → ⊥) → CanLook old watched slots → why ≡ fault.Memory → seen_new ≡ seen
     → MakesLook told_in told snapshot seen old watched slots seen_new new watched_new slots (Err why)
@@ -339,7 +387,8 @@ makes_few {told_in} {old} {watched} {watched_new} fresh adds = makes_none
     ∙ get_or_append_left watched adds.kept.0 no_name number (subst (λ stage. IsOther (record old { stage = stage }) watched number) fresh other))
 
 pub makes_all : {told_in told : Bool} {snapshot : Snapshot} {seen seen_new : List Snapshot} {old mid new : FollowState}
-    {watched watched_mid watched_new : List Watched} {slots : List Slot} {why : Fault} → Begins told_in old watched mid watched_mid → watched_new ≡ watched_mid
+    {watched watched_mid watched_new : List Watched} {slots : List Slot} {why : Fault}
+    → Begins told_in old watched mid watched_mid → watched_new ≡ watched_mid
     → (old.stage ≡ Over → ⊥) → CanLook old watched slots → why ≡ fault.Memory → seen_new ≡ seen
     → MakesLook told_in told snapshot seen old watched slots seen_new new watched_new slots (Err why)
 makes_all {told} {slots} begins same = makes_none
@@ -347,10 +396,17 @@ makes_all {told} {slots} begins same = makes_none
     (λ number other. ap (λ those. watched_at those number) same ∙ (begins.others number other).1)
 
 -- the names were looked at, once they were watched and the watch saw what the files hold
-pub makes_look : {told_in told : Bool} {shows shows_mid : ℕ → Snapshot} {seen seen_mid seen_turned seen_new : List Snapshot} {old inside mid : FollowState} {names names_new names_now : List NameState} {watched watched_mid watched_turned watched_new : List Watched} {printer : PrinterState} {slots slots_new : List Slot} {result : Result Bool Fault} → (old.stage ≡ Over → ⊥) → CanLook old watched slots → inside ≡ mid
-    → Begins told_in old watched mid watched_mid → shows_mid ≡ shows → seen_mid ≡ seen → seen_turned ≡ seen_mid ++ shows_mid (length seen_mid) ∷ []
+pub makes_look : {told_in told : Bool} {shows shows_mid : ℕ → Snapshot}
+    {seen seen_mid seen_turned seen_new : List Snapshot} {old inside mid : FollowState}
+    {names names_new names_now : List NameState} {watched watched_mid watched_turned watched_new : List Watched}
+    {printer : PrinterState} {slots slots_new : List Slot} {result : Result Bool Fault} → (old.stage ≡ Over → ⊥)
+    → CanLook old watched slots → inside ≡ mid
+    → Begins told_in old watched mid watched_mid → shows_mid ≡ shows → seen_mid ≡ seen
+    → seen_turned ≡ seen_mid ++ shows_mid (length seen_mid) ∷ []
     → watched_turned ≡ watched_mid → names ≡ inside.names → names_now ≡ names_new → seen_new ≡ seen_turned
-    → VisitsAll told_in told (latest seen_turned) inside.by_name inside.start inside.first names watched_turned inside.printer slots names_now watched_new printer
+    → VisitsAll told_in told
+    (latest seen_turned) inside.by_name inside.start inside.first names watched_turned inside.printer slots names_now
+    watched_new printer
     slots_new result
     → MakesLook told_in told (shows (length seen)) seen old watched slots seen_new
     (record inside { names = names_new; printer = printer }) watched_new slots_new result
@@ -376,7 +432,8 @@ makes_look {told_in} {told} {shows} {shows_mid} {seen} {seen_mid} {seen_turned} 
           (ap latest turned ∙ latest-last seen_mid (shows_mid (length seen_mid)) ∙ next) watched_same
           (subst₂ (λ these now. VisitsAll told_in told (latest seen_turned) inside.by_name inside.start inside.first these watched_turned inside.printer slots now watched_new printer slots_new result) names_are names_now visits)
 
-      others : {those : Result Bool Fault} → Seen those → (number : ℕ) → IsOther old watched number → watched_at watched_new number ≡ watched_at watched number
+      others : {those : Result Bool Fault} → Seen those → (number : ℕ) → IsOther old watched number
+          → watched_at watched_new number ≡ watched_at watched number
       others visits number other =
           let (others, same) = begins.others number other in visits.others number (subst (λ stage. IsOther (record inside { stage = stage }) watched_mid number) begins.stage others) ∙ same
 
@@ -408,8 +465,10 @@ makes_look {told_in} {told} {shows} {shows_mid} {seen} {seen_mid} {seen_turned} 
       }
 
 -- as many looks were made, and then a further one can give something, or not
-pub record Progress (told_in told : Bool) (calling : Calling) (ways : Ways) (headers : Bool) (names : List (List ℕ)) (shows : ℕ → Snapshot) (first : List Slot) (made : ℕ)
-    (going : Bool) (follow : FollowState) (seen : List Snapshot) (watched : List Watched) (slots : List Slot) : Type 0 where
+pub record Progress (told_in told : Bool) (calling : Calling) (ways : Ways) (headers : Bool) (names : List (List ℕ))
+    (shows : ℕ → Snapshot) (first : List Slot) (made : ℕ)
+    (going : Bool) (follow : FollowState) (seen : List Snapshot) (watched : List Watched) (slots : List Slot)
+    : Type 0 where
   pub looks : List Look
   pub count : length looks ≡ made
   pub observed : seen ≡ snapshots looks
@@ -418,7 +477,8 @@ pub record Progress (told_in told : Bool) (calling : Calling) (ways : Ways) (hea
   pub ends : going ≡ false → NoneGoesOn ways watched
   pub holds : Holds told_in told calling ways headers names looks first follow watched slots
 
-made_more : {told_in : Bool} {ways : Ways} {names : List (List ℕ)} {shows : ℕ → Snapshot} {looks : List Look} (look : Look) → look.snapshot ≡ shows (length looks)
+made_more : {told_in : Bool} {ways : Ways} {names : List (List ℕ)} {shows : ℕ → Snapshot} {looks : List Look}
+    (look : Look) → look.snapshot ≡ shows (length looks)
     → Made told_in ways names shows looks → (told_in ≡ true → 0 < length looks → is_alive ways names looks ≡ true)
     → Made told_in ways names shows (looks ++ look ∷ [])
 made_more {told_in} {ways} {names} {shows} {looks} look is before alive = record {
@@ -428,26 +488,37 @@ made_more {told_in} {ways} {names} {shows} {looks} look is before alive = record
   long : length (looks ++ look ∷ []) ≡ suc (length looks)
   long = length-append looks (look ∷ []) ∙ omega arith
 
-  by : told_in ≡ true → (n : ℕ) → 0 < n → (n < length looks) ⊎ (length looks ≤ n) → n < suc (length looks) → is_alive ways names (take n (looks ++ look ∷ [])) ≡ true
+  by : told_in ≡ true → (n : ℕ) → 0 < n → (n < length looks) ⊎ (length looks ≤ n) → n < suc (length looks)
+      → is_alive ways names (take n (looks ++ look ∷ [])) ≡ true
   by t n above (inl below) inside = ap (is_alive ways names) (take-append-le n looks (look ∷ []) (omega arith)) ∙ before.alive t n above below
   by t n above (inr past) inside =
       let at : n ≡ length looks = omega (arith, past, inside) in
       ap (λ m. is_alive ways names (take m (looks ++ look ∷ []))) at ∙ ap (is_alive ways names) (take-append_seam looks (look ∷ [])) ∙ alive t (subst (λ m. 0 < m) at above)
 
-module _ {told_in told : Bool} {calling : Calling} {ways : Ways} {headers : Bool} {names : List (List ℕ)} {shows : ℕ → Snapshot} {first : List Slot} where
+module _ {told_in told : Bool} {calling : Calling} {ways : Ways} {headers : Bool} {names : List (List ℕ)}
+    {shows : ℕ → Snapshot} {first : List Slot} where
   -- the next look sees what the watch shows then
-  next_is : {made : ℕ} {now : ℕ → Snapshot} {going : Bool} {follow : FollowState} {seen : List Snapshot} {watched : List Watched} {slots : List Slot} → now ≡ shows
-      → (p : Progress told_in told calling ways headers names shows first made going follow seen watched slots) → now (length seen) ≡ shows (length p.looks)
+  next_is : {made : ℕ} {now : ℕ → Snapshot} {going : Bool} {follow : FollowState} {seen : List Snapshot}
+      {watched : List Watched} {slots : List Slot} → now ≡ shows
+      → (p : Progress told_in told calling ways headers names shows first made going follow seen watched slots)
+      → now (length seen) ≡ shows (length p.looks)
   next_is {seen} same p = ap (λ (f : ℕ → Snapshot). f (length seen)) same ∙ ap shows (ap length p.observed ∙ length-map p.looks (λ (l : Look). l.snapshot))
 
-  pub one_more : {made : ℕ} {now : ℕ → Snapshot} {old new : FollowState} {seen seen_new : List Snapshot} {watched watched_new : List Watched} {slots slots_new : List Slot}
-      {going : Bool} {next : ℕ} → now ≡ shows → Progress told_in told calling ways headers names shows first made true old seen watched slots
-      → LooksOn told_in told (now (length seen)) old watched slots new watched_new slots_new → seen_new ≡ seen ++ now (length seen) ∷ []
-      → ((told : Bool) (calling : Calling) (ways : Ways) (headers : Bool) (names : List (List ℕ)) (looks : List Look) (first slots : List Slot) (watched : List Watched)
+  pub one_more : {made : ℕ} {now : ℕ → Snapshot} {old new : FollowState} {seen seen_new : List Snapshot}
+      {watched watched_new : List Watched} {slots slots_new : List Slot}
+      {going : Bool} {next : ℕ} → now ≡ shows
+      → Progress told_in told calling ways headers names shows first made true old seen watched slots
+      → LooksOn told_in told (now (length seen)) old watched slots new watched_new slots_new
+      → seen_new ≡ seen ++ now (length seen) ∷ []
+      → ((told : Bool) (calling : Calling) (ways : Ways) (headers : Bool) (names : List (List ℕ)) (looks : List Look)
+      (first slots : List Slot) (watched : List Watched)
       → Holds true told calling ways headers names looks first new watched slots → going ≡ is_alive ways names looks)
-      → ((told_in told : Bool) (calling : Calling) (ways : Ways) (headers : Bool) (names : List (List ℕ)) (looks : List Look) (first slots : List Slot) (watched : List Watched)
-      → Holds told_in told calling ways headers names looks first new watched slots → 0 < length looks → going ≡ false → NoneGoesOn ways watched)
-      → suc made ≡ next → Progress told_in told calling ways headers names shows first next going new seen_new watched_new slots_new
+      → ((told_in told : Bool) (calling : Calling) (ways : Ways) (headers : Bool) (names : List (List ℕ))
+      (looks : List Look) (first slots : List Slot) (watched : List Watched)
+      → Holds told_in told calling ways headers names looks first new watched slots → 0 < length looks → going ≡ false
+      → NoneGoesOn ways watched)
+      → suc made ≡ next
+      → Progress told_in told calling ways headers names shows first next going new seen_new watched_new slots_new
   one_more {now} {new} {seen} {watched_new} {slots_new} same p looks_on more alive none is =
       let (fates, holds) = looks_on calling ways headers names p.looks first p.holds in
       let look : Look = record { snapshot = now (length seen); fates = fates } in record {
@@ -461,9 +532,12 @@ module _ {told_in told : Bool} {calling : Calling} {ways : Ways} {headers : Bool
         holds = holds;
       }
 
-  pub one_stopped : {made : ℕ} {now : ℕ → Snapshot} {count : ℕ} {old : FollowState} {seen seen_new : List Snapshot} {watched watched_new : List Watched}
-      {slots slots_new : List Slot} {why : Fault} → now ≡ shows → Progress told_in told calling ways headers names shows first made true old seen watched slots
-      → SawOrNot seen (now (length seen)) seen_new → made < count → StopsOn told_in told (now (length seen)) old watched slots watched_new slots_new why
+  pub one_stopped : {made : ℕ} {now : ℕ → Snapshot} {count : ℕ} {old : FollowState} {seen seen_new : List Snapshot}
+      {watched watched_new : List Watched}
+      {slots slots_new : List Slot} {why : Fault} → now ≡ shows
+      → Progress told_in told calling ways headers names shows first made true old seen watched slots
+      → SawOrNot seen (now (length seen)) seen_new → made < count
+      → StopsOn told_in told (now (length seen)) old watched slots watched_new slots_new why
       → StoppedIn told_in told calling ways headers names count shows first seen_new watched_new slots_new why
   one_stopped {count} {seen_new} {watched_new} {slots_new} {why} same p saw below stops = record {
     looks = p.looks;
@@ -476,8 +550,10 @@ module _ {told_in told : Bool} {calling : Calling} {ways : Ways} {headers : Bool
   }
 
   -- no further look was made: as many were asked for, or it could give nothing
-  pub ended : {made count : ℕ} {going : Bool} {follow : FollowState} {seen : List Snapshot} {watched : List Watched} {slots : List Slot} → made ≤ count
-      → (made < count → (0 < made) × (going ≡ false)) → Progress told_in told calling ways headers names shows first made going follow seen watched slots
+  pub ended : {made count : ℕ} {going : Bool} {follow : FollowState} {seen : List Snapshot} {watched : List Watched}
+      {slots : List Slot} → made ≤ count
+      → (made < count → (0 < made) × (going ≡ false))
+      → Progress told_in told calling ways headers names shows first made going follow seen watched slots
       → LookedAll told_in told calling ways headers names count shows first follow seen watched slots
   ended within over p = let count = p.count in record {
     looks = p.looks;
@@ -489,15 +565,20 @@ module _ {told_in told : Bool} {calling : Calling} {ways : Ways} {headers : Bool
   }
 
 -- as long as no look begins
-pub still_made : {told_in told : Bool} {calling : Calling} {ways : Ways} {headers : Bool} {names : List (List ℕ)} {shows : ℕ → Snapshot} {first : List Slot} {made : ℕ} {going : Bool} {follow : FollowState} {seen now : List Snapshot}
-    {watched watched_now : List Watched} {slots : List Slot} → watched_now ≡ watched → now ≡ seen → Progress told_in told calling ways headers names shows first made going follow seen watched slots
+pub still_made : {told_in told : Bool} {calling : Calling} {ways : Ways} {headers : Bool} {names : List (List ℕ)}
+    {shows : ℕ → Snapshot} {first : List Slot} {made : ℕ} {going : Bool} {follow : FollowState}
+    {seen now : List Snapshot}
+    {watched watched_now : List Watched} {slots : List Slot} → watched_now ≡ watched → now ≡ seen
+    → Progress told_in told calling ways headers names shows first made going follow seen watched slots
     → Progress told_in told calling ways headers names shows first made going follow now watched_now slots
 still_made {told_in} {told} {calling} {ways} {headers} {names} {shows} {first} {made} {going} {follow} {slots} same saw so_far =
     subst₂ (λ those names_now. Progress told_in told calling ways headers names shows first made going follow those names_now slots) (sym saw) (sym same) so_far
 
 -- before the first look none was made
-pub none_made : {told_in told : Bool} {calling : Calling} {ways : Ways} {headers : Bool} {names : List (List ℕ)} {shows : ℕ → Snapshot} {first : List Slot} {follow : FollowState} {seen : List Snapshot} {watched : List Watched}
-    {slots : List Slot} → seen ≡ [] → Holds told_in told calling ways headers names [] first follow watched slots → Progress told_in told calling ways headers names shows first 0 true follow seen watched slots
+pub none_made : {told_in told : Bool} {calling : Calling} {ways : Ways} {headers : Bool} {names : List (List ℕ)}
+    {shows : ℕ → Snapshot} {first : List Slot} {follow : FollowState} {seen : List Snapshot} {watched : List Watched}
+    {slots : List Slot} → seen ≡ [] → Holds told_in told calling ways headers names [] first follow watched slots
+    → Progress told_in told calling ways headers names shows first 0 true follow seen watched slots
 none_made unseen holds = record {
   looks = [];
   count = refl;
@@ -510,12 +591,14 @@ none_made unseen holds = record {
 
 -- how many looks there are until a process is gone
 
-pub until_step : (process : Option ℕ) (shows : ℕ → Snapshot) (from left : ℕ) → 0 < left → is_over process (shows from) ≡ false
+pub until_step : (process : Option ℕ) (shows : ℕ → Snapshot) (from left : ℕ) → 0 < left
+    → is_over process (shows from) ≡ false
     → until_over process shows from left ≡ 1 + until_over process shows (from + 1) (left - 1)
 until_step process shows from zero some runs = absurd (omega (arith, some))
 until_step process shows from (suc left) some runs = let less : suc left - 1 ≡ left = omega arith in rw (runs, less) refl
 
-until_least : (process : Option ℕ) (shows : ℕ → Snapshot) (from left : ℕ) → 0 < left → 0 < until_over process shows from left
+until_least : (process : Option ℕ) (shows : ℕ → Snapshot) (from left : ℕ) → 0 < left
+    → 0 < until_over process shows from left
 until_least process shows from zero some = some
 until_least process shows from (suc left) some = by (is_over process (shows from)) where
   by : (over : Bool) → 0 < (if over then 1 else 1 + until_over process shows (from + 1) left)
@@ -525,7 +608,8 @@ until_least process shows from (suc left) some = by (is_over process (shows from
 until_within : (process : Option ℕ) (shows : ℕ → Snapshot) (from left : ℕ) → until_over process shows from left ≤ left
 until_within process shows from zero = omega arith
 until_within process shows from (suc left) = by (is_over process (shows from)) (until_within process shows (from + 1) left) where
-  by : (over : Bool) → until_over process shows (from + 1) left ≤ left → (if over then 1 else 1 + until_over process shows (from + 1) left) ≤ suc left
+  by : (over : Bool) → until_over process shows (from + 1) left ≤ left
+      → (if over then 1 else 1 + until_over process shows (from + 1) left) ≤ suc left
   by true rest = omega arith
   by false rest = omega (arith, rest)
 
@@ -533,33 +617,45 @@ until_found : (process : Option ℕ) (shows : ℕ → Snapshot) (from left : ℕ
     → (last : ℕ) × (from + until_over process shows from left ≡ suc last) × IsTrue (is_over process (shows last))
 until_found process shows from zero fewer = absurd (omega (arith, fewer))
 until_found process shows from (suc left) fewer = by (is_over process (shows from)) (until_found process shows (from + 1) left) refl fewer where
-  by : (over : Bool) → (until_over process shows (from + 1) left < left → (last : ℕ) × (from + 1 + until_over process shows (from + 1) left ≡ suc last) × IsTrue (is_over process (shows last))) → is_over process (shows from) ≡ over → (if over then 1 else 1 + until_over process shows (from + 1) left) < suc left
-      → (last : ℕ) × (from + (if over then 1 else 1 + until_over process shows (from + 1) left) ≡ suc last) × IsTrue (is_over process (shows last))
+  by : (over : Bool)
+      → (until_over process shows (from + 1) left < left
+      → (last : ℕ) × (from + 1 + until_over process shows (from + 1) left ≡ suc last)
+      × IsTrue (is_over process (shows last))) → is_over process (shows from) ≡ over
+      → (if over then 1 else 1 + until_over process shows (from + 1) left) < suc left
+      → (last : ℕ) × (from + (if over then 1 else 1 + until_over process shows (from + 1) left) ≡ suc last)
+      × IsTrue (is_over process (shows last))
   by true rest is fewer = (from, omega arith, is)
   by false rest is fewer = let (last, at, over) = rest (omega (arith, fewer)) in (last, omega (arith, at), over)
 
 -- at least those that were made
-pub most_made : (told : Bool) (process : Option ℕ) (shows : ℕ → Snapshot) (count made : ℕ) → made ≤ count → (told ≡ true → made ≤ until_over process shows 0 count)
+pub most_made : (told : Bool) (process : Option ℕ) (shows : ℕ → Snapshot) (count made : ℕ) → made ≤ count
+    → (told ≡ true → made ≤ until_over process shows 0 count)
     → (most : ℕ) × AreMost told process shows count most × (made ≤ most)
 most_made false process shows count made within left = (count, record { are = λ t. absurd (false≢true t); within = omega arith; found = λ fewer. absurd (omega (arith, fewer)) }, within)
 most_made true process shows count made within left =
     (until_over process shows 0 count, record { are = λ t. refl; within = until_within process shows 0 count; found = λ fewer. let (last, at, over) = until_found process shows 0 count fewer in (last, omega (arith, at), over) }, left refl)
 
-pub until_some : (process : Option ℕ) (shows : ℕ → Snapshot) {made count : ℕ} → until_over process shows 0 count ≡ made + until_over process shows made (count - made) → made < count
+pub until_some : (process : Option ℕ) (shows : ℕ → Snapshot) {made count : ℕ}
+    → until_over process shows 0 count ≡ made + until_over process shows made (count - made) → made < count
     → made + 1 ≤ until_over process shows 0 count
 until_some process shows {made} {count} is below = let some = until_least process shows made (count - made) (omega (arith, below)) in omega (arith, is, some)
 
 -- one more, before which the process isn't gone
-pub until_more : (process : Option ℕ) {shows now : ℕ → Snapshot} {made count seen : ℕ} {gone : Bool} → until_over process shows 0 count ≡ made + until_over process shows made (count - made) → made < count
-    → gone ≡ is_over process (now seen) → gone ≡ false → now ≡ shows → seen ≡ made → until_over process shows 0 count ≡ made + 1 + until_over process shows (made + 1) (count - (made + 1))
+pub until_more : (process : Option ℕ) {shows now : ℕ → Snapshot} {made count seen : ℕ} {gone : Bool}
+    → until_over process shows 0 count ≡ made + until_over process shows made (count - made) → made < count
+    → gone ≡ is_over process (now seen) → gone ≡ false → now ≡ shows → seen ≡ made
+    → until_over process shows 0 count ≡ made + 1 + until_over process shows (made + 1) (count - (made + 1))
 until_more process {shows} {now} {made} {count} {seen} is below told runs same at =
     let next = until_step process shows made (count - made) (omega (arith, below)) (ap (is_over process) (sym ((λ i. same i (at i)))) ∙ sym told ∙ runs) in
     let less : count - made - 1 ≡ count - (made + 1) = omega arith in
     let rest = ap (until_over process shows (made + 1)) less in omega (arith, is, next, rest)
 
 -- the last one, before which it is gone
-pub until_last : {told : Bool} {process : Option ℕ} {shows now : ℕ → Snapshot} {made count seen : ℕ} {gone : Bool} → (told ≡ true → until_over process shows 0 count ≡ made + until_over process shows made (count - made)) → made < count
-    → (IsTrue gone → IsTrue (is_over process (now seen))) → gone ≡ true → now ≡ shows → seen ≡ made → AreMost told process shows count (made + 1)
+pub until_last : {told : Bool} {process : Option ℕ} {shows now : ℕ → Snapshot} {made count seen : ℕ} {gone : Bool}
+    → (told ≡ true → until_over process shows 0 count ≡ made + until_over process shows made (count - made))
+    → made < count
+    → (IsTrue gone → IsTrue (is_over process (now seen))) → gone ≡ true → now ≡ shows → seen ≡ made
+    → AreMost told process shows count (made + 1)
 until_last {process} {shows} {now} {made} {count} {seen} is below found gone same at =
     let over : is_over process (shows made) ≡ true = ap (is_over process) (sym (λ i. same i (at i))) ∙ found gone in record {
       are = λ t. let all = is t in let one = last_is (count - made) (omega (arith, below)) over in omega (arith, all, one);
@@ -572,8 +668,11 @@ until_last {process} {shows} {now} {made} {count} {seen} is below found gone sam
 
 -- a whole run
 
-pub ends_by : {told_in told : Bool} {breaks_for : ℕ → Reason → Bool} {calling : Calling} {ways : Ways} {headers : Bool} {names : List (List ℕ)} {count : ℕ} {shows : ℕ → Snapshot} {first : List Slot} {seen : List Snapshot} {watched : List Watched} {new : List Slot} {status : ℕ}
-    (process : Option ℕ) (most : ℕ) → AreMost told_in process shows count most → FollowEndsAs told_in told breaks_for calling ways headers names most shows first seen watched new status
+pub ends_by : {told_in told : Bool} {breaks_for : ℕ → Reason → Bool} {calling : Calling} {ways : Ways} {headers : Bool}
+    {names : List (List ℕ)} {count : ℕ} {shows : ℕ → Snapshot} {first : List Slot} {seen : List Snapshot}
+    {watched : List Watched} {new : List Slot} {status : ℕ}
+    (process : Option ℕ) (most : ℕ) → AreMost told_in process shows count most
+    → FollowEndsAs told_in told breaks_for calling ways headers names most shows first seen watched new status
     → FollowEndsBy process told_in told breaks_for calling ways headers names count shows first seen watched new status
 ends_by (Some process) most are ends = (most, are, ends)
 ends_by {told_in} {told} {breaks_for} {calling} {ways} {headers} {names} {count} {shows} {first} {seen} {watched} {new} {status} None most are ends =
@@ -586,7 +685,10 @@ texts_of_new : (names : List (List ℕ)) → texts (map new_state names) ≡ nam
 texts_of_new [] = refl
 texts_of_new (name ∷ names) = ap (λ rest. name ∷ rest) (texts_of_new names)
 
-pub open_holds : {told_in told by_name : Bool} {calling : Calling} {start : Start} {headers : Bool} {names : List (List ℕ)} {follow : FollowState} {watched : List Watched} {slots : List Slot} → follow ≡ opened_follow calling by_name start headers names → watched ≡ [] → Holds told_in told calling (ways_of 0 by_name start) headers names [] slots follow watched slots
+pub open_holds : {told_in told by_name : Bool} {calling : Calling} {start : Start} {headers : Bool}
+    {names : List (List ℕ)} {follow : FollowState} {watched : List Watched} {slots : List Slot}
+    → follow ≡ opened_follow calling by_name start headers names → watched ≡ []
+    → Holds told_in told calling (ways_of 0 by_name start) headers names [] slots follow watched slots
 open_holds {told_in} {told} {by_name} {calling} {start} {headers} {names} {watched} {slots} is unwatched = subst (λ (f : FollowState). Holds told_in told calling (ways_of 0 by_name start) headers names [] slots f watched slots) (sym is) (record {
   asked = refl;
   same = texts_of_new names;

@@ -22,10 +22,12 @@ record Begun (v : Version) (entries : List Entry) : Type 0 where
   last : last_contents (v ∷ run) ≡ v.contents ++ more
   gains : gains_later (version v) entries ≡ more ++ whole_text others
 
-whole_of : {v : Version} {entries : List Entry} (b : Begun v entries) → whole_text (runs_of (version v ∷ entries)) ≡ v.contents ++ gains_later (version v) entries
+whole_of : {v : Version} {entries : List Entry} (b : Begun v entries)
+    → whole_text (runs_of (version v ∷ entries)) ≡ v.contents ++ gains_later (version v) entries
 whole_of {v} b = ap whole_text b.runs ∙ ap (λ x. x ++ whole_text b.others) b.last ∙ append_assoc v.contents b.more (whole_text b.others) ∙ ap (λ x. v.contents ++ x) (sym b.gains)
 
-goes : {v w : Version} {entries : List Entry} → Begun w entries → IsBeginning v.contents w.contents → goes_on v w ≡ true → Begun v (version w ∷ entries)
+goes : {v w : Version} {entries : List Entry} → Begun w entries → IsBeginning v.contents w.contents → goes_on v w ≡ true
+    → Begun v (version w ∷ entries)
 goes {v} {w} {entries} b (rest, is) test = record {
   run = w ∷ b.run;
   others = b.others;
@@ -47,7 +49,8 @@ stops {v} {w} {entries} b test = record {
   gains = ap (λ t. (if t then drop (length v.contents) w.contents else w.contents) ++ gains_later (version w) entries) test ∙ sym (whole_of b);
 }
 
-either : {v w : Version} {entries : List Entry} → Begun w entries → (test : Bool) → goes_on v w ≡ test → (test ≡ true → IsBeginning v.contents w.contents) → Begun v (version w ∷ entries)
+either : {v w : Version} {entries : List Entry} → Begun w entries → (test : Bool) → goes_on v w ≡ test
+    → (test ≡ true → IsBeginning v.contents w.contents) → Begun v (version w ∷ entries)
 either b true is kept = goes b (kept refl) is
 either b false is kept = stops b is
 
@@ -63,7 +66,8 @@ mutual
   after_gap (version w ∷ entries) all = sym (whole_of (begun entries all.0 all.1))
 
 -- the text of a name is what its entries add
-pub text_is_gains : (start : List ℕ → List ℕ) (entries : List Entry) → AreKept entries → name_text start entries ≡ gains_after start [] entries
+pub text_is_gains : (start : List ℕ → List ℕ) (entries : List Entry) → AreKept entries
+    → name_text start entries ≡ gains_after start [] entries
 text_is_gains start [] all = refl
 text_is_gains start (gap ∷ entries) all = sym (after_gap entries all)
 text_is_gains start (version v ∷ entries) all =
@@ -72,11 +76,13 @@ text_is_gains start (version v ∷ entries) all =
     ∙ ap (λ x. start v.contents ++ x ++ whole_text b.others) (drop_front v.contents b.more) ∙ append_assoc (start v.contents) b.more (whole_text b.others)
     ∙ ap (λ x. start v.contents ++ x) (sym b.gains)
 
-pub later-append : (last : Entry) (entries more : List Entry) → gains_later last (entries ++ more) ≡ gains_later last entries ++ gains_later (last_from last entries) more
+pub later-append : (last : Entry) (entries more : List Entry)
+    → gains_later last (entries ++ more) ≡ gains_later last entries ++ gains_later (last_from last entries) more
 later-append last [] more = refl
 later-append last (entry ∷ entries) more = ap (λ x. gain_between last entry ++ x) (later-append entry entries more) ∙ sym (append_assoc (gain_between last entry) (gains_later entry entries) _)
 
-pub gains-append : (start : List ℕ → List ℕ) (entries more : List Entry) → gains_after start [] (entries ++ more) ≡ gains_after start [] entries ++ gains_after start entries more
+pub gains-append : (start : List ℕ → List ℕ) (entries more : List Entry)
+    → gains_after start [] (entries ++ more) ≡ gains_after start [] entries ++ gains_after start entries more
 gains-append start [] [] = refl
 gains-append start [] (entry ∷ more) = refl
 gains-append start (entry ∷ entries) more = grind (arith, common_steps, later-append)
@@ -89,29 +95,38 @@ kept_before (version v ∷ gap ∷ entries) more all = (tt, kept_before (gap ∷
 kept_before (version v ∷ version w ∷ entries) more all = (all.0, kept_before (version w ∷ entries) more all.1)
 
 -- The text goes on: what more entries bring stands after what was there.
-pub text_goes_on : (start : List ℕ → List ℕ) (entries more : List Entry) → AreKept (entries ++ more) → name_text start (entries ++ more) ≡ name_text start entries ++ gains_after start entries more
+pub text_goes_on : (start : List ℕ → List ℕ) (entries more : List Entry) → AreKept (entries ++ more)
+    → name_text start (entries ++ more) ≡ name_text start entries ++ gains_after start entries more
 text_goes_on start entries more all = grind (arith, common_steps, text_is_gains, gains-append, kept_before)
 
-pub last_from-append : (last : Entry) (entries more : List Entry) → last_from last (entries ++ more) ≡ last_from (last_from last entries) more
+pub last_from-append : (last : Entry) (entries more : List Entry)
+    → last_from last (entries ++ more) ≡ last_from (last_from last entries) more
 last_from-append last [] more = refl
 last_from-append last (entry ∷ entries) more = last_from-append entry entries more
 
-shares_from-append : (ways : Ways) (names : List (List ℕ)) (before looks : List Look) (look : Look) → shares_from ways names before (looks ++ look ∷ []) ≡ shares_from ways names before looks ++ shares_at_look ways names (before ++ looks) look
+shares_from-append : (ways : Ways) (names : List (List ℕ)) (before looks : List Look) (look : Look)
+    → shares_from ways names before (looks ++ look ∷ [])
+    ≡ shares_from ways names before looks ++ shares_at_look ways names (before ++ looks) look
 shares_from-append ways names before [] look = grind (arith, common_steps)
 shares_from-append ways names before (next ∷ looks) look =
     ap (λ x. shares_at_look ways names before next ++ x)
     (shares_from-append ways names (before ++ next ∷ []) looks look ∙ ap (λ those. shares_from ways names (before ++ next ∷ []) looks ++ shares_at_look ways names those look) (append_assoc before (next ∷ []) looks))
     ∙ sym (append_assoc (shares_at_look ways names before next) (shares_from ways names (before ++ next ∷ []) looks) _)
 
-pub shares_more : (ways : Ways) (names : List (List ℕ)) (looks : List Look) (look : Look) → shares_of ways names (looks ++ look ∷ []) ≡ shares_of ways names looks ++ shares_at_look ways names looks look
+pub shares_more : (ways : Ways) (names : List (List ℕ)) (looks : List Look) (look : Look)
+    → shares_of ways names (looks ++ look ∷ []) ≡ shares_of ways names looks ++ shares_at_look ways names looks look
 shares_more ways names looks look = shares_from-append ways names [] looks look
 
-pub text-append : (headers : Bool) (last : Option (List ℕ)) (shares more : List Share) → text_from headers last (shares ++ more) ≡ text_from headers last shares ++ text_from headers (last_header_from headers last shares) more
+pub text-append : (headers : Bool) (last : Option (List ℕ)) (shares more : List Share)
+    → text_from headers last (shares ++ more)
+    ≡ text_from headers last shares ++ text_from headers (last_header_from headers last shares) more
 text-append headers last [] more = refl
 text-append headers last (share ∷ shares) more =
     ap (λ x. share_text headers last share ++ x) (text-append headers (header_after headers last share) shares more) ∙ sym (append_assoc (share_text headers last share) _ _)
 
-pub last-append : (headers : Bool) (last : Option (List ℕ)) (shares more : List Share) → last_header_from headers last (shares ++ more) ≡ last_header_from headers (last_header_from headers last shares) more
+pub last-append : (headers : Bool) (last : Option (List ℕ)) (shares more : List Share)
+    → last_header_from headers last (shares ++ more)
+    ≡ last_header_from headers (last_header_from headers last shares) more
 last-append headers last [] more = refl
 last-append headers last (share ∷ shares) more = last-append headers (header_after headers last share) shares more
 
@@ -124,11 +139,17 @@ failed-append [] more = refl
 failed-append (share ∷ shares) more = ap (λ x. is_some share.failure || x) (failed-append shares more) ∙ sym (or_assoc (is_some share.failure) (any_failed shares) (any_failed more))
 
 -- the entries of one look more
-looks-append : (by_name : Bool) (name : List ℕ) (opened : Option ℕ) (snaps : List Snapshot) (snapshot : Snapshot) → entries_later by_name name opened (snaps ++ snapshot ∷ []) ≡ entries_later by_name name opened snaps ++ entries_at_look by_name name (open_after_later by_name name opened snaps) snapshot
+looks-append : (by_name : Bool) (name : List ℕ) (opened : Option ℕ) (snaps : List Snapshot) (snapshot : Snapshot)
+    → entries_later by_name name opened (snaps ++ snapshot ∷ [])
+    ≡ entries_later by_name name opened snaps
+    ++ entries_at_look by_name name (open_after_later by_name name opened snaps) snapshot
 looks-append by_name name opened [] snapshot = append-nil _
 looks-append by_name name opened (next ∷ snaps) snapshot =
     ap (λ x. entries_at_look by_name name opened next ++ x) (looks-append by_name name (open_after_look by_name name opened next) snaps snapshot)
     ∙ sym (append_assoc (entries_at_look by_name name opened next) _ _)
 
-pub entries-append : (by_name : Bool) (name : List ℕ) (first : Snapshot) (snaps : List Snapshot) (snapshot : Snapshot) → entries_of by_name name ((first ∷ snaps) ++ snapshot ∷ []) ≡ entries_of by_name name (first ∷ snaps) ++ entries_at_look by_name name (open_after by_name name (first ∷ snaps)) snapshot
+pub entries-append : (by_name : Bool) (name : List ℕ) (first : Snapshot) (snaps : List Snapshot) (snapshot : Snapshot)
+    → entries_of by_name name ((first ∷ snaps) ++ snapshot ∷ [])
+    ≡ entries_of by_name name (first ∷ snaps)
+    ++ entries_at_look by_name name (open_after by_name name (first ∷ snaps)) snapshot
 entries-append by_name name first snaps snapshot = grind (arith, common_steps, looks-append)

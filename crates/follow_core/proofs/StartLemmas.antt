@@ -18,44 +18,62 @@ use Rattle.seg_core.specs.declared.unit.Unit.TheVariants.{Lines}
 -- filling a block of a watched file, read by read
 
 -- what an open file holds, where nothing changed
-pub contents_same : {seen seen_old : List Snapshot} {names names_old : List Watched} (place : ℕ) → seen ≡ seen_old → names ≡ names_old → open_contents (latest seen) (watched_at names place) ≡ open_contents (latest seen_old) (watched_at names_old place)
+pub contents_same : {seen seen_old : List Snapshot} {names names_old : List Watched} (place : ℕ) → seen ≡ seen_old
+    → names ≡ names_old
+    → open_contents (latest seen) (watched_at names place)
+    ≡ open_contents (latest seen_old) (watched_at names_old place)
 contents_same {seen_old} {names} place saw same = cc
 
 -- so much of the block is filled with what the file has from a place on
-pub record Filling (told_in : Bool) (contents : List ℕ) (from filled : ℕ) (old now : List ℕ) (seen_old seen_now : List Snapshot) (watched_old watched_now : List Watched) : Type 0 where
+pub record Filling (told_in : Bool) (contents : List ℕ) (from filled : ℕ) (old now : List ℕ)
+    (seen_old seen_now : List Snapshot) (watched_old watched_now : List Watched) : Type 0 where
   pub are : told_in ≡ true → take filled now ≡ take filled (drop from contents)
   pub within : filled ≤ length old
   pub seen_same : seen_now ≡ seen_old
   pub watched_same : watched_now ≡ watched_old
 
 -- the front of a block of which a part was overwritten
-front_of : {a n : ℕ} (xs ys : List ℕ) → a ≤ length xs → length ys ≡ length xs - a → n ≤ length ys → take (a + n) (put_mid a (length xs - a) xs ys) ≡ take a xs ++ take n ys
+front_of : {a n : ℕ} (xs ys : List ℕ) → a ≤ length xs → length ys ≡ length xs - a → n ≤ length ys
+    → take (a + n) (put_mid a (length xs - a) xs ys) ≡ take a xs ++ take n ys
 front_of {a} {n} xs ys fits long few = grind (arith, common_steps, take-put_mid, length-take, take-take, take-append-add)
 
-more_bytes : (contents : List ℕ) {read_old read_new : List ℕ} (now : List ℕ) (from : ℕ) {filled n : ℕ} → filled ≤ length now → length read_new ≡ length now - filled → n ≤ length read_new → GaveFrom contents (from + filled) read_old read_new n
-    → take filled now ≡ take filled (drop from contents) → take (filled + n) (put_mid filled (length now - filled) now read_new) ≡ take (filled + n) (drop from contents)
+more_bytes : (contents : List ℕ) {read_old read_new : List ℕ} (now : List ℕ) (from : ℕ) {filled n : ℕ}
+    → filled ≤ length now → length read_new ≡ length now - filled → n ≤ length read_new
+    → GaveFrom contents (from + filled) read_old read_new n
+    → take filled now ≡ take filled (drop from contents)
+    → take (filled + n) (put_mid filled (length now - filled) now read_new) ≡ take (filled + n) (drop from contents)
 more_bytes contents {read_new} now from {filled} {n} within long few gave are = grind (arith, common_steps, front_of, drop-drop, take-add)
 
 -- the part of the block that is still to be filled
 room_of : (filled : ℕ) (now : List ℕ) → length (take (length now - filled) (drop filled now)) ≡ length now - filled
 room_of filled now = grind (arith, common_steps)
 
-pub fill_more : {told_in : Bool} {contents now_contents : List ℕ} {from filled n : ℕ} {old now read_new : List ℕ} {seen_old seen_now seen_new : List Snapshot} {watched_old watched_now watched_new : List Watched}
+pub fill_more : {told_in : Bool} {contents now_contents : List ℕ} {from filled n : ℕ} {old now read_new : List ℕ}
+    {seen_old seen_now seen_new : List Snapshot} {watched_old watched_now watched_new : List Watched}
     → Filling told_in contents from filled old now seen_old seen_now watched_old watched_now
-    → now_contents ≡ contents → filled < length now → length now ≡ length old → length read_new ≡ length (take (length now - filled) (drop filled now)) → n ≤ length (take (length now - filled) (drop filled now))
-    → (told_in ≡ true → GaveFrom now_contents (from + filled) (take (length now - filled) (drop filled now)) read_new n) → seen_new ≡ seen_now → watched_new ≡ watched_now
-    → Filling told_in contents from (filled + n) old (put_mid filled (length now - filled) now read_new) seen_old seen_new watched_old watched_new
+    → now_contents ≡ contents → filled < length now → length now ≡ length old
+    → length read_new ≡ length (take (length now - filled) (drop filled now))
+    → n ≤ length (take (length now - filled) (drop filled now))
+    → (told_in ≡ true → GaveFrom now_contents (from + filled) (take (length now - filled) (drop filled now)) read_new n)
+    → seen_new ≡ seen_now → watched_new ≡ watched_now
+    → Filling told_in contents from (filled + n) old
+    (put_mid filled (length now - filled) now read_new) seen_old seen_new watched_old watched_new
 fill_more {contents} {from} {filled} {n} {now} {read_new} f same less long wide few gave seen watched = grind (arith, common_steps, room_of, more_bytes)
 
 -- a read that gives none stands at the file's end
-pub fill_ends : {told_in : Bool} {contents now_contents : List ℕ} {from filled : ℕ} {old now read_new : List ℕ} {seen_old seen_now : List Snapshot} {watched_old watched_now : List Watched}
+pub fill_ends : {told_in : Bool} {contents now_contents : List ℕ} {from filled : ℕ} {old now read_new : List ℕ}
+    {seen_old seen_now : List Snapshot} {watched_old watched_now : List Watched}
     → Filling told_in contents from filled old now seen_old seen_now watched_old watched_now
-    → now_contents ≡ contents → filled < length now → (told_in ≡ true → GaveFrom now_contents (from + filled) (take (length now - filled) (drop filled now)) read_new 0)
-    → told_in ≡ true → take filled (put_mid filled (length now - filled) now read_new) ≡ take (length old) (drop from contents)
+    → now_contents ≡ contents → filled < length now
+    → (told_in ≡ true → GaveFrom now_contents (from + filled) (take (length now - filled) (drop filled now)) read_new 0)
+    → told_in ≡ true
+    → take filled (put_mid filled (length now - filled) now read_new) ≡ take (length old) (drop from contents)
 fill_ends {contents} {now_contents} {from} {filled} {now} {read_new} f same less gave is = grind (arith, common_steps)
 
 -- after the first lines of a block
-pub passed_in : {delim left : ℕ} (at size : ℕ) {end : ℕ} (x : List ℕ) {block rest : List ℕ} → block ≡ take size (drop at x) → EndsAt delim left block end → rest ≡ after_lines delim left (drop at x) → drop (at + end) x ≡ rest
+pub passed_in : {delim left : ℕ} (at size : ℕ) {end : ℕ} (x : List ℕ) {block rest : List ℕ}
+    → block ≡ take size (drop at x) → EndsAt delim left block end → rest ≡ after_lines delim left (drop at x)
+    → drop (at + end) x ≡ rest
 passed_in {delim} {left} at size {end} x {block} are ends is =
     let all : drop at x ≡ block ++ drop (at + size) x = block_then x at size ∙ ap (λ those. those ++ drop (at + size) x) (sym are) in
     sym (drop-drop end at x) ∙ ap (drop end) all ∙ drop-append-le end block (drop (at + size) x) ends.within
@@ -63,7 +81,9 @@ passed_in {delim} {left} at size {end} x {block} are ends is =
     ∙ after_lines-append delim left block (drop (at + size) x) (EndsAt-enough delim left block end ends) ∙ ap (after_lines delim left) (sym all) ∙ sym is
 
 -- a block that has fewer lines is passed
-pub passed_by : {delim left : ℕ} (at size : ℕ) {found : ℕ} (x : List ℕ) {block rest : List ℕ} → block ≡ take size (drop at x) → FallsShort delim left block found → rest ≡ after_lines delim left (drop at x) → rest ≡ after_lines delim (left - found) (drop (at + size) x)
+pub passed_by : {delim left : ℕ} (at size : ℕ) {found : ℕ} (x : List ℕ) {block rest : List ℕ}
+    → block ≡ take size (drop at x) → FallsShort delim left block found → rest ≡ after_lines delim left (drop at x)
+    → rest ≡ after_lines delim (left - found) (drop (at + size) x)
 passed_by {delim} {left} at size x {block} are short is =
     let all : drop at x ≡ block ++ drop (at + size) x = block_then x at size ∙ ap (λ those. those ++ drop (at + size) x) (sym are) in
     let counted = short.counted in let fewer = short.fewer in
@@ -72,10 +92,14 @@ passed_by {delim} {left} at size x {block} are short is =
     ∙ ap (λ n. after_lines delim (left - n) (drop (at + size) x)) (sym counted)
 
 -- a block that was read into the front of the buffer
-pub block_read : {contents now_contents : List ℕ} (buffer new : List ℕ) (from : ℕ) {size n : ℕ} (most : ℕ) → size ≡ min most (length buffer) → n ≤ length (take size buffer) → length new ≡ length (take size buffer) → now_contents ≡ contents
-    → take n new ≡ take (length (take size buffer)) (drop from now_contents) → take n (new ++ drop size buffer) ≡ take size (drop from contents)
+pub block_read : {contents now_contents : List ℕ} (buffer new : List ℕ) (from : ℕ) {size n : ℕ} (most : ℕ)
+    → size ≡ min most (length buffer) → n ≤ length (take size buffer) → length new ≡ length (take size buffer)
+    → now_contents ≡ contents
+    → take n new ≡ take (length (take size buffer)) (drop from now_contents)
+    → take n (new ++ drop size buffer) ≡ take size (drop from contents)
 block_read {now_contents} buffer new from {size} {n} most is few long same are = grind (arith, common_steps)
 
 -- the buffer keeps its room
-pub room_kept : (buffer new : List ℕ) {size most : ℕ} → size ≡ min most (length buffer) → 0 < most → length new ≡ length (take size buffer) → 0 < length buffer → 0 < length (new ++ drop size buffer)
+pub room_kept : (buffer new : List ℕ) {size most : ℕ} → size ≡ min most (length buffer) → 0 < most
+    → length new ≡ length (take size buffer) → 0 < length buffer → 0 < length (new ++ drop size buffer)
 room_kept buffer new {size} is other long some = grind (arith, common_steps)

@@ -10,7 +10,8 @@ use Rattle.watch_core.specs.declared.watch.Seen.{Seen}
 use Rattle.mem_core.specs.MemWatchState.{MemWatchState, world_at, seen_by, seen, shown, shows}
 use Rattle.watch_core.proofs.NameLemmas.{latest-last, name_changes, name_there}
 
-pub world_there : (worlds : List World) (n : ℕ) (world : World) → n < length worlds → world_at worlds n ≡ get_or worlds n world
+pub world_there : (worlds : List World) (n : ℕ) (world : World) → n < length worlds
+    → world_at worlds n ≡ get_or worlds n world
 world_there [] n world within = absurd (omega arith)
 world_there (first ∷ []) zero world within = refl
 world_there (first ∷ []) (suc n) world within = absurd (omega arith)
@@ -18,14 +19,16 @@ world_there (first ∷ next ∷ worlds) zero world within = refl
 world_there (first ∷ next ∷ worlds) (suc n) world within = world_there (next ∷ worlds) n world (omega arith)
 
 -- past the last look that was planned all is as at that look
-pub world_past : (worlds : List World) (n : ℕ) → length worlds ≤ n + 1 → world_at worlds n ≡ world_at worlds (length worlds)
+pub world_past : (worlds : List World) (n : ℕ) → length worlds ≤ n + 1
+    → world_at worlds n ≡ world_at worlds (length worlds)
 world_past [] n past = refl
 world_past (first ∷ []) n past = refl
 world_past (first ∷ next ∷ worlds) zero past = absurd (omega arith)
 world_past (first ∷ next ∷ worlds) (suc n) past = world_past (next ∷ worlds) n (omega arith)
 
 -- one more changes none of those before
-pub world_before : (worlds : List World) (more : World) (n : ℕ) → n < length worlds → world_at (worlds ++ more ∷ []) n ≡ world_at worlds n
+pub world_before : (worlds : List World) (more : World) (n : ℕ) → n < length worlds
+    → world_at (worlds ++ more ∷ []) n ≡ world_at worlds n
 world_before [] more n within = absurd (omega arith)
 world_before (first ∷ []) more zero within = refl
 world_before (first ∷ []) more (suc n) within = absurd (omega arith)
@@ -33,7 +36,8 @@ world_before (first ∷ next ∷ worlds) more zero within = refl
 world_before (first ∷ next ∷ worlds) more (suc n) within = world_before (next ∷ worlds) more n (omega arith)
 
 -- the last once more changes nothing
-pub world_again : (worlds : List World) (n : ℕ) → world_at (worlds ++ world_at worlds (length worlds) ∷ []) n ≡ world_at worlds n
+pub world_again : (worlds : List World) (n : ℕ)
+    → world_at (worlds ++ world_at worlds (length worlds) ∷ []) n ≡ world_at worlds n
 world_again [] n = refl
 world_again (first ∷ []) zero = refl
 world_again (first ∷ []) (suc n) = refl
@@ -44,23 +48,27 @@ world_again (first ∷ next ∷ worlds) (suc n) = world_again (next ∷ worlds) 
 abbrev pub SameWorlds : List World → List World → Type 0
 SameWorlds new old = (n : ℕ) → world_at new n ≡ world_at old n
 
-seen_same : (forgives : Bool) (within : ℕ) (new old : List World) (n : ℕ) → SameWorlds new old → seen_by forgives within new n ≡ seen_by forgives within old n
+seen_same : (forgives : Bool) (within : ℕ) (new old : List World) (n : ℕ) → SameWorlds new old
+    → seen_by forgives within new n ≡ seen_by forgives within old n
 seen_same forgives within new old zero same = refl
 seen_same forgives within new old (suc n) same = ap (λ before. before ++ waiting within (shown forgives (world_at new (suc n))) ∷ []) (seen_same forgives within new old n same) ∙ ap (λ world. seen_by forgives within old n ++ waiting within (shown forgives world) ∷ []) (same (suc n))
 
-pub length-seen : (forgives : Bool) (within : ℕ) (worlds : List World) (n : ℕ) → length (seen_by forgives within worlds n) ≡ n
+pub length-seen : (forgives : Bool) (within : ℕ) (worlds : List World) (n : ℕ)
+    → length (seen_by forgives within worlds n) ≡ n
 length-seen forgives within worlds zero = refl
 length-seen forgives within worlds (suc n) =
     let both : length (seen_by forgives within worlds n ++ waiting within (shown forgives (world_at worlds (suc n))) ∷ []) ≡ length (seen_by forgives within worlds n) + 1 = length-append (seen_by forgives within worlds n) _ in
     let before : length (seen_by forgives within worlds n) ≡ n = length-seen forgives within worlds n in
     omega arith
 
-pub shows_same : (new old : MemWatchState) → new.forgives ≡ old.forgives → new.within ≡ old.within → SameWorlds new.worlds old.worlds → shows new ≡ shows old
+pub shows_same : (new old : MemWatchState) → new.forgives ≡ old.forgives → new.within ≡ old.within
+    → SameWorlds new.worlds old.worlds → shows new ≡ shows old
 shows_same new old also waits same = let is : shows new ≡ shows old = λ i. λ n. waiting (waits i) (shown (also i) (same (n + 1) i)) in is
 
 -- one more look sees what the watch was to show
 pub turns_on : (watch : MemWatchState) (worlds : List World) → SameWorlds worlds watch.worlds
-    → seen_by watch.forgives watch.within worlds (watch.turns + 1) ≡ seen watch ++ shows watch (length (seen watch)) ∷ []
+    → seen_by watch.forgives watch.within worlds (watch.turns + 1)
+    ≡ seen watch ++ shows watch (length (seen watch)) ∷ []
 turns_on watch worlds same =
     let next : watch.turns + 1 ≡ suc watch.turns = omega arith in
     rw (next) (seen_same watch.forgives watch.within worlds watch.worlds (suc watch.turns) same
@@ -68,20 +76,24 @@ turns_on watch worlds same =
 
 -- what is seen of files whether that is forgiven or not
 
-shown_finds : (forgives : Bool) (world : World) (name : List ℕ) (finding : Finding) → Found (shown forgives world) name finding
+shown_finds : (forgives : Bool) (world : World) (name : List ℕ) (finding : Finding)
+    → Found (shown forgives world) name finding
 shown_finds false world name finding = refl
 shown_finds true world name finding = refl
 
-shown_holds : (forgives : Bool) (world : World) (file : ℕ) → held_in world.files file ≡ (shown forgives world).holds file
+shown_holds : (forgives : Bool) (world : World) (file : ℕ)
+    → held_in world.files file ≡ (shown forgives world).holds file
 shown_holds false world file = refl
 shown_holds true world file = refl
 
-shown_lacks : (forgives : Bool) (world : World) (process : ℕ) → is_one process world.ended ≡ (shown forgives world).lacks process
+shown_lacks : (forgives : Bool) (world : World) (process : ℕ)
+    → is_one process world.ended ≡ (shown forgives world).lacks process
 shown_lacks false world process = refl
 shown_lacks true world process = refl
 
 -- any call may have found anything
-pub finds_any : (forgives : Bool) (within : ℕ) (worlds : List World) (n : ℕ) (name : List ℕ) (finding : Finding) → Found (latest (seen_by forgives within worlds n)) name finding
+pub finds_any : (forgives : Bool) (within : ℕ) (worlds : List World) (n : ℕ) (name : List ℕ) (finding : Finding)
+    → Found (latest (seen_by forgives within worlds n)) name finding
 finds_any forgives within worlds zero name finding = refl
 finds_any forgives within worlds (suc n) name finding = ap (λ (those : Snapshot). those.finds name finding) (latest-last (seen_by forgives within worlds n) _) ∙ shown_finds forgives (world_at worlds (suc n)) name finding
 
@@ -90,13 +102,15 @@ abbrev pub kept : Snapshot → Snapshot
 kept snapshot = record snapshot { breaks = false; within = 0 }
 
 -- what the last look sees are the files of its turn
-pub latest_seen : (forgives : Bool) (within : ℕ) (worlds : List World) (n : ℕ) → world_at worlds 0 ≡ empty_world → kept (latest (seen_by forgives within worlds n)) ≡ kept (shown forgives (world_at worlds n))
+pub latest_seen : (forgives : Bool) (within : ℕ) (worlds : List World) (n : ℕ) → world_at worlds 0 ≡ empty_world
+    → kept (latest (seen_by forgives within worlds n)) ≡ kept (shown forgives (world_at worlds n))
 latest_seen false within worlds zero is = ap (λ world. kept (shown false world)) (sym is)
 latest_seen true within worlds zero is = ap (λ world. kept (shown true world)) (sym is)
 latest_seen forgives within worlds (suc n) is = ap kept (latest-last (seen_by forgives within worlds n) _)
 
 -- where nothing is forgiven, a call may have failed
-latest_breaks : (forgives : Bool) (within : ℕ) (worlds : List World) (n : ℕ) → forgives ≡ false → (latest (seen_by forgives within worlds n)).breaks ≡ true
+latest_breaks : (forgives : Bool) (within : ℕ) (worlds : List World) (n : ℕ) → forgives ≡ false
+    → (latest (seen_by forgives within worlds n)).breaks ≡ true
 latest_breaks forgives within worlds zero is = refl
 latest_breaks forgives within worlds (suc n) is = ap (λ (those : Snapshot). those.breaks) (latest-last (seen_by forgives within worlds n) _) ∙ rw is refl
 
@@ -105,7 +119,8 @@ may_break watch unforgiven = latest_breaks watch.forgives watch.within watch.wor
 
 -- what was forgiven is
 
-forgiven_twice : (barred : Bool) (led : Option ℕ) → (if barred then None else (if barred then None else led)) ≡ (if barred then None else led)
+forgiven_twice : (barred : Bool) (led : Option ℕ)
+    → (if barred then None else (if barred then None else led)) ≡ (if barred then None else led)
 forgiven_twice true led = refl
 forgiven_twice false led = refl
 
@@ -113,33 +128,45 @@ shown_again : (forgives : Bool) (world : World) → shown true world ≡ forgivi
 shown_again false world = refl
 shown_again true world = λ i. record (shown true world) { leads = λ name. sym (forgiven_twice ((shown true world).barred name) (led_to world.links name)) i }
 
-pub forgives_all : {watch : MemWatchState} (new : MemWatchState) {worlds : List World} {turns : ℕ} {names : List Watched} {forgives : Bool} {within : ℕ} {why : Reason} → record { worlds = worlds; turns = turns; watched = names; forgives = forgives; within = within; why = why } ≡ watch
+pub forgives_all : {watch : MemWatchState} (new : MemWatchState) {worlds : List World} {turns : ℕ}
+    {names : List Watched} {forgives : Bool} {within : ℕ} {why : Reason}
+    → record { worlds = worlds; turns = turns; watched = names; forgives = forgives; within = within; why = why }
+    ≡ watch
     → new.worlds ≡ worlds → new.forgives ≡ true → new.within ≡ within → shows new ≡ (λ n. forgiving (shows watch n))
 forgives_all {watch} new {worlds} {forgives} {within} is same forgiven waits =
     (λ i. λ n. waiting (waits i) (shown (forgiven i) (world_at (same i) (n + 1)))) ∙ (λ i. λ n. waiting within (shown_again forgives (world_at worlds (n + 1)) i))
     ∙ (λ i. λ n. forgiving (shows (is i) n))
 
-pub forgives_none : {watch : MemWatchState} {worlds : List World} (turns : ℕ) {names : List Watched} {forgives : Bool} {within : ℕ} {why : Reason} (now : Bool) → record { worlds = worlds; turns = turns; watched = names; forgives = forgives; within = within; why = why } ≡ watch
+pub forgives_none : {watch : MemWatchState} {worlds : List World} (turns : ℕ) {names : List Watched} {forgives : Bool}
+    {within : ℕ} {why : Reason} (now : Bool)
+    → record { worlds = worlds; turns = turns; watched = names; forgives = forgives; within = within; why = why }
+    ≡ watch
     → seen watch ≡ [] → seen_by now within worlds turns ≡ seen watch
 forgives_none zero now is unseen = sym unseen
 forgives_none {watch} {worlds} (suc turns) {forgives} {within} now is unseen = absurd (let count : length (seen watch) ≡ suc turns = ap (λ (those : MemWatchState). length (seen those)) (sym is) ∙ length-seen forgives within worlds (suc turns) in let none = ap length unseen in omega (arith, count, none))
 
 -- what is so of the files of the last turn is so of the last look
-module _ {watch : MemWatchState} {worlds : List World} (turns : ℕ) {names : List Watched} {world : World} {forgives : Bool} {within : ℕ} {why : Reason}
-    (is : record { worlds = worlds; turns = turns; watched = names; forgives = forgives; within = within; why = why } ≡ watch) (empty : world_at worlds 0 ≡ empty_world) (now : world ≡ world_at worlds turns) where
+module _ {watch : MemWatchState} {worlds : List World} (turns : ℕ) {names : List Watched} {world : World}
+    {forgives : Bool} {within : ℕ} {why : Reason}
+    (is : record { worlds = worlds; turns = turns; watched = names; forgives = forgives; within = within; why = why }
+    ≡ watch) (empty : world_at worlds 0 ≡ empty_world) (now : world ≡ world_at worlds turns) where
   now_seen : kept (shown forgives world) ≡ kept (latest (seen watch))
   now_seen = ap (λ those. kept (shown forgives those)) now ∙ sym (latest_seen forgives within worlds turns empty) ∙ ap (λ (those : MemWatchState). kept (latest (seen those))) is
 
-  item_is : (place : ℕ) {item : Watched} → place < length names → item ≡ get_or names place item → item ≡ watched_at watch.watched place
+  item_is : (place : ℕ) {item : Watched} → place < length names → item ≡ get_or names place item
+      → item ≡ watched_at watch.watched place
   item_is place {item} within at = name_there names place item within at ∙ ap (λ (those : MemWatchState). watched_at those.watched place) is
 
-  pub finds_now : (place : ℕ) {item : Watched} {found : Option Seen} → place < length names → item ≡ get_or names place item
-      → Finds (shown forgives world) item.name found → Finds (latest (seen watch)) (watched_at watch.watched place).name found
+  pub finds_now : (place : ℕ) {item : Watched} {found : Option Seen} → place < length names
+      → item ≡ get_or names place item
+      → Finds (shown forgives world) item.name found
+      → Finds (latest (seen watch)) (watched_at watch.watched place).name found
   finds_now place {found} within at finds =
       subst (λ snapshot. Finds snapshot (watched_at watch.watched place).name found) now_seen
       (subst (λ (those : Watched). Finds (shown forgives world) those.name found) (item_is place within at) finds)
 
-  pub reopens_now : (place : ℕ) {item new : Watched} {file : Option ℕ} {is_there : Bool} → place < length names → item ≡ get_or names place item
+  pub reopens_now : (place : ℕ) {item new : Watched} {file : Option ℕ} {is_there : Bool} → place < length names
+      → item ≡ get_or names place item
       → file ≡ (shown forgives world).leads item.name → new ≡ opens file item → is_there ≡ is_some file
       → Reopens true (latest (seen watch)) watch.watched (set names place new) place is_there
   reopens_now place {item} {new} {file} within at leads changed found = record {
@@ -151,7 +178,8 @@ module _ {watch : MemWatchState} {worlds : List World} (turns : ℕ) {names : Li
         ∙ ap (λ (those : Watched). (latest (seen watch)).leads those.name) (item_is place within at);
   }
 
-  pub opened_now : (place : ℕ) {file : ℕ} {item : Watched} → place < length names → item ≡ get_or names place item → item.opened ≡ Some file
+  pub opened_now : (place : ℕ) {file : ℕ} {item : Watched} → place < length names → item ≡ get_or names place item
+      → item.opened ≡ Some file
       → held_in world.files file ≡ open_contents (latest (seen watch)) (watched_at watch.watched place)
   opened_now place {file} {item} within at opened =
       shown_holds forgives world file ∙ ap (λ (snapshot : Snapshot). snapshot.holds file) now_seen
@@ -159,36 +187,49 @@ module _ {watch : MemWatchState} {worlds : List World} (turns : ℕ) {names : Li
       ∙ ap (open_contents (latest (seen watch))) (item_is place within at)
 
 -- past the last look that was planned all is as at that
-pub at_last : (worlds : List World) (n m : ℕ) → 0 < length worlds → m ≡ min n (length worlds - 1) → world_at worlds m ≡ world_at worlds n
+pub at_last : (worlds : List World) (n m : ℕ) → 0 < length worlds → m ≡ min n (length worlds - 1)
+    → world_at worlds m ≡ world_at worlds n
 at_last worlds n m some is = by (cases_lt n (length worlds)) where
   by : (n < length worlds) ⊎ (length worlds ≤ n) → world_at worlds m ≡ world_at worlds n
   by (inl within) = ap (world_at worlds) (let same : m ≡ n = grind (arith, common_steps) in same)
   by (inr past) = world_past worlds m (grind (arith, common_steps)) ∙ sym (world_past worlds n (omega (arith, past)))
 
 -- the processes that are gone before the next look
-pub gone_next : {watch : MemWatchState} {worlds : List World} {turns next : ℕ} {names : List Watched} {world : World} {forgives : Bool} {within : ℕ} {why : Reason} (process : ℕ) {gone : Bool}
-    → record { worlds = worlds; turns = turns; watched = names; forgives = forgives; within = within; why = why } ≡ watch → turns < length worlds → next ≡ min (turns + 1) (length worlds - 1)
-    → world ≡ world_at worlds next → gone ≡ is_one process world.ended → gone ≡ (shows watch (length (seen watch))).lacks process
+pub gone_next : {watch : MemWatchState} {worlds : List World} {turns next : ℕ} {names : List Watched} {world : World}
+    {forgives : Bool} {within : ℕ} {why : Reason} (process : ℕ) {gone : Bool}
+    → record { worlds = worlds; turns = turns; watched = names; forgives = forgives; within = within; why = why }
+    ≡ watch → turns < length worlds → next ≡ min (turns + 1) (length worlds - 1)
+    → world ≡ world_at worlds next → gone ≡ is_one process world.ended
+    → gone ≡ (shows watch (length (seen watch))).lacks process
 gone_next {worlds} {turns} {next} {forgives} {within} process is inside at there gone = gone ∙ ap (λ (those : World). is_one process those.ended)
     (there ∙ at_last worlds (turns + 1) next (omega (arith, inside)) at ∙ ap (λ n. world_at worlds (n + 1)) (sym (length-seen forgives within worlds turns)))
     ∙ shown_lacks forgives (world_at worlds (length (seen_by forgives within worlds turns) + 1)) process
     ∙ ap (λ (those : MemWatchState). (shows those (length (seen those))).lacks process) is
 
-pub turned : {watch : MemWatchState} {worlds : List World} (new : List World) (turns : ℕ) {n : ℕ} {names : List Watched} {forgives : Bool} {within : ℕ} {why : Reason} → record { worlds = worlds; turns = turns; watched = names; forgives = forgives; within = within; why = why } ≡ watch → SameWorlds new worlds → n ≡ turns + 1
+pub turned : {watch : MemWatchState} {worlds : List World} (new : List World) (turns : ℕ) {n : ℕ} {names : List Watched}
+    {forgives : Bool} {within : ℕ} {why : Reason}
+    → record { worlds = worlds; turns = turns; watched = names; forgives = forgives; within = within; why = why }
+    ≡ watch → SameWorlds new worlds → n ≡ turns + 1
     → seen_by forgives within new n ≡ seen watch ++ shows watch (length (seen watch)) ∷ []
 turned {worlds} new turns {n} {names} {forgives} {within} {why} is same next =
     subst (λ (those : MemWatchState). seen_by forgives within new n ≡ seen those ++ shows those (length (seen those)) ∷ []) is
     (ap (seen_by forgives within new) next ∙ turns_on (record { worlds = worlds; turns = turns; watched = names; forgives = forgives; within = within; why = why }) new same)
 
 -- where nothing more was planned, the last files are added once more
-pub same_again : (worlds : List World) {new : List World} {world : World} → world ≡ world_at worlds (length worlds) → new ≡ worlds ++ world ∷ [] → SameWorlds new worlds
+pub same_again : (worlds : List World) {new : List World} {world : World} → world ≡ world_at worlds (length worlds)
+    → new ≡ worlds ++ world ∷ [] → SameWorlds new worlds
 same_again worlds last is n = ap (λ those. world_at those n) (is ∙ ap (λ those. worlds ++ those ∷ []) last) ∙ world_again worlds n
 
-pub still_shows : {watch : MemWatchState} (new : MemWatchState) {worlds : List World} (turns : ℕ) {names : List Watched} {forgives : Bool} {within : ℕ} {why : Reason} → new.forgives ≡ forgives → new.within ≡ within → record { worlds = worlds; turns = turns; watched = names; forgives = forgives; within = within; why = why } ≡ watch → SameWorlds new.worlds worlds → shows new ≡ shows watch
+pub still_shows : {watch : MemWatchState} (new : MemWatchState) {worlds : List World} (turns : ℕ) {names : List Watched}
+    {forgives : Bool} {within : ℕ} {why : Reason} → new.forgives ≡ forgives → new.within ≡ within
+    → record { worlds = worlds; turns = turns; watched = names; forgives = forgives; within = within; why = why }
+    ≡ watch → SameWorlds new.worlds worlds → shows new ≡ shows watch
 still_shows new {worlds} turns {names} {forgives} {within} {why} also waits is same = shows_same new (record { worlds = worlds; turns = turns; watched = names; forgives = forgives; within = within; why = why }) also waits same ∙ ap shows is
 
 -- one look more is planned: the watch is still at one of them, and begins with no file
-pub holds_more : (worlds : List World) {new : List World} (world : World) (turns n : ℕ) → turns < length worlds → world_at worlds 0 ≡ empty_world → new ≡ worlds ++ world ∷ [] → n ≤ turns + 1 → (n < length new) × (world_at new 0 ≡ empty_world)
+pub holds_more : (worlds : List World) {new : List World} (world : World) (turns n : ℕ) → turns < length worlds
+    → world_at worlds 0 ≡ empty_world → new ≡ worlds ++ world ∷ [] → n ≤ turns + 1
+    → (n < length new) × (world_at new 0 ≡ empty_world)
 holds_more worlds world turns n within empty is few =
     let longer : length (worlds ++ world ∷ []) ≡ length worlds + 1 = length-append worlds (world ∷ []) in
     subst (λ those. (n < length those) × (world_at those 0 ≡ empty_world)) (sym is) (omega (arith, longer, within, few), world_before worlds world 0 (omega (arith, within)) ∙ empty)

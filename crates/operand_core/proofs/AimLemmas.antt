@@ -37,12 +37,14 @@ within_next count here (Some place) less = omega (arith, less)
 within_next count true None less = omega arith
 within_next count false None less = tt
 
-pub closing_within : (delimiter : ℕ) (escaped : Bool) (text : List ℕ) → IfSome (closing delimiter escaped text) (λ place. place < length text)
+pub closing_within : (delimiter : ℕ) (escaped : Bool) (text : List ℕ)
+    → IfSome (closing delimiter escaped text) (λ place. place < length text)
 closing_within delimiter escaped [] = tt
 closing_within delimiter escaped (byte ∷ text) =
     within_next (length text) (byte == delimiter && not escaped) (closing delimiter (is_escape escaped byte) text) (closing_within delimiter (is_escape escaped byte) text)
 
-one_more : (first : ℕ) (inner : List ℕ) (is : Bool) → option_map (λ those. first ∷ those) (cond is (Some inner) None) ≡ cond is (Some (first ∷ inner)) None
+one_more : (first : ℕ) (inner : List ℕ) (is : Bool)
+    → option_map (λ those. first ∷ those) (cond is (Some inner) None) ≡ cond is (Some (first ∷ inner)) None
 one_more first inner true = refl
 one_more first inner false = refl
 
@@ -59,7 +61,8 @@ pub is_no_brace : (inner : List ℕ) (byte : ℕ) → byte ≢ 125 → before_br
 is_no_brace inner byte differ = before_brace_at inner byte ∙ ap (λ b. cond b (Some inner) None) (ne_eqb byte 125 differ)
 
 -- the pattern and the offset that a closing delimiter stands between
-pub search_closed : (delimiter : ℕ) (text : List ℕ) {place : ℕ} {found : Option ℕ} {offset now : Option Offset} → found ≡ closing delimiter false text
+pub search_closed : (delimiter : ℕ) (text : List ℕ) {place : ℕ} {found : Option ℕ} {offset now : Option Offset}
+    → found ≡ closing delimiter false text
     → found ≡ Some place → offset ≡ offset_of (take (length text - (place + 1)) (drop (place + 1) text)) → offset ≡ now
     → searched delimiter (take place text) now ≡ closed_at delimiter text (closing delimiter false text)
 search_closed delimiter text {place} is at read then =
@@ -76,31 +79,38 @@ not_below least n more = is_target (line n) (Number n) (ap (λ b. cond b (fails 
 
 -- how a `?` ends
 
-pub lacks : (aimed : Aimed) (result : Result Target OperandFaultKind) → IsErrAnd result (λ e. e ≡ kind.Memory) → IsAimed aimed result
+pub lacks : (aimed : Aimed) (result : Result Target OperandFaultKind) → IsErrAnd result (λ e. e ≡ kind.Memory)
+    → IsAimed aimed result
 lacks aimed result ends = let at = err_from_is_err_and result ends in subst (IsAimed aimed) (sym (at.1 ∙ ap Err at.2)) no_memory
 
-pub goes_wrong : (aimed : Aimed) (what : OperandFaultKind) (result : Result Target OperandFaultKind) → aimed ≡ fails what → IsErrAnd result (λ e. e ≡ what) → IsAimed aimed result
+pub goes_wrong : (aimed : Aimed) (what : OperandFaultKind) (result : Result Target OperandFaultKind)
+    → aimed ≡ fails what → IsErrAnd result (λ e. e ≡ what) → IsAimed aimed result
 goes_wrong aimed what result is ends = let at = err_from_is_err_and result ends in subst (IsAimed aimed) (sym (at.1 ∙ ap Err at.2)) (is_wrong what is)
 
-refused_so : {kept : Bool} {text : List ℕ} {offset : Offset} (fault : BreFault) → (IsOfText fault → (pattern : Pattern) → Reads text pattern → ⊥) → (fault ≡ TooLarge → IsTooLarge text)
+refused_so : {kept : Bool} {text : List ℕ} {offset : Offset} (fault : BreFault)
+    → (IsOfText fault → (pattern : Pattern) → Reads text pattern → ⊥) → (fault ≡ TooLarge → IsTooLarge text)
     → IsAimed (aims (match kept text offset)) (Err (refusal_of fault))
 refused_so {kept} {text} {offset} TooLarge none large = is_refused (match kept text offset) TooLarge refl (large refl)
 refused_so Memory none large = no_memory
 refused_so {kept} {text} {offset} fault none large = is_refused (match kept text offset) fault refl (none tt)
 
-pub is_refused_so : (kept : Bool) (text plain : List ℕ) (offset : Offset) (fault : BreFault) (result : Result Target OperandFaultKind) → plain ≡ text
-    → (IsOfText fault → (pattern : Pattern) → Reads plain pattern → ⊥) → (fault ≡ TooLarge → IsTooLarge plain) → IsErrAnd result (λ e. e ≡ refusal_of fault)
+pub is_refused_so : (kept : Bool) (text plain : List ℕ) (offset : Offset) (fault : BreFault)
+    (result : Result Target OperandFaultKind) → plain ≡ text
+    → (IsOfText fault → (pattern : Pattern) → Reads plain pattern → ⊥) → (fault ≡ TooLarge → IsTooLarge plain)
+    → IsErrAnd result (λ e. e ≡ refusal_of fault)
     → IsAimed (aims (match kept text offset)) result
 is_refused_so kept text plain offset fault result is none large ends =
     let at = err_from_is_err_and result ends in
     subst (λ those. IsAimed (aims (match kept those offset)) result) is (subst (IsAimed (aims (match kept plain offset))) (sym (at.1 ∙ ap Err at.2)) (refused_so fault none large))
 
-pub is_read : (kept : Bool) (text plain : List ℕ) (offset : Offset) (pattern : Pattern) → plain ≡ text → Reads plain pattern → depth_of pattern ≤ 255 → positions_of pattern ≤ 65535
+pub is_read : (kept : Bool) (text plain : List ℕ) (offset : Offset) (pattern : Pattern) → plain ≡ text
+    → Reads plain pattern → depth_of pattern ≤ 255 → positions_of pattern ≤ 65535
     → IsAimed (aims (match kept text offset)) (Ok (Search pattern kept offset))
 is_read kept text plain offset pattern is reads groups size =
     is_target (match kept text offset) (Search pattern kept offset) refl (record { reads = subst (λ those. Reads those pattern) is reads; groups = groups; size = size }, refl, refl)
 
-pub no_target : (least : ℕ) (word : Word) (text : List ℕ) (times : Times) → seen word ≡ spelling text → word ≡ word_is.Again times → IsAimed (aim_of least (spelling text)) (Err kind.RepeatFirst)
+pub no_target : (least : ℕ) (word : Word) (text : List ℕ) (times : Times) → seen word ≡ spelling text
+    → word ≡ word_is.Again times → IsAimed (aim_of least (spelling text)) (Err kind.RepeatFirst)
 no_target least word text times is at = is_wrong kind.RepeatFirst (ap (aim_of least) (sym is ∙ ap seen at))
 
 -- A pattern that is too large is none that is read: no more groups are open after any of its first tokens than its tree has
@@ -121,7 +131,8 @@ stays_now zero (Close ∷ tokens) stays = omega arith
 stays_now (suc depth) (Close ∷ tokens) stays = stays.0
 stays_now depth (token ∷ tokens) stays = stays_now depth tokens stays
 
-within : {most : ℕ} (depth : ℕ) {n : ℕ} (first rest : List Token) → Stays most depth (first ++ rest) → depth_after depth first ≡ Some n → n ≤ most
+within : {most : ℕ} (depth : ℕ) {n : ℕ} (first rest : List Token) → Stays most depth (first ++ rest)
+    → depth_after depth first ≡ Some n → n ≤ most
 within depth {n} [] rest stays is = let now = stays_now depth rest stays in let e : depth ≡ n = cc in omega (arith, now, e)
 within depth (Open ∷ first) rest stays is = within (suc depth) first rest stays.1 is
 within zero (Close ∷ first) rest stays is = cc
@@ -129,13 +140,15 @@ within (suc depth) (Close ∷ first) rest stays is = within depth first rest sta
 within depth (token ∷ first) rest stays is = within depth first rest stays is
 
 mutual
-  stays_written : (pattern : Pattern) {most : ℕ} (depth : ℕ) (tokens : List Token) → depth + depth_of pattern ≤ most → Stays most depth tokens → Stays most depth (written pattern ++ tokens)
+  stays_written : (pattern : Pattern) {most : ℕ} (depth : ℕ) (tokens : List Token) → depth + depth_of pattern ≤ most
+      → Stays most depth tokens → Stays most depth (written pattern ++ tokens)
   stays_written nothing depth tokens few stays = stays
   stays_written (append pattern item) {most} depth tokens few stays =
       subst (Stays most depth) (sym (append_assoc (written pattern) (written_item item) tokens))
       (stays_written pattern depth (written_item item ++ tokens) (omega (arith, few)) (stays_written_item item most depth tokens (omega (arith, few)) stays))
 
-  stays_written_item : (item : Item) (most depth : ℕ) (tokens : List Token) → depth + depth_of_item item ≤ most → Stays most depth tokens → Stays most depth (written_item item ++ tokens)
+  stays_written_item : (item : Item) (most depth : ℕ) (tokens : List Token) → depth + depth_of_item item ≤ most
+      → Stays most depth tokens → Stays most depth (written_item item ++ tokens)
   stays_written_item (set bytes) most depth tokens few stays = stays
   stays_written_item front most depth tokens few stays = stays
   stays_written_item end most depth tokens few stays = stays

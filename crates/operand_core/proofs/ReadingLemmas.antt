@@ -23,14 +23,17 @@ abbrev pub after_front : List Spelled → Words → Words
 after_front front words = record { operands = front ++ words.operands; fault = words.fault }
 
 -- a step over an operand and the words that say how often it is performed again
-pub step_over : (index least : ℕ) (word : List ℕ) {words : List (List ℕ)} {aim : Aim} {times : Times} {said : ℕ} → aim_of least (spelling word) ≡ aims aim → SayTimes words times said
-    → words_from index least (word ∷ words) ≡ with_operand index aim times (words_from (index + (1 + said)) (least_after least aim) (drop said words))
+pub step_over : (index least : ℕ) (word : List ℕ) {words : List (List ℕ)} {aim : Aim} {times : Times} {said : ℕ}
+    → aim_of least (spelling word) ≡ aims aim → SayTimes words times said
+    → words_from index least (word ∷ words)
+    ≡ with_operand index aim times (words_from (index + (1 + said)) (least_after least aim) (drop said words))
 step_over index least word is no_word = cc
 step_over index least word is (again next rest times' says) = cc
 step_over index least word is (other next rest says) = cc
 
 -- a word that is wrong ends the list
-pub stop_at : {index : ℕ} (least : ℕ) (word : List ℕ) (words : List (List ℕ)) {what : OperandFaultKind} → aim_of least (spelling word) ≡ fails what → words_from index least (word ∷ words) ≡ failed what index
+pub stop_at : {index : ℕ} (least : ℕ) (word : List ℕ) (words : List (List ℕ)) {what : OperandFaultKind}
+    → aim_of least (spelling word) ≡ fails what → words_from index least (word ∷ words) ≡ failed what index
 stop_at least word [] is = cc
 stop_at least word (next ∷ words) is = cc
 
@@ -42,18 +45,21 @@ pub no_first : (words : List (Bor (List ℕ))) → length words < 1 → SayTimes
 no_first [] none = no_word
 no_first (word ∷ words) none = search rules
 
-pub first_says : (words : List (Bor (List ℕ))) {text : List ℕ} (default : Bor (List ℕ)) {says : Option Times} {times : Times} → 1 ≤ length words → text ≡ (get_or words 0 default).now
+pub first_says : (words : List (Bor (List ℕ))) {text : List ℕ} (default : Bor (List ℕ)) {says : Option Times}
+    {times : Times} → 1 ≤ length words → text ≡ (get_or words 0 default).now
     → says ≡ times_by (spelling text) → says ≡ Some times → SayTimes (texts words) times 1
 first_says [] default some is reads at = search rules
 first_says (word ∷ words) default {times} some is reads at = again word.now (texts words) times (sym (ap (λ those. times_by (spelling those)) is) ∙ sym reads ∙ at)
 
-pub first_is_other : (words : List (Bor (List ℕ))) {text : List ℕ} (default : Bor (List ℕ)) {says : Option Times} → 1 ≤ length words → text ≡ (get_or words 0 default).now
+pub first_is_other : (words : List (Bor (List ℕ))) {text : List ℕ} (default : Bor (List ℕ)) {says : Option Times}
+    → 1 ≤ length words → text ≡ (get_or words 0 default).now
     → says ≡ times_by (spelling text) → says ≡ None → SayTimes (texts words) (Count 0) 0
 first_is_other [] default some is reads at = search rules
 first_is_other (word ∷ words) default some is reads at = other word.now (texts words) (sym (ap (λ those. times_by (spelling those)) is) ∙ sym reads ∙ at)
 
 -- Some words were read, and these are left.
-pub record Reads (words : List (Bor (List ℕ))) (read : List Operand) (least : ℕ) (left : List (Bor (List ℕ))) : Type 0 where
+pub record Reads (words : List (Bor (List ℕ))) (read : List Operand) (least : ℕ) (left : List (Bor (List ℕ)))
+    : Type 0 where
   pub front : List Spelled
   pub are : AreRead front read
   pub within : length left ≤ length words
@@ -65,7 +71,8 @@ abbrev pub spelled_as : ℕ → Aim → Times → Spelled
 spelled_as index aim times = record { index = index; aim = aim; times = times }
 
 -- there is a time for each operand
-says_by : {next : List ℕ} {words : List (List ℕ)} (says : Option Times) → times_by (spelling next) ≡ says → (times : Times) × (said : ℕ) × SayTimes (next ∷ words) times said
+says_by : {next : List ℕ} {words : List (List ℕ)} (says : Option Times) → times_by (spelling next) ≡ says
+    → (times : Times) × (said : ℕ) × SayTimes (next ∷ words) times said
 says_by {next} {words} None is = (Count 0, 0, other next words is)
 says_by {next} {words} (Some times) is = (times, 1, again next words times is)
 
@@ -73,8 +80,10 @@ says : (words : List (List ℕ)) → (times : Times) × (said : ℕ) × SayTimes
 says [] = (Count 0, 0, no_word)
 says (next ∷ words) = says_by (times_by (spelling next)) refl
 
-ends_by : (words : List (List ℕ)) (read : List Operand) (front : List Spelled) (index least : ℕ) (word : List ℕ) (left : List (List ℕ)) (what : OperandFaultKind)
-    → AreRead front read → words_of words ≡ after_front front (words_from index least (word ∷ left)) → IsAimed (aim_of least (spelling word)) (Err what) → IsFault words (record { kind = what; index = index })
+ends_by : (words : List (List ℕ)) (read : List Operand) (front : List Spelled) (index least : ℕ) (word : List ℕ)
+    (left : List (List ℕ)) (what : OperandFaultKind)
+    → AreRead front read → words_of words ≡ after_front front (words_from index least (word ∷ left))
+    → IsAimed (aim_of least (spelling word)) (Err what) → IsFault words (record { kind = what; index = index })
 ends_by words read front index least word left what are asks (is_wrong what' is) =
     let at : words_of words ≡ after_front front (failed what index) = asks ∙ ap (after_front front) (stop_at least word left is) in
     reading.is_wrong (record { kind = what; index = index }) read (ap (λ (w : Words). w.fault) at) (subst (λ those. AreRead those read) (sym (ap (λ (w : Words). w.operands) at ∙ append-nil front)) are)
@@ -84,28 +93,35 @@ ends_by words read front index least word left what are asks (is_refused aim fau
     (ap (λ (w : Words). w.operands) (asks ∙ ap (after_front front) (step_over index least word is said.2))) are refused
 ends_by words read front index least word left what are asks no_memory = reading.no_memory index
 
-pub ends_at : {words : List (Bor (List ℕ))} {read : List Operand} {least : ℕ} (left : List (Bor (List ℕ))) {text : List ℕ} (default : Bor (List ℕ)) {result : Result Target OperandFaultKind} {what : OperandFaultKind}
-    → Reads words read least left → 1 ≤ length left → text ≡ (get_or left 0 default).now → IsAimed (aim_of least (spelling text)) result → result ≡ Err what
+pub ends_at : {words : List (Bor (List ℕ))} {read : List Operand} {least : ℕ} (left : List (Bor (List ℕ)))
+    {text : List ℕ} (default : Bor (List ℕ)) {result : Result Target OperandFaultKind} {what : OperandFaultKind}
+    → Reads words read least left → 1 ≤ length left → text ≡ (get_or left 0 default).now
+    → IsAimed (aim_of least (spelling text)) result → result ≡ Err what
     → IsFault (texts words) (record { kind = what; index = length words - length left })
 ends_at [] default reads some is aimed at = search rules
 ends_at {words} {read} {least} (word ∷ left) default {result} {what} reads some is aimed at = grind (arith, common_steps, ends_by)
 
-pub no_operand : (words : List (Bor (List ℕ))) → (length words == 0) ≡ true → IsFault (texts words) (record { kind = kind.Missing; index = 0 })
+pub no_operand : (words : List (Bor (List ℕ))) → (length words == 0) ≡ true
+    → IsFault (texts words) (record { kind = kind.Missing; index = 0 })
 no_operand [] none = reading.is_wrong (record { kind = kind.Missing; index = 0 }) [] refl tt
 no_operand (word ∷ words) none = grind (arith, common_steps)
 
-are_more : (front : List Spelled) (read : List Operand) {spelled : Spelled} {operand : Operand} → AreRead front read → IsRead spelled operand → AreRead (front ++ spelled ∷ []) (read ++ operand ∷ [])
+are_more : (front : List Spelled) (read : List Operand) {spelled : Spelled} {operand : Operand} → AreRead front read
+    → IsRead spelled operand → AreRead (front ++ spelled ∷ []) (read ++ operand ∷ [])
 are_more [] [] are is = (is, tt)
 are_more (first ∷ front) (one ∷ read) are is = (are.0, are_more front read are.1 is)
 are_more front read are is = absurd are
 
-least_same : (least : ℕ) (aim : Aim) (target : Target) → IsTarget aim target → least_after least aim ≡ least_by least target
+least_same : (least : ℕ) (aim : Aim) (target : Target) → IsTarget aim target
+    → least_after least aim ≡ least_by least target
 least_same least (line n) (Number m) is = sym is
 least_same least (match kept text offset) (Search pattern kept' offset') is = refl
 least_same least aim target is = absurd is
 
-next_by : (words : List (List ℕ)) (read : List Operand) (front : List Spelled) (index least : ℕ) (word : List ℕ) {left : List (List ℕ)} {target : Target} {times : Times} {said : ℕ}
-    → AreRead front read → words_of words ≡ after_front front (words_from index least (word ∷ left)) → IsAimed (aim_of least (spelling word)) (Ok target) → SayTimes left times said
+next_by : (words : List (List ℕ)) (read : List Operand) (front : List Spelled) (index least : ℕ) (word : List ℕ)
+    {left : List (List ℕ)} {target : Target} {times : Times} {said : ℕ}
+    → AreRead front read → words_of words ≡ after_front front (words_from index least (word ∷ left))
+    → IsAimed (aim_of least (spelling word)) (Ok target) → SayTimes left times said
     → (front' : List Spelled) × AreRead front' (read ++ record { index = index; target = target; times = times } ∷ [])
     × (words_of words ≡ after_front front' (words_from (index + (1 + said)) (least_by least target) (drop said left)))
 next_by words read front index least word {left} {target} {times} {said} are asks (is_target aim target' is hits) says = (
@@ -117,10 +133,14 @@ next_by words read front index least word {left} {target} {times} {said} are ask
       ∙ ap (λ n. after_front (front ++ spelled_as index aim times ∷ []) (words_from (index + (1 + said)) n (drop said left))) (least_same least aim target hits),
 )
 
-pub reads_next : {words : List (Bor (List ℕ))} {read : List Operand} {least : ℕ} (left : List (Bor (List ℕ))) {text : List ℕ} (default : Bor (List ℕ)) {result : Result Target OperandFaultKind} {target : Target}
-    {rest : List (Bor (List ℕ))} {times : Times} {said : ℕ} {now : List Operand} {after : List (Bor (List ℕ))} {least' : ℕ}
-    → Reads words read least left → 1 ≤ length left → text ≡ (get_or left 0 default).now → IsAimed (aim_of least (spelling text)) result → result ≡ Ok target
-    → rest ≡ drop 1 left → SayTimes (texts rest) times said → said ≤ length rest → now ≡ read ++ record { index = length words - length left; target = target; times = times } ∷ []
+pub reads_next : {words : List (Bor (List ℕ))} {read : List Operand} {least : ℕ} (left : List (Bor (List ℕ)))
+    {text : List ℕ} (default : Bor (List ℕ)) {result : Result Target OperandFaultKind} {target : Target}
+    {rest : List (Bor (List ℕ))} {times : Times} {said : ℕ} {now : List Operand} {after : List (Bor (List ℕ))}
+    {least' : ℕ}
+    → Reads words read least left → 1 ≤ length left → text ≡ (get_or left 0 default).now
+    → IsAimed (aim_of least (spelling text)) result → result ≡ Ok target
+    → rest ≡ drop 1 left → SayTimes (texts rest) times said → said ≤ length rest
+    → now ≡ read ++ record { index = length words - length left; target = target; times = times } ∷ []
     → after ≡ drop said rest → least' ≡ least_by least target → Reads words now least' after
 reads_next [] default reads some is aimed at rest_is says within now_is after_is least_is = search rules
 reads_next {words} {read} {least} (word ∷ left) default {result} {target} {times} {said} {after} {least'} reads some is aimed at rest_is says within now_is after_is least_is = grind (arith, common_steps, next_by, says, drop-map)
@@ -140,19 +160,22 @@ operand_once {spelled} one another is are =
     let same = target_once spelled.aim one.target another.target is.target are.target in
     let by : ◌≡◌ {A = Operand} (record { index = one.index; target = one.target; times = one.times }) (record { index = another.index; target = another.target; times = another.times }) = cc in by
 
-read_once : (spelled : List Spelled) (one another : List Operand) → AreRead spelled one → AreRead spelled another → one ≡ another
+read_once : (spelled : List Spelled) (one another : List Operand) → AreRead spelled one → AreRead spelled another
+    → one ≡ another
 read_once [] [] [] is are = refl
 read_once (first ∷ spelled) (a ∷ one) (b ∷ another) is are = let here = operand_once a b is.0 are.0 in let rest = read_once spelled one another is.1 are.1 in cc
 read_once [] (a ∷ one) another is are = absurd is
 read_once (first ∷ spelled) [] another is are = absurd is
 read_once spelled one another is are = absurd are
 
-pub asks_once : (words : List (List ℕ)) (one another : List Operand) → Asks words one → Asks words another → one ≡ another
+pub asks_once : (words : List (List ℕ)) (one another : List Operand) → Asks words one → Asks words another
+    → one ≡ another
 asks_once words one another is are = read_once (words_of words).operands one another is.read are.read
 
 -- an operand that is read isn't refused
 
-read_at : (front : List Spelled) {spelled : Spelled} (rest : List Spelled) (operands : List Operand) → AreRead (front ++ spelled ∷ rest) operands → (operand : Operand) × IsRead spelled operand
+read_at : (front : List Spelled) {spelled : Spelled} (rest : List Spelled) (operands : List Operand)
+    → AreRead (front ++ spelled ∷ rest) operands → (operand : Operand) × IsRead spelled operand
 read_at [] rest (operand ∷ operands) are = (operand, are.0)
 read_at (first ∷ front) rest (operand ∷ operands) are = read_at front rest operands are.1
 read_at front rest operands are = absurd are
@@ -164,7 +187,8 @@ aim_not_both (match has text by) (Search pattern kept offset) TooLarge hits larg
 aim_not_both (match has text by) (Search pattern kept offset) Memory hits refused = refused
 aim_not_both (match has text by) (Search pattern kept offset) fault hits none = search rules
 
-pub reads_or_fails : (words : List (List ℕ)) (operands : List Operand) (fault : OperandFault) → Asks words operands → IsFault words fault → IsOfWords fault.kind → ⊥
+pub reads_or_fails : (words : List (List ℕ)) (operands : List Operand) (fault : OperandFault) → Asks words operands
+    → IsFault words fault → IsOfWords fault.kind → ⊥
 reads_or_fails words operands fault asks (is_wrong another read at are) is = cc (asks.well, at)
 reads_or_fails words operands fault asks (is_refused another front refused rest read at are has) is =
     let found = read_at front rest operands (subst (λ those. AreRead those operands) at asks.read) in aim_not_both refused.aim found.0.target another found.1.target has

@@ -40,9 +40,12 @@ pub beginning_short : {A : Type 0} (front whole : List A) → IsBeginning front 
 beginning_short front whole (rest, is) = grind (arith, common_steps)
 
 -- Two continuations show it: one has no further output, and one has in each output no more.
-pub agreed_as : {A W : Type 0} {comes : List A → Type 0} {begins : W → W → Type 0} {outputs : W → List (List A)} {whole : List A → W} {x : List A} {agreed : W} (few y : List A)
-    → ((z : List A) → comes z → begins agreed (whole (x ++ z))) → comes few → comes y → length (outputs (whole (x ++ few))) ≡ length (outputs agreed)
-    → ((place : ℕ) → place < length (outputs agreed) → length (get_or (outputs (whole (x ++ y))) place []) ≤ length (get_or (outputs agreed) place []))
+pub agreed_as : {A W : Type 0} {comes : List A → Type 0} {begins : W → W → Type 0} {outputs : W → List (List A)}
+    {whole : List A → W} {x : List A} {agreed : W} (few y : List A)
+    → ((z : List A) → comes z → begins agreed (whole (x ++ z))) → comes few → comes y
+    → length (outputs (whole (x ++ few))) ≡ length (outputs agreed)
+    → ((place : ℕ) → place < length (outputs agreed)
+    → length (get_or (outputs (whole (x ++ y))) place []) ≤ length (get_or (outputs agreed) place []))
     → AgreeOn comes begins outputs whole x agreed
 agreed_as {outputs = outputs} {whole} {x} few y begin few_come come no_more short = record {
   common = begin;
@@ -57,7 +60,8 @@ agreed_as {outputs = outputs} {whole} {x} few y begin few_come come no_more shor
 }
 
 -- Nothing waits, where what follows decides nothing of what came in.
-pub nothing_waits : {A G : Type 0} {comes : List A → Type 0} {goes : List A → ℕ → G} {x : List A} → ((i : ℕ) → i < length x → (y z : List A) → goes (x ++ y) i ≡ goes (x ++ z) i) → DifferOn comes goes x []
+pub nothing_waits : {A G : Type 0} {comes : List A → Type 0} {goes : List A → ℕ → G} {x : List A}
+    → ((i : ℕ) → i < length x → (y z : List A) → goes (x ++ y) i ≡ goes (x ++ z) i) → DifferOn comes goes x []
 nothing_waits {x = x} same = record {
   before = x;
   are_last = sym (append-nil x);
@@ -70,24 +74,29 @@ pub common : (work : Work) → IsLawful work → (x y : List ℕ) → Begins (wo
 common work lawful x y = part_trans _ _ _ (lawful.grows x y) (lawful.ends (x ++ y))
 
 -- One continuation shows it, if its outputs are what is settled and perhaps further ones, and another has no further ones.
-pub agreed_by : (work : Work) (x few y : List ℕ) (more : List (List ℕ)) → ((z : List ℕ) → Begins (work.settled x) (work.whole (x ++ z))) → CanCome few → CanCome y → length (outputs_of (work.whole (x ++ few))) ≡ length (outputs_of (work.settled x))
+pub agreed_by : (work : Work) (x few y : List ℕ) (more : List (List ℕ))
+    → ((z : List ℕ) → Begins (work.settled x) (work.whole (x ++ z))) → CanCome few → CanCome y
+    → length (outputs_of (work.whole (x ++ few))) ≡ length (outputs_of (work.settled x))
     → outputs_of (work.whole (x ++ y)) ≡ outputs_of (work.settled x) ++ more → IsAgreed work x (work.settled x)
 agreed_by work x few y more begin few_bytes bytes no_more same = agreed_as few y (λ z can. begin z) few_bytes bytes no_more
     (λ place less. (let here : output_at (work.whole (x ++ y)) place ≡ output_at (work.settled x) place = ap (λ outputs. get_or outputs place []) same ∙ get_or_append_left (outputs_of (work.settled x)) more [] place less in
     omega (arith, ap length here)))
 
 -- the end shows it, where all that came in is settled
-pub agreed_now : (work : Work) (x : List ℕ) → ((z : List ℕ) → Begins (work.settled x) (work.whole (x ++ z))) → outputs_of (work.whole x) ≡ outputs_of (work.settled x) → IsAgreed work x (work.settled x)
+pub agreed_now : (work : Work) (x : List ℕ) → ((z : List ℕ) → Begins (work.settled x) (work.whole (x ++ z)))
+    → outputs_of (work.whole x) ≡ outputs_of (work.settled x) → IsAgreed work x (work.settled x)
 agreed_now work x begin same =
     let here : outputs_of (work.whole (x ++ [])) ≡ outputs_of (work.settled x) = ap (λ all. outputs_of (work.whole all)) (append-nil x) ∙ same in
     agreed_by work x [] [] [] begin none_comes none_comes (ap length here) (here ∙ sym (append-nil (outputs_of (work.settled x))))
 
 -- Spots
 
-pub spot_in : (place i : ℕ) (bytes : List ℕ) (outputs : List (List ℕ)) → i < length bytes → spots_from place (bytes ∷ outputs) i ≡ spot place i ∷ []
+pub spot_in : (place i : ℕ) (bytes : List ℕ) (outputs : List (List ℕ)) → i < length bytes
+    → spots_from place (bytes ∷ outputs) i ≡ spot place i ∷ []
 spot_in place i bytes outputs less = grind (arith, common_steps)
 
-pub spot_past : (place i : ℕ) (bytes : List ℕ) (outputs : List (List ℕ)) → length bytes ≤ i → spots_from place (bytes ∷ outputs) i ≡ spots_from (place + 1) outputs (i - length bytes)
+pub spot_past : (place i : ℕ) (bytes : List ℕ) (outputs : List (List ℕ)) → length bytes ≤ i
+    → spots_from place (bytes ∷ outputs) i ≡ spots_from (place + 1) outputs (i - length bytes)
 spot_past place i bytes outputs past = grind (arith, common_steps)
 
 pub only_spot : {at one : Spot} → GoesTo at (one ∷ []) → at ≡ one
@@ -98,7 +107,8 @@ pub some_spot : (one : Spot) (spots : List Spot) → one ∷ spots ≡ [] → �
 some_spot one spots is = cc
 
 -- no byte of outputs from a place on goes to an output before it
-pub none_before : (from i place offset : ℕ) (outputs : List (List ℕ)) → place < from → spots_from from outputs i ≡ spot place offset ∷ [] → ⊥
+pub none_before : (from i place offset : ℕ) (outputs : List (List ℕ)) → place < from
+    → spots_from from outputs i ≡ spot place offset ∷ [] → ⊥
 none_before from i place offset [] before is = grind (arith, common_steps)
 none_before from i place offset (bytes ∷ outputs) before is = elim (cases_lt i (length bytes)) [
   | inl within ↦ (omega (arith, before, ap (λ those. (get_or those 0 (spot from i)).place) (sym (spot_in from i bytes outputs within) ∙ is)))
@@ -119,13 +129,16 @@ bytes_of (suc k) [] = 0
 bytes_of (suc k) (bytes ∷ outputs) = length bytes + bytes_of k outputs
 
 -- a byte of an output stands in the text
-in_text : (outputs : List (List ℕ)) (text : List ℕ) (k offset : ℕ) → AreFront outputs text → offset < length (get_or outputs k []) → bytes_of k outputs + offset < length text
+in_text : (outputs : List (List ℕ)) (text : List ℕ) (k offset : ℕ) → AreFront outputs text
+    → offset < length (get_or outputs k []) → bytes_of k outputs + offset < length text
 in_text [] text k offset are less = search rules
 in_text (bytes ∷ outputs) text zero offset (rest, is, are) less = grind (arith, common_steps)
 in_text (bytes ∷ outputs) text (suc k) offset (rest, is, are) less =
     omega (arith, in_text outputs rest k offset are less, ap length is ∙ length-append bytes rest)
 
-byte_at : (outputs : List (List ℕ)) (text : List ℕ) (k offset : ℕ) → AreFront outputs text → offset < length (get_or outputs k []) → get_or (get_or outputs k []) offset 0 ≡ get_or text (bytes_of k outputs + offset) 0
+byte_at : (outputs : List (List ℕ)) (text : List ℕ) (k offset : ℕ) → AreFront outputs text
+    → offset < length (get_or outputs k [])
+    → get_or (get_or outputs k []) offset 0 ≡ get_or text (bytes_of k outputs + offset) 0
 byte_at [] text k offset are less = search rules
 byte_at (bytes ∷ outputs) text zero offset (rest, is, are) less = grind (arith, common_steps)
 byte_at (bytes ∷ outputs) text (suc k) offset (rest, is, are) less =
@@ -133,7 +146,8 @@ byte_at (bytes ∷ outputs) text (suc k) offset (rest, is, are) less =
     cc (is, after, byte_at outputs rest k offset are less, get_or-append_right bytes rest (length bytes + bytes_of k outputs + offset) 0 (omega arith))
 
 -- where it stands, there its spot is that
-spot_at : (place : ℕ) (outputs : List (List ℕ)) (k offset : ℕ) → offset < length (get_or outputs k []) → spots_from place outputs (bytes_of k outputs + offset) ≡ spot (place + k) offset ∷ []
+spot_at : (place : ℕ) (outputs : List (List ℕ)) (k offset : ℕ) → offset < length (get_or outputs k [])
+    → spots_from place outputs (bytes_of k outputs + offset) ≡ spot (place + k) offset ∷ []
 spot_at place [] k offset less = search rules
 spot_at place (bytes ∷ outputs) zero offset less = grind (arith, common_steps)
 spot_at place (bytes ∷ outputs) (suc k) offset less =
@@ -148,7 +162,8 @@ record IsIn (place : ℕ) (outputs : List (List ℕ)) (i : ℕ) (at : Spot) : Ty
   within : at.offset < length (get_or outputs k [])
   is : i ≡ bytes_of k outputs + at.offset
 
-goes_in : (place : ℕ) (outputs : List (List ℕ)) (i : ℕ) {at : Spot} → GoesTo at (spots_from place outputs i) → IsIn place outputs i at
+goes_in : (place : ℕ) (outputs : List (List ℕ)) (i : ℕ) {at : Spot} → GoesTo at (spots_from place outputs i)
+    → IsIn place outputs i at
 goes_in place [] i goes = absurd goes
 goes_in place (bytes ∷ outputs) i {at} goes = elim (cases_lt i (length bytes)) [
   | inl less ↦ (let is = only_spot (subst (GoesTo at) (spot_in place i bytes outputs less) goes) in
@@ -158,24 +173,29 @@ goes_in place (bytes ∷ outputs) i {at} goes = elim (cases_lt i (length bytes))
 ]
 
 -- the outputs from a place on are a stretch of the input, and those before it are empty
-pub record IsStretch (whole : List ℕ → Part) (spots_of : List ℕ → ℕ → List Spot) (place : ℕ) (outputs : List ℕ → List (List ℕ)) : Type 0 where
+pub record IsStretch (whole : List ℕ → Part) (spots_of : List ℕ → ℕ → List Spot) (place : ℕ)
+    (outputs : List ℕ → List (List ℕ)) : Type 0 where
   pub before : List ℕ → List ℕ
   pub rest : List ℕ → List ℕ
   pub parts : (x : List ℕ) → x ≡ before x ++ rest x
   pub front : (x : List ℕ) → AreFront (outputs x) (rest x)
   pub are : (x : List ℕ) → outputs_of (whole x) ≡ replicate place [] ++ outputs x
   pub nowhere : (x : List ℕ) (i : ℕ) → i < length (before x) → spots_of x i ≡ []
-  pub there : (x : List ℕ) (i : ℕ) → length (before x) ≤ i → spots_of x i ≡ spots_from place (outputs x) (i - length (before x))
+  pub there : (x : List ℕ) (i : ℕ) → length (before x) ≤ i
+      → spots_of x i ≡ spots_from place (outputs x) (i - length (before x))
 
 -- the outputs that aren't empty
-past_empty : (place k : ℕ) (outputs : List (List ℕ)) → get_or (replicate place [] ++ outputs) (place + k) [] ≡ get_or outputs k []
+past_empty : (place k : ℕ) (outputs : List (List ℕ))
+    → get_or (replicate place [] ++ outputs) (place + k) [] ≡ get_or outputs k []
 past_empty place k outputs = grind (arith, common_steps, get_or-append_right, length-replicate)
 
 empty_before : (place n : ℕ) (outputs : List (List ℕ)) → n < place → get_or (replicate place [] ++ outputs) n [] ≡ []
 empty_before place n outputs less = grind (arith, common_steps, get_or_append_left, length-replicate, get_or-replicate)
 
-module _ (work : Work) {spots_of : List ℕ → ℕ → List Spot} (place : ℕ) {outputs : List ℕ → List (List ℕ)} (stretch : IsStretch work.whole spots_of place outputs) where
-  stretched : (x : List ℕ) (i : ℕ) {at : Spot} → GoesTo at (spots_of x i) → (length (stretch.before x) ≤ i) × IsIn place (outputs x) (i - length (stretch.before x)) at
+module _ (work : Work) {spots_of : List ℕ → ℕ → List Spot} (place : ℕ) {outputs : List ℕ → List (List ℕ)}
+    (stretch : IsStretch work.whole spots_of place outputs) where
+  stretched : (x : List ℕ) (i : ℕ) {at : Spot} → GoesTo at (spots_of x i)
+      → (length (stretch.before x) ≤ i) × IsIn place (outputs x) (i - length (stretch.before x)) at
   stretched x i {at} goes = elim (cases_lt i (length (stretch.before x))) [
     | inl less ↦ absurd (subst (GoesTo at) (stretch.nowhere x i less) goes)
     | inr past ↦ (past, goes_in place (outputs x) (i - length (stretch.before x)) (subst (GoesTo at) (stretch.there x i past) goes))
@@ -184,7 +204,8 @@ module _ (work : Work) {spots_of : List ℕ → ℕ → List Spot} (place : ℕ)
   output_is : (x : List ℕ) {n : ℕ} (k : ℕ) → n ≡ place + k → output_at (work.whole x) n ≡ get_or (outputs x) k []
   output_is x {n} k there = ap (λ those. get_or those n []) (stretch.are x) ∙ ap (λ n. get_or (replicate place [] ++ outputs x) n []) there ∙ past_empty place k (outputs x)
 
-  filled : (x : List ℕ) (at : Spot) → at.offset < length (output_at (work.whole x) at.place) → (i : ℕ) × (i < length x) × GoesTo at (spots_of x i)
+  filled : (x : List ℕ) (at : Spot) → at.offset < length (output_at (work.whole x) at.place)
+      → (i : ℕ) × (i < length x) × GoesTo at (spots_of x i)
   filled x at less = elim (cases_lt at.place place) [
     | inl before ↦ absurd (omega (arith, less, ap length (ap (λ those. get_or those at.place []) (stretch.are x) ∙ empty_before place at.place (outputs x) before)))
     | inr past ↦ (
@@ -214,18 +235,22 @@ module _ (work : Work) {spots_of : List ℕ → ℕ → List Spot} (place : ℕ)
 
 -- There is one list of outputs that all continuations agree on, and one stretch of bytes that is undecided.
 -- beginnings of one text that are as long as each other are the same
-beginnings_same : {A : Type 0} (one other whole : List A) → IsBeginning one whole → IsBeginning other whole → length one ≡ length other → one ≡ other
+beginnings_same : {A : Type 0} (one other whole : List A) → IsBeginning one whole → IsBeginning other whole
+    → length one ≡ length other → one ≡ other
 beginnings_same one other whole (rest, is) (more, are) same =
     sym (ap (take (length one)) is ∙ take-append_seam one rest) ∙ ap (λ n. take n whole) same ∙ ap (take (length other)) are ∙ take-append_seam other more
 
-lists_same : {A : Type 0} (one other : List (List A)) → length one ≡ length other → ((place : ℕ) → place < length one → get_or one place [] ≡ get_or other place []) → one ≡ other
+lists_same : {A : Type 0} (one other : List (List A)) → length one ≡ length other
+    → ((place : ℕ) → place < length one → get_or one place [] ≡ get_or other place []) → one ≡ other
 lists_same [] [] count same = refl
 lists_same (bytes ∷ one) (those ∷ other) count same =
     ap (λ first. first ∷ one) (same zero (omega arith)) ∙ ap (λ rest. those ∷ rest) (lists_same one other (omega (arith, count)) (λ place less. same (suc place) (omega (arith, less))))
 lists_same one other count same = cc
 
-files_at : (low high : List File) (place : ℕ) → FilesBegin low high → place < length (map (λ (file : File). file.bytes) low)
-    → IsBeginning (get_or (map (λ (file : File). file.bytes) low) place []) (get_or (map (λ (file : File). file.bytes) high) place [])
+files_at : (low high : List File) (place : ℕ) → FilesBegin low high
+    → place < length (map (λ (file : File). file.bytes) low)
+    → IsBeginning (get_or (map (λ (file : File). file.bytes) low) place [])
+    (get_or (map (λ (file : File). file.bytes) high) place [])
 files_at [] high place begins less = search rules
 files_at (file ∷ low) [] place begins less = absurd begins
 files_at (file ∷ low) (whole ∷ high) zero begins less = begins.4
@@ -234,21 +259,26 @@ files_at (file ∷ low) (whole ∷ high) (suc place) begins less = files_at low 
 outputs_fewer : {low high : Part} → Begins low high → length (outputs_of low) ≤ length (outputs_of high)
 outputs_fewer {low} {high} begins = grind (arith, common_steps, no_fewer, length-map)
 
-begins_at : {low high : Part} (place : ℕ) → Begins low high → place < length (outputs_of low) → IsBeginning (output_at low place) (output_at high place)
+begins_at : {low high : Part} (place : ℕ) → Begins low high → place < length (outputs_of low)
+    → IsBeginning (output_at low place) (output_at high place)
 begins_at zero begins less = begins.out
 begins_at {low} {high} (suc place) begins less = files_at low.files high.files place begins.files (omega (arith, less))
 
 -- as many outputs
-no_more : (work : Work) {x : List ℕ} (one other : Part) → IsAgreed work x one → IsAgreed work x other → length (outputs_of one) ≤ length (outputs_of other)
+no_more : (work : Work) {x : List ℕ} (one other : Part) → IsAgreed work x one → IsAgreed work x other
+    → length (outputs_of one) ≤ length (outputs_of other)
 no_more work one other agreed also = grind (arith, common_steps, outputs_fewer, common)
 
 -- and in each as many bytes
-no_longer : (work : Work) {x : List ℕ} (one other : Part) (place : ℕ) → IsAgreed work x one → IsAgreed work x other → place < length (outputs_of one) → place < length (outputs_of other) → length (output_at one place) ≤ length (output_at other place)
+no_longer : (work : Work) {x : List ℕ} (one other : Part) (place : ℕ) → IsAgreed work x one → IsAgreed work x other
+    → place < length (outputs_of one) → place < length (outputs_of other)
+    → length (output_at one place) ≤ length (output_at other place)
 no_longer work one other place agreed also less within =
     let two = also.longest place within in
     two.4 (output_at one place) (begins_at place (agreed.common two.0 two.2) less) (begins_at place (agreed.common two.1 two.3) less)
 
-pub one_is_agreed : (work : Work) (x : List ℕ) (one other : Part) → IsAgreed work x one → IsAgreed work x other → outputs_of one ≡ outputs_of other
+pub one_is_agreed : (work : Work) (x : List ℕ) (one other : Part) → IsAgreed work x one → IsAgreed work x other
+    → outputs_of one ≡ outputs_of other
 one_is_agreed work x one other agreed also =
     let count : length (outputs_of one) ≡ length (outputs_of other) = (let few = no_more work one other agreed also in omega (arith, few, no_more work other one also agreed)) in
     lists_same (outputs_of one) (outputs_of other) count (λ place less.
@@ -258,7 +288,8 @@ one_is_agreed work x one other agreed also =
     (let short = no_longer work one other place agreed also less within in omega (arith, short, no_longer work other one place also agreed within less)))
 
 module _ {A G : Type 0} {comes : List A → Type 0} (goes : List A → ℕ → G) (x : List A) where
-  begins_no_later : (one other : List A) (here : DifferOn comes goes x one) (there : DifferOn comes goes x other) → length here.before ≤ length there.before
+  begins_no_later : (one other : List A) (here : DifferOn comes goes x one) (there : DifferOn comes goes x other)
+      → length here.before ≤ length there.before
   begins_no_later one other here there = elim (cases_lt (length there.before) (length here.before)) [
     | inl less ↦ (let long : length x ≡ length here.before + length one = ap length here.are_last ∙ length-append here.before one in
         let two = there.differ (length there.before) (omega arith) (omega (arith, less, long)) in

@@ -17,7 +17,8 @@ zeros (suc width) = grind (arith, common_steps, zeros width)
 front_digits : (width : ℕ) {n : ℕ} → n < 10 ^ suc width → n / 10 < 10 ^ width
 front_digits width {n} small = grind (arith, common_steps)
 
-last_digit : (width : ℕ) {n : ℕ} → n < 10 ^ suc width → written Digits (suc width) n ≡ written Digits width (n / 10) ++ (48 + n % 10) ∷ []
+last_digit : (width : ℕ) {n : ℕ} → n < 10 ^ suc width
+    → written Digits (suc width) n ≡ written Digits width (n / 10) ++ (48 + n % 10) ∷ []
 last_digit width {n} small = let front : suc width - 1 ≡ width = omega arith in
     more_digits Digits (omega arith) small ∙ ap (λ digits. written Digits digits (n / 10) ++ (48 + n % 10) ∷ []) front
 
@@ -38,7 +39,8 @@ fills_more n digits ten fills (suc width) small =
     ap (λ zeros. replicate zeros 48 ++ (digits ++ (48 + n % 10) ∷ [])) count ∙ sym (append_assoc (replicate (suc width - length digits) 48) digits _)
     ∙ ap (λ front. front ++ (48 + n % 10) ∷ []) (fills width (front_digits (suc width) small)) ∙ sym (last_digit (suc width) small)
 
-pub fills : (width n : ℕ) → 0 < width → n < 10 ^ width → n < 2 ^ 64 → zero_filled width (decimal n) ≡ written Digits width n
+pub fills : (width n : ℕ) → 0 < width → n < 10 ^ width → n < 2 ^ 64
+    → zero_filled width (decimal n) ≡ written Digits width n
 fills zero n some small least = absurd (omega (arith, some))
 fills (suc width) n some small least = decimal_by_steps Fills fills_one fills_more n least width small
 

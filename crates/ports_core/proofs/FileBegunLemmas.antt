@@ -40,10 +40,12 @@ use Rattle.ports_core.proofs.FileWriterLemmas.{tells_line, reaches_by, reaches_a
 pub never_made : (draft : Draft) → draft.opening ≡ Never → made_of draft.opening draft.bytes ≡ []
 never_made draft is = search rules
 
-pub skipped_made : (tells : Tells) {current : Current} → current ≡ Skipped → (draft : Draft) → IsCurrent tells draft.opening draft.bytes current → made_of draft.opening draft.bytes ≡ []
+pub skipped_made : (tells : Tells) {current : Current} → current ≡ Skipped → (draft : Draft)
+    → IsCurrent tells draft.opening draft.bytes current → made_of draft.opening draft.bytes ≡ []
 skipped_made tells is draft now = search rules
 
-pub due_made : (tells : Tells) {current : Current} → current ≡ Due → (draft : Draft) → IsCurrent tells draft.opening draft.bytes current → made_of draft.opening draft.bytes ≡ []
+pub due_made : (tells : Tells) {current : Current} → current ≡ Due → (draft : Draft)
+    → IsCurrent tells draft.opening draft.bytes current → made_of draft.opening draft.bytes ≡ []
 due_made tells is draft now = search rules
 
 -- A file is made for what is begun.
@@ -57,28 +59,36 @@ pub record Unwritten (draft next : Draft) : Type 0 where
 unmade_shares : (draft : Draft) → made_of draft.opening draft.bytes ≡ [] → length (shares_of draft) ≡ length draft.ended
 unmade_shares draft none = search (rules, length-map)
 
-unmade_count : {manner : Manner} {writer : WriterState} {draft : Draft} → made_of draft.opening draft.bytes ≡ [] → Writes manner writer draft → writer.names.drawn ≡ length draft.ended
+unmade_count : {manner : Manner} {writer : WriterState} {draft : Draft} → made_of draft.opening draft.bytes ≡ []
+    → Writes manner writer draft → writer.names.drawn ≡ length draft.ended
 unmade_count {draft = draft} none writes = writes.made ∙ unmade_shares draft none
 
 -- its name
-due_name : {manner : Manner} {writer : WriterState} {draft : Draft} → made_of draft.opening draft.bytes ≡ [] → Writes manner writer draft → next_name writer.names ≡ name_after manner draft
+due_name : {manner : Manner} {writer : WriterState} {draft : Draft} → made_of draft.opening draft.bytes ≡ []
+    → Writes manner writer draft → next_name writer.names ≡ name_after manner draft
 due_name {manner} {writer} {draft} none writes = ap (λ name. name writer.names.drawn) writes.same.name ∙ ap manner.name (unmade_count none writes)
 
 -- whether it has one
-due_has : {manner : Manner} {writer : WriterState} {draft : Draft} → writer.names.drawn < 2 ^ 64 → made_of draft.opening draft.bytes ≡ [] → Writes manner writer draft → has_next writer.names ≡ manner.has_name (length draft.ended)
+due_has : {manner : Manner} {writer : WriterState} {draft : Draft} → writer.names.drawn < 2 ^ 64
+    → made_of draft.opening draft.bytes ≡ [] → Writes manner writer draft
+    → has_next writer.names ≡ manner.has_name (length draft.ended)
 due_has {manner} {writer} {draft} few none writes = writes.same.has writer.names.drawn few ∙ ap manner.has_name (unmade_count none writes)
 
 -- all files up to it have names then
-due_named : {manner : Manner} {writer : WriterState} {draft : Draft} (next : Draft) → writer.names.drawn < 2 ^ 64 → Unwritten draft next → Writes manner writer draft → IsTrue (has_next writer.names) → AreNamed manner (suc (length next.ended))
+due_named : {manner : Manner} {writer : WriterState} {draft : Draft} (next : Draft) → writer.names.drawn < 2 ^ 64
+    → Unwritten draft next → Writes manner writer draft → IsTrue (has_next writer.names)
+    → AreNamed manner (suc (length next.ended))
 due_named {manner} {writer} {draft} next few so writes has = subst (λ ended. AreNamed manner (suc (length ended))) (sym so.same) (λ place less. elim (cases_lt place (length draft.ended)) [
   | inl before ↦ writes.named place (omega (arith, before, unmade_shares draft so.none))
   | inr past ↦ (let e : place ≡ length draft.ended = omega (arith, past, less) in ap manner.has_name e ∙ sym (due_has few so.none writes) ∙ has)
 ])
 
-made_size : {writer next : WriterState} {slot : ℕ} {old new : List Slot} → Made writer old new next slot → length new ≡ length old + 1
+made_size : {writer next : WriterState} {slot : ℕ} {old new : List Slot} → Made writer old new next slot
+    → length new ≡ length old + 1
 made_size {writer} {old = old} made = ap length made.added ∙ length-append old (opened (next_name writer.names) Fresh ∷ [])
 
-made_ready : {writer next : WriterState} {slot : ℕ} {old new : List Slot} → IsReady writer old → Made writer old new next slot → IsReady next new
+made_ready : {writer next : WriterState} {slot : ℕ} {old new : List Slot} → IsReady writer old
+    → Made writer old new next slot → IsReady next new
 made_ready {writer} {next} {slot} {old} {new} ready made = record {
   streams = (let two = ready.streams in omega (arith, two, made_size made));
   output = subst (λ tells. CanTell tells new) (sym (ap (λ (w : WriterState). w.tells) made.same)) (can_tell writer.tells old new (writable_before old new 0 (opened (next_name writer.names) Fresh) (let two = ready.streams in omega (arith, two)) made.added) ready.output);
@@ -86,7 +96,8 @@ made_ready {writer} {next} {slot} {old} {new} ready made = record {
   current = subst (λ current. IsOpenAt current new) (sym (ap (λ (w : WriterState). w.current) made.same)) (let two = ready.streams in omega (arith, two, made.place), opened_writable old new slot (next_name writer.names) Fresh made.place made.added);
 }
 
-made_leaves : {writer next : WriterState} {slot : ℕ} {old new : List Slot} → IsReady writer old → Made writer old new next slot → Leaves writer next old new None
+made_leaves : {writer next : WriterState} {slot : ℕ} {old new : List Slot} → IsReady writer old
+    → Made writer old new next slot → Leaves writer next old new None
 made_leaves {writer} {next} {slot} {old} {new} ready made = record {
   naming = ap (λ (w : WriterState). w.names.naming) made.same;
   tells = ap (λ (w : WriterState). w.tells) made.same;
@@ -98,7 +109,8 @@ made_leaves {writer} {next} {slot} {old} {new} ready made = record {
   ready = made_ready ready made;
 }
 
-unmade_leaves : {told : Bool} {writer next : WriterState} {old new : List Slot} {f : Fault} → CanTell writer.tells old → MakesNone told writer old new next f → Leaves writer next old new (Some f)
+unmade_leaves : {told : Bool} {writer next : WriterState} {old new : List Slot} {f : Fault} → CanTell writer.tells old
+    → MakesNone told writer old new next f → Leaves writer next old new (Some f)
 unmade_leaves {told} {writer} {next} {old} {new} {f} can makes = rw makes.same (record {
   naming = makes.naming;
   tells = refl;
@@ -112,55 +124,76 @@ unmade_leaves {told} {writer} {next} {old} {new} {f} can makes = rw makes.same (
 
 -- standard output is told of it before that
 
-last_same : (current : Current) (first : ℕ) (old new : List Slot) → length new ≡ length old → IsLast current first old → IsLast current first new
+last_same : (current : Current) (first : ℕ) (old new : List Slot) → length new ≡ length old → IsLast current first old
+    → IsLast current first new
 last_same (File slot size) first old new same last = (last.0, last.1 ∙ sym same)
 last_same Skipped first old new same last = tt
 last_same Due first old new same last = tt
 last_same Unopened first old new same last = tt
 
-open_same : (current : Current) (bytes : List ℕ) (slots : List Slot) → IsOpenAt current slots → IsOpenAt current (with_written 0 bytes slots)
+open_same : (current : Current) (bytes : List ℕ) (slots : List Slot) → IsOpenAt current slots
+    → IsOpenAt current (with_written 0 bytes slots)
 open_same (File slot size) bytes slots at = (at.0, written_writable slots _ slot 0 bytes at.1 refl)
 open_same Skipped bytes slots at = tt
 open_same Due bytes slots at = tt
 open_same Unopened bytes slots at = at
 
-line_leaves : (told : Bool) {writer : WriterState} {old : List Slot} → IsReady writer old → Leaves writer writer old (told_next told writer.tells writer.names old) None
+line_leaves : (told : Bool) {writer : WriterState} {old : List Slot} → IsReady writer old
+    → Leaves writer writer old (told_next told writer.tells writer.names old) None
 line_leaves told {writer} {old} ready = wrote_leaves told 0 (line_next writer.tells writer.names) None refl
     (λ first last. last_same writer.current first old _ (length-changed_at 0 _ old) last) (keeps_write 0 _ old _ refl) (open_same writer.current _ old ready.current) ready refl
 
-line_told : {manner : Manner} {writer : WriterState} {draft : Draft} → made_of draft.opening draft.bytes ≡ [] → Writes manner writer draft → line_next writer.tells writer.names ≡ told_before manner.output (name_after manner draft)
+line_told : {manner : Manner} {writer : WriterState} {draft : Draft} → made_of draft.opening draft.bytes ≡ []
+    → Writes manner writer draft
+    → line_next writer.tells writer.names ≡ told_before manner.output (name_after manner draft)
 line_told {manner} {writer} none writes = ap (λ output. told_before output (next_name writer.names)) writes.same.output ∙ ap (told_before manner.output) (due_name none writes)
 
 -- the part with the file that is due
-due_part : {manner : Manner} {writer : WriterState} {draft : Draft} (next : Draft) → writer.names.drawn < 2 ^ 64 → Unwritten draft next → Writes manner writer draft → IsTrue (has_next writer.names)
-    → draft_part manner next ≡ with_last (begun_out manner.output (ended_files manner draft) (name_after manner draft)) (ended_files manner draft) (file_of (name_after manner draft) next.bytes state.Open)
+due_part : {manner : Manner} {writer : WriterState} {draft : Draft} (next : Draft) → writer.names.drawn < 2 ^ 64
+    → Unwritten draft next → Writes manner writer draft → IsTrue (has_next writer.names)
+    → draft_part manner next ≡ with_last (begun_out manner.output (ended_files manner draft) (name_after manner draft))
+    (ended_files manner draft) (file_of (name_after manner draft) next.bytes state.Open)
 due_part {manner} {writer} {draft} next few so writes has = open_part manner next (due_named next few so writes has) so.makes
     ∙ ap (λ ended. with_last (begun_out manner.output (files_from manner 0 (map (share state.Closed) ended)) (manner.name (length ended))) (files_from manner 0 (map (share state.Closed) ended)) (file_of (manner.name (length ended)) next.bytes state.Open)) so.same
 
 -- it was made
-made_becomes : {told : Bool} (manner : Manner) {writer made : WriterState} (draft : Draft) {slot : ℕ} {old mid new : List Slot} → next_name writer.names ≡ name_after manner draft → mid ≡ with_written 0 (told_of told (told_before manner.output (name_after manner draft))) old → Made writer mid new made slot
-    → Becomes manner.output told (part_with manner.output (ended_files manner draft)) (with_last (begun_out manner.output (ended_files manner draft) (name_after manner draft)) (ended_files manner draft) (file_of (name_after manner draft) [] state.Open)) old new None
+made_becomes : {told : Bool} (manner : Manner) {writer made : WriterState} (draft : Draft) {slot : ℕ}
+    {old mid new : List Slot} → next_name writer.names ≡ name_after manner draft
+    → mid ≡ with_written 0 (told_of told (told_before manner.output (name_after manner draft))) old
+    → Made writer mid new made slot
+    → Becomes manner.output told (part_with manner.output (ended_files manner draft))
+    (with_last (begun_out manner.output (ended_files manner draft) (name_after manner draft)) (ended_files manner draft)
+    (file_of (name_after manner draft) [] state.Open)) old new None
 made_becomes {told} manner draft {old = old} {mid} {new} name line made = becomes_again (line_begins (told_before manner.output (name_after manner draft))) (out_added told (told_before manner.output (name_after manner draft)) old line)
     (opens manner.output told (begun_out manner.output (ended_files manner draft) (name_after manner draft)) (ended_files manner draft) (name_after manner draft) (made.added ∙ ap (λ those. mid ++ opened those Fresh ∷ []) name))
 
 -- it could not be made
-module _ {told : Bool} {writer next : WriterState} {change : Draft → Draft} {old new : List Slot} {f : Fault} (ready : IsReady writer old) (of : (draft : Draft) → IsCurrent writer.tells draft.opening draft.bytes writer.current → Unwritten draft (change draft)) (makes : MakesNone told writer old new next f) where
-  unmade_begins : (manner : Manner) (draft : Draft) → Unwritten draft (change draft) → Begins (part_with manner.output (ended_files manner draft)) (draft_part manner (change draft))
+module _ {told : Bool} {writer next : WriterState} {change : Draft → Draft} {old new : List Slot} {f : Fault}
+    (ready : IsReady writer old) (of : (draft : Draft) → IsCurrent writer.tells draft.opening draft.bytes writer.current
+    → Unwritten draft (change draft)) (makes : MakesNone told writer old new next f) where
+  unmade_begins : (manner : Manner) (draft : Draft) → Unwritten draft (change draft)
+      → Begins (part_with manner.output (ended_files manner draft)) (draft_part manner (change draft))
   unmade_begins manner draft so = subst (λ part. Begins part (draft_part manner (change draft))) (ap (λ ended. part_of manner (map (share state.Closed) ended ++ [])) so.same ∙ ap (part_of manner) (append-nil (map (share state.Closed) draft.ended)))
       (part_grows manner (map (share state.Closed) (change draft).ended) [] _ tt)
 
   -- the file that is due
-  unmade_due : (manner : Manner) (draft : Draft) → Unwritten draft (change draft) → Writes manner writer draft → IsNextName writer.names (next_name writer.names)
-      → (bytes : List ℕ) × (draft_part manner (change draft) ≡ with_last (begun_out manner.output (ended_files manner draft) (next_name writer.names)) (ended_files manner draft) (file_of (next_name writer.names) bytes state.Open))
+  unmade_due : (manner : Manner) (draft : Draft) → Unwritten draft (change draft) → Writes manner writer draft
+      → IsNextName writer.names (next_name writer.names)
+      → (bytes : List ℕ)
+      × (draft_part manner (change draft) ≡ with_last
+      (begun_out manner.output (ended_files manner draft) (next_name writer.names)) (ended_files manner draft)
+      (file_of (next_name writer.names) bytes state.Open))
   unmade_due manner draft so writes (few, has, same) = ((change draft).bytes, rw (due_name so.none writes) (due_part (change draft) few so writes has))
 
   -- names ran out: the part after the change has no file more
-  unmade_short : f ≡ Verdict Suffixes → (manner : Manner) (draft : Draft) → Writes manner writer draft → RunsShort told writer change manner draft old new
+  unmade_short : f ≡ Verdict Suffixes → (manner : Manner) (draft : Draft) → Writes manner writer draft
+      → RunsShort told writer change manner draft old new
   unmade_short is manner draft writes = ran (subst (OpensNone told writer.tells writer.names next.names old new) is makes.none) where
     so : Unwritten draft (change draft)
     so = of draft writes.current
 
-    ran : OpensNone told writer.tells writer.names next.names old new (Verdict Suffixes) → RunsShort told writer change manner draft old new
+    ran : OpensNone told writer.tells writer.names next.names old new (Verdict Suffixes)
+        → RunsShort told writer change manner draft old new
     ran (no_name few none same) =
         let lacks : manner.has_name (length (change draft).ended) ≡ false = ap (λ ended. manner.has_name (length ended)) so.same ∙ sym (due_has few so.none writes) ∙ none in record {
           none = lacks;
@@ -180,8 +213,11 @@ module _ {told : Bool} {writer next : WriterState} {change : Draft → Draft} {o
   }
 
 -- and gets its first bytes, if there are any
-pub goes_made : {told : Bool} {writer made next : WriterState} {change : Draft → Draft} {slot : ℕ} (bytes : List ℕ) {old mid new : List Slot} {fault : Option Fault}
-    → ((draft : Draft) → IsCurrent writer.tells draft.opening draft.bytes writer.current → Unwritten draft (change draft) × ((change draft).bytes ≡ bytes)) → IsReady writer old → Made writer (told_next told writer.tells writer.names old) mid made slot
+pub goes_made : {told : Bool} {writer made next : WriterState} {change : Draft → Draft} {slot : ℕ} (bytes : List ℕ)
+    {old mid new : List Slot} {fault : Option Fault}
+    → ((draft : Draft) → IsCurrent writer.tells draft.opening draft.bytes writer.current
+    → Unwritten draft (change draft) × ((change draft).bytes ≡ bytes)) → IsReady writer old
+    → Made writer (told_next told writer.tells writer.names old) mid made slot
     → Appends told made slot 0 bytes mid new next fault → Goes told writer change old new next fault
 goes_made {told} {writer} {made} {next} {change} {slot} bytes {old} {mid} {new} {fault} of ready makes appends = record {
   leaves = leaves;
@@ -214,7 +250,9 @@ goes_made {told} {writer} {made} {next} {change} {slot} bytes {old} {mid} {new} 
   leaves = leaves_again (line_leaves told ready) (leaves_again (made_leaves line_ready makes) (appends_leaves is_file (made_ready line_ready makes) appends))
 
 -- The first bytes of what gets its file with them
-pub first_bytes : (tells : Tells) {current : Current} (bytes : List ℕ) → current ≡ Due → false ≡ eqb (length bytes) 0 → (draft : Draft) → IsCurrent tells draft.opening draft.bytes current → Unwritten draft (with_bytes bytes draft) × (draft.bytes ++ bytes ≡ bytes)
+pub first_bytes : (tells : Tells) {current : Current} (bytes : List ℕ) → current ≡ Due → false ≡ eqb (length bytes) 0
+    → (draft : Draft) → IsCurrent tells draft.opening draft.bytes current
+    → Unwritten draft (with_bytes bytes draft) × (draft.bytes ++ bytes ≡ bytes)
 first_bytes tells bytes is some draft now = search rules
 
 -- What is begun where nothing is
@@ -223,24 +261,32 @@ paused_ready : {writer : WriterState} {slots : List Slot} → IsReady writer slo
 paused_ready ready = record { streams = ready.streams; output = ready.output; files = ready.files; current = tt }
 
 -- what was begun had no file
-ended_none : (draft : Draft) → made_of draft.opening draft.bytes ≡ [] → draft.ended ++ made_of draft.opening draft.bytes ≡ draft.ended
+ended_none : (draft : Draft) → made_of draft.opening draft.bytes ≡ []
+    → draft.ended ++ made_of draft.opening draft.bytes ≡ draft.ended
 ended_none draft none = search rules
 
 -- what has no file is begun, after what has none
-pub begins_none : {told : Bool} {writer : WriterState} {opening : Opening} (current : Current) {slots : List Slot} → ((draft : Draft) → IsCurrent writer.tells draft.opening draft.bytes writer.current → made_of draft.opening draft.bytes ≡ [])
-    → made_of opening [] ≡ [] → IsCurrent writer.tells opening [] current → IsOpenAt current slots → ((first : ℕ) → IsLast current first slots) → IsReady writer slots → Goes told writer (with_next opening) slots slots (record writer { current = current }) None
+pub begins_none : {told : Bool} {writer : WriterState} {opening : Opening} (current : Current) {slots : List Slot}
+    → ((draft : Draft) → IsCurrent writer.tells draft.opening draft.bytes writer.current
+    → made_of draft.opening draft.bytes ≡ [])
+    → made_of opening [] ≡ [] → IsCurrent writer.tells opening [] current → IsOpenAt current slots
+    → ((first : ℕ) → IsLast current first slots) → IsReady writer slots
+    → Goes told writer (with_next opening) slots slots (record writer { current = current }) None
 begins_none {opening = opening} current before none is_current at last ready = goes_still current ready at (λ first was. last first) (λ draft now.
     let had = before draft now in (
       ap (λ made. map (share state.Closed) draft.ended ++ map (share state.Open) made) (had ∙ sym none) ∙ ap (λ ended. map (share state.Closed) ended ++ map (share state.Open) (made_of opening [])) (sym (ended_none draft had)),
       is_current,
     ))
 
-pub begin_none : {told : Bool} {writer : WriterState} {opening : Opening} (current : Current) {slots : List Slot} → made_of opening [] ≡ [] → IsCurrent writer.tells opening [] current → IsOpenAt current slots → ((first : ℕ) → IsLast current first slots) → IsReady writer slots
+pub begin_none : {told : Bool} {writer : WriterState} {opening : Opening} (current : Current) {slots : List Slot}
+    → made_of opening [] ≡ [] → IsCurrent writer.tells opening [] current → IsOpenAt current slots
+    → ((first : ℕ) → IsLast current first slots) → IsReady writer slots
     → Goes told (paused writer) (with_next opening) slots slots (record writer { current = current }) None
 begin_none current none is_current at last ready = begins_none current never_made none is_current at last (paused_ready ready)
 
 -- what has one at once is begun
-pub at_once : {opening : Opening} → opening ≡ AtOnce → (draft : Draft) → draft.opening ≡ Never → Unwritten draft (with_next opening draft)
+pub at_once : {opening : Opening} → opening ≡ AtOnce → (draft : Draft) → draft.opening ≡ Never
+    → Unwritten draft (with_next opening draft)
 at_once {opening} is draft never = record {
   same = ended_none draft (never_made draft never);
   none = never_made draft never;
@@ -248,7 +294,9 @@ at_once {opening} is draft never = record {
 }
 
 -- it could not be made
-pub begin_unmade : {told : Bool} {writer next : WriterState} {opening : Opening} {old new : List Slot} {f : Fault} → opening ≡ AtOnce → IsReady writer old → MakesNone told writer old new next f → Goes told (paused writer) (with_next opening) old new next (Some f)
+pub begin_unmade : {told : Bool} {writer next : WriterState} {opening : Opening} {old new : List Slot} {f : Fault}
+    → opening ≡ AtOnce → IsReady writer old → MakesNone told writer old new next f
+    → Goes told (paused writer) (with_next opening) old new next (Some f)
 begin_unmade is ready makes = goes_unmade (paused_ready ready) (at_once is) (record { same = makes.same; naming = makes.naming; none = makes.none })
 
 counts_none : (tells : Tells) → CountsOn tells 0 [] 0
@@ -256,7 +304,9 @@ counts_none Nothing = omega arith
 counts_none Sizes = refl
 counts_none Openings = omega arith
 
-pub begin_made : {told : Bool} {writer next : WriterState} {opening : Opening} {slot : ℕ} {old new : List Slot} → opening ≡ AtOnce → IsReady writer old → Made writer (told_next told writer.tells writer.names old) new next slot → Goes told (paused writer) (with_next opening) old new next None
+pub begin_made : {told : Bool} {writer next : WriterState} {opening : Opening} {slot : ℕ} {old new : List Slot}
+    → opening ≡ AtOnce → IsReady writer old → Made writer (told_next told writer.tells writer.names old) new next slot
+    → Goes told (paused writer) (with_next opening) old new next None
 begin_made {told} {writer} {next} {opening} {slot} {old} {new} is ready made =
     goes_made [] (λ draft never. (at_once is draft never, refl)) (paused_ready ready) (record { few = made.few; named = made.named; place = made.place; added = made.added; same = made.same })
     (record { same = refl; current = (0, ap (λ (w : WriterState). w.current) made.same, counts_none next.tells); still = tt; wrote = none_written told slot })
@@ -264,13 +314,16 @@ begin_made {told} {writer} {next} {opening} {slot} {old} {new} is ready made =
 -- What is begun ends, and what is next begins.
 
 -- it has no file
-pub end_none : {told : Bool} {writer : WriterState} {current : Current} {slots : List Slot} → current ≡ Skipped → ((draft : Draft) → IsCurrent writer.tells draft.opening draft.bytes writer.current → made_of draft.opening draft.bytes ≡ []) → IsReady writer slots
+pub end_none : {told : Bool} {writer : WriterState} {current : Current} {slots : List Slot} → current ≡ Skipped
+    → ((draft : Draft) → IsCurrent writer.tells draft.opening draft.bytes writer.current
+    → made_of draft.opening draft.bytes ≡ []) → IsReady writer slots
     → Goes told writer (with_next Never) slots slots (record writer { current = current }) None
 end_none {writer = writer} {current} {slots} is none ready = begins_none current none refl (subst (IsCurrent writer.tells Never []) (sym is) refl) (subst (λ now. IsOpenAt now slots) (sym is) tt) (λ first. subst (λ now. IsLast now first slots) (sym is) tt) ready
 
 -- it has one
 
-file_ends : {manner : Manner} {writer : WriterState} {draft : Draft} (slot size : ℕ) → writer.current ≡ File slot size → Writes manner writer draft → Writes manner (paused writer) (with_next Never draft)
+file_ends : {manner : Manner} {writer : WriterState} {draft : Draft} (slot size : ℕ) → writer.current ≡ File slot size
+    → Writes manner writer draft → Writes manner (paused writer) (with_next Never draft)
 file_ends {manner} {writer} {draft} slot size is writes =
     let makes = (now_is is writes).0 in
     let count : length (shares_of draft) ≡ length (shares_of (with_next Never draft)) = made_count draft makes
@@ -282,13 +335,16 @@ file_ends {manner} {writer} {draft} slot size is writes =
       current = refl;
     }
 
-file_closed : {writer : WriterState} {old new : List Slot} → KeepsMade old new → KeepsFiles writer (paused writer) old new
+file_closed : {writer : WriterState} {old new : List Slot} → KeepsMade old new
+    → KeepsFiles writer (paused writer) old new
 file_closed keeps = owned_same refl refl (λ first last. tt) keeps
 
-closed_can : (slot : ℕ) (old new : List Slot) → 2 ≤ slot → new ≡ changed_at slot closes old → IsTrue (is_writable old 0) → IsTrue (is_writable new 0)
+closed_can : (slot : ℕ) (old new : List Slot) → 2 ≤ slot → new ≡ changed_at slot closes old → IsTrue (is_writable old 0)
+    → IsTrue (is_writable new 0)
 closed_can slot old new two closed can = writable_elsewhere old new 0 slot closes (λ same. omega (arith, two, same)) closed can
 
-closed_leaves : {writer : WriterState} (slot size : ℕ) {old new : List Slot} → writer.current ≡ File slot size → IsReady writer old → new ≡ changed_at slot closes old → Leaves writer (paused writer) old new None
+closed_leaves : {writer : WriterState} (slot size : ℕ) {old new : List Slot} → writer.current ≡ File slot size
+    → IsReady writer old → new ≡ changed_at slot closes old → Leaves writer (paused writer) old new None
 closed_leaves {writer} slot size {old} {new} is ready closed =
     let at = at_file is ready in
     let made = made_close slot old new at.1 closed in record {
@@ -309,20 +365,25 @@ closed_leaves {writer} slot size {old} {new} is ready closed =
 
 -- the file breaks as it is closed
 -- what standard output is told as a file is opened begins what it is told of it in all
-closed_told : (output : Output) (name bytes : List ℕ) → IsBeginning (told_before output name) (told_of_files output (file_of name bytes state.Closed ∷ []))
+closed_told : (output : Output) (name bytes : List ℕ)
+    → IsBeginning (told_before output name) (told_of_files output (file_of name bytes state.Closed ∷ []))
 closed_told gets_none name bytes = begins_itself []
 closed_told gets_bytes name bytes = begins_itself []
 closed_told (gets_lines line) name bytes = nothing_begins _
 closed_told (gets_openings line) name bytes = ([], refl)
 
 closed_begins : (output : Output) (front : List PartFile) (name bytes : List ℕ)
-    → Begins (with_last (begun_out output front name) front (file_of name bytes state.Closed)) (with_last (told_of_files output front ++ told_of_files output (file_of name bytes state.Closed ∷ [])) front (file_of name bytes state.Closed))
+    → Begins (with_last (begun_out output front name) front (file_of name bytes state.Closed))
+    (with_last (told_of_files output front ++ told_of_files output (file_of name bytes state.Closed ∷ [])) front
+    (file_of name bytes state.Closed))
 closed_begins output front name bytes = let (rest, is) = closed_told output name bytes in record {
   out = (rest, ap (λ more. told_of_files output front ++ more) is ∙ sym (append_assoc (told_of_files output front) (told_before output name) rest));
   files = files_begin_themselves _;
 }
 
-pub close_not : {told : Bool} {writer : WriterState} (slot size : ℕ) {old new : List Slot} {f : Fault} → writer.current ≡ File slot size → IsReady writer old → f ≡ fault.Write slot → new ≡ with_broken slot (changed_at slot closes old)
+pub close_not : {told : Bool} {writer : WriterState} (slot size : ℕ) {old new : List Slot} {f : Fault}
+    → writer.current ≡ File slot size → IsReady writer old → f ≡ fault.Write slot
+    → new ≡ with_broken slot (changed_at slot closes old)
     → Goes told writer (with_next Never) old new (paused writer) (Some f)
 close_not {told} {writer} slot size {old} {new} is ready which broken = subst (λ f. Goes told writer (with_next Never) old new (paused writer) (Some f)) (sym which) (record {
   leaves = record { naming = refl; tells = refl; keeps = refl; open_alone = λ alone. refl; owns = owns; slots = (let at = at_file is ready in (λ none. absurd (omega (arith, at.0, none)), close_rose slot old new at.1 (writable_within slot old at.1) broken)); output = tt; ready = tt };
@@ -337,45 +398,57 @@ close_not {told} {writer} slot size {old} {new} is ready which broken = subst (�
   owns = file_closed (made_again old (changed_at slot closes old) new (made_close slot old _ (at_file is ready).1 refl) (made_break slot _ new broken))
 
 -- it is told of, or standard output breaks
-tells_file : (tells : Tells) (output : Output) (told : Bool) (size : ℕ) (front : List PartFile) (file : PartFile) (old : List Slot) {new : List Slot} (fault : Option Fault) → output_of tells ≡ output → file.state ≡ state.Closed → size ≡ length file.bytes
+tells_file : (tells : Tells) (output : Output) (told : Bool) (size : ℕ) (front : List PartFile) (file : PartFile)
+    (old : List Slot) {new : List Slot} (fault : Option Fault) → output_of tells ≡ output → file.state ≡ state.Closed
+    → size ≡ length file.bytes
     → AllClosed front → 0 < length old → TellsSize told tells size old new fault
-    → Becomes output told (with_last (begun_out output front file.name) front file) (with_last (told_of_files output front ++ told_of_files output (file ∷ [])) front file) old new fault
+    → Becomes output told (with_last (begun_out output front file.name) front file)
+    (with_last (told_of_files output front ++ told_of_files output (file ∷ [])) front file) old new fault
 tells_file Nothing output told size front file old fault is shut size_is closed some (well, same) = rw (well, same, ← is) (record { gets = λ before at. at })
 tells_file Openings output told size front file old fault is shut size_is closed some (well, same) = rw (well, same, ← is, append-nil (opening_line file.name)) (record { gets = λ before at. at })
 tells_file Sizes output told size front file old {new} fault is shut size_is closed some wrote = rw (← is) (rw (append-nil (lines_for size_of_file front), line_told) (tells_line size_of_file told front file shut old fault closed some (subst (λ n. Wrote told 0 (decimal n ++ 10 ∷ []) old new fault) size_is wrote))) where
   line_told : lines_for size_of_file (file ∷ []) ≡ size_of_file file
   line_told = grind (arith, common_steps)
 
-told_leaves : (told : Bool) (writer : WriterState) (size : ℕ) {old new : List Slot} (fault : Option Fault) (tells : Tells) → writer.tells ≡ tells → IsReady (paused writer) old → TellsSize told tells size old new fault → Leaves (paused writer) (paused writer) old new fault
+told_leaves : (told : Bool) (writer : WriterState) (size : ℕ) {old new : List Slot} (fault : Option Fault)
+    (tells : Tells) → writer.tells ≡ tells → IsReady (paused writer) old → TellsSize told tells size old new fault
+    → Leaves (paused writer) (paused writer) old new fault
 told_leaves told writer size fault Nothing is ready (well, same) = rw (well, same) (leaves_still ready)
 told_leaves told writer size fault Openings is ready (well, same) = rw (well, same) (leaves_still ready)
 told_leaves told writer size {old} {new} fault Sizes is ready wrote =
     let can : IsTrue (is_writable old 0) = subst (λ tells. CanTell tells old) is ready.output in
     wrote_leaves told 0 (decimal size ++ 10 ∷ []) fault refl (λ first last. tt) (rw is (slots fault can wrote)) (in_any fault tt) ready wrote where
-      slots : (fault : Option Fault) → IsTrue (is_writable old 0) → Wrote told 0 (decimal size ++ 10 ∷ []) old new fault → KeepsOrBreaks (manner_by writer.names.naming (output_of Sizes)) old new fault
+      slots : (fault : Option Fault) → IsTrue (is_writable old 0) → Wrote told 0 (decimal size ++ 10 ∷ []) old new fault
+          → KeepsOrBreaks (manner_by writer.names.naming (output_of Sizes)) old new fault
       slots None can wrote = keeps_write 0 _ old new wrote
       slots (Some f) can wrote = line_breaks told writer.names.naming (decimal size ++ 10 ∷ []) can wrote
 
 -- what can go wrong there is a write
-pub tells_write : (told : Bool) (tells : Tells) (size : ℕ) (old new : List Slot) (result : Result (Unit {0}) Fault) → TellsSize told tells size old new (fault_in result) → IfErr result IsWrite
+pub tells_write : (told : Bool) (tells : Tells) (size : ℕ) (old new : List Slot) (result : Result (Unit {0}) Fault)
+    → TellsSize told tells size old new (fault_in result) → IfErr result IsWrite
 tells_write told tells size old new (Ok done) tells_it = tt
 tells_write told Nothing size old new (Err f) (well, same) = absurd (cc)
 tells_write told Sizes size old new (Err _) (short.broke n cut) = (0, refl)
 tells_write told Openings size old new (Err f) (well, same) = absurd (cc)
 
 -- where sizes are told, what is told is that of the file
-is_size : (tells : Tells) (bytes : List ℕ) (size : ℕ) → IsCounted tells bytes size → (told : Bool) (old new : List Slot) (fault : Option Fault) → TellsSize told tells size old new fault → TellsSize told tells (length bytes) old new fault
+is_size : (tells : Tells) (bytes : List ℕ) (size : ℕ) → IsCounted tells bytes size
+    → (told : Bool) (old new : List Slot) (fault : Option Fault) → TellsSize told tells size old new fault
+    → TellsSize told tells (length bytes) old new fault
 is_size Nothing bytes size is told old new fault tells = tells
 is_size Openings bytes size is told old new fault tells = tells
 is_size Sizes bytes size is told old new fault tells = subst (λ n. Wrote told 0 (decimal n ++ 10 ∷ []) old new fault) is tells
 
 -- telling a size wants no names
-told_short : (P : Type 0) (told : Bool) (tells : Tells) (size : ℕ) (old new : List Slot) (fault : Option Fault) → TellsSize told tells size old new fault → IfSome fault (λ fault. fault ≡ Verdict Suffixes → P)
+told_short : (P : Type 0) (told : Bool) (tells : Tells) (size : ℕ) (old new : List Slot) (fault : Option Fault)
+    → TellsSize told tells size old new fault → IfSome fault (λ fault. fault ≡ Verdict Suffixes → P)
 told_short P told Nothing size old new fault (well, same) = rw well tt
 told_short P told Openings size old new fault (well, same) = rw well tt
 told_short P told Sizes size old new fault wrote = never_short P told 0 (decimal size ++ 10 ∷ []) old new fault wrote
 
-pub end_told : {told : Bool} {writer : WriterState} (slot size : ℕ) {old mid new : List Slot} {fault : Option Fault} → writer.current ≡ File slot size → IsReady writer old → mid ≡ changed_at slot closes old → TellsSize told writer.tells size mid new fault
+pub end_told : {told : Bool} {writer : WriterState} (slot size : ℕ) {old mid new : List Slot} {fault : Option Fault}
+    → writer.current ≡ File slot size → IsReady writer old → mid ≡ changed_at slot closes old
+    → TellsSize told writer.tells size mid new fault
     → Goes told writer (with_next Never) old new (paused writer) fault
 end_told {told} {writer} slot size {old} {mid} {new} {fault} is ready closed tells = record {
   leaves = leaves;

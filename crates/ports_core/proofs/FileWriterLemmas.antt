@@ -45,9 +45,12 @@ use Rattle.ports_core.proofs.SweepLemmas.{by_place}
 -- Outputs that have a part have another, as a file is opened or standard output gets a line; or a fault stops them in between.
 
 -- standard output gets the line for the last file, which is closed
-module _ (line : PartFile → List ℕ) (told : Bool) (front : List PartFile) (file : PartFile) (shut : file.state ≡ state.Closed) where
+module _ (line : PartFile → List ℕ) (told : Bool) (front : List PartFile) (file : PartFile)
+    (shut : file.state ≡ state.Closed) where
   -- the line of the last file alone is cut short
-  cut_short : (n : ℕ) (high : Part) → LinesTo (gets_lines line) (with_last (lines_for line front ++ take n (line file)) front file) high (length front) (fault.Write 0)
+  cut_short : (n : ℕ) (high : Part)
+      → LinesTo (gets_lines line) (with_last (lines_for line front ++ take n (line file)) front file) high
+      (length front) (fault.Write 0)
   cut_short n high = record {
     next = take n (line file);
     all = ap (λ files. lines_for line files ++ take n (line file)) (sym (take-append_seam front (file ∷ [])));
@@ -59,56 +62,77 @@ module _ (line : PartFile → List ℕ) (told : Bool) (front : List PartFile) (f
     told_line : lines_for line (file ∷ []) ≡ line file
     told_line = grind (arith, common_steps)
 
-  pub tells_line : (old : List Slot) {new : List Slot} (fault : Option Fault) → AllClosed front → 0 < length old → Wrote told 0 (line file) old new fault
-      → Becomes (gets_lines line) told (with_last (lines_for line front) front file) (with_last (lines_for line front ++ line file) front file) old new fault
+  pub tells_line : (old : List Slot) {new : List Slot} (fault : Option Fault) → AllClosed front → 0 < length old
+      → Wrote told 0 (line file) old new fault
+      → Becomes (gets_lines line) told (with_last (lines_for line front) front file)
+      (with_last (lines_for line front ++ line file) front file) old new fault
   tells_line old None closed some wrote = out_added told (line file) old wrote
   tells_line old (Some _) closed some (short.broke n cut) =
       becomes_again (line_begins (take n (line file))) (out_added told (take n (line file)) old refl) (halts_here (record { out = take_begins_after n (lines_for line front) (line file); files = files_begin_themselves (front ++ file ∷ []) })
       (turn_last front file (length front) refl closed) (cut_short n (with_last (lines_for line front ++ line file) front file)) (let size : length (with_written 0 (told_of told (take n (line file))) old) ≡ length old = length-changed_at 0 _ old in omega (arith, some), cut.slots) (λ before at. inl refl))
 
 -- a `?` handed a fault on
-pub stop_is : {T : Type 0} (P : Option Fault → Type 0) (result : Result T Fault) (fault : Fault) → IsErrAnd result (λ given. given ≡ fault) → P (Some fault) → P (fault_in result)
+pub stop_is : {T : Type 0} (P : Option Fault → Type 0) (result : Result T Fault) (fault : Fault)
+    → IsErrAnd result (λ given. given ≡ fault) → P (Some fault) → P (fault_in result)
 stop_is P result fault handed holds = subst (λ given. P (fault_in given)) (sym (handed_on result fault handed)) holds
 
 -- From one state of the outputs to another. The writers follow from the steps.
 
-pub reaches_again : {output : Output} {told : Bool} {low middle high : Part} {old mid new : List Slot} {fault : Option Fault} {one two three : WriterState} → Begins low middle → Reaches output told one two low middle old mid None
+pub reaches_again : {output : Output} {told : Bool} {low middle high : Part} {old mid new : List Slot}
+    {fault : Option Fault} {one two three : WriterState} → Begins low middle
+    → Reaches output told one two low middle old mid None
     → Reaches output told two three middle high mid new fault → Reaches output told one three low high old new fault
 reaches_again {output} {told} {high = high} {new = new} {fault} begins first second = record { there = λ before at. there_from output told _ before high new fault begins (second.there before (first.there before at)) }
 
 -- it was stopped on its way to more
-pub stops_wider : {output : Output} {told : Bool} {low middle high : Part} {old new : List Slot} {fault : Fault} {writer next : WriterState} → Reaches output told writer next low middle old new (Some fault) → Begins middle high → Reaches output told writer next low high old new (Some fault)
+pub stops_wider : {output : Output} {told : Bool} {low middle high : Part} {old new : List Slot} {fault : Fault}
+    {writer next : WriterState} → Reaches output told writer next low middle old new (Some fault) → Begins middle high
+    → Reaches output told writer next low high old new (Some fault)
 stops_wider {output} {told} {low} {middle} {high} {new = new} {fault = fault} stops begins =
     record { there = λ before at. turn_between output told before low low middle high fault new (part_begins_itself low) (stops.there before at) begins }
 
 -- a step that is known of the outputs alone, as long as the open file is the last
-pub reaches_by : {output : Output} {told : Bool} {low high : Part} {old new : List Slot} {fault : Option Fault} {writer next : WriterState} → KeepsFiles writer next old new → ((first : ℕ) → IsLast writer.current first old → Becomes output told low high old new fault)
+pub reaches_by : {output : Output} {told : Bool} {low high : Part} {old new : List Slot} {fault : Option Fault}
+    {writer next : WriterState} → KeepsFiles writer next old new
+    → ((first : ℕ) → IsLast writer.current first old → Becomes output told low high old new fault)
     → Reaches output told writer next low high old new fault
 reaches_by {output} {told} {low} {high} {old} {new} {fault} {writer} {next} keeps becomes = record { there = λ before at. by fault before at ((becomes (length before) at.owns.last).gets before at.outputs) } where
-  by : (fault : Option Fault) (before : List Slot) → At told writer before low old → IsThere output told (OutputsAt told before high new) before low high new fault → IsThere output told (At told next before high new) before low high new fault
+  by : (fault : Option Fault) (before : List Slot) → At told writer before low old
+      → IsThere output told (OutputsAt told before high new) before low high new fault
+      → IsThere output told (At told next before high new) before low high new fault
   by None before at outputs = record { owns = keeps.owns (length before) at.owns; outputs = outputs }
   by (Some why) before at stops = stops
 
 -- the same of parts that are written otherwise
-pub reaches_as : {output : Output} {told : Bool} {low low' high high' : Part} {old new : List Slot} {fault : Option Fault} {writer next : WriterState} → low ≡ low' → high ≡ high' → Reaches output told writer next low' high' old new fault → Reaches output told writer next low high old new fault
+pub reaches_as : {output : Output} {told : Bool} {low low' high high' : Part} {old new : List Slot}
+    {fault : Option Fault} {writer next : WriterState} → low ≡ low' → high ≡ high'
+    → Reaches output told writer next low' high' old new fault → Reaches output told writer next low high old new fault
 reaches_as {output} {told} {low} {high' = high'} {old} {new} {fault} is_low is_high reaches = grind (arith, common_steps)
 
-pub reaches_still : {output : Output} {told : Bool} {low high : Part} {slots : List Slot} {writer next : WriterState} → KeepsFiles writer next slots slots → low ≡ high → Reaches output told writer next low high slots slots None
+pub reaches_still : {output : Output} {told : Bool} {low high : Part} {slots : List Slot} {writer next : WriterState}
+    → KeepsFiles writer next slots slots → low ≡ high → Reaches output told writer next low high slots slots None
 reaches_still {told = told} {slots = slots} {next = next} keeps is = record { there = λ before at. record { owns = keeps.owns (length before) at.owns; outputs = subst (λ part. OutputsAt told before part slots) is at.outputs } }
 
 -- want of memory leaves the outputs as they are
 
-pub in_turn : {output : Output} {told : Bool} {part : Part} (place : ℕ) {slots : List Slot} {writer next : WriterState} → InTurn part.files place → LinesTo output part part place Memory → Reaches output told writer next part part slots slots (Some Memory)
+pub in_turn : {output : Output} {told : Bool} {part : Part} (place : ℕ) {slots : List Slot} {writer next : WriterState}
+    → InTurn part.files place → LinesTo output part part place Memory
+    → Reaches output told writer next part part slots slots (Some Memory)
 in_turn {part = part} place {slots} turn lines = search (rules, part_begins_itself)
 
-pub made_count : (draft : Draft) → made_of draft.opening draft.bytes ≡ draft.bytes ∷ [] → length (shares_of draft) ≡ length draft.ended + 1
+pub made_count : (draft : Draft) → made_of draft.opening draft.bytes ≡ draft.bytes ∷ []
+    → length (shares_of draft) ≡ length draft.ended + 1
 made_count draft makes = ap (λ made. length (map (share state.Closed) draft.ended ++ map (share state.Open) made)) makes ∙ length-append (map (share state.Closed) draft.ended) (share state.Open draft.bytes ∷ []) ∙ ap (λ n. n + 1) (length-map draft.ended (share state.Closed))
 
 -- with an open file, those that ended and this one have names
-named_last : (manner : Manner) (draft : Draft) → AreNamed manner (length (shares_of draft)) → made_of draft.opening draft.bytes ≡ draft.bytes ∷ [] → AreNamed manner (suc (length draft.ended))
+named_last : (manner : Manner) (draft : Draft) → AreNamed manner (length (shares_of draft))
+    → made_of draft.opening draft.bytes ≡ draft.bytes ∷ [] → AreNamed manner (suc (length draft.ended))
 named_last manner draft named makes place less = named place (omega (arith, less, made_count draft makes))
 
-pub lacks_memory : {told : Bool} (manner : Manner) (draft : Draft) {slots : List Slot} {writer next : WriterState} → AreNamed manner (length (shares_of draft)) → Reaches manner.output told writer next (draft_part manner draft) (draft_part manner draft) slots slots (Some Memory)
+pub lacks_memory : {told : Bool} (manner : Manner) (draft : Draft) {slots : List Slot} {writer next : WriterState}
+    → AreNamed manner (length (shares_of draft))
+    → Reaches manner.output told writer next (draft_part manner draft) (draft_part manner draft) slots slots
+    (Some Memory)
 lacks_memory {told} manner draft named = elim (made_or draft.opening draft.bytes) [
   | inl none ↦
       let is = none_part manner draft none in
@@ -121,7 +145,8 @@ lacks_memory {told} manner draft named = elim (made_or draft.opening draft.bytes
 -- Outputs that were broken stay broken, and files stay the writer's own.
 
 -- what is so of a call that ended for want of names
-pub where_short : {A B : Type 0} (fault : Option Fault) → IfSome fault (λ fault. fault ≡ Verdict Suffixes → A) → (A → B) → IfSome fault (λ fault. fault ≡ Verdict Suffixes → B)
+pub where_short : {A B : Type 0} (fault : Option Fault) → IfSome fault (λ fault. fault ≡ Verdict Suffixes → A) → (A → B)
+    → IfSome fault (λ fault. fault ≡ Verdict Suffixes → B)
 where_short None holds follows = tt
 where_short (Some why) holds follows = λ is. follows (holds is)
 
@@ -135,27 +160,33 @@ in_any fault holds = grind (arith, common_steps)
 where_both : {A B C : Type 0} (fault : Option Fault) → IfNone fault A → IfNone fault B → (A → B → C) → IfNone fault C
 where_both fault one two follows = grind (arith, common_steps)
 
-pub where_three : {A B C D : Type 0} (fault : Option Fault) → IfNone fault A → IfNone fault B → IfNone fault C → (A → B → C → D) → IfNone fault D
+pub where_three : {A B C D : Type 0} (fault : Option Fault) → IfNone fault A → IfNone fault B → IfNone fault C
+    → (A → B → C → D) → IfNone fault D
 where_three fault one two three follows = grind (arith, common_steps)
 
 pub well_in : {T : Type 0} (A : Type 0) (result : Result T Fault) → OnOk result A → IfNone (fault_in result) A
 well_in A result holds = grind (arith, common_steps)
 
-owns_again : {one two three : WriterState} {old mid new : List Slot} → KeepsFiles one two old mid → KeepsFiles two three mid new → KeepsFiles one three old new
+owns_again : {one two three : WriterState} {old mid new : List Slot} → KeepsFiles one two old mid
+    → KeepsFiles two three mid new → KeepsFiles one three old new
 owns_again before after = record { owns = λ first own. after.owns first (before.owns first own); there = λ are. after.there (before.there are) }
 
-pub breaks_later : {manner other : Manner} (old mid new : List Slot) (fault : Fault) → other ≡ manner → KeepsBroken old mid → Breaks other mid new fault → Breaks manner old new fault
+pub breaks_later : {manner other : Manner} (old mid new : List Slot) (fault : Fault) → other ≡ manner
+    → KeepsBroken old mid → Breaks other mid new fault → Breaks manner old new fault
 breaks_later old mid new fault same keeps breaks = grind (arith, common_steps)
 
-slots_again : {manner other : Manner} (old mid new : List Slot) (fault : Option Fault) → other ≡ manner → KeepsBroken old mid → KeepsOrBreaks other mid new fault → KeepsOrBreaks manner old new fault
+slots_again : {manner other : Manner} (old mid new : List Slot) (fault : Option Fault) → other ≡ manner
+    → KeepsBroken old mid → KeepsOrBreaks other mid new fault → KeepsOrBreaks manner old new fault
 slots_again old mid new None same first second = keeps_again old mid new first second
 slots_again old mid new (Some fault) same first second = breaks_later old mid new fault same first second
 
 -- how files are made stays
-pub same_manner : {writer next : WriterState} {old new : List Slot} {fault : Option Fault} → Leaves writer next old new fault → manner_in next ≡ manner_in writer
+pub same_manner : {writer next : WriterState} {old new : List Slot} {fault : Option Fault}
+    → Leaves writer next old new fault → manner_in next ≡ manner_in writer
 same_manner leaves = cc (leaves.naming, leaves.tells)
 
-pub leaves_again : {one two three : WriterState} {old mid new : List Slot} {fault : Option Fault} → Leaves one two old mid None → Leaves two three mid new fault → Leaves one three old new fault
+pub leaves_again : {one two three : WriterState} {old mid new : List Slot} {fault : Option Fault}
+    → Leaves one two old mid None → Leaves two three mid new fault → Leaves one three old new fault
 leaves_again {old = old} {mid} {new} {fault} first second = record {
   naming = second.naming ∙ first.naming;
   tells = second.tells ∙ first.tells;
@@ -170,7 +201,8 @@ leaves_again {old = old} {mid} {new} {fault} first second = record {
 pub keeps_files : {writer : WriterState} {slots : List Slot} → KeepsFiles writer writer slots slots
 keeps_files = record { owns = λ first owns. owns; there = λ are. are }
 
-pub leaves_still : {writer : WriterState} {slots : List Slot} → IsReady writer slots → Leaves writer writer slots slots None
+pub leaves_still : {writer : WriterState} {slots : List Slot} → IsReady writer slots
+    → Leaves writer writer slots slots None
 leaves_still ready = record { naming = refl; tells = refl; keeps = refl; open_alone = λ alone. refl; owns = keeps_files; slots = λ place sound. sound; output = λ can. can; ready = ready }
 
 -- want of memory leaves them as they are
@@ -178,39 +210,48 @@ pub leaves_lacking : {writer : WriterState} {slots : List Slot} → Leaves write
 leaves_lacking = record { naming = refl; tells = refl; keeps = refl; open_alone = λ alone. refl; owns = keeps_files; slots = tt; output = tt; ready = tt }
 
 -- the open file can be written
-pub at_file : {writer : WriterState} {slot size : ℕ} {slots : List Slot} → writer.current ≡ File slot size → IsReady writer slots → (2 ≤ slot) × IsTrue (is_writable slots slot)
+pub at_file : {writer : WriterState} {slot size : ℕ} {slots : List Slot} → writer.current ≡ File slot size
+    → IsReady writer slots → (2 ≤ slot) × IsTrue (is_writable slots slot)
 at_file {slots = slots} is ready = subst (λ current. IsOpenAt current slots) is ready.current
 
 -- and is the last output, where that is known of it
-pub last_file : (writer : WriterState) {slot size first : ℕ} (slots : List Slot) → writer.current ≡ File slot size → IsLast writer.current first slots → (first ≤ slot) × (suc slot ≡ length slots)
+pub last_file : (writer : WriterState) {slot size first : ℕ} (slots : List Slot) → writer.current ≡ File slot size
+    → IsLast writer.current first slots → (first ≤ slot) × (suc slot ≡ length slots)
 last_file writer {first = first} slots is last = subst (λ current. IsLast current first slots) is last
 
 -- what can be told stays so, where standard output can still be written
-pub can_tell : (tells : Tells) (old new : List Slot) → (IsTrue (is_writable old 0) → IsTrue (is_writable new 0)) → CanTell tells old → CanTell tells new
+pub can_tell : (tells : Tells) (old new : List Slot) → (IsTrue (is_writable old 0) → IsTrue (is_writable new 0))
+    → CanTell tells old → CanTell tells new
 can_tell Nothing old new stays can = tt
 can_tell Sizes old new stays can = stays can
 can_tell Openings old new stays can = stays can
 
 -- The files are there, and stay the writer's own.
 
-there_still : (files : List ℕ) (old new : List Slot) → ((place : ℕ) → has_file (slot_at new place).state ≡ has_file (slot_at old place).state) → AreThere files old → AreThere files new
+there_still : (files : List ℕ) (old new : List Slot)
+    → ((place : ℕ) → has_file (slot_at new place).state ≡ has_file (slot_at old place).state) → AreThere files old
+    → AreThere files new
 there_still [] old new keeps are = tt
 there_still (place ∷ files) old new keeps are = ((are.0.0, subst IsTrue (sym (keeps place)) are.0.1), are.1, there_still files old new keeps are.2)
 
 pub there_same : (files : List ℕ) {old new : List Slot} → KeepsMade old new → AreThere files old → AreThere files new
 there_same files {old} {new} keeps are = there_still files old new keeps.same are
 
-pub owned_same : {writer next : WriterState} {old new : List Slot} → next.files ≡ writer.files → next.keeps ≡ writer.keeps → ((first : ℕ) → IsLast writer.current first old → IsLast next.current first new) → KeepsMade old new → KeepsFiles writer next old new
+pub owned_same : {writer next : WriterState} {old new : List Slot} → next.files ≡ writer.files
+    → next.keeps ≡ writer.keeps → ((first : ℕ) → IsLast writer.current first old → IsLast next.current first new)
+    → KeepsMade old new → KeepsFiles writer next old new
 owned_same {writer} {old = old} {new} same keeps_as last keeps = search (rules, there_same)
 
 -- one file more
 
-among_more : (place slot : ℕ) (files : List ℕ) → is_among place (files ++ slot ∷ []) ≡ (is_among place files || eqb place slot)
+among_more : (place slot : ℕ) (files : List ℕ)
+    → is_among place (files ++ slot ∷ []) ≡ (is_among place files || eqb place slot)
 among_more place slot files = or_push (is_among place) (eqb place) refl (λ one others. refl) files slot
 
 -- a file that is there stands before the end
 
-there_more : (files : List ℕ) (slots : List Slot) (name : List ℕ) {slot : ℕ} → slot ≡ length slots → 2 ≤ length slots → AreThere files slots → AreThere (files ++ slot ∷ []) (slots ++ opened name Fresh ∷ [])
+there_more : (files : List ℕ) (slots : List Slot) (name : List ℕ) {slot : ℕ} → slot ≡ length slots → 2 ≤ length slots
+    → AreThere files slots → AreThere (files ++ slot ∷ []) (slots ++ opened name Fresh ∷ [])
 there_more [] slots name at two are = grind (arith, common_steps)
 there_more (place ∷ files) slots name {slot} at two are =
     let within : place < length slots = (grind (arith, common_steps)) in (
@@ -219,14 +260,17 @@ there_more (place ∷ files) slots name {slot} at two are =
       there_more files slots name at two are.2,
     )
 
-there_before : (files : List ℕ) (old : List Slot) (one : Slot) {new : List Slot} → new ≡ old ++ one ∷ [] → AreThere files old → AreThere files new
+there_before : (files : List ℕ) (old : List Slot) (one : Slot) {new : List Slot} → new ≡ old ++ one ∷ []
+    → AreThere files old → AreThere files new
 there_before [] old one added are = tt
 there_before (place ∷ files) old one {new} added are =
     let within : place < length old = (grind (arith, common_steps)) in
     ((are.0.0, subst IsTrue (sym (ap (λ slots. has_file (slot_at slots place).state) added ∙ file_before old one place within)) are.0.1), are.1, there_before files old one added are.2)
 
-opened_by : (keeps : Keeps) {writer : WriterState} {slot : ℕ} {old new : List Slot} (name : List ℕ) {names : Names} → 2 ≤ length old → writer.keeps ≡ keeps → slot ≡ length old → new ≡ old ++ opened name Fresh ∷ []
-    → KeepsFiles writer (record writer { names = names; files = files_with keeps writer.files slot; current = File slot 0 }) old new
+opened_by : (keeps : Keeps) {writer : WriterState} {slot : ℕ} {old new : List Slot} (name : List ℕ) {names : Names}
+    → 2 ≤ length old → writer.keeps ≡ keeps → slot ≡ length old → new ≡ old ++ opened name Fresh ∷ []
+    → KeepsFiles writer
+    (record writer { names = names; files = files_with keeps writer.files slot; current = File slot 0 }) old new
 opened_by OpenOne {writer} {slot} {old} {new} name two is at added = record {
   owns = λ first owns. record {
     streams = owns.streams;
@@ -240,36 +284,45 @@ opened_by OpenOne {writer} {slot} {old} {new} name two is at added = record {
 }
 opened_by All {writer} {slot} {old} {new} name two is at added = grind (arith, common_steps, by_place, or-false, among_more, there_more, cases_lt, none_past, file_before, at_end, eq-eqb, false≢true)
 
-pub owned_opened : {writer next : WriterState} {slot : ℕ} {old new : List Slot} → 2 ≤ length old → Made writer old new next slot → KeepsFiles writer next old new
+pub owned_opened : {writer next : WriterState} {slot : ℕ} {old new : List Slot} → 2 ≤ length old
+    → Made writer old new next slot → KeepsFiles writer next old new
 owned_opened {writer} {old = old} {new} two made = rw made.same (opened_by writer.keeps (next_name writer.names) two refl made.place made.added)
 
-unmade_keeps : {told : Bool} {tells : Tells} {names next : Names} {old new : List Slot} {f : Fault} → OpensNone told tells names next old new f → KeepsFiled old new
+unmade_keeps : {told : Bool} {tells : Tells} {names next : Names} {old new : List Slot} {f : Fault}
+    → OpensNone told tells names next old new f → KeepsFiled old new
 unmade_keeps (no_memory same) = rw same (record { same = λ place. refl; within = omega arith })
 unmade_keeps {told} {old = old} (no_line n few has cut) = filed_same (made_short told 0 _ old _ _ (short.broke n cut))
 unmade_keeps {told} {tells} {names} {old = old} (no_file slot kept number few has drew is added) = filed_more kept (made_write 0 (told_of told (line_next tells names)) old _ refl) added
 unmade_keeps {told} {tells} {names} {old = old} (no_number few has same) = filed_same (made_write 0 (told_of told (line_next tells names)) old _ same)
 unmade_keeps (no_name few none same) = rw same (record { same = λ place. refl; within = omega arith })
 
-pub owned_unopened : {told : Bool} {writer : WriterState} {names next : Names} {old new : List Slot} {f : Fault} → OpensNone told writer.tells names next old new f → KeepsFiles writer (record writer { names = next; current = Unopened }) old new
+pub owned_unopened : {told : Bool} {writer : WriterState} {names next : Names} {old new : List Slot} {f : Fault}
+    → OpensNone told writer.tells names next old new f
+    → KeepsFiles writer (record writer { names = next; current = Unopened }) old new
 owned_unopened {writer = writer} {next = next} {old = old} {new} none = let kept = unmade_keeps none in by kept.same kept.within where
-  by : ((place : ℕ) → has_file (slot_at new place).state ≡ has_file (slot_at old place).state) → length old ≤ length new → KeepsFiles writer (record writer { names = next; current = Unopened }) old new
+  by : ((place : ℕ) → has_file (slot_at new place).state ≡ has_file (slot_at old place).state) → length old ≤ length new
+      → KeepsFiles writer (record writer { names = next; current = Unopened }) old new
   by same within = grind (arith, common_steps, there_still)
 
 -- Which faults come
 
 -- the manner in which files are made may be said otherwise
-pub breaks_as : {manner own : Manner} (old new : List Slot) (fault : Fault) → IsManner manner own → Breaks own old new fault → Breaks manner old new fault
+pub breaks_as : {manner own : Manner} (old new : List Slot) (fault : Fault) → IsManner manner own
+    → Breaks own old new fault → Breaks manner old new fault
 breaks_as old new (fault.Write slot) same (out, rose) = (λ none. subst (λ output. writes output ≡ true) same.output (out none), rose)
 breaks_as old new (Verdict Suffixes) same (place, few, none) = (place, few, sym (same.has place few) ∙ none)
 breaks_as old new fault same breaks = breaks
 
 -- standard output breaks where it is told anything alone
-line_rose : (told : Bool) (tells : Tells) (names : Names) (n : ℕ) {old new : List Slot} → CanTell tells old → BrokeAfter told old new 0 (line_next tells names) n → (writes (output_of tells) ≡ true) × Rose 0 old new
+line_rose : (told : Bool) (tells : Tells) (names : Names) (n : ℕ) {old new : List Slot} → CanTell tells old
+    → BrokeAfter told old new 0 (line_next tells names) n → (writes (output_of tells) ≡ true) × Rose 0 old new
 line_rose told Nothing names n can cut = absurd (omega (arith, cut.within))
 line_rose told Sizes names n can cut = absurd (omega (arith, cut.within))
 line_rose told Openings names n {old} {new} can cut = (refl, write_rose told 0 (line_next Openings names) n old new can cut)
 
-pub make_breaks : (told : Bool) (tells : Tells) {names next : Names} {old new : List Slot} {f : Fault} → CanTell tells old → OpensNone told tells names next old new f → Breaks (manner_by names.naming (output_of tells)) old new f
+pub make_breaks : (told : Bool) (tells : Tells) {names next : Names} {old new : List Slot} {f : Fault}
+    → CanTell tells old → OpensNone told tells names next old new f
+    → Breaks (manner_by names.naming (output_of tells)) old new f
 make_breaks told tells can (no_memory same) = tt
 make_breaks told tells {names} can (no_line n few has cut) = let (out, rose) = line_rose told tells names n can cut in (λ none. out, rose)
 make_breaks told tells {names} {old = old} {new} can (no_file slot kept number few has drew is added) =
@@ -278,7 +331,9 @@ make_breaks told tells {names} {old = old} {new} can (no_file slot kept number f
 make_breaks told tells can (no_number few has same) = tt
 make_breaks told tells {names} can (no_name few none same) = (names.drawn, few, none)
 
-pub line_breaks : (told : Bool) (naming : Naming) (line : List ℕ) {old new : List Slot} {f : Fault} → IsTrue (is_writable old 0) → WritesShort told 0 line old new f → Breaks (manner_by naming (output_of Sizes)) old new f
+pub line_breaks : (told : Bool) (naming : Naming) (line : List ℕ) {old new : List Slot} {f : Fault}
+    → IsTrue (is_writable old 0) → WritesShort told 0 line old new f
+    → Breaks (manner_by naming (output_of Sizes)) old new f
 line_breaks told naming line {old} {new} can (short.broke n cut) = grind (arith, common_steps)
 
 -- The line with a file's size.
@@ -289,22 +344,31 @@ one_left (suc n) (suc all) less = one_left n all (omega arith)
 one_left n all less = absurd (omega arith)
 
 -- of a row of newlines the front was replaced by the digits, and one more is taken
-pub line_is : (size all : ℕ) {digits : List ℕ} (copied : List ℕ) → copied ≡ digits → digits ≡ decimal size → length digits < all → take (length digits + 1) (copied ++ drop (length digits) (replicate all 10)) ≡ decimal size ++ 10 ∷ []
+pub line_is : (size all : ℕ) {digits : List ℕ} (copied : List ℕ) → copied ≡ digits → digits ≡ decimal size
+    → length digits < all
+    → take (length digits + 1) (copied ++ drop (length digits) (replicate all 10)) ≡ decimal size ++ 10 ∷ []
 line_is size all {digits} copied same is fits = search (rules, take-append-add, one_left)
 
 -- What is begun
 
-pub now_is : {manner : Manner} {writer : WriterState} {draft : Draft} {current : Current} → writer.current ≡ current → Writes manner writer draft → IsCurrent writer.tells draft.opening draft.bytes current
+pub now_is : {manner : Manner} {writer : WriterState} {draft : Draft} {current : Current} → writer.current ≡ current
+    → Writes manner writer draft → IsCurrent writer.tells draft.opening draft.bytes current
 now_is {writer = writer} {draft} is writes = subst (IsCurrent writer.tells draft.opening draft.bytes) is writes.current
 
 -- all its files have names, the open one too
-pub file_named : {manner : Manner} {writer : WriterState} {draft : Draft} → made_of draft.opening draft.bytes ≡ draft.bytes ∷ [] → Writes manner writer draft → AreNamed manner (suc (length draft.ended))
+pub file_named : {manner : Manner} {writer : WriterState} {draft : Draft}
+    → made_of draft.opening draft.bytes ≡ draft.bytes ∷ [] → Writes manner writer draft
+    → AreNamed manner (suc (length draft.ended))
 file_named {manner} {draft = draft} makes writes = named_last manner draft writes.named makes
 
 -- Nothing is written: what is begun had no file, and has none
 
-pub goes_still : {told : Bool} {writer : WriterState} {change : Draft → Draft} (current : Current) {slots : List Slot} → IsReady writer slots → IsOpenAt current slots → ((first : ℕ) → IsLast writer.current first slots → IsLast current first slots)
-    → ((draft : Draft) → IsCurrent writer.tells draft.opening draft.bytes writer.current → (shares_of draft ≡ shares_of (change draft)) × IsCurrent writer.tells (change draft).opening (change draft).bytes current)
+pub goes_still : {told : Bool} {writer : WriterState} {change : Draft → Draft} (current : Current) {slots : List Slot}
+    → IsReady writer slots → IsOpenAt current slots
+    → ((first : ℕ) → IsLast writer.current first slots → IsLast current first slots)
+    → ((draft : Draft) → IsCurrent writer.tells draft.opening draft.bytes writer.current
+    → (shares_of draft ≡ shares_of (change draft))
+    × IsCurrent writer.tells (change draft).opening (change draft).bytes current)
     → Goes told writer change slots slots (record writer { current = current }) None
 goes_still {writer = writer} {change} current {slots} ready at last stays = record {
   leaves = record { naming = refl; tells = refl; keeps = refl; open_alone = λ alone. refl; owns = keeps; slots = λ place sound. sound; output = λ can. can; ready = record { streams = ready.streams; output = ready.output; files = ready.files; current = at } };
@@ -315,7 +379,8 @@ goes_still {writer = writer} {change} current {slots} ready at last stays = reco
   keeps : KeepsFiles writer (record writer { current = current }) slots slots
   keeps = record { owns = λ first owns. record { streams = owns.streams; within = owns.within; from = owns.from; own = owns.own; there = owns.there; last = last first owns.last }; there = λ are. are }
 
-pub put_skipped : {told : Bool} {writer : WriterState} (bytes : List ℕ) {slots : List Slot} → writer.current ≡ Skipped → IsReady writer slots → Goes told writer (with_bytes bytes) slots slots writer None
+pub put_skipped : {told : Bool} {writer : WriterState} (bytes : List ℕ) {slots : List Slot} → writer.current ≡ Skipped
+    → IsReady writer slots → Goes told writer (with_bytes bytes) slots slots writer None
 put_skipped {writer = writer} bytes is ready = goes_still writer.current ready ready.current (λ first last. last) (λ draft now.
     let never : draft.opening ≡ Never = subst (IsCurrent writer.tells draft.opening draft.bytes) is now in (
       ap (λ made. map (share state.Closed) draft.ended ++ map (share state.Open) made) (ap (λ opening. made_of opening draft.bytes) never ∙ sym (ap (λ opening. made_of opening (draft.bytes ++ bytes)) never)),
@@ -323,7 +388,8 @@ put_skipped {writer = writer} bytes is ready = goes_still writer.current ready r
     ))
 
 -- nothing more is written
-pub put_nothing : {told : Bool} {writer : WriterState} {bytes : List ℕ} {slots : List Slot} → bytes ≡ [] → IsReady writer slots → Goes told writer (with_bytes bytes) slots slots writer None
+pub put_nothing : {told : Bool} {writer : WriterState} {bytes : List ℕ} {slots : List Slot} → bytes ≡ []
+    → IsReady writer slots → Goes told writer (with_bytes bytes) slots slots writer None
 put_nothing {writer = writer} {bytes} none ready = goes_still writer.current ready ready.current (λ first last. last) (λ draft now.
     let same : draft.bytes ++ bytes ≡ draft.bytes = ap (λ those. draft.bytes ++ those) none ∙ append-nil draft.bytes in (
       ap (λ those. map (share state.Closed) draft.ended ++ map (share state.Open) (made_of draft.opening those)) (sym same),
@@ -332,31 +398,42 @@ put_nothing {writer = writer} {bytes} none ready = goes_still writer.current rea
 
 -- The open file gets more bytes, or breaks.
 
-file_now : {told : Bool} {writer next : WriterState} {slot size : ℕ} {bytes : List ℕ} {old new : List Slot} (fault : Option Fault) → writer.current ≡ File slot size → Appends told writer slot size bytes old new next fault → (more : ℕ) × (next.current ≡ File slot more)
+file_now : {told : Bool} {writer next : WriterState} {slot size : ℕ} {bytes : List ℕ} {old new : List Slot}
+    (fault : Option Fault) → writer.current ≡ File slot size → Appends told writer slot size bytes old new next fault
+    → (more : ℕ) × (next.current ≡ File slot more)
 file_now None is appends = (appends.current.0, appends.current.1)
 file_now {size = size} (Some why) is appends = (size, appends.still ∙ is)
 
-wrote_slots : (told : Bool) (manner : Manner) (slot : ℕ) (bytes : List ℕ) (old new : List Slot) (fault : Option Fault) → (2 ≤ slot) × IsTrue (is_writable old slot) → Wrote told slot bytes old new fault → KeepsOrBreaks manner old new fault
+wrote_slots : (told : Bool) (manner : Manner) (slot : ℕ) (bytes : List ℕ) (old new : List Slot) (fault : Option Fault)
+    → (2 ≤ slot) × IsTrue (is_writable old slot) → Wrote told slot bytes old new fault
+    → KeepsOrBreaks manner old new fault
 wrote_slots told manner slot bytes old new None at wrote = keeps_write slot _ old new wrote
 wrote_slots told manner slot bytes old new (Some _) at (short.broke n cut) = (λ none. absurd (omega (arith, at.0, none)), write_rose told slot bytes n old new at.1 cut)
 
 -- a write never wants for names
-pub never_short : (P : Type 0) (told : Bool) (slot : ℕ) (bytes : List ℕ) (old new : List Slot) (fault : Option Fault) → Wrote told slot bytes old new fault → IfSome fault (λ fault. fault ≡ Verdict Suffixes → P)
+pub never_short : (P : Type 0) (told : Bool) (slot : ℕ) (bytes : List ℕ) (old new : List Slot) (fault : Option Fault)
+    → Wrote told slot bytes old new fault → IfSome fault (λ fault. fault ≡ Verdict Suffixes → P)
 never_short P told slot bytes old new None wrote = tt
 never_short P told slot bytes old new (Some _) (short.broke n cut) = λ is. absurd (cc)
 
-wrote_made : (told : Bool) (slot : ℕ) (bytes : List ℕ) (old new : List Slot) (fault : Option Fault) → Wrote told slot bytes old new fault → KeepsMade old new
+wrote_made : (told : Bool) (slot : ℕ) (bytes : List ℕ) (old new : List Slot) (fault : Option Fault)
+    → Wrote told slot bytes old new fault → KeepsMade old new
 wrote_made told slot bytes old new None wrote = made_write slot _ old new wrote
 wrote_made told slot bytes old new (Some f) wrote = made_short told slot bytes old new f wrote
 
 -- what can be written still can, where a write went well
-wrote_can : (told : Bool) (slot : ℕ) (bytes : List ℕ) (place : ℕ) (old new : List Slot) (fault : Option Fault) → Wrote told slot bytes old new fault → IfNone fault (IsTrue (is_writable old place) → IsTrue (is_writable new place))
+wrote_can : (told : Bool) (slot : ℕ) (bytes : List ℕ) (place : ℕ) (old new : List Slot) (fault : Option Fault)
+    → Wrote told slot bytes old new fault
+    → IfNone fault (IsTrue (is_writable old place) → IsTrue (is_writable new place))
 wrote_can told slot bytes place old new None wrote = λ can. written_writable old new place slot _ can wrote
 wrote_can told slot bytes place old new (Some f) wrote = tt
 
 -- a write to one of the outputs
-pub wrote_leaves : (told : Bool) {writer next : WriterState} (slot : ℕ) (bytes : List ℕ) {old new : List Slot} (fault : Option Fault) → next ≡ record writer { current = next.current } → ((first : ℕ) → IsLast writer.current first old → IsLast next.current first new)
-    → KeepsOrBreaks (manner_in writer) old new fault → IfNone fault (IsOpenAt next.current new) → IsReady writer old → Wrote told slot bytes old new fault → Leaves writer next old new fault
+pub wrote_leaves : (told : Bool) {writer next : WriterState} (slot : ℕ) (bytes : List ℕ) {old new : List Slot}
+    (fault : Option Fault) → next ≡ record writer { current = next.current }
+    → ((first : ℕ) → IsLast writer.current first old → IsLast next.current first new)
+    → KeepsOrBreaks (manner_in writer) old new fault → IfNone fault (IsOpenAt next.current new) → IsReady writer old
+    → Wrote told slot bytes old new fault → Leaves writer next old new fault
 wrote_leaves told {writer} {next} slot bytes {old} {new} fault same last slots still ready wrote = record {
   naming = ap (λ (w : WriterState). w.names.naming) same;
   tells = ap (λ (w : WriterState). w.tells) same;
@@ -378,7 +455,9 @@ wrote_leaves told {writer} {next} slot bytes {old} {new} fault same last slots s
   owns : KeepsFiles writer next old new
   owns = owned_same (ap (λ (w : WriterState). w.files) same) (ap (λ (w : WriterState). w.keeps) same) last made
 
-pub appends_leaves : {told : Bool} {writer next : WriterState} {slot size : ℕ} {bytes : List ℕ} {old new : List Slot} {fault : Option Fault} → writer.current ≡ File slot size → IsReady writer old → Appends told writer slot size bytes old new next fault
+pub appends_leaves : {told : Bool} {writer next : WriterState} {slot size : ℕ} {bytes : List ℕ} {old new : List Slot}
+    {fault : Option Fault} → writer.current ≡ File slot size → IsReady writer old
+    → Appends told writer slot size bytes old new next fault
     → Leaves writer next old new fault
 appends_leaves {told} {writer} {next} {slot} {bytes = bytes} {old} {new} {fault} is ready appends =
     let at = at_file is ready in
@@ -396,7 +475,8 @@ can_count Sizes size bytes few = few
 can_count Openings size bytes few = tt
 
 -- the bytes that are counted
-pub counted_on : (tells : Tells) (had bytes : List ℕ) (size more : ℕ) → IsCounted tells had size → CountsOn tells size bytes more → IsCounted tells (had ++ bytes) more
+pub counted_on : (tells : Tells) (had bytes : List ℕ) (size more : ℕ) → IsCounted tells had size
+    → CountsOn tells size bytes more → IsCounted tells (had ++ bytes) more
 counted_on Nothing had bytes size more is on = tt
 counted_on Openings had bytes size more is on = tt
 counted_on Sizes had bytes size more is on = on ∙ ap (λ n. n + length bytes) is ∙ sym (length-append had bytes)
@@ -406,7 +486,9 @@ none_counted Nothing = tt
 none_counted Sizes = refl
 none_counted Openings = tt
 
-pub put_file : {told : Bool} {writer next : WriterState} {slot size : ℕ} (bytes : List ℕ) {old new : List Slot} {fault : Option Fault} → writer.current ≡ File slot size → IsReady writer old → Appends told writer slot size bytes old new next fault
+pub put_file : {told : Bool} {writer next : WriterState} {slot size : ℕ} (bytes : List ℕ) {old new : List Slot}
+    {fault : Option Fault} → writer.current ≡ File slot size → IsReady writer old
+    → Appends told writer slot size bytes old new next fault
     → Goes told writer (with_bytes bytes) old new next fault
 put_file {told} {writer} {next} {slot} {size} bytes {old} {new} {fault} is ready appends = record {
   leaves = appends_leaves is ready appends;

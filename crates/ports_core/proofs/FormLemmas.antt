@@ -18,14 +18,16 @@ use Rattle.ports_core.proofs.CounterLemmas.{first_digit_small, many_characters, 
 -- how many digits a number has
 
 -- the bound is enough
-enough_up_to : (alphabet : Alphabet) (number bound : ℕ) → number < radix alphabet ^ bound → number < radix alphabet ^ digits_up_to alphabet number bound
+enough_up_to : (alphabet : Alphabet) (number bound : ℕ) → number < radix alphabet ^ bound
+    → number < radix alphabet ^ digits_up_to alphabet number bound
 enough_up_to alphabet number zero small = small
 enough_up_to alphabet number (suc bound) small =
     cond_both (nat_lt number (radix alphabet ^ bound)) (digits_up_to alphabet number bound) (suc bound) (λ count. number < radix alphabet ^ count)
     (λ less. enough_up_to alphabet number bound (ltb-true _ _ less)) (λ more. small)
 
 -- and none of them can be left out
-least_up_to : (alphabet : Alphabet) (number bound count : ℕ) → number < radix alphabet ^ count → digits_up_to alphabet number bound ≤ count
+least_up_to : (alphabet : Alphabet) (number bound count : ℕ) → number < radix alphabet ^ count
+    → digits_up_to alphabet number bound ≤ count
 least_up_to alphabet number zero count small = omega arith
 least_up_to alphabet number (suc bound) count small =
     cond_both (nat_lt number (radix alphabet ^ bound)) (digits_up_to alphabet number bound) (suc bound) (λ digits. digits ≤ count)
@@ -47,10 +49,12 @@ below_power alphabet (suc number) =
 pub digits_enough : (alphabet : Alphabet) (number : ℕ) → number < radix alphabet ^ digit_count alphabet number
 digits_enough alphabet number = enough_up_to alphabet number number (below_power alphabet number)
 
-pub digits_needed : (alphabet : Alphabet) (number count : ℕ) → number < radix alphabet ^ count → digit_count alphabet number ≤ count
+pub digits_needed : (alphabet : Alphabet) (number count : ℕ) → number < radix alphabet ^ count
+    → digit_count alphabet number ≤ count
 digits_needed alphabet number count small = least_up_to alphabet number number count small
 
-pub counted : (alphabet : Alphabet) {number log count : ℕ} → radix alphabet ^ log ≤ number → number < radix alphabet * radix alphabet ^ log → count ≡ suc log → count ≡ digit_count alphabet number
+pub counted : (alphabet : Alphabet) {number log count : ℕ} → radix alphabet ^ log ≤ number
+    → number < radix alphabet * radix alphabet ^ log → count ≡ suc log → count ≡ digit_count alphabet number
 counted alphabet {number} {log} least most is =
     let some : 0 < radix alphabet = omega (arith, many_characters alphabet) in
     let few : digit_count alphabet number ≤ suc log = digits_needed alphabet number (suc log) (rw (pow-succ' (radix alphabet) log) most) in
@@ -60,7 +64,8 @@ counted alphabet {number} {log} least most is =
     ]
 
 -- more digits are enough too
-pub below_more : (alphabet : Alphabet) {number few count : ℕ} → number < radix alphabet ^ few → few ≤ count → number < radix alphabet ^ count
+pub below_more : (alphabet : Alphabet) {number few count : ℕ} → number < radix alphabet ^ few → few ≤ count
+    → number < radix alphabet ^ count
 below_more alphabet {number} {few} {count} small more =
     let some : 0 < radix alphabet = omega (arith, many_characters alphabet) in
     omega (arith, small, pow-le-pow_right some more)
@@ -71,24 +76,31 @@ pub length_written : (alphabet : Alphabet) (width number : ℕ) → length (writ
 length_written alphabet zero number = refl
 length_written alphabet (suc width) number = ap suc (length_written alphabet width (number % radix alphabet ^ width))
 
-length_marked : (form : Form) (number : ℕ) → length (marked form number) ≡ length (mark_of form number) + digits_written form number
+length_marked : (form : Form) (number : ℕ)
+    → length (marked form number) ≡ length (mark_of form number) + digits_written form number
 length_marked form number = length-append (mark_of form number) _ ∙ ap (λ n. length (mark_of form number) + n) (length_written (alphabet_of form.base) (digits_written form number) number)
 
 -- what blanks make of a text
-before : {filling : Filling} (width : ℕ) (text : List ℕ) {blanks : ℕ} → filling ≡ BlanksBefore → blanks ≡ width - length text → filled filling width text ≡ replicate blanks 32 ++ text
+before : {filling : Filling} (width : ℕ) (text : List ℕ) {blanks : ℕ} → filling ≡ BlanksBefore
+    → blanks ≡ width - length text → filled filling width text ≡ replicate blanks 32 ++ text
 before width text filling blanks = rw (filling, blanks) refl
 
-after : {filling : Filling} (width : ℕ) (text : List ℕ) {blanks : ℕ} → filling ≡ BlanksAfter → blanks ≡ width - length text → filled filling width text ≡ text ++ replicate blanks 32
+after : {filling : Filling} (width : ℕ) (text : List ℕ) {blanks : ℕ} → filling ≡ BlanksAfter
+    → blanks ≡ width - length text → filled filling width text ≡ text ++ replicate blanks 32
 after width text filling blanks = rw (filling, blanks) refl
 
-pub blanks_before : (form : Form) (number : ℕ) {size blanks : ℕ} (old : List ℕ) {middle new : List ℕ} → form.filling ≡ BlanksBefore → size ≡ length (mark_of form number) + digits_written form number
-    → blanks ≡ form.width - size → middle ≡ old ++ replicate blanks 32 → new ≡ middle ++ marked form number → new ≡ old ++ formatted form number
+pub blanks_before : (form : Form) (number : ℕ) {size blanks : ℕ} (old : List ℕ) {middle new : List ℕ}
+    → form.filling ≡ BlanksBefore → size ≡ length (mark_of form number) + digits_written form number
+    → blanks ≡ form.width - size → middle ≡ old ++ replicate blanks 32 → new ≡ middle ++ marked form number
+    → new ≡ old ++ formatted form number
 blanks_before form number old filling size blanks front all =
     all ∙ ap (λ text. text ++ marked form number) front ∙ append_assoc old _ (marked form number)
     ∙ ap (λ text. old ++ text) (sym (before form.width (marked form number) filling (omega (arith, blanks, size, length_marked form number))))
 
-pub blanks_after : (form : Form) (number : ℕ) {size blank : ℕ} (old : List ℕ) {middle new : List ℕ} → form.filling ≡ BlanksAfter → size ≡ length (mark_of form number) + digits_written form number
-    → blank ≡ form.width - size → middle ≡ old ++ marked form number → new ≡ middle ++ replicate blank 32 → new ≡ old ++ formatted form number
+pub blanks_after : (form : Form) (number : ℕ) {size blank : ℕ} (old : List ℕ) {middle new : List ℕ}
+    → form.filling ≡ BlanksAfter → size ≡ length (mark_of form number) + digits_written form number
+    → blank ≡ form.width - size → middle ≡ old ++ marked form number → new ≡ middle ++ replicate blank 32
+    → new ≡ old ++ formatted form number
 blanks_after form number {blank} old filling size blanks front all =
     let count : blank ≡ form.width - length (marked form number) = omega (arith, blanks, size, length_marked form number) in
     all ∙ ap (λ text. text ++ replicate blank 32) front ∙ append_assoc old (marked form number) _
@@ -115,7 +127,8 @@ are_digits base.Capitals digit small = (grind (arith, nat_tests), grind (arith, 
 
 -- so the digits are shown, and have the value of the number that they write after others
 written_value : (alphabet : Alphabet) → IsDigit alphabet → (width number front : ℕ) → number < radix alphabet ^ width
-    → digits_value_after (radix alphabet) front (filter is_shown (written alphabet width number)) ≡ front * radix alphabet ^ width + number
+    → digits_value_after (radix alphabet) front (filter is_shown (written alphabet width number))
+    ≡ front * radix alphabet ^ width + number
 written_value alphabet digits zero number front small =
     let none : number ≡ 0 = omega (arith, small, pow-zero (radix alphabet)) in
     rw (none, pow-zero (radix alphabet)) (omega arith)
@@ -127,7 +140,8 @@ written_value alphabet digits (suc width) number front small =
     ∙ rest ∙ ap (λ value. (front * r + value) * p + number % p) digit.1
     ∙ omega (arith, add-mul (front * r) top p, mul_assoc front r p, ap (λ n. front * n) (pow-succ' r width), div-add-mod' number p)
 
-mark_value : (base : Base) (is_marked : Bool) (text : List ℕ) → value_in base (cond is_marked (hex_mark base) [] ++ text) ≡ value_in base text
+mark_value : (base : Base) (is_marked : Bool) (text : List ℕ)
+    → value_in base (cond is_marked (hex_mark base) [] ++ text) ≡ value_in base text
 mark_value base false text = refl
 mark_value base.Decimal true text = refl
 mark_value base.Octal true text = refl
@@ -138,7 +152,8 @@ blanks_hidden : (count : ℕ) → filter is_shown (replicate count 32) ≡ []
 blanks_hidden zero = refl
 blanks_hidden (suc count) = blanks_hidden count
 
-filled_value : (base : Base) (filling : Filling) (width : ℕ) (text : List ℕ) → value_in base (filled filling width text) ≡ value_in base text
+filled_value : (base : Base) (filling : Filling) (width : ℕ) (text : List ℕ)
+    → value_in base (filled filling width text) ≡ value_in base text
 filled_value base Zeros width text = refl
 filled_value base BlanksBefore width text =
     ap (digits_value (radix (alphabet_of base))) (filter-append is_shown (replicate (width - length text) 32) text ∙ ap (λ front. front ++ filter is_shown text) (blanks_hidden (width - length text)))

@@ -18,78 +18,108 @@ nothing_read slot sources = grind (arith, common_steps)
 
 -- a change of one input
 
-pub changed_elsewhere : {X : Type 0} (default : X) (place other : ℕ) (change : X → X) (xs : List X) → (other ≡ place → ⊥) → slice_index_or (changed_at place change xs) other default ≡ slice_index_or xs other default
+pub changed_elsewhere : {X : Type 0} (default : X) (place other : ℕ) (change : X → X) (xs : List X)
+    → (other ≡ place → ⊥) → slice_index_or (changed_at place change xs) other default ≡ slice_index_or xs other default
 changed_elsewhere = elsewhere
 
-pub keeps_others : (slot : ℕ) (change : Source → Source) (old new : List Source) → new ≡ changed_at slot change old → KeepsOthers slot old new
+pub keeps_others : (slot : ℕ) (change : Source → Source) (old new : List Source) → new ≡ changed_at slot change old
+    → KeepsOthers slot old new
 keeps_others slot change old new is = grind (arith, common_steps, length-changed_at, changed_elsewhere)
 
 pub keeps_itself : (slot : ℕ) (sources : List Source) → KeepsOthers slot sources sources
 keeps_itself slot sources = grind (arith, common_steps)
 
-pub keeps_again : (slot : ℕ) (old mid new : List Source) → KeepsOthers slot old mid → KeepsOthers slot mid new → KeepsOthers slot old new
+pub keeps_again : (slot : ℕ) (old mid new : List Source) → KeepsOthers slot old mid → KeepsOthers slot mid new
+    → KeepsOthers slot old new
 keeps_again slot old mid new first second = grind (arith, common_steps)
 
 -- an input that can be read is there, so the change is one of it
-pub changed_source : (slot : ℕ) (change : Source → Source) (sources new : List Source) → IsTrue (is_readable sources slot) → new ≡ changed_at slot change sources → source_at new slot ≡ change (source_at sources slot)
+pub changed_source : (slot : ℕ) (change : Source → Source) (sources new : List Source)
+    → IsTrue (is_readable sources slot) → new ≡ changed_at slot change sources
+    → source_at new slot ≡ change (source_at sources slot)
 changed_source slot change sources new can is = ap (λ those. source_at those slot) is ∙ changed_there _ slot change sources (readable_within sources slot can)
 
 -- an input that can be read didn't break
-pub sound_at : (sources : List Source) (slot : ℕ) → IsTrue (is_readable sources slot) → (source_at sources slot).is_broken ≡ false
+pub sound_at : (sources : List Source) (slot : ℕ) → IsTrue (is_readable sources slot)
+    → (source_at sources slot).is_broken ≡ false
 sound_at sources slot can = not-true _ (and_parts (source_at sources slot).is_open _ can).1
 
 -- a read changes no flag
-pub still_readable : (slot : ℕ) (sources new : List Source) (size n : ℕ) → new ≡ changed_at slot (gives size n) sources → IsTrue (is_readable sources slot) → IsTrue (is_readable new slot)
+pub still_readable : (slot : ℕ) (sources new : List Source) (size n : ℕ) → new ≡ changed_at slot (gives size n) sources
+    → IsTrue (is_readable sources slot) → IsTrue (is_readable new slot)
 still_readable slot sources new size n is can = grind (arith, common_steps, changed_source)
 
-pub read_more : (content : Content) (x : List ℕ) (slot : ℕ) (sources new : List Source) (old_buffer buffer : List ℕ) (size n : ℕ) → HasRead content x slot sources → IsTrue (is_readable sources slot) → Gave (source_at sources slot).left old_buffer buffer n → new ≡ changed_at slot (gives size n) sources → HasRead content (x ++ take n buffer) slot new
+pub read_more : (content : Content) (x : List ℕ) (slot : ℕ) (sources new : List Source) (old_buffer buffer : List ℕ)
+    (size n : ℕ) → HasRead content x slot sources → IsTrue (is_readable sources slot)
+    → Gave (source_at sources slot).left old_buffer buffer n → new ≡ changed_at slot (gives size n) sources
+    → HasRead content (x ++ take n buffer) slot new
 read_more content x slot sources new old_buffer buffer size n read can gave is = grind (arith, common_steps, changed_source, take-append-drop)
 
-pub read_to_end : (content : Content) (x : List ℕ) (slot : ℕ) (sources : List Source) → HasRead content x slot sources → (source_at sources slot).left.bytes ≡ [] → (source_at sources slot).left.breaks_off ≡ false → (content.breaks_off ≡ false) × (content.bytes ≡ x)
+pub read_to_end : (content : Content) (x : List ℕ) (slot : ℕ) (sources : List Source) → HasRead content x slot sources
+    → (source_at sources slot).left.bytes ≡ [] → (source_at sources slot).left.breaks_off ≡ false
+    → (content.breaks_off ≡ false) × (content.bytes ≡ x)
 read_to_end content x slot sources read none sound = (sym read.breaks_off ∙ sound, read.bytes ∙ ap (λ rest. x ++ rest) none ∙ append-nil x)
 
-pub read_broken : (content : Content) (x : List ℕ) (slot : ℕ) (sources : List Source) → HasRead content x slot sources → BrokeOff (source_at sources slot).left → (content.bytes ≡ x) × (content.breaks_off ≡ true)
+pub read_broken : (content : Content) (x : List ℕ) (slot : ℕ) (sources : List Source) → HasRead content x slot sources
+    → BrokeOff (source_at sources slot).left → (content.bytes ≡ x) × (content.breaks_off ≡ true)
 read_broken content x slot sources read broke = (read.bytes ∙ ap (λ rest. x ++ rest) broke.no_more ∙ append-nil x, sym read.breaks_off ∙ broke.breaks_off)
 
 -- an input that can be read is open
-pub open_at : (sources : List Source) (slot : ℕ) → IsTrue (is_readable sources slot) → (source_at sources slot).is_open ≡ true
+pub open_at : (sources : List Source) (slot : ℕ) → IsTrue (is_readable sources slot)
+    → (source_at sources slot).is_open ≡ true
 open_at sources slot can = (and_parts (source_at sources slot).is_open _ can).0
 
 -- an input that can be read came from its source, where it doesn't break off
-pub came_sound : (told : Bool) {content : Content} (sources : List Source) (slot : ℕ) → IsTrue (is_readable sources slot) → (told ≡ false → content.breaks_off ≡ false) → CameFrom told content (source_at sources slot)
+pub came_sound : (told : Bool) {content : Content} (sources : List Source) (slot : ℕ)
+    → IsTrue (is_readable sources slot) → (told ≡ false → content.breaks_off ≡ false)
+    → CameFrom told content (source_at sources slot)
 came_sound told sources slot can sound = record { was_open = open_at sources slot can; breaks = λ untold. sound untold ∙ sym (sound_at sources slot can) }
 
 -- one whose read failed came from its source, where it breaks off
-pub came_broken : (told : Bool) {content : Content} (slot size : ℕ) (sources new : List Source) → IsTrue (is_readable sources slot) → new ≡ changed_at slot (fails size) sources → (told ≡ false → content.breaks_off ≡ true) → CameFrom told content (source_at new slot)
+pub came_broken : (told : Bool) {content : Content} (slot size : ℕ) (sources new : List Source)
+    → IsTrue (is_readable sources slot) → new ≡ changed_at slot (fails size) sources
+    → (told ≡ false → content.breaks_off ≡ true) → CameFrom told content (source_at new slot)
 came_broken told slot size sources new can is broken =
     let after = changed_source slot (fails size) sources new can is in record {
       was_open = ap (λ (source : Source). source.is_open) after ∙ open_at sources slot can;
       breaks = λ untold. broken untold ∙ sym (ap (λ (source : Source). source.is_broken) after);
     }
 
-pub of_content : (told : Bool) (there seen : Content) (source : Source) (P : Content → Type 0) → (told ≡ true → P there) → (told ≡ false → P seen) → source.is_open ≡ true → seen.breaks_off ≡ source.is_broken → OfContent told there (λ content. P content × CameFrom told content source)
+pub of_content : (told : Bool) (there seen : Content) (source : Source) (P : Content → Type 0) → (told ≡ true → P there)
+    → (told ≡ false → P seen) → source.is_open ≡ true → seen.breaks_off ≡ source.is_broken
+    → OfContent told there (λ content. P content × CameFrom told content source)
 of_content true there seen source P told untold was alike = (there, λ t. refl, (told refl, record { was_open = was; breaks = λ off. absurd (false≢true (sym off)) }))
 of_content false there seen source P told untold was alike = (seen, λ t. absurd (false≢true t), (untold refl, record { was_open = was; breaks = λ off. alike }))
 
-pub read_failed : (content : Content) (x : List ℕ) (slot : ℕ) (sources new : List Source) (size : ℕ) → HasRead content x slot sources → IsTrue (is_readable sources slot) → new ≡ changed_at slot (fails size) sources → content.bytes ≡ x ++ (source_at new slot).left.bytes
+pub read_failed : (content : Content) (x : List ℕ) (slot : ℕ) (sources new : List Source) (size : ℕ)
+    → HasRead content x slot sources → IsTrue (is_readable sources slot) → new ≡ changed_at slot (fails size) sources
+    → content.bytes ≡ x ++ (source_at new slot).left.bytes
 read_failed content x slot sources new size read can is = grind (arith, common_steps, changed_source)
 
 -- the read that told the end took nothing
-pub read_none_more : (content : Content) (x : List ℕ) (slot : ℕ) (sources new : List Source) (size n : ℕ) → HasRead content x slot sources → IsTrue (is_readable sources slot) → n ≡ 0 → new ≡ changed_at slot (gives size n) sources → content.bytes ≡ x ++ (source_at new slot).left.bytes
+pub read_none_more : (content : Content) (x : List ℕ) (slot : ℕ) (sources new : List Source) (size n : ℕ)
+    → HasRead content x slot sources → IsTrue (is_readable sources slot) → n ≡ 0
+    → new ≡ changed_at slot (gives size n) sources → content.bytes ≡ x ++ (source_at new slot).left.bytes
 read_none_more content x slot sources new size n read can none is = grind (arith, common_steps, changed_source)
 
 -- no read asked for more
-pub asked_again : (slot size most n : ℕ) (sources new : List Source) → IsTrue (is_readable sources slot) → new ≡ changed_at slot (gives size n) sources → size ≤ most → (source_at sources slot).asked ≤ most → (source_at new slot).asked ≤ most
+pub asked_again : (slot size most n : ℕ) (sources new : List Source) → IsTrue (is_readable sources slot)
+    → new ≡ changed_at slot (gives size n) sources → size ≤ most → (source_at sources slot).asked ≤ most
+    → (source_at new slot).asked ≤ most
 asked_again slot size most n sources new can is within so_far = rw (ap (λ (source : Source). source.asked) (changed_source slot (gives size n) sources new can is)) (omega (arith, so_far, within))
 
-pub asked_at_end : (slot size most : ℕ) (sources new : List Source) → IsTrue (is_readable sources slot) → new ≡ changed_at slot (fails size) sources → size ≤ most → (source_at sources slot).asked ≤ most → (source_at new slot).asked ≤ most
+pub asked_at_end : (slot size most : ℕ) (sources new : List Source) → IsTrue (is_readable sources slot)
+    → new ≡ changed_at slot (fails size) sources → size ≤ most → (source_at sources slot).asked ≤ most
+    → (source_at new slot).asked ≤ most
 asked_at_end slot size most sources new can is within so_far = rw (ap (λ (source : Source). source.asked) (changed_source slot (fails size) sources new can is)) (omega (arith, so_far, within))
 
-pub broken_now : (slot size : ℕ) (sources new : List Source) → IsTrue (is_readable sources slot) → new ≡ changed_at slot (fails size) sources → (source_at new slot).is_broken ≡ true
+pub broken_now : (slot size : ℕ) (sources new : List Source) → IsTrue (is_readable sources slot)
+    → new ≡ changed_at slot (fails size) sources → (source_at new slot).is_broken ≡ true
 broken_now slot size sources new can is = ap (λ (source : Source). source.is_broken) (changed_source slot (fails size) sources new can is)
 
 -- the read that gave none, though there was room, told the end
-pub ended_now : (slot size n : ℕ) (sources new : List Source) → IsTrue (is_readable sources slot) → new ≡ changed_at slot (gives size n) sources → n ≡ 0 → 0 < size → (source_at new slot).ended ≡ true
+pub ended_now : (slot size n : ℕ) (sources new : List Source) → IsTrue (is_readable sources slot)
+    → new ≡ changed_at slot (gives size n) sources → n ≡ 0 → 0 < size → (source_at new slot).ended ≡ true
 ended_now slot size n sources new can is none room = grind (arith, common_steps, changed_source)
 
 pub fresh_asks : (most : ℕ) (sources : List Source) → IsFresh sources → AsksAtMost most sources

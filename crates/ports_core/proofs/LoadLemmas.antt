@@ -18,7 +18,8 @@ none_passed zero (source ∷ sources) = grind (arith, common_steps)
 none_passed (suc slot) (source ∷ sources) = ap (λ those. source ∷ those) (none_passed slot sources)
 
 -- of an input that can be read a front was passed over
-pub passed_at : (slot count : ℕ) (old new : List Source) → IsTrue (is_readable old slot) → new ≡ changed_at slot (skips count) old → source_at new slot ≡ skips count (source_at old slot)
+pub passed_at : (slot count : ℕ) (old new : List Source) → IsTrue (is_readable old slot)
+    → new ≡ changed_at slot (skips count) old → source_at new slot ≡ skips count (source_at old slot)
 passed_at slot count old new can is = ap (λ those. source_at those slot) is ∙ changed_there _ slot (skips count) old (readable_within old slot can)
 
 -- where no look was made
@@ -27,11 +28,13 @@ pub looked_none : (most slot : ℕ) (sources : List Source) → HasLooked most s
 looked_none most slot sources = record { size = 0; within = omega arith; looked = ap (λ asked. record (source_at sources slot) { asked = asked }) (omega arith); others = keeps_itself slot sources }
 
 -- one look
-pub looked_once : {most slot size : ℕ} {old new : List Source} → IsTrue (is_readable old slot) → size ≤ most → new ≡ changed_at slot (looks size) old → HasLooked most slot old new
+pub looked_once : {most slot size : ℕ} {old new : List Source} → IsTrue (is_readable old slot) → size ≤ most
+    → new ≡ changed_at slot (looks size) old → HasLooked most slot old new
 looked_once {slot = slot} {size} {old} {new} can few is = record { size = size; within = few; looked = changed_source slot (looks size) old new can is; others = keeps_others slot (looks size) old new is }
 
 -- more of them
-pub looked_again : {least most slot : ℕ} {old mid new : List Source} → HasLooked most slot old mid → HasLooked least slot mid new → least ≤ most → HasLooked most slot old new
+pub looked_again : {least most slot : ℕ} {old mid new : List Source} → HasLooked most slot old mid
+    → HasLooked least slot mid new → least ≤ most → HasLooked most slot old new
 looked_again {slot = slot} {old} {mid} {new} first next few = record {
   size = max first.size next.size;
   within = omega (arith, first.within, next.within, few);
@@ -40,11 +43,13 @@ looked_again {slot = slot} {old} {mid} {new} first next few = record {
 }
 
 -- an input that was looked at can still be read
-pub looked_readable : {most slot : ℕ} {old new : List Source} → HasLooked most slot old new → IsTrue (is_readable old slot) → IsTrue (is_readable new slot)
+pub looked_readable : {most slot : ℕ} {old new : List Source} → HasLooked most slot old new
+    → IsTrue (is_readable old slot) → IsTrue (is_readable new slot)
 looked_readable looked can = ap (λ (source : Source). source.is_open && not source.is_broken) looked.looked ∙ can
 
 -- where none is passed over, what holds of nothing holds
-pub passes_none : (told : Bool) {slot : ℕ} (Keeps : List ℕ → Type 0) {sources : List Source} → Keeps [] → PassesOver told slot 0 Keeps sources sources
+pub passes_none : (told : Bool) {slot : ℕ} (Keeps : List ℕ → Type 0) {sources : List Source} → Keeps []
+    → PassesOver told slot 0 Keeps sources sources
 passes_none told {slot} Keeps {sources} keeps = record {
   few = omega arith;
   front = [];
@@ -56,7 +61,8 @@ passes_none told {slot} Keeps {sources} keeps = record {
 
 -- a front of the bytes that are left was passed over
 passes_front : (told : Bool) {slot count : ℕ} {old new : List Source} → IsTrue (is_readable old slot)
-    → (told ≡ true → count ≤ length (source_at old slot).left.bytes) → count < 2 ^ 63 → new ≡ changed_at slot (skips count) old
+    → (told ≡ true → count ≤ length (source_at old slot).left.bytes) → count < 2 ^ 63
+    → new ≡ changed_at slot (skips count) old
     → PassesOver told slot count (λ x. Unit {0}) old new
 passes_front true {slot} {count} {old} {new} can has few passed =
     let bytes = (source_at old slot).left.bytes in
@@ -86,14 +92,18 @@ passes_if told true can has few passed stays = passes_front told can (has refl) 
 passes_if told false can has few passed stays = rw (stays refl) (passes_none told _ tt)
 
 -- whether they were is known
-pub passes_by : {told : Bool} {slot : ℕ} {Keeps : List ℕ → Type 0} {old new : List Source} (count : ℕ) (done : Bool) {is : Bool} → done ≡ is
-    → PassesOver told slot (if done then count else 0) Keeps old new → PassesOver told slot (if is then count else 0) Keeps old new
+pub passes_by : {told : Bool} {slot : ℕ} {Keeps : List ℕ → Type 0} {old new : List Source} (count : ℕ) (done : Bool)
+    {is : Bool} → done ≡ is
+    → PassesOver told slot (if done then count else 0) Keeps old new
+    → PassesOver told slot (if is then count else 0) Keeps old new
 passes_by {told} {slot} {Keeps} {old} {new} count done is passes =
     subst (λ done. PassesOver told slot (if done then count else 0) Keeps old new) is passes
 
 -- what holds of the bytes that were passed over
-pub passes_so : {told : Bool} {slot count : ℕ} {Before : List ℕ → Type 0} (Keeps : List ℕ → Type 0) {old new : List Source}
-    → PassesOver told slot count Before old new → ((x : List ℕ) → count ≡ length x → Before x → Keeps x) → PassesOver told slot count Keeps old new
+pub passes_so : {told : Bool} {slot count : ℕ} {Before : List ℕ → Type 0} (Keeps : List ℕ → Type 0)
+    {old new : List Source}
+    → PassesOver told slot count Before old new → ((x : List ℕ) → count ≡ length x → Before x → Keeps x)
+    → PassesOver told slot count Keeps old new
 passes_so Keeps passes so = record {
   few = passes.few;
   front = passes.front;
@@ -117,12 +127,14 @@ module _ {S : Type 0} (terms : Terms S) where
     going = inl refl;
   }
 
-  pub loads_none : (told : Bool) {slot : ℕ} {stage : S} {sources : List Source} → terms.Holds stage [] → terms.size stage ≡ 0
+  pub loads_none : (told : Bool) {slot : ℕ} {stage : S} {sources : List Source} → terms.Holds stage []
+      → terms.size stage ≡ 0
       → Loads terms told slot 0 stage stage sources sources
   loads_none told fresh none = passes_none told _ (took_none fresh none)
 
   -- also where more might have been passed over
-  pub loads_still : {told : Bool} {slot : ℕ} {Before : List ℕ → Type 0} {stage : S} {old new : List Source} → terms.Holds stage []
+  pub loads_still : {told : Bool} {slot : ℕ} {Before : List ℕ → Type 0} {stage : S} {old new : List Source}
+      → terms.Holds stage []
       → terms.size stage ≡ 0 → PassesOver told slot 0 Before old new → Loads terms told slot 0 stage stage old new
   loads_still {stage = stage} fresh none passes = passes_so _ passes
       (λ x long is. subst (TookIn terms stage stage) (sym (nil_from_length x (sym long))) (took_none fresh none))

@@ -11,18 +11,24 @@ use Rattle.ports_core.specs.declared.fault.Fault.{Fault}
 use Rattle.ports_core.specs.declared.fault.Fault.TheVariants.{Memory}
 use Rattle.ports_core.specs.Message.{Prints, whole, cut, passed, PrintsOn, Says, SaysAll, SaysOn, Tells, TellsIf, TellsOn}
 
-pub prints_on : (told : Bool) {text : List ℕ} {old new : List Slot} (result : Result (Unit {0}) WriteCut) → (slot_at old 1).is_broken ≡ false → OnOk result (new ≡ with_written 1 (told_of told text) old) → IfErr result (λ at. BrokeAfter told old new 1 text at.written) → PrintsOn told text old new
+pub prints_on : (told : Bool) {text : List ℕ} {old new : List Slot} (result : Result (Unit {0}) WriteCut)
+    → (slot_at old 1).is_broken ≡ false → OnOk result (new ≡ with_written 1 (told_of told text) old)
+    → IfErr result (λ at. BrokeAfter told old new 1 text at.written) → PrintsOn told text old new
 prints_on told {text} (Ok u) sound out broke output error since is = grind (arith, common_steps)
 prints_on told {text} (Err at) sound out broke output error since is =
     (breaks (adds (told_of told (take at.written text)) error), cut (sym (ap (λ slots. (slot_at slots 1).is_broken) is) ∙ sound) at.written broke.within refl, broke.slots ∙ ap (λ slots. with_broken 1 (with_written 1 (told_of told (take at.written text)) slots)) is)
 
-pub says_on : (told : Bool) {speaker : Speaker} {why : Reason} (message : Message) {said : List ℕ} {old new : List Slot} → (said ≡ line_of speaker why message) ⊎ (said ≡ line_of speaker why (message_of Memory [])) → PrintsOn told said old new → SaysOn told speaker why message old new
+pub says_on : (told : Bool) {speaker : Speaker} {why : Reason} (message : Message) {said : List ℕ} {old new : List Slot}
+    → (said ≡ line_of speaker why message) ⊎ (said ≡ line_of speaker why (message_of Memory []))
+    → PrintsOn told said old new → SaysOn told speaker why message old new
 says_on told message {said} is prints output error since shape =
     let printed = prints output error since shape in
     (printed.0, record { said = said; is = is; printed = printed.1 }, printed.2)
 
 -- a fault of which a message is due
-pub told_aloud : (told : Bool) {speaker : Speaker} {why : Reason} (fault : Fault) (name : List ℕ) {old new : List Slot} → is_quiet fault speaker.calling why ≡ false → SaysOn told speaker why (message_of fault name) old new → TellsOn told speaker why fault name old new × (1 ≡ status_after fault speaker.calling why)
+pub told_aloud : (told : Bool) {speaker : Speaker} {why : Reason} (fault : Fault) (name : List ℕ) {old new : List Slot}
+    → is_quiet fault speaker.calling why ≡ false → SaysOn told speaker why (message_of fault name) old new
+    → TellsOn told speaker why fault name old new × (1 ≡ status_after fault speaker.calling why)
 told_aloud told fault name aloud says = rw aloud (says, refl)
 
 -- what is said on an output leaves its name
@@ -31,14 +37,17 @@ printed_named (whole sound is) = ap (λ slot. slot.name) is
 printed_named (cut sound n within is) = ap (λ slot. slot.name) is
 printed_named (passed broken is) = ap (λ slot. slot.name) is
 
-pub told_named : (told : Bool) (speaker : Speaker) (why : Reason) (fault : Fault) (name : List ℕ) (old new : Slot) → Tells told speaker why fault name old new → new.name ≡ old.name
+pub told_named : (told : Bool) (speaker : Speaker) (why : Reason) (fault : Fault) (name : List ℕ) (old new : Slot)
+    → Tells told speaker why fault name old new → new.name ≡ old.name
 told_named told speaker why fault name old new = by (is_quiet fault speaker.calling why) where
   by : (quiet : Bool) → TellsIf quiet told speaker why (message_of fault name) old new → new.name ≡ old.name
   by true same = ap (λ slot. slot.name) same
   by false says = printed_named says.printed
 
 -- one message more after others
-pub says_more : (told : Bool) (speaker : Speaker) (messages : List Message) (message : Message) (old mid new : Slot) → SaysAll told speaker messages old mid → Says told speaker message mid new → SaysAll told speaker (messages ++ message ∷ []) old new
+pub says_more : (told : Bool) (speaker : Speaker) (messages : List Message) (message : Message) (old mid new : Slot)
+    → SaysAll told speaker messages old mid → Says told speaker message mid new
+    → SaysAll told speaker (messages ++ message ∷ []) old new
 says_more told speaker [] message old mid new so_far says = grind (arith, common_steps)
 says_more told speaker (first ∷ messages) message old mid new so_far says = (so_far.0, so_far.1, says_more told speaker messages message so_far.0 mid new so_far.2 says)
 
@@ -48,13 +57,17 @@ printed_open told text old new (whole sound is) = cc
 printed_open told text old new (cut sound n within is) = cc
 printed_open told text old new (passed broken is) = cc
 
-pub said_state : (told : Bool) (speaker : Speaker) (message : Message) (old new : Slot) → Says told speaker message old new → new.state ≡ old.state
+pub said_state : (told : Bool) (speaker : Speaker) (message : Message) (old new : Slot)
+    → Says told speaker message old new → new.state ≡ old.state
 said_state told speaker message old new (why, says) = printed_open told says.said old new says.printed
 
-pub all_said_state : (told : Bool) (speaker : Speaker) (messages : List Message) (old new : Slot) → SaysAll told speaker messages old new → new.state ≡ old.state
+pub all_said_state : (told : Bool) (speaker : Speaker) (messages : List Message) (old new : Slot)
+    → SaysAll told speaker messages old new → new.state ≡ old.state
 all_said_state told speaker [] old new is = cc
 all_said_state told speaker (message ∷ messages) old new says = all_said_state told speaker messages says.0 new says.2 ∙ said_state told speaker message old says.0 says.1
 
-pub says_after : (told : Bool) (speaker : Speaker) (messages more : List Message) (old mid new : Slot) → SaysAll told speaker messages old mid → SaysAll told speaker more mid new → SaysAll told speaker (messages ++ more) old new
+pub says_after : (told : Bool) (speaker : Speaker) (messages more : List Message) (old mid new : Slot)
+    → SaysAll told speaker messages old mid → SaysAll told speaker more mid new
+    → SaysAll told speaker (messages ++ more) old new
 says_after told speaker [] more old mid new so_far says = grind (arith, common_steps)
 says_after told speaker (first ∷ messages) more old mid new so_far says = (so_far.0, so_far.1, says_after told speaker messages more so_far.0 mid new so_far.2 says)

@@ -19,19 +19,26 @@ use Rattle.ports_core.proofs.SlotLemmas.{length-changed_at}
 use Rattle.ports_core.proofs.WriteLemmas.{none_written}
 
 -- after standard output was told of the file
-pub opens_none : (told : Bool) (tells : Tells) (names : Names) {next : Names} {name : List ℕ} (old : List Slot) {mid new : List Slot} → name ≡ next_name names → names.drawn < 2 ^ 64 → IsTrue (has_next names) → next ≡ with_one_drawn names
-    → mid ≡ told_next told tells names old → {fault : Fault} → FailsToOpen mid name new fault → OpensNone told tells names next old new fault
+pub opens_none : (told : Bool) (tells : Tells) (names : Names) {next : Names} {name : List ℕ} (old : List Slot)
+    {mid new : List Slot} → name ≡ next_name names → names.drawn < 2 ^ 64 → IsTrue (has_next names)
+    → next ≡ with_one_drawn names
+    → mid ≡ told_next told tells names old → {fault : Fault} → FailsToOpen mid name new fault
+    → OpensNone told tells names next old new fault
 opens_none told tells names old named few has drew line (broke slot kept at is made) =
     no_file slot kept (at ∙ ap length line ∙ length-changed_at 0 _ old) few has drew (subst (λ those. (kept ≡ those) ⊎ (kept ≡ [])) named is) (made ∙ ap (λ slots. slots ++ unopened kept ∷ []) line)
 opens_none told tells names old named few has drew line (numberless full same) = no_number few has (same ∙ line)
 
 -- or of which it could not be told
-pub untold : (told : Bool) (tells : Tells) (names : Names) {next : Names} {name : List ℕ} (old new : List Slot) {fault : Fault} → name ≡ next_name names → names.drawn < 2 ^ 64 → IsTrue (has_next names)
-    → TellsOpening told (told_before (output_of tells) name) old new (Some fault) → OpensNone told tells names next old new fault
+pub untold : (told : Bool) (tells : Tells) (names : Names) {next : Names} {name : List ℕ} (old new : List Slot)
+    {fault : Fault} → name ≡ next_name names → names.drawn < 2 ^ 64 → IsTrue (has_next names)
+    → TellsOpening told (told_before (output_of tells) name) old new (Some fault)
+    → OpensNone told tells names next old new fault
 untold told tells names {next} old new named few has (inl (is, same)) = subst (OpensNone told tells names next old new) (sym is) (no_memory same)
 untold told tells names old new named few has (inr (short.broke n cut)) = no_line n few has (subst (λ name. BrokeAfter told old new 0 (told_before (output_of tells) name) n) named cut)
 
-pub told_so : (told : Bool) (tells : Tells) (names : Names) {name : List ℕ} (old mid : List Slot) → name ≡ next_name names → TellsOpening told (told_before (output_of tells) name) old mid None → mid ≡ told_next told tells names old
+pub told_so : (told : Bool) (tells : Tells) (names : Names) {name : List ℕ} (old mid : List Slot)
+    → name ≡ next_name names → TellsOpening told (told_before (output_of tells) name) old mid None
+    → mid ≡ told_next told tells names old
 told_so told tells names old mid named tells_it = tells_it ∙ ap (λ name. with_written 0 (told_of told (told_before (output_of tells) name)) old) named
 
 -- the name that is due
@@ -39,16 +46,19 @@ abbrev pub IsNextName : Names → List ℕ → Type 0
 IsNextName names name = (names.drawn < 2 ^ 64) × IsTrue (has_next names) × (name ≡ next_name names)
 
 -- Standard output got these bytes of the line for the file, and then the fault left its mark.
-pub record StopsOpening (told : Bool) (tells : Tells) (names : Names) (old new : List Slot) (fault : Fault) : Type 0 where
+pub record StopsOpening (told : Bool) (tells : Tells) (names : Names) (old new : List Slot) (fault : Fault)
+    : Type 0 where
   pub bytes : List ℕ
   pub reached : List Slot
   pub wrote : reached ≡ with_written 0 (told_of told bytes) old
   pub begins : (bytes ≡ []) ⊎ (IsNextName names (next_name names) × IsBeginning bytes (line_next tells names))
-  pub due : (line : List ℕ → List ℕ) → line_next tells names ≡ line (next_name names) → IsDueLine (IsNextName names) line bytes fault
+  pub due : (line : List ℕ → List ℕ) → line_next tells names ≡ line (next_name names)
+      → IsDueLine (IsNextName names) line bytes fault
   pub marks : Marks (IsNextName names) fault reached new
   pub at : (first place : ℕ) → IsAt fault first place place
 
-pub stops_opening : {told : Bool} {tells : Tells} {names next : Names} {old new : List Slot} {fault : Fault} → 0 < length old → OpensNone told tells names next old new fault → StopsOpening told tells names old new fault
+pub stops_opening : {told : Bool} {tells : Tells} {names next : Names} {old new : List Slot} {fault : Fault}
+    → 0 < length old → OpensNone told tells names next old new fault → StopsOpening told tells names old new fault
 stops_opening {told} {old = old} some (no_memory same) = record { bytes = []; reached = old; wrote = none_written told 0; begins = inl refl; due = λ line is. inl refl; marks = same; at = λ first place. tt }
 stops_opening {told} {old = old} some (no_name few none same) = record { bytes = []; reached = old; wrote = none_written told 0; begins = inl refl; due = λ line is. refl; marks = same; at = λ first place. tt }
 stops_opening {told} {tells} {names} {old = old} some (no_line n few has cut) = record {
@@ -90,9 +100,15 @@ abbrev begun_with : Output → List File → List ℕ → Part
 begun_with output front bytes = record { out = told_of_files output front ++ bytes; files = front }
 
 -- a file with the next name could not be opened, of which standard output is told so
-pub opens_not : {output : Output} {told : Bool} (front : List File) {tells : Tells} {names : Names} {high : Part} {old new : List Slot} {fault : Fault} → line_next tells names ≡ told_before output (next_name names) → AllClosed front → Begins (part_with output front) high
-    → (IsNextName names (next_name names) → (bytes : List ℕ) × (high ≡ with_last (begun_out output front (next_name names)) front (file_of (next_name names) bytes state.Open)))
-    → StopsOpening told tells names old new fault → Becomes output told (part_with output front) high old new (Some fault)
+pub opens_not : {output : Output} {told : Bool} (front : List File) {tells : Tells} {names : Names} {high : Part}
+    {old new : List Slot} {fault : Fault} → line_next tells names ≡ told_before output (next_name names)
+    → AllClosed front → Begins (part_with output front) high
+    → (IsNextName names (next_name names)
+    → (bytes : List ℕ)
+    × (high ≡ with_last (begun_out output front (next_name names)) front
+    (file_of (next_name names) bytes state.Open)))
+    → StopsOpening told tells names old new fault
+    → Becomes output told (part_with output front) high old new (Some fault)
 opens_not {output} {told} front {tells} {names} {high} {old} {new} {fault} told_so closed begins is stops =
     becomes_again (line_begins stops.bytes) (out_added told stops.bytes old stops.wrote) (halts_here (elim stops.begins [
       | inl none ↦ subst (λ bytes. Begins (begun_with output front bytes) high) (sym none) (subst (λ out. Begins (record { out = out; files = front }) high) (sym (append-nil (told_of_files output front))) begins)
@@ -109,7 +125,8 @@ opens_not {output} {told} front {tells} {names} {high} {old} {new} {fault} told_
         name_is = sym named;
       }
 
-      begun : IsNextName names (next_name names) → IsBeginning stops.bytes (line_next tells names) → Begins (begun_with output front stops.bytes) high
+      begun : IsNextName names (next_name names) → IsBeginning stops.bytes (line_next tells names)
+          → Begins (begun_with output front stops.bytes) high
       begun due (rest, line) = let (bytes, so) = is due in subst (λ part. Begins (begun_with output front stops.bytes) part) (sym so) (record {
         out = (rest, ap (λ text. told_of_files output front ++ text) (sym told_so ∙ line) ∙ sym (append_assoc (told_of_files output front) stops.bytes rest));
         files = more_files front (file_of (next_name names) bytes state.Open ∷ []);

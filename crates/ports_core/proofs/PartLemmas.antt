@@ -33,7 +33,9 @@ pub take_begins_after : (n : ℕ) (before bytes : List ℕ) → IsBeginning (bef
 take_begins_after n before bytes = (drop n bytes, ap (λ rest. before ++ rest) (sym (take-append-drop n bytes)) ∙ sym (append_assoc before (take n bytes) (drop n bytes)))
 
 -- a file that is open may be closed by then; any other stays
-pub kept_trans : {X : Type 0} (state_of : X → State) (low middle high : X) → (state_of low ≡ state.Open) ⊎ (low ≡ middle) → (state_of middle ≡ state.Open) ⊎ (middle ≡ high) → (state_of low ≡ state.Open) ⊎ (low ≡ high)
+pub kept_trans : {X : Type 0} (state_of : X → State) (low middle high : X)
+    → (state_of low ≡ state.Open) ⊎ (low ≡ middle) → (state_of middle ≡ state.Open) ⊎ (middle ≡ high)
+    → (state_of low ≡ state.Open) ⊎ (low ≡ high)
 kept_trans state_of low middle high (inl is) second = inl is
 kept_trans state_of low middle high (inr same) (inl is) = inl (ap state_of same ∙ is)
 kept_trans state_of low middle high (inr same) (inr also) = inr (same ∙ also)
@@ -61,7 +63,9 @@ pub out_begins : (low high : List ℕ) → IsBeginning low high → Begins (only
 out_begins low high begins = search rules
 
 -- standard output got more, after what it had
-pub out_more : (told : Bool) (before : List Slot) (part : Part) (old new : List Slot) (more : List ℕ) → OutputsAt told before part old → new ≡ with_written 0 (told_of told more) old → OutputsAt told before (record part { out = part.out ++ more }) new
+pub out_more : (told : Bool) (before : List Slot) (part : Part) (old new : List Slot) (more : List ℕ)
+    → OutputsAt told before part old → new ≡ with_written 0 (told_of told more) old
+    → OutputsAt told before (record part { out = part.out ++ more }) new
 out_more told before part old new more at wrote = grind (arith, common_steps, changed_at-append, length-changed_at, with_written-append, told_of-append)
 
 -- nothing was written yet
@@ -69,7 +73,8 @@ pub nothing_out : (told : Bool) (before : List Slot) → 0 < length before → O
 nothing_out told before standard = grind (arith, common_steps, append-nil, told_of-nil, with_written-nil)
 
 -- how many slots there are
-pub outputs_count : (told : Bool) (before : List Slot) (part : Part) (now : List Slot) → OutputsAt told before part now → length now ≡ length before + length part.files
+pub outputs_count : (told : Bool) (before : List Slot) (part : Part) (now : List Slot) → OutputsAt told before part now
+    → length now ≡ length before + length part.files
 outputs_count told before part now at = grind (arith, common_steps, length-changed_at, length-map)
 
 -- no file is touched
@@ -82,14 +87,16 @@ IsNoOpen (Open slot) = ⊥
 IsNoOpen fault = Unit {0}
 
 -- then there need be no line for the file that is due
-pub none_due : (IsDue : List ℕ → Type 0) (line : List ℕ → List ℕ) (fault : Fault) → IsNoOpen fault → IsDueLine IsDue line [] fault
+pub none_due : (IsDue : List ℕ → Type 0) (line : List ℕ → List ℕ) (fault : Fault) → IsNoOpen fault
+    → IsDueLine IsDue line [] fault
 none_due IsDue line (Open slot) other = absurd other
 none_due IsDue line (Write slot) other = inl refl
 none_due IsDue line Memory other = inl refl
 none_due IsDue line fault other = refl
 
 -- nothing was written
-pub lines_still : (output : Output) (part high : Part) (place : ℕ) (fault : Fault) → IsNoOpen fault → LinesInOrder output part part high place fault
+pub lines_still : (output : Output) (part high : Part) (place : ℕ) (fault : Fault) → IsNoOpen fault
+    → LinesInOrder output part part high place fault
 lines_still gets_none part high place fault other = tt
 lines_still gets_bytes part high place fault other = tt
 lines_still (gets_lines line) part high place fault other = inl refl
@@ -100,7 +107,9 @@ lines_still (gets_openings line) part high place fault other = record {
 }
 
 -- a write of which the beginning was written before the output broke
-pub out_cut : (told : Bool) (before : List Slot) (part : Part) (old new : List Slot) (more : List ℕ) (n : ℕ) → OutputsAt told before part old → BrokeAfter told old new 0 more n → StoppedBetween gets_bytes told before part (record part { out = part.out ++ more }) (Write 0) new
+pub out_cut : (told : Bool) (before : List Slot) (part : Part) (old new : List Slot) (more : List ℕ) (n : ℕ)
+    → OutputsAt told before part old → BrokeAfter told old new 0 more n
+    → StoppedBetween gets_bytes told before part (record part { out = part.out ++ more }) (Write 0) new
 out_cut told before part old new more n at broke = record {
   part = record part { out = part.out ++ take n more };
   above = record { out = begins_more part.out (take n more); files = files_begin_themselves part.files };
@@ -117,42 +126,54 @@ out_cut told before part old new more n at broke = record {
   there = rw (length-changed_at 0 _ old) (omega (arith, at.standard, outputs_count told before part old at))
 
 -- a fault that came before anything was written, and from no output
-pub stopped_here : (output : Output) (told : Bool) (before : List Slot) (low high : Part) (fault : Fault) (old new : List Slot) → OutputsAt told before low old → Begins low high → Marks (IsNext low high) fault old new → IsAt fault (length before) 0 (length low.files) → IsNoOpen fault → StoppedBetween output told before low high fault new
+pub stopped_here : (output : Output) (told : Bool) (before : List Slot) (low high : Part) (fault : Fault)
+    (old new : List Slot) → OutputsAt told before low old → Begins low high → Marks (IsNext low high) fault old new
+    → IsAt fault (length before) 0 (length low.files) → IsNoOpen fault
+    → StoppedBetween output told before low high fault new
 stopped_here output told before low high fault old new at begins marks from other = grind (arith, common_steps, part_begins_itself, lines_still)
 
 -- an output that could be written broke
-pub broken_at : (place : ℕ) (slots : List Slot) → IsTrue (is_writable slots place) → (slot_at (with_broken place slots) place).is_broken ≡ true
+pub broken_at : (place : ℕ) (slots : List Slot) → IsTrue (is_writable slots place)
+    → (slot_at (with_broken place slots) place).is_broken ≡ true
 broken_at place [] can = absurd (false≢true can)
 broken_at zero (slot ∷ slots) can = refl
 broken_at (suc place) (slot ∷ slots) can = broken_at place slots can
 
-pub sound_at : (place : ℕ) (slots : List Slot) → IsTrue (is_writable slots place) → (slot_at slots place).is_broken ≡ false
+pub sound_at : (place : ℕ) (slots : List Slot) → IsTrue (is_writable slots place)
+    → (slot_at slots place).is_broken ≡ false
 sound_at place slots can = not-true _ (and_parts (is_open (slot_at slots place).state) _ can).1
 
 pub nothing_begins_part : (part : Part) → Begins nothing part
 nothing_begins_part part = grind (arith, common_steps)
 
 -- the mark of a fault, where the next file is known by another sentence
-pub marks_by : (IsName IsOther : List ℕ → Type 0) (fault : Fault) (before after : List Slot) → ((name : List ℕ) → IsName name → IsOther name) → Marks IsName fault before after → Marks IsOther fault before after
+pub marks_by : (IsName IsOther : List ℕ → Type 0) (fault : Fault) (before after : List Slot)
+    → ((name : List ℕ) → IsName name → IsOther name) → Marks IsName fault before after
+    → Marks IsOther fault before after
 marks_by IsName IsOther (Open slot) before after also is = grind (arith, common_steps)
 marks_by IsName IsOther fault before after also is = is
 
 -- the files of a part are at their places in what it begins
-next_in : (part : Part) {name : List ℕ} (front : List File) (file : File) (rest files : List File) → FilesBegin (front ++ file ∷ rest) files → {count : ℕ} → length front ≡ count → file.name ≡ name
-    → (these : List File) × (one : File) × (more : List File) × (files ≡ these ++ one ∷ more) × (length these ≡ count) × (one.name ≡ name)
+next_in : (part : Part) {name : List ℕ} (front : List File) (file : File) (rest files : List File)
+    → FilesBegin (front ++ file ∷ rest) files → {count : ℕ} → length front ≡ count → file.name ≡ name
+    → (these : List File) × (one : File) × (more : List File) × (files ≡ these ++ one ∷ more) × (length these ≡ count)
+    × (one.name ≡ name)
 next_in part [] file rest (one ∷ more) begins place named = ([], one, more, refl, place, sym begins.0 ∙ named)
 next_in part (first ∷ front) file rest (one ∷ more) begins place named =
     let past = next_in part front file rest more begins.5 refl named in
     (one ∷ past.0, past.1, past.2, ap (λ files. one ∷ files) past.3, ap suc past.4 ∙ place, past.5)
 next_in part front file rest files begins place named = absurd begins
 
-next_wider : {part high : Part} (more : Part) → Begins high more → (name : List ℕ) → IsNext part high name → IsNext part more name
+next_wider : {part high : Part} (more : Part) → Begins high more → (name : List ℕ) → IsNext part high name
+    → IsNext part more name
 next_wider {part} more begins name next =
     let found = next_in part next.front next.file next.rest more.files (rw next.files at begins.files) next.place next.name_is in
     record { front = found.0; file = found.1; rest = found.2; files = found.3; place = found.4; name_is = found.5 }
 
 -- the line for the file that is due, where that is known by another sentence
-pub due_by : (IsDue IsOther : List ℕ → Type 0) (line : List ℕ → List ℕ) (bytes : List ℕ) (fault : Fault) → ((name : List ℕ) → IsDue name → IsOther name) → IsDueLine IsDue line bytes fault → IsDueLine IsOther line bytes fault
+pub due_by : (IsDue IsOther : List ℕ → Type 0) (line : List ℕ → List ℕ) (bytes : List ℕ) (fault : Fault)
+    → ((name : List ℕ) → IsDue name → IsOther name) → IsDueLine IsDue line bytes fault
+    → IsDueLine IsOther line bytes fault
 due_by IsDue IsOther line bytes (Write slot) also (inl none) = inl none
 due_by IsDue IsOther line bytes (Write slot) also (inr (out, (name, due, begins))) = inr (out, (name, also name due, begins))
 due_by IsDue IsOther line bytes (Open slot) also (name, due, whole) = (name, also name due, whole)
@@ -160,21 +181,26 @@ due_by IsDue IsOther line bytes Memory also (inl none) = inl none
 due_by IsDue IsOther line bytes Memory also (inr (name, due, whole)) = inr (name, also name due, whole)
 due_by IsDue IsOther line bytes fault also due = due
 
-lines_wider : (output : Output) (part high more : Part) (place : ℕ) (fault : Fault) → Begins high more → LinesTo output part high place fault → LinesTo output part more place fault
+lines_wider : (output : Output) (part high more : Part) (place : ℕ) (fault : Fault) → Begins high more
+    → LinesTo output part high place fault → LinesTo output part more place fault
 lines_wider gets_none part high more place fault begins lines = tt
 lines_wider gets_bytes part high more place fault begins lines = tt
 lines_wider (gets_lines line) part high more place fault begins lines = lines
 lines_wider (gets_openings line) part high more place fault begins lines = record { next = lines.next; all = lines.all; due = due_by _ _ line lines.next fault (next_wider more begins) lines.due }
 
 -- what stopped in turn between two parts stopped between one that begins the lower and one that the higher begins
-pub turn_between : (output : Output) (told : Bool) (before : List Slot) (less low high more : Part) (fault : Fault) (now : List Slot) → Begins less low → StoppedInTurn output told before low high fault now → Begins high more → StoppedInTurn output told before less more fault now
+pub turn_between : (output : Output) (told : Bool) (before : List Slot) (less low high more : Part) (fault : Fault)
+    (now : List Slot) → Begins less low → StoppedInTurn output told before low high fault now → Begins high more
+    → StoppedInTurn output told before less more fault now
 turn_between output told before less low high more fault now lower stop wider = search (rules, part_trans, marks_by, next_wider, lines_wider)
 
-closed_stays : {file : File} (whole : File) → file.state ≡ state.Closed → (file.state ≡ state.Open) ⊎ (file ≡ whole) → file ≡ whole
+closed_stays : {file : File} (whole : File) → file.state ≡ state.Closed → (file.state ≡ state.Open) ⊎ (file ≡ whole)
+    → file ≡ whole
 closed_stays whole closed (inl is) = cc
 closed_stays whole closed (inr same) = same
 
-done_by : (place : ℕ) (part high : List File) → FilesBegin part high → AllClosed (take place part) → place ≤ length part → take place part ≡ take place high
+done_by : (place : ℕ) (part high : List File) → FilesBegin part high → AllClosed (take place part) → place ≤ length part
+    → take place part ≡ take place high
 done_by zero part high begins closed within = refl
 done_by (suc place) [] high begins closed within = absurd (omega arith)
 done_by (suc place) (file ∷ part) [] begins closed within = absurd begins
@@ -187,15 +213,18 @@ no_fewer (file ∷ low) [] begins = absurd begins
 no_fewer (file ∷ low) (whole ∷ part) begins = omega (arith, no_fewer low part begins.5)
 
 -- in turn is in order
-pub in_order : {low part high : List File} {place : ℕ} → FilesBegin low part → FilesBegin part high → InTurn part place → InOrder low part high place
+pub in_order : {low part high : List File} {place : ℕ} → FilesBegin low part → FilesBegin part high → InTurn part place
+    → InOrder low part high place
 in_order {low} {part} {high} {place} above below turn = grind (arith, common_steps, done_by, drop_all, no_fewer)
 
-pub openings-append : (line : List ℕ → List ℕ) (some more : List File) → openings_for line (some ++ more) ≡ openings_for line some ++ openings_for line more
+pub openings-append : (line : List ℕ → List ℕ) (some more : List File)
+    → openings_for line (some ++ more) ≡ openings_for line some ++ openings_for line more
 openings-append line [] more = refl
 openings-append line (file ∷ some) more = ap (λ rest. line file.name ++ rest) (openings-append line some more) ∙ sym (append_assoc (line file.name) (openings_for line some) (openings_for line more))
 
 -- the lines for files that are there, and for those that were opened since
-pub openings_since : (line : List ℕ → List ℕ) (low part : List File) → FilesBegin low part → openings_for line part ≡ openings_for line low ++ openings_for line (drop (length low) part)
+pub openings_since : (line : List ℕ → List ℕ) (low part : List File) → FilesBegin low part
+    → openings_for line part ≡ openings_for line low ++ openings_for line (drop (length low) part)
 openings_since line [] part begins = refl
 openings_since line (file ∷ low) [] begins = absurd begins
 openings_since line (file ∷ low) (whole ∷ part) begins =
@@ -203,7 +232,9 @@ openings_since line (file ∷ low) (whole ∷ part) begins =
     ∙ sym (append_assoc (line file.name) (openings_for line low) _)
 
 -- the lines that standard output had in the lower part, and those that it got since
-lines_in_order : (output : Output) (low part high : Part) (place : ℕ) (fault : Fault) → Begins low part → HasLines output low.out low.files → LinesTo output part high place fault → LinesInOrder output low part high place fault
+lines_in_order : (output : Output) (low part high : Part) (place : ℕ) (fault : Fault) → Begins low part
+    → HasLines output low.out low.files → LinesTo output part high place fault
+    → LinesInOrder output low part high place fault
 lines_in_order gets_none low part high place fault above has lines = tt
 lines_in_order gets_bytes low part high place fault above has lines = tt
 lines_in_order (gets_openings line) low part high place fault above has lines = record {
@@ -214,11 +245,14 @@ lines_in_order (gets_openings line) low part high place fault above has lines = 
 }
 lines_in_order (gets_lines line) low part high place fault above has lines = let (since, is) = above.out in inr (since, is, record { next = lines.next; all = ap (λ had. had ++ since) (sym has) ∙ sym is ∙ lines.all; cut = lines.cut })
 
-pub stopped_in_turn : (output : Output) (told : Bool) (before : List Slot) (low high : Part) (fault : Fault) (now : List Slot) → HasLines output low.out low.files → StoppedInTurn output told before low high fault now → StoppedBetween output told before low high fault now
+pub stopped_in_turn : (output : Output) (told : Bool) (before : List Slot) (low high : Part) (fault : Fault)
+    (now : List Slot) → HasLines output low.out low.files → StoppedInTurn output told before low high fault now
+    → StoppedBetween output told before low high fault now
 stopped_in_turn output told before low high fault now has stop = search (rules, in_order, lines_in_order)
 
 -- closed files, and one more
-pub turn_last : (files : List File) (file : File) (place : ℕ) → length files ≡ place → AllClosed files → InTurn (files ++ file ∷ []) place
+pub turn_last : (files : List File) (file : File) (place : ℕ) → length files ≡ place → AllClosed files
+    → InTurn (files ++ file ∷ []) place
 turn_last files file place count closed = grind (arith, common_steps)
 
 pub turn_next : (files : List File) → AllClosed files → InTurn files (length files)

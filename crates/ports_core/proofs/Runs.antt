@@ -12,5 +12,6 @@ pub adds-nil : (told : Bool) (slot : Slot) → adds (told_of told []) slot ≡ s
 adds-nil told slot = grind (arith, common_steps)
 
 -- bytes and then more bytes
-pub adds_both : (told : Bool) (first second : List ℕ) (slot : Slot) → adds (told_of told second) (adds (told_of told first) slot) ≡ adds (told_of told (first ++ second)) slot
+pub adds_both : (told : Bool) (first second : List ℕ) (slot : Slot)
+    → adds (told_of told second) (adds (told_of told first) slot) ≡ adds (told_of told (first ++ second)) slot
 adds_both told first second slot = grind (arith, common_steps)

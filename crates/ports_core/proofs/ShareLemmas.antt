@@ -28,7 +28,8 @@ shares_wider (share ∷ low) [] more begins = absurd begins
 shares_wider (share ∷ low) (whole ∷ high) more begins = (begins.0, begins.1, shares_wider low high more begins.2)
 
 -- an open share begins one of more bytes, whatever its state
-pub made_begin : (opening : Opening) (state : State) (low high : List ℕ) → IsBeginning low high → SharesBegin (map (share Open) (made_of opening low)) (map (share state) (made_of opening high))
+pub made_begin : (opening : Opening) (state : State) (low high : List ℕ) → IsBeginning low high
+    → SharesBegin (map (share Open) (made_of opening low)) (map (share state) (made_of opening high))
 made_begin Never state low high begins = tt
 made_begin Late state [] high begins = tt
 made_begin Late state (byte ∷ low) [] (rest, is) = absurd (cc)
@@ -37,12 +38,14 @@ made_begin AtOnce state low high begins = (inl refl, begins, tt)
 
 -- Their files begin the files of those
 
-files_by : (manner : Manner) (has : Bool) (place : ℕ) (one other : Share) (low high : List File) → (one.state ≡ Open) ⊎ (one ≡ other) → IsBeginning one.bytes other.bytes → FilesBegin low high
+files_by : (manner : Manner) (has : Bool) (place : ℕ) (one other : Share) (low high : List File)
+    → (one.state ≡ Open) ⊎ (one ≡ other) → IsBeginning one.bytes other.bytes → FilesBegin low high
     → FilesBegin (cond has (file_at manner place one ∷ low) []) (cond has (file_at manner place other ∷ high) [])
 files_by manner true place one other low high kept first rest = search rules
 files_by manner false place one other low high kept first rest = tt
 
-pub files_begin : (manner : Manner) (place : ℕ) (low high : List Share) → SharesBegin low high → FilesBegin (files_from manner place low) (files_from manner place high)
+pub files_begin : (manner : Manner) (place : ℕ) (low high : List Share) → SharesBegin low high
+    → FilesBegin (files_from manner place low) (files_from manner place high)
 files_begin manner place [] high begins = tt
 files_begin manner place (share ∷ low) [] begins = absurd begins
 files_begin manner place (share ∷ low) (whole ∷ high) begins =
@@ -50,7 +53,8 @@ files_begin manner place (share ∷ low) (whole ∷ high) begins =
 
 -- What standard output is told of them
 
-pub told-append : (output : Output) (a b : List File) → told_of_files output (a ++ b) ≡ told_of_files output a ++ told_of_files output b
+pub told-append : (output : Output) (a b : List File)
+    → told_of_files output (a ++ b) ≡ told_of_files output a ++ told_of_files output b
 told-append gets_none a b = refl
 told-append gets_bytes a b = refl
 told-append (gets_lines line) [] b = refl
@@ -78,21 +82,27 @@ nothing_told (gets_lines line) = refl
 nothing_told (gets_openings line) = refl
 
 -- open files have no lines, where those are for closed ones
-open_untold : (line : File → List ℕ) (manner : Manner) (place : ℕ) (bytes : List (List ℕ)) → lines_for line (files_from manner place (map (share Open) bytes)) ≡ []
+open_untold : (line : File → List ℕ) (manner : Manner) (place : ℕ) (bytes : List (List ℕ))
+    → lines_for line (files_from manner place (map (share Open) bytes)) ≡ []
 open_untold line manner place [] = refl
 open_untold line manner place (one ∷ bytes) = cond_both (manner.has_name place) _ _ (λ files. lines_for line files ≡ []) (λ is. open_untold line manner (place + 1) bytes) (λ is. refl)
 
-told_by : (line : File → List ℕ) (has : Bool) (file : File) (low high : List File) → IsBeginning (lines_for line low) (lines_for line high) → IsBeginning (lines_for line (cond has (file ∷ low) [])) (lines_for line (cond has (file ∷ high) []))
+told_by : (line : File → List ℕ) (has : Bool) (file : File) (low high : List File)
+    → IsBeginning (lines_for line low) (lines_for line high)
+    → IsBeginning (lines_for line (cond has (file ∷ low) [])) (lines_for line (cond has (file ∷ high) []))
 told_by line true file low high begins = grind (arith, common_steps)
 told_by line false file low high begins = begins_itself []
 
 -- the files that begin others have a beginning of their lines by their names
-pub openings_begin : (line : List ℕ → List ℕ) (low high : List File) → FilesBegin low high → IsBeginning (openings_for line low) (openings_for line high)
+pub openings_begin : (line : List ℕ → List ℕ) (low high : List File) → FilesBegin low high
+    → IsBeginning (openings_for line low) (openings_for line high)
 openings_begin line low high begins = (_, openings_since line low high begins)
 
 -- nor does it lose what it was told, as the last shares grow
-told_grows : (output : Output) (manner : Manner) (place : ℕ) (front : List Share) (low : List (List ℕ)) (high : List Share) → SharesBegin (map (share Open) low) high
-    → IsBeginning (told_of_files output (files_from manner place (front ++ map (share Open) low))) (told_of_files output (files_from manner place (front ++ high)))
+told_grows : (output : Output) (manner : Manner) (place : ℕ) (front : List Share) (low : List (List ℕ))
+    (high : List Share) → SharesBegin (map (share Open) low) high
+    → IsBeginning (told_of_files output (files_from manner place (front ++ map (share Open) low)))
+    (told_of_files output (files_from manner place (front ++ high)))
 told_grows gets_none manner place front low high begins = begins_itself []
 told_grows gets_bytes manner place front low high begins = begins_itself []
 told_grows (gets_lines line) manner place [] low high begins = rw (open_untold line manner place low) (_, refl)
@@ -101,22 +111,30 @@ told_grows (gets_lines line) manner place (one ∷ front) low high begins =
 told_grows (gets_openings line) manner place front low high begins = openings_begin line _ _ (files_begin manner place _ _ (shares_after front _ _ begins))
 
 -- what is written of shares whose last ones are open, and go on
-pub part_grows : (manner : Manner) (front : List Share) (low : List (List ℕ)) (high : List Share) → SharesBegin (map (share Open) low) high → Begins (part_of manner (front ++ map (share Open) low)) (part_of manner (front ++ high))
+pub part_grows : (manner : Manner) (front : List Share) (low : List (List ℕ)) (high : List Share)
+    → SharesBegin (map (share Open) low) high
+    → Begins (part_of manner (front ++ map (share Open) low)) (part_of manner (front ++ high))
 part_grows manner front low high begins = grind (arith, common_steps, told_grows, files_begin, shares_after)
 
 -- What is written of a draft only grows.
 
-pub bytes_begin : (manner : Manner) (bytes : List ℕ) (draft : Draft) → Begins (draft_part manner draft) (draft_part manner (with_bytes bytes draft))
+pub bytes_begin : (manner : Manner) (bytes : List ℕ) (draft : Draft)
+    → Begins (draft_part manner draft) (draft_part manner (with_bytes bytes draft))
 bytes_begin manner bytes draft = search (rules, part_grows, made_begin, begins_more)
 
-pub next_shares : (opening : Opening) (draft : Draft) → shares_of (with_next opening draft) ≡ map (share Closed) draft.ended ++ (map (share Closed) (made_of draft.opening draft.bytes) ++ map (share Open) (made_of opening []))
+pub next_shares : (opening : Opening) (draft : Draft)
+    → shares_of (with_next opening draft)
+    ≡ map (share Closed) draft.ended
+    ++ (map (share Closed) (made_of draft.opening draft.bytes) ++ map (share Open) (made_of opening []))
 next_shares opening draft = grind (arith, common_steps)
 
-pub next_begins : (manner : Manner) (opening : Opening) (draft : Draft) → Begins (draft_part manner draft) (draft_part manner (with_next opening draft))
+pub next_begins : (manner : Manner) (opening : Opening) (draft : Draft)
+    → Begins (draft_part manner draft) (draft_part manner (with_next opening draft))
 next_begins manner opening draft = search (rules, next_shares, part_grows, shares_wider, made_begin, begins_itself)
 
 -- and what is begun after it comes after what is written
-pub begun_begins : (manner : Manner) (opening : Opening) (draft : Draft) → Begins (draft_part manner (with_next Never draft)) (draft_part manner (with_next opening draft))
+pub begun_begins : (manner : Manner) (opening : Opening) (draft : Draft)
+    → Begins (draft_part manner (with_next Never draft)) (draft_part manner (with_next opening draft))
 begun_begins manner opening draft = search (rules, part_grows)
 
 -- Files that all have names
@@ -126,7 +144,9 @@ pub one_on : (n m : ℕ) → n + suc m ≡ n + 1 + m
 one_on n m = omega arith
 
 -- the files of shares, and then of those after them
-files_on : (manner : Manner) (place : ℕ) (front rest : List Share) → AreNamed manner (place + length front) → files_from manner place (front ++ rest) ≡ files_from manner place front ++ files_from manner (place + length front) rest
+files_on : (manner : Manner) (place : ℕ) (front rest : List Share) → AreNamed manner (place + length front)
+    → files_from manner place (front ++ rest)
+    ≡ files_from manner place front ++ files_from manner (place + length front) rest
 files_on manner place [] rest named = search rules
 files_on manner place (one ∷ front) rest named = cc (
   named place (omega arith),
@@ -135,15 +155,19 @@ files_on manner place (one ∷ front) rest named = cc (
 )
 
 -- where the place after these has no name, more of them make no file
-pub files_stop : (manner : Manner) (place : ℕ) (front rest : List Share) → manner.has_name (place + length front) ≡ false → files_from manner place (front ++ rest) ≡ files_from manner place front
+pub files_stop : (manner : Manner) (place : ℕ) (front rest : List Share)
+    → manner.has_name (place + length front) ≡ false
+    → files_from manner place (front ++ rest) ≡ files_from manner place front
 files_stop manner place [] [] none = refl
 files_stop manner place [] (one ∷ rest) none = search rules
 files_stop manner place (one ∷ front) rest none = cc (files_stop manner (place + 1) front rest (subst (λ n. manner.has_name n ≡ false) (one_on place (length front)) none))
 
-pub stopped_part : (manner : Manner) (draft : Draft) → manner.has_name (length draft.ended) ≡ false → draft_part manner draft ≡ part_of manner (map (share Closed) draft.ended)
+pub stopped_part : (manner : Manner) (draft : Draft) → manner.has_name (length draft.ended) ≡ false
+    → draft_part manner draft ≡ part_of manner (map (share Closed) draft.ended)
 stopped_part manner draft none = grind (arith, common_steps, files_stop, length-map)
 
-pub closed_files : (manner : Manner) (place : ℕ) (ended : List (List ℕ)) → AllClosed (files_from manner place (map (share Closed) ended))
+pub closed_files : (manner : Manner) (place : ℕ) (ended : List (List ℕ))
+    → AllClosed (files_from manner place (map (share Closed) ended))
 closed_files manner place [] = tt
 closed_files manner place (one ∷ ended) = cond_both (manner.has_name place) _ _ AllClosed (λ is. (refl, closed_files manner (place + 1) ended)) (λ is. tt)
 
@@ -158,32 +182,44 @@ ended_out manner draft = told_of_files manner.output (ended_files manner draft)
 abbrev pub name_after : Manner → Draft → List ℕ
 name_after manner draft = manner.name (length draft.ended)
 
-files_with : (manner : Manner) (draft : Draft) (state : State) (bytes : List ℕ) → AreNamed manner (suc (length draft.ended)) → files_from manner 0 (map (share Closed) draft.ended ++ share state bytes ∷ []) ≡ ended_files manner draft ++ file_of (name_after manner draft) bytes state ∷ []
+files_with : (manner : Manner) (draft : Draft) (state : State) (bytes : List ℕ)
+    → AreNamed manner (suc (length draft.ended))
+    → files_from manner 0 (map (share Closed) draft.ended ++ share state bytes ∷ [])
+    ≡ ended_files manner draft ++ file_of (name_after manner draft) bytes state ∷ []
 files_with manner draft state bytes named = grind (arith, common_steps, length-map, files_on)
 
-part_last : (manner : Manner) (draft : Draft) (state : State) (bytes : List ℕ) → AreNamed manner (suc (length draft.ended))
-    → part_of manner (map (share Closed) draft.ended ++ share state bytes ∷ []) ≡ with_last (ended_out manner draft ++ told_of_files manner.output (file_of (name_after manner draft) bytes state ∷ [])) (ended_files manner draft) (file_of (name_after manner draft) bytes state)
+part_last : (manner : Manner) (draft : Draft) (state : State) (bytes : List ℕ)
+    → AreNamed manner (suc (length draft.ended))
+    → part_of manner (map (share Closed) draft.ended ++ share state bytes ∷ [])
+    ≡ with_last
+    (ended_out manner draft ++ told_of_files manner.output (file_of (name_after manner draft) bytes state ∷ []))
+    (ended_files manner draft) (file_of (name_after manner draft) bytes state)
 part_last manner draft state bytes named = grind (arith, common_steps, files_with, with_last, file_of, told-append)
 
-last_told : (output : Output) (name bytes : List ℕ) → told_of_files output (file_of name bytes Open ∷ []) ≡ told_before output name
+last_told : (output : Output) (name bytes : List ℕ)
+    → told_of_files output (file_of name bytes Open ∷ []) ≡ told_before output name
 last_told gets_none name bytes = refl
 last_told gets_bytes name bytes = refl
 last_told (gets_lines line) name bytes = refl
 last_told (gets_openings line) name bytes = append-nil (line name)
 
 -- the last one is open
-pub open_part : (manner : Manner) (draft : Draft) → AreNamed manner (suc (length draft.ended)) → made_of draft.opening draft.bytes ≡ draft.bytes ∷ []
-    → draft_part manner draft ≡ with_last (begun_out manner.output (ended_files manner draft) (name_after manner draft)) (ended_files manner draft) (file_of (name_after manner draft) draft.bytes Open)
+pub open_part : (manner : Manner) (draft : Draft) → AreNamed manner (suc (length draft.ended))
+    → made_of draft.opening draft.bytes ≡ draft.bytes ∷ []
+    → draft_part manner draft ≡ with_last (begun_out manner.output (ended_files manner draft) (name_after manner draft))
+    (ended_files manner draft) (file_of (name_after manner draft) draft.bytes Open)
 open_part manner draft named makes = grind (arith, common_steps, part_last, with_last, file_of, last_told)
 
 -- it is closed, and nothing is begun
-pub closed_part : (manner : Manner) (draft : Draft) → AreNamed manner (suc (length draft.ended)) → made_of draft.opening draft.bytes ≡ draft.bytes ∷ []
+pub closed_part : (manner : Manner) (draft : Draft) → AreNamed manner (suc (length draft.ended))
+    → made_of draft.opening draft.bytes ≡ draft.bytes ∷ []
     → draft_part manner (with_next Never draft)
     ≡ with_last (ended_out manner draft ++ told_of_files manner.output (file_of (name_after manner draft) draft.bytes Closed ∷ [])) (ended_files manner draft) (file_of (name_after manner draft) draft.bytes Closed)
 closed_part manner draft named makes = grind (arith, common_steps, next_shares, part_last)
 
 -- there is none
-pub none_part : (manner : Manner) (draft : Draft) → made_of draft.opening draft.bytes ≡ [] → draft_part manner draft ≡ part_with manner.output (ended_files manner draft)
+pub none_part : (manner : Manner) (draft : Draft) → made_of draft.opening draft.bytes ≡ []
+    → draft_part manner draft ≡ part_with manner.output (ended_files manner draft)
 none_part manner draft none = search rules
 
 -- there is one, or none
@@ -194,7 +230,8 @@ made_or Late (byte ∷ bytes) = inr refl
 made_or AtOnce bytes = inr refl
 
 -- what makes a file still does with more bytes
-pub still_made : (opening : Opening) (bytes more : List ℕ) → made_of opening bytes ≡ bytes ∷ [] → made_of opening (bytes ++ more) ≡ (bytes ++ more) ∷ []
+pub still_made : (opening : Opening) (bytes more : List ℕ) → made_of opening bytes ≡ bytes ∷ []
+    → made_of opening (bytes ++ more) ≡ (bytes ++ more) ∷ []
 still_made Never bytes more is = absurd (cc)
 still_made Late [] more is = absurd (cc)
 still_made Late (byte ∷ bytes) more is = refl

@@ -18,7 +18,9 @@ use Rattle.ports_core.proofs.WriteLemmas.{writable-written}
 
 -- Outputs that were broken stay broken.
 
-flag_stays : (change : Slot → Slot) → ((slot : Slot) → (change slot).is_broken ≡ slot.is_broken) → (place other : ℕ) (slots : List Slot) → (slot_at (changed_at place change slots) other).is_broken ≡ (slot_at slots other).is_broken
+flag_stays : (change : Slot → Slot) → ((slot : Slot) → (change slot).is_broken ≡ slot.is_broken)
+    → (place other : ℕ) (slots : List Slot)
+    → (slot_at (changed_at place change slots) other).is_broken ≡ (slot_at slots other).is_broken
 flag_stays change same place other [] = refl
 flag_stays change same zero zero (slot ∷ slots) = same slot
 flag_stays change same (suc place) (suc other) (slot ∷ slots) = flag_stays change same place other slots
@@ -27,10 +29,12 @@ flag_stays change same place other slots = refl
 pub keeps_again : (old mid new : List Slot) → KeepsBroken old mid → KeepsBroken mid new → KeepsBroken old new
 keeps_again old mid new first second place sound = search rules
 
-keeps_change : (change : Slot → Slot) → ((slot : Slot) → (change slot).is_broken ≡ slot.is_broken) → (slot : ℕ) (old : List Slot) {new : List Slot} → new ≡ changed_at slot change old → KeepsBroken old new
+keeps_change : (change : Slot → Slot) → ((slot : Slot) → (change slot).is_broken ≡ slot.is_broken)
+    → (slot : ℕ) (old : List Slot) {new : List Slot} → new ≡ changed_at slot change old → KeepsBroken old new
 keeps_change change same slot old is place sound = sym (flag_stays change same slot place old) ∙ ap (λ those. (slot_at those place).is_broken) (sym is) ∙ sound
 
-pub keeps_write : (slot : ℕ) (bytes : List ℕ) (old new : List Slot) → new ≡ with_written slot bytes old → KeepsBroken old new
+pub keeps_write : (slot : ℕ) (bytes : List ℕ) (old new : List Slot) → new ≡ with_written slot bytes old
+    → KeepsBroken old new
 keeps_write slot bytes old new is = keeps_change (adds bytes) (λ one. refl) slot old is
 
 pub keeps_close : (slot : ℕ) (old new : List Slot) → new ≡ changed_at slot closes old → KeepsBroken old new
@@ -41,7 +45,8 @@ keeps_open one old new is place sound = grind (arith, common_steps)
 
 -- One that breaks was sound.
 
-pub broken_there : (place : ℕ) (slots : List Slot) → place < length slots → (slot_at (with_broken place slots) place).is_broken ≡ true
+pub broken_there : (place : ℕ) (slots : List Slot) → place < length slots
+    → (slot_at (with_broken place slots) place).is_broken ≡ true
 broken_there place [] within = absurd (omega (arith, within))
 broken_there zero (slot ∷ slots) within = refl
 broken_there (suc place) (slot ∷ slots) within = broken_there place slots (omega arith)
@@ -49,30 +54,37 @@ broken_there (suc place) (slot ∷ slots) within = broken_there place slots (ome
 pub rose_later : (slot : ℕ) (old mid new : List Slot) → KeepsBroken old mid → Rose slot mid new → Rose slot old new
 rose_later slot old mid new keeps rose = search rules
 
-pub write_rose : (told : Bool) (slot : ℕ) (bytes : List ℕ) (n : ℕ) (old new : List Slot) → IsTrue (is_writable old slot) → BrokeAfter told old new slot bytes n → Rose slot old new
+pub write_rose : (told : Bool) (slot : ℕ) (bytes : List ℕ) (n : ℕ) (old new : List Slot) → IsTrue (is_writable old slot)
+    → BrokeAfter told old new slot bytes n → Rose slot old new
 write_rose told slot bytes n old new can cut = grind (arith, common_steps, sound_at, broken_at, writable-written)
 
-pub close_rose : (slot : ℕ) (old new : List Slot) → IsTrue (is_writable old slot) → slot < length old → new ≡ with_broken slot (changed_at slot closes old) → Rose slot old new
+pub close_rose : (slot : ℕ) (old new : List Slot) → IsTrue (is_writable old slot) → slot < length old
+    → new ≡ with_broken slot (changed_at slot closes old) → Rose slot old new
 close_rose slot old new can within is = grind (arith, common_steps, sound_at, broken_there, length-changed_at)
 
 pub at_end : (slots : List Slot) (one : Slot) → slot_at (slots ++ one ∷ []) (length slots) ≡ one
 at_end slots one = get_or-append_seam slots one [] no_slot
 
-pub open_rose : (slot : ℕ) (kept : List ℕ) (old new : List Slot) → slot ≡ length old → new ≡ old ++ unopened kept ∷ [] → Rose slot old new
+pub open_rose : (slot : ℕ) (kept : List ℕ) (old new : List Slot) → slot ≡ length old → new ≡ old ++ unopened kept ∷ []
+    → Rose slot old new
 open_rose slot kept old new number is = grind (arith, common_steps)
 
 -- How many there are
 
-pub written_size : (slot : ℕ) (bytes : List ℕ) (old new : List Slot) → new ≡ with_written slot bytes old → length new ≡ length old
+pub written_size : (slot : ℕ) (bytes : List ℕ) (old new : List Slot) → new ≡ with_written slot bytes old
+    → length new ≡ length old
 written_size slot bytes old new is = ap length is ∙ length-changed_at slot (adds bytes) old
 
-pub short_size : (told : Bool) (slot : ℕ) (bytes : List ℕ) (old new : List Slot) (f : Fault) → WritesShort told slot bytes old new f → length new ≡ length old
+pub short_size : (told : Bool) (slot : ℕ) (bytes : List ℕ) (old new : List Slot) (f : Fault)
+    → WritesShort told slot bytes old new f → length new ≡ length old
 short_size told slot bytes old new _ (broke n cut) = grind (arith, common_steps, length-changed_at)
 
-pub broken_size : (slot : ℕ) (old new : List Slot) → new ≡ with_broken slot (changed_at slot closes old) → length new ≡ length old
+pub broken_size : (slot : ℕ) (old new : List Slot) → new ≡ with_broken slot (changed_at slot closes old)
+    → length new ≡ length old
 broken_size slot old new is = ap length is ∙ length-changed_at slot breaks _ ∙ length-changed_at slot closes old
 
-pub opened_last : (old new : List Slot) (slot : ℕ) (name : List ℕ) (mode : Mode) → slot ≡ length old → new ≡ old ++ opened name mode ∷ [] → suc slot ≡ length new
+pub opened_last : (old new : List Slot) (slot : ℕ) (name : List ℕ) (mode : Mode) → slot ≡ length old
+    → new ≡ old ++ opened name mode ∷ [] → suc slot ≡ length new
 opened_last old new slot name mode at is = grind (arith, common_steps)
 
 -- Which can be written
@@ -82,16 +94,20 @@ writable_within place [] can = absurd (false≢true can)
 writable_within zero (slot ∷ slots) can = omega arith
 writable_within (suc place) (slot ∷ slots) can = grind (arith, common_steps)
 
-pub opened_writable : (old new : List Slot) (slot : ℕ) (name : List ℕ) (mode : Mode) → slot ≡ length old → new ≡ old ++ opened name mode ∷ [] → IsTrue (is_writable new slot)
+pub opened_writable : (old new : List Slot) (slot : ℕ) (name : List ℕ) (mode : Mode) → slot ≡ length old
+    → new ≡ old ++ opened name mode ∷ [] → IsTrue (is_writable new slot)
 opened_writable old new slot name mode at is = grind (arith, common_steps)
 
-pub writable_before : (old new : List Slot) (place : ℕ) (one : Slot) → place < length old → new ≡ old ++ one ∷ [] → IsTrue (is_writable old place) → IsTrue (is_writable new place)
+pub writable_before : (old new : List Slot) (place : ℕ) (one : Slot) → place < length old → new ≡ old ++ one ∷ []
+    → IsTrue (is_writable old place) → IsTrue (is_writable new place)
 writable_before old new place one within is can = grind (arith, common_steps)
 
-pub written_writable : (old new : List Slot) (slot place : ℕ) (bytes : List ℕ) → IsTrue (is_writable old slot) → new ≡ with_written place bytes old → IsTrue (is_writable new slot)
+pub written_writable : (old new : List Slot) (slot place : ℕ) (bytes : List ℕ) → IsTrue (is_writable old slot)
+    → new ≡ with_written place bytes old → IsTrue (is_writable new slot)
 written_writable old new slot place bytes can is = ap (λ those. is_writable those slot) is ∙ writable-written old place slot bytes ∙ can
 
-pub writable_elsewhere : (old new : List Slot) (slot place : ℕ) (change : Slot → Slot) → (slot ≡ place → ⊥) → new ≡ changed_at place change old → IsTrue (is_writable old slot) → IsTrue (is_writable new slot)
+pub writable_elsewhere : (old new : List Slot) (slot place : ℕ) (change : Slot → Slot) → (slot ≡ place → ⊥)
+    → new ≡ changed_at place change old → IsTrue (is_writable old slot) → IsTrue (is_writable new slot)
 writable_elsewhere old new slot place change differs is can = ap (λ those. is_writable those slot) is ∙ ap can_write (slot_at-elsewhere place slot change old differs) ∙ can
 
 -- Which have a file
@@ -103,11 +119,13 @@ open_has_file state broken can = absurd (false≢true can)
 pub none_past : (slots : List Slot) (place : ℕ) → length slots ≤ place → has_file (slot_at slots place).state ≡ false
 none_past slots place past = grind (arith, common_steps)
 
-pub file_before : (slots : List Slot) (one : Slot) (place : ℕ) → place < length slots → has_file (slot_at (slots ++ one ∷ []) place).state ≡ has_file (slot_at slots place).state
+pub file_before : (slots : List Slot) (one : Slot) (place : ℕ) → place < length slots
+    → has_file (slot_at (slots ++ one ∷ []) place).state ≡ has_file (slot_at slots place).state
 file_before slots one place within = grind (arith, common_steps)
 
 -- where there is no file, none is removed
-pub swept_none : (clears : Bool) (first : ℕ) (slots : List Slot) → ((place : ℕ) → first ≤ place → has_file (slot_at slots place).state ≡ false) → Swept clears first slots slots
+pub swept_none : (clears : Bool) (first : ℕ) (slots : List Slot)
+    → ((place : ℕ) → first ≤ place → has_file (slot_at slots place).state ≡ false) → Swept clears first slots slots
 swept_none true first slots no_file = record { size = refl; before = λ place within. refl; cleared = λ place past. none (no_file place past) }
 swept_none false first slots no_file = refl
 
@@ -119,25 +137,32 @@ pub record KeepsMade (old new : List Slot) : Type 0 where
 pub made_again : (old mid new : List Slot) → KeepsMade old mid → KeepsMade mid new → KeepsMade old new
 made_again old mid new first second = grind (arith, common_steps)
 
-file_stays : (change : Slot → Slot) (place other : ℕ) (slots : List Slot) → has_file (change (slot_at slots place)).state ≡ has_file (slot_at slots place).state → has_file (slot_at (changed_at place change slots) other).state ≡ has_file (slot_at slots other).state
+file_stays : (change : Slot → Slot) (place other : ℕ) (slots : List Slot)
+    → has_file (change (slot_at slots place)).state ≡ has_file (slot_at slots place).state
+    → has_file (slot_at (changed_at place change slots) other).state ≡ has_file (slot_at slots other).state
 file_stays change place other [] same = refl
 file_stays change zero zero (slot ∷ slots) same = same
 file_stays change (suc place) (suc other) (slot ∷ slots) same = file_stays change place other slots same
 file_stays change place other slots same = refl
 
-made_change : (change : Slot → Slot) (slot : ℕ) {old new : List Slot} → has_file (change (slot_at old slot)).state ≡ has_file (slot_at old slot).state → new ≡ changed_at slot change old → KeepsMade old new
+made_change : (change : Slot → Slot) (slot : ℕ) {old new : List Slot}
+    → has_file (change (slot_at old slot)).state ≡ has_file (slot_at old slot).state → new ≡ changed_at slot change old
+    → KeepsMade old new
 made_change change slot {old} same is = grind (arith, common_steps, length-changed_at, file_stays)
 
-pub made_write : (slot : ℕ) (bytes : List ℕ) (old new : List Slot) → new ≡ with_written slot bytes old → KeepsMade old new
+pub made_write : (slot : ℕ) (bytes : List ℕ) (old new : List Slot) → new ≡ with_written slot bytes old
+    → KeepsMade old new
 made_write slot bytes old new is = made_change (adds bytes) slot refl is
 
 pub made_break : (slot : ℕ) (old new : List Slot) → new ≡ with_broken slot old → KeepsMade old new
 made_break slot old new is = made_change breaks slot refl is
 
-pub made_short : (told : Bool) (slot : ℕ) (bytes : List ℕ) (old new : List Slot) (f : Fault) → WritesShort told slot bytes old new f → KeepsMade old new
+pub made_short : (told : Bool) (slot : ℕ) (bytes : List ℕ) (old new : List Slot) (f : Fault)
+    → WritesShort told slot bytes old new f → KeepsMade old new
 made_short told slot bytes old new _ (broke n cut) = made_again old (with_written slot (told_of told (take n bytes)) old) new (made_write slot _ old _ refl) (made_break slot _ new cut.slots)
 
-pub made_close : (slot : ℕ) (old new : List Slot) → IsTrue (is_writable old slot) → new ≡ changed_at slot closes old → KeepsMade old new
+pub made_close : (slot : ℕ) (old new : List Slot) → IsTrue (is_writable old slot) → new ≡ changed_at slot closes old
+    → KeepsMade old new
 made_close slot old new can is = made_change closes slot (sym (open_has_file (slot_at old slot).state (slot_at old slot).is_broken can)) is
 
 -- no more files are there, and no fewer outputs
@@ -148,7 +173,8 @@ pub record KeepsFiled (old new : List Slot) : Type 0 where
 pub filed_same : {old new : List Slot} → KeepsMade old new → KeepsFiled old new
 filed_same made = record { same = made.same; within = omega (arith, made.size) }
 
-pub filed_more : {old mid new : List Slot} (kept : List ℕ) → KeepsMade old mid → new ≡ mid ++ unopened kept ∷ [] → KeepsFiled old new
+pub filed_more : {old mid new : List Slot} (kept : List ℕ) → KeepsMade old mid → new ≡ mid ++ unopened kept ∷ []
+    → KeepsFiled old new
 filed_more {old} {mid} {new} kept made added = record {
   same = λ place. ap (λ slots. has_file (slot_at slots place).state) added ∙ still place ∙ made.same place;
   within = omega (arith, made.size, ap length added, length-append mid (unopened kept ∷ []));

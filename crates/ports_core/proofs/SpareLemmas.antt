@@ -9,18 +9,22 @@ use Rattle.ports_core.specs.Work.{Work, IsLawful, IsComplete, IsNeeded, IsSpare}
 pub all_used : (work : Work) (x : List ℕ) → work.is_complete x ≡ false → IsSpare work x 0
 all_used work x going = grind (arith, common_steps)
 
-pub none_spare : (work : Work) (x : List ℕ) (n : ℕ) → IsLawful work → work.is_complete x ≡ false → IsSpare work x n → n ≡ 0
+pub none_spare : (work : Work) (x : List ℕ) (n : ℕ) → IsLawful work → work.is_complete x ≡ false → IsSpare work x n
+    → n ≡ 0
 none_spare work x n lawful going spare = grind (arith, common_steps)
 
 -- with what is used the output is complete, where it is with all
-pub complete_used : (work : Work) (x : List ℕ) (n : ℕ) (spare : IsSpare work x n) → work.is_complete x ≡ true → work.is_complete spare.used ≡ true
+pub complete_used : (work : Work) (x : List ℕ) (n : ℕ) (spare : IsSpare work x n) → work.is_complete x ≡ true
+    → work.is_complete spare.used ≡ true
 complete_used work x n spare done = grind (arith, common_steps)
 
 -- no more is spare than what came last, before which the output was not complete
-pub spare_within : (work : Work) (most n : ℕ) (x : List ℕ) → IsLawful work → IsNeeded work.is_complete most x → IsSpare work x n → n ≤ most
+pub spare_within : (work : Work) (most n : ℕ) (x : List ℕ) → IsLawful work → IsNeeded work.is_complete most x
+    → IsSpare work x n → n ≤ most
 spare_within work most n x lawful (inl none) spare = omega (arith, ap length none, ap length spare.joined ∙ length-append spare.used spare.rest, spare.long)
 spare_within work most n x lawful (inr (before, piece, is, few, going)) spare = by (cases_lt (length before) (length spare.used)) spare.enough where
-  by : (length before < length spare.used) ⊎ (length spare.used ≤ length before) → (spare.rest ≡ []) ⊎ (work.is_complete spare.used ≡ true) → n ≤ most
+  by : (length before < length spare.used) ⊎ (length spare.used ≤ length before)
+      → (spare.rest ≡ []) ⊎ (work.is_complete spare.used ≡ true) → n ≤ most
   by over (inl none) = omega (arith, ap length none, spare.long)
   by (inl over) (inr complete) = omega (arith, over, few, spare.long, ap length is ∙ length-append before piece, ap length spare.joined ∙ length-append spare.used spare.rest)
   by (inr short) (inr complete) =

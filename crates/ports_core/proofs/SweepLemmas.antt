@@ -19,7 +19,8 @@ by_place {A = A} place one same other = grind (arith, common_steps)
 
 -- What a change of one slot leaves
 
-there : (place : ℕ) (change : Slot → Slot) (slots : List Slot) → has_file (slot_at slots place).state ≡ true → slot_at (changed_at place change slots) place ≡ change (slot_at slots place)
+there : (place : ℕ) (change : Slot → Slot) (slots : List Slot) → has_file (slot_at slots place).state ≡ true
+    → slot_at (changed_at place change slots) place ≡ change (slot_at slots place)
 there place change [] has = absurd (false≢true has)
 there zero change (slot ∷ slots) has = refl
 there (suc place) change (slot ∷ slots) has = there place change slots has
@@ -29,36 +30,42 @@ module _ (one : ℕ) (change : Slot → Slot) (old : List Slot) where
   elsewhere : (place : ℕ) → eqb place one ≡ false → slot_at (changed_at one change old) place ≡ slot_at old place
   elsewhere place other = slot_at-elsewhere one place change old (differs one other)
 
-  still_there : (files : List ℕ) → is_among one files ≡ false → AreThere files old → AreThere files (changed_at one change old)
+  still_there : (files : List ℕ) → is_among one files ≡ false → AreThere files old
+      → AreThere files (changed_at one change old)
   still_there [] apart are = tt
   still_there (place ∷ files) apart are =
       let both = or_parts (eqb one place) (is_among one files) apart in
       let same = slot_at-elsewhere one place change old (λ same. differs place both.0 (sym same)) in
       ((are.0.0, rw same are.0.1), are.1, still_there files both.1 are.2)
 
-  still_has : (place : ℕ) (places : List ℕ) → eqb place one ≡ false → has_file (slot_at old place).state ≡ is_among place (one ∷ places)
+  still_has : (place : ℕ) (places : List ℕ) → eqb place one ≡ false
+      → has_file (slot_at old place).state ≡ is_among place (one ∷ places)
       → has_file (slot_at (changed_at one change old) place).state ≡ is_among place places
   still_has place places other has = ap (λ (slot : Slot). has_file slot.state) (elsewhere place other) ∙ has ∙ ap (λ b. b || is_among place places) other
 
 -- what is left of it
 
-cleared_one : {one : ℕ} {change : Slot → Slot} {kept : List ℕ} {slot : Slot} → Tries one change kept → has_file slot.state ≡ true → Cleared slot (change slot)
+cleared_one : {one : ℕ} {change : Slot → Slot} {kept : List ℕ} {slot : Slot} → Tries one change kept
+    → has_file slot.state ≡ true → Cleared slot (change slot)
 cleared_one goes has = removed has
 cleared_one stays has = stuck has
 
-kept_has : {one : ℕ} {change : Slot → Slot} {kept : List ℕ} (left : List ℕ) (slot : Slot) → Tries one change kept → is_among one left ≡ false
+kept_has : {one : ℕ} {change : Slot → Slot} {kept : List ℕ} (left : List ℕ) (slot : Slot) → Tries one change kept
+    → is_among one left ≡ false
     → has_file (change slot).state ≡ is_among one (kept ++ left)
 kept_has left slot goes apart = sym apart
 kept_has {one} left slot stays apart = sym (ap (λ b. b || is_among one left) (eq-eqb one one refl))
 
-kept_apart : {one : ℕ} {change : Slot → Slot} {kept : List ℕ} (left : List ℕ) (place : ℕ) → Tries one change kept → eqb place one ≡ false
+kept_apart : {one : ℕ} {change : Slot → Slot} {kept : List ℕ} (left : List ℕ) (place : ℕ) → Tries one change kept
+    → eqb place one ≡ false
     → is_among place (kept ++ left) ≡ is_among place left
 kept_apart left place goes other = refl
 kept_apart left place stays other = ap (λ b. b || is_among place left) other
 
 -- One removal more, after those of other files
 
-tried_more : {files left : List ℕ} {old mid new : List Slot} (place : ℕ) (more : List ℕ) → Removes files old left mid → Removes (place ∷ []) mid more new
+tried_more : {files left : List ℕ} {old mid new : List Slot} (place : ℕ) (more : List ℕ) → Removes files old left mid
+    → Removes (place ∷ []) mid more new
     → Removes (files ++ place ∷ []) old (left ++ more) new
 tried_more place more (all_tried slots) last = last
 tried_more {new} place more (tried one places kept left' change old' mid' tries rest) last = rw (append_assoc kept left' more)
@@ -76,7 +83,8 @@ pub none_swept : {files : List ℕ} {slots : List Slot} → AreThere files slots
 none_swept {slots} are = record { size = refl; few = omega arith; tried = all_tried slots; rest = refl; are = are }
 
 -- the next file was tried, and these are the numbers now
-one_tried : {files now next kept : List ℕ} {place left few : ℕ} {old mid : List Slot} {file : ℕ} {change : Slot → Slot} → Sweeping files now place left old mid
+one_tried : {files now next kept : List ℕ} {place left few : ℕ} {old mid : List Slot} {file : ℕ} {change : Slot → Slot}
+    → Sweeping files now place left old mid
     → place < length now → file ≡ get_or now place 0
     → length next ≡ length now → few ≤ suc left → drop (suc place) next ≡ drop (suc place) now
     → take few next ≡ take left now ++ kept → Tries file change kept
@@ -96,14 +104,18 @@ one_tried {files} {now} {next} {kept} {place} {left} {few} {old} {mid} {file} {c
     })
 
 -- the same by what the removal returned
-pub sweep_on : {files now : List ℕ} {place left file : ℕ} {old mid new : List Slot} (result : Result (Unit {0}) Fault) → Sweeping files now place left old mid → place < length now → file ≡ get_or now place 0 → is_ok result ≡ true → OnOk result (new ≡ changed_at file removes mid)
+pub sweep_on : {files now : List ℕ} {place left file : ℕ} {old mid new : List Slot} (result : Result (Unit {0}) Fault)
+    → Sweeping files now place left old mid → place < length now → file ≡ get_or now place 0 → is_ok result ≡ true
+    → OnOk result (new ≡ changed_at file removes mid)
     → Sweeping files now (place + 1) left old new
 sweep_on {now = now} {left = left} (Ok done) so_far within file_is ok gone =
     rw gone (one_tried so_far within file_is refl (omega arith) refl (sym (append-nil (take left now))) goes)
 sweep_on (Err f) so_far within file_is ok gone = absurd (false≢true ok)
 
-pub sweep_past : {files now : List ℕ} {place left file : ℕ} {old mid new : List Slot} (result : Result (Unit {0}) Fault) → Sweeping files now place left old mid → place < length now → file ≡ get_or now place 0 → is_ok result ≡ false
-    → IfErr result (λ f. (f ≡ fault.Write file) × (new ≡ with_broken file (changed_at file closes mid))) → Sweeping files (set now left file) (place + 1) (left + 1) old new
+pub sweep_past : {files now : List ℕ} {place left file : ℕ} {old mid new : List Slot} (result : Result (Unit {0}) Fault)
+    → Sweeping files now place left old mid → place < length now → file ≡ get_or now place 0 → is_ok result ≡ false
+    → IfErr result (λ f. (f ≡ fault.Write file) × (new ≡ with_broken file (changed_at file closes mid)))
+    → Sweeping files (set now left file) (place + 1) (left + 1) old new
 sweep_past (Ok done) so_far within file_is failed stuck_so = search rules
 sweep_past {files} {now} {place} {left} {file} {old} {mid} {new} (Err f) so_far within file_is failed stuck_so =
     rw (← (let e : suc left ≡ left + 1 = omega arith in e))
@@ -116,37 +128,45 @@ pub same_size : (files left : List ℕ) (old new : List Slot) → Removes files 
 same_size files left old new (all_tried slots) = refl
 same_size files left old new (tried place places kept left' change old' new' tries rest) = same_size places left' _ new' rest ∙ length-changed_at place change old'
 
-pub others_same : {files left : List ℕ} {old new : List Slot} (place : ℕ) → Removes files old left new → is_among place files ≡ false → slot_at new place ≡ slot_at old place
+pub others_same : {files left : List ℕ} {old new : List Slot} (place : ℕ) → Removes files old left new
+    → is_among place files ≡ false → slot_at new place ≡ slot_at old place
 others_same place (all_tried slots) apart = refl
 others_same place (tried one places kept left' change old' new' tries rest) apart =
     let both = or_parts (eqb place one) (is_among place places) apart in others_same place rest both.1 ∙ elsewhere one change old' place both.0
 
 -- those that are left are some of them
-pub left_apart : (files left : List ℕ) (old new : List Slot) (place : ℕ) → Removes files old left new → is_among place files ≡ false → is_among place left ≡ false
+pub left_apart : (files left : List ℕ) (old new : List Slot) (place : ℕ) → Removes files old left new
+    → is_among place files ≡ false → is_among place left ≡ false
 left_apart files left old new place (all_tried slots) apart = refl
 left_apart files left old new place (tried one places kept left' change old' new' tries rest) apart =
     let both = or_parts (eqb place one) (is_among place places) apart in kept_apart left' place tries both.0 ∙ left_apart places left' _ new' place rest both.1
 
 -- what the slot of the first one is at the end
-first_is : {one : ℕ} {places left : List ℕ} (change : Slot → Slot) (old : List Slot) {new : List Slot} → AreThere (one ∷ places) old
+first_is : {one : ℕ} {places left : List ℕ} (change : Slot → Slot) (old : List Slot) {new : List Slot}
+    → AreThere (one ∷ places) old
     → Removes places (changed_at one change old) left new → slot_at new one ≡ change (slot_at old one)
 first_is {one} change old are rest = others_same one rest are.1 ∙ there one change old are.0.1
 
 -- each slot whose file was among them is cleared away
-pub each_cleared : {files left : List ℕ} {old new : List Slot} (place : ℕ) → Removes files old left new → AreThere files old → has_file (slot_at old place).state ≡ is_among place files → Cleared (slot_at old place) (slot_at new place)
+pub each_cleared : {files left : List ℕ} {old new : List Slot} (place : ℕ) → Removes files old left new
+    → AreThere files old → has_file (slot_at old place).state ≡ is_among place files
+    → Cleared (slot_at old place) (slot_at new place)
 each_cleared place (all_tried slots) are has = none has
 each_cleared place (tried one places kept left' change old' new' tries rest) are has = by_place place one
     (λ same. rw (same, first_is change old' are rest) (cleared_one tries are.0.1)) (λ other. rw (elsewhere one change old' place other) at
     (each_cleared place rest (still_there one change old' places are.1 are.2) (still_has one change old' place places other has)))
 
 -- and has a file just where that is left
-pub left_has : (files left : List ℕ) (old new : List Slot) (place : ℕ) → Removes files old left new → AreThere files old → has_file (slot_at old place).state ≡ is_among place files → has_file (slot_at new place).state ≡ is_among place left
+pub left_has : (files left : List ℕ) (old new : List Slot) (place : ℕ) → Removes files old left new → AreThere files old
+    → has_file (slot_at old place).state ≡ is_among place files
+    → has_file (slot_at new place).state ≡ is_among place left
 left_has files left old new place (all_tried slots) are has = has
 left_has files left old new place (tried one places kept left' change old' new' tries rest) are has = by_place place one
     (λ same. rw (same, first_is change old' are rest) (kept_has left' (slot_at old' one) tries (left_apart places left' _ new' one rest are.1)))
     (λ other. left_has places left' _ new' place rest (still_there one change old' places are.1 are.2) (still_has one change old' place places other has) ∙ sym (kept_apart left' place tries other))
 
-pub left_there : (files left : List ℕ) (old new : List Slot) → Removes files old left new → AreThere files old → AreThere left new
+pub left_there : (files left : List ℕ) (old new : List Slot) → Removes files old left new → AreThere files old
+    → AreThere left new
 left_there files left old new (all_tried slots) are = tt
 left_there files left old new (tried one places kept left' change old' new' goes rest) are = left_there places left' _ new' rest (still_there one change old' places are.1 are.2)
 left_there files left old new (tried one places kept left' change old' new' stays rest) are = (
@@ -156,6 +176,8 @@ left_there files left old new (tried one places kept left' change old' new' stay
 )
 
 -- all files from a place on, where these are just the ones removed
-pub all_cleared : (first : ℕ) (files left : List ℕ) (old new : List Slot) → Removes files old left new → AreThere files old → ((place : ℕ) → is_among place files ≡ true → first ≤ place) → ((place : ℕ) → first ≤ place → has_file (slot_at old place).state ≡ is_among place files)
+pub all_cleared : (first : ℕ) (files left : List ℕ) (old new : List Slot) → Removes files old left new
+    → AreThere files old → ((place : ℕ) → is_among place files ≡ true → first ≤ place)
+    → ((place : ℕ) → first ≤ place → has_file (slot_at old place).state ≡ is_among place files)
     → SweptFrom first old new
 all_cleared first files left old new done are from own = grind (arith, common_steps, same_size, others_same, each_cleared)

@@ -23,8 +23,11 @@ use Rattle.ports_core.proofs.FileWriterLemmas.{lacks_memory, leaves_again, leave
 
 -- One change after another
 
-pub goes_again : {told : Bool} {one two three : WriterState} {first second : Draft → Draft} (both : Draft → Draft) {old mid new : List Slot} {fault : Option Fault} → ((draft : Draft) → second (first draft) ≡ both draft)
-    → ((manner : Manner) (draft : Draft) → Begins (draft_part manner draft) (draft_part manner (first draft))) → Goes told one first old mid two None → Goes told two second mid new three fault → Goes told one both old new three fault
+pub goes_again : {told : Bool} {one two three : WriterState} {first second : Draft → Draft} (both : Draft → Draft)
+    {old mid new : List Slot} {fault : Option Fault} → ((draft : Draft) → second (first draft) ≡ both draft)
+    → ((manner : Manner) (draft : Draft) → Begins (draft_part manner draft) (draft_part manner (first draft)))
+    → Goes told one first old mid two None → Goes told two second mid new three fault
+    → Goes told one both old new three fault
 goes_again {told} {three = three} {first} {second} both {new = new} {fault} is begins before after = record {
   leaves = leaves_again before.leaves after.leaves;
   reaches = λ manner draft writes. reaches_again (begins manner draft) (before.reaches manner draft writes) (reaches_as refl (ap (draft_part manner) (sym (is draft))) (after.reaches manner (first draft) (before.writes manner draft writes)));
@@ -41,15 +44,20 @@ abbrev pub GrowsOn : Draft → Draft → Type 0
 GrowsOn low high = (low.ended ≡ high.ended) × (made_of low.opening low.bytes ≡ low.bytes ∷ [] → made_of high.opening high.bytes ≡ high.bytes ∷ [])
 
 -- it was stopped on its way to more, where names didn't run out, or the same file is due
-pub goes_wider : {told : Bool} {writer next : WriterState} {low : Draft → Draft} (high : Draft → Draft) {old new : List Slot} {fault : Fault} → ((manner : Manner) (draft : Draft) → Begins (draft_part manner (low draft)) (draft_part manner (high draft)))
-    → ((fault ≡ Verdict Suffixes → ⊥) ⊎ ((draft : Draft) → GrowsOn (low draft) (high draft))) → Goes told writer low old new next (Some fault) → Goes told writer high old new next (Some fault)
+pub goes_wider : {told : Bool} {writer next : WriterState} {low : Draft → Draft} (high : Draft → Draft)
+    {old new : List Slot} {fault : Fault}
+    → ((manner : Manner) (draft : Draft) → Begins (draft_part manner (low draft)) (draft_part manner (high draft)))
+    → ((fault ≡ Verdict Suffixes → ⊥) ⊎ ((draft : Draft) → GrowsOn (low draft) (high draft)))
+    → Goes told writer low old new next (Some fault) → Goes told writer high old new next (Some fault)
 goes_wider {told} {writer} {low = low} high {old} {new} {fault} begins same stopped = record {
   leaves = stopped.leaves;
   reaches = λ manner draft writes. stops_wider (stopped.reaches manner draft writes) (begins manner draft);
   short = λ is manner draft writes. by same is manner draft (stopped.short is manner draft writes);
   writes = tt;
 } where
-  by : ((fault ≡ Verdict Suffixes → ⊥) ⊎ ((draft : Draft) → GrowsOn (low draft) (high draft))) → fault ≡ Verdict Suffixes → (manner : Manner) (draft : Draft) → RunsShort told writer low manner draft old new → RunsShort told writer high manner draft old new
+  by : ((fault ≡ Verdict Suffixes → ⊥) ⊎ ((draft : Draft) → GrowsOn (low draft) (high draft)))
+      → fault ≡ Verdict Suffixes → (manner : Manner) (draft : Draft) → RunsShort told writer low manner draft old new
+      → RunsShort told writer high manner draft old new
   by (inl other) is manner draft ran = absurd (other is)
   by (inr grows) is manner draft ran =
       let ended = (grows draft).0 in
@@ -59,15 +67,19 @@ goes_wider {told} {writer} {low = low} high {old} {new} {fault} begins same stop
         all = λ before at. subst (λ part. OutputsAt told before part new) (stopped_part manner (low draft) ran.none ∙ ap (λ ended. part_of manner (map (share state.Closed) ended)) ended ∙ sym (stopped_part manner (high draft) none)) (ran.all before at);
       }
 
-pub next_not_ended : {told : Bool} {writer next : WriterState} (opening : Opening) {old new : List Slot} {f : Fault} → IsWrite f → Goes told writer (with_next Never) old new next (Some f) → Goes told writer (with_next opening) old new next (Some f)
+pub next_not_ended : {told : Bool} {writer next : WriterState} (opening : Opening) {old new : List Slot} {f : Fault}
+    → IsWrite f → Goes told writer (with_next Never) old new next (Some f)
+    → Goes told writer (with_next opening) old new next (Some f)
 next_not_ended opening broke ended = goes_wider (with_next opening) (λ manner draft. begun_begins manner opening draft) (inl (λ short. absurd (let e : fault.Write broke.0 ≡ Verdict Suffixes = sym broke.1 ∙ short in cc))) ended
 
 -- what is next begins where what was begun has ended
 next_after : (opening : Opening) (draft : Draft) → with_next opening (with_next Never draft) ≡ with_next opening draft
 next_after opening draft = search rules
 
-pub next_begun : {told : Bool} {writer mid next : WriterState} {opening : Opening} {old between new : List Slot} {fault : Option Fault} → Goes told writer (with_next Never) old between mid None → mid.current ≡ Skipped
-    → Goes told (paused mid) (with_next opening) between new next fault → Goes told writer (with_next opening) old new next fault
+pub next_begun : {told : Bool} {writer mid next : WriterState} {opening : Opening} {old between new : List Slot}
+    {fault : Option Fault} → Goes told writer (with_next Never) old between mid None → mid.current ≡ Skipped
+    → Goes told (paused mid) (with_next opening) between new next fault
+    → Goes told writer (with_next opening) old new next fault
 next_begun {told} {mid = mid} {next} {opening} {between = between} {new} {fault} ended none start = goes_again (with_next opening) (next_after opening) (λ manner draft. next_begins manner Never draft) ended
     (subst (λ current. Goes told (record mid { current = current }) (with_next opening) between new next fault) (sym none) start)
 
@@ -76,18 +88,25 @@ next_begun {told} {mid = mid} {next} {opening} {between = between} {new} {fault}
 again : (draft : Draft) (a b : List ℕ) → with_bytes b (with_bytes a draft) ≡ with_bytes (a ++ b) draft
 again draft a b = grind (arith, common_steps)
 
-pub goes_more : {told : Bool} {one two three : WriterState} (a b : List ℕ) {old mid new : List Slot} {fault : Option Fault} → Goes told one (with_bytes a) old mid two None → Goes told two (with_bytes b) mid new three fault → Goes told one (with_bytes (a ++ b)) old new three fault
+pub goes_more : {told : Bool} {one two three : WriterState} (a b : List ℕ) {old mid new : List Slot}
+    {fault : Option Fault} → Goes told one (with_bytes a) old mid two None
+    → Goes told two (with_bytes b) mid new three fault → Goes told one (with_bytes (a ++ b)) old new three fault
 goes_more a b first second = search (rules, goes_again, again, bytes_begin)
 
 -- it was stopped among them
-pub stops_among : {told : Bool} {writer next : WriterState} (a b : List ℕ) {old new : List Slot} {fault : Fault} → Goes told writer (with_bytes a) old new next (Some fault) → Goes told writer (with_bytes (a ++ b)) old new next (Some fault)
+pub stops_among : {told : Bool} {writer next : WriterState} (a b : List ℕ) {old new : List Slot} {fault : Fault}
+    → Goes told writer (with_bytes a) old new next (Some fault)
+    → Goes told writer (with_bytes (a ++ b)) old new next (Some fault)
 stops_among a b stopped = goes_wider (with_bytes (a ++ b)) (λ manner draft. subst (λ those. Begins (draft_part manner (with_bytes a draft)) (draft_part manner those)) (again draft a b) (bytes_begin manner b (with_bytes a draft))) (inr (λ draft. (refl, λ makes. subst (λ bytes. made_of draft.opening bytes ≡ bytes ∷ []) (append_assoc draft.bytes a b) (still_made draft.opening (draft.bytes ++ a) b makes)))) stopped
 
-pub goes_as : {told : Bool} {writer next : WriterState} {a b : List ℕ} {old new : List Slot} {fault : Option Fault} → a ≡ b → Goes told writer (with_bytes a) old new next fault → Goes told writer (with_bytes b) old new next fault
+pub goes_as : {told : Bool} {writer next : WriterState} {a b : List ℕ} {old new : List Slot} {fault : Option Fault}
+    → a ≡ b → Goes told writer (with_bytes a) old new next fault → Goes told writer (with_bytes b) old new next fault
 goes_as {told} {writer} {next} {old = old} {new} {fault} is goes = search rules
 
 -- the last call only wants memory
-pub goes_or_lacks : {told : Bool} {writer next : WriterState} {bytes : List ℕ} {old new : List Slot} (result : Result (Unit {0}) Fault) → Goes told writer (with_bytes bytes) old new next None → IfErr result (λ fault. fault ≡ Memory)
+pub goes_or_lacks : {told : Bool} {writer next : WriterState} {bytes : List ℕ} {old new : List Slot}
+    (result : Result (Unit {0}) Fault) → Goes told writer (with_bytes bytes) old new next None
+    → IfErr result (λ fault. fault ≡ Memory)
     → Goes told writer (with_bytes bytes) old new next (fault_in result)
 goes_or_lacks (Ok done) went lacks = went
 goes_or_lacks {told} {writer} {next} {bytes} {old} {new} (Err fault) went lacks = subst (λ why. Goes told writer (with_bytes bytes) old new next (Some why)) (sym lacks) (record {
@@ -97,10 +116,12 @@ goes_or_lacks {told} {writer} {next} {bytes} {old} {new} (Err fault) went lacks 
   writes = tt;
 })
 
-pub goes_lacking : {told : Bool} {writer : WriterState} {bytes : List ℕ} {slots : List Slot} {fault : Fault} → IsReady writer slots → fault ≡ Memory → Goes told writer (with_bytes bytes) slots slots writer (Some fault)
+pub goes_lacking : {told : Bool} {writer : WriterState} {bytes : List ℕ} {slots : List Slot} {fault : Fault}
+    → IsReady writer slots → fault ≡ Memory → Goes told writer (with_bytes bytes) slots slots writer (Some fault)
 goes_lacking {bytes = bytes} {fault = fault} ready lacks = stops_among [] bytes (goes_or_lacks (Err fault) (put_nothing refl ready) lacks)
 
 -- The files are removed.
 
-pub files_left : {writer next : WriterState} {old new : List Slot} → next.keeps ≡ writer.keeps → next.current ≡ writer.current → Removes writer.files old next.files new → KeepsFiles writer next old new
+pub files_left : {writer next : WriterState} {old new : List Slot} → next.keeps ≡ writer.keeps
+    → next.current ≡ writer.current → Removes writer.files old next.files new → KeepsFiles writer next old new
 files_left {writer} {next} {old} {new} same_keeps same removes = search (rules, same_size, left_has, left_there, false≢true, left_apart)

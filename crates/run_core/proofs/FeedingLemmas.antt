@@ -26,8 +26,11 @@ use Rattle.ports_core.specs.Engine as engine
 -- a change of one input
 
 -- why an engine that is live is stopped
-stops : (work : Work) (read : List ℕ) (low high : Part) {needs : Needs} (ended : Bool) (ahead : ℕ) (Lacks : Type 0) (Ends : Verdict → Type 0) {fault : Fault} {taken size : ℕ} {old new : List Slot} → is_verdict fault ≡ false → (2 ^ 63 ≤ taken + size → 2 ^ 63 ≤ length read)
-    → IsCaused (IsMet work.means needs Lacks Ends old new) false taken size old new fault → Stops (record (call_of work needs read low high) { ended = ended; ahead = ahead }) new fault
+stops : (work : Work) (read : List ℕ) (low high : Part) {needs : Needs} (ended : Bool) (ahead : ℕ) (Lacks : Type 0)
+    (Ends : Verdict → Type 0) {fault : Fault} {taken size : ℕ} {old new : List Slot} → is_verdict fault ≡ false
+    → (2 ^ 63 ≤ taken + size → 2 ^ 63 ≤ length read)
+    → IsCaused (IsMet work.means needs Lacks Ends old new) false taken size old new fault
+    → Stops (record (call_of work needs read low high) { ended = ended; ahead = ahead }) new fault
 stops work read low high ended ahead Lacks Ends is long (engine.over is_over kept) = search rules
 stops work read low high ended ahead Lacks Ends is long (engine.long live many kept) = long many
 stops work read low high {needs} ended ahead Lacks Ends {fault} {old} {new} is long (engine.met _ live why) = grind (arith, common_steps)
@@ -37,15 +40,25 @@ abbrev pub OfVerdict : Fault → (Verdict → Type 0) → Type 0
 OfVerdict fault P = (verdict : Verdict) × (fault ≡ fault_is.Verdict verdict) × P verdict
 
 -- a verdict comes only where the work ends so
-pub judges : (means : Means) {needs : Needs} (Lacks : Type 0) (Ends : Verdict → Type 0) {fault : Fault} {over : Bool} {taken size : ℕ} {old new : List Slot} → is_verdict fault ≡ true → IsCaused (IsMet means needs Lacks Ends old new) over taken size old new fault → OfVerdict fault Ends
+pub judges : (means : Means) {needs : Needs} (Lacks : Type 0) (Ends : Verdict → Type 0) {fault : Fault} {over : Bool}
+    {taken size : ℕ} {old new : List Slot} → is_verdict fault ≡ true
+    → IsCaused (IsMet means needs Lacks Ends old new) over taken size old new fault → OfVerdict fault Ends
 judges means Lacks Ends is (engine.met (fault_is.Verdict verdict) live why) = (verdict, refl, why)
 judges means Lacks Ends is caused = absurd (false≢true is)
 
 -- what a fault left within an input, and what was made of its files then
-short_of_piece : {told : Bool} {opening : Needs} {most : ℕ} {work : Work} {content : Content} (WasRead : Step → Type 0) {x : List ℕ} (piece rest : List ℕ) {reached new before : List Slot} {fault : Fault} → IsLawful work → content.bytes ≡ (x ++ piece) ++ rest → length piece ≤ most → work.is_complete x ≡ false → WasRead (call_of work work.means.feeding (x ++ piece) (work.settled x) (work.settled (x ++ piece)))
+short_of_piece : {told : Bool} {opening : Needs} {most : ℕ} {work : Work} {content : Content} (WasRead : Step → Type 0)
+    {x : List ℕ} (piece rest : List ℕ) {reached new before : List Slot} {fault : Fault} → IsLawful work
+    → content.bytes ≡ (x ++ piece) ++ rest → length piece ≤ most → work.is_complete x ≡ false
+    → WasRead (call_of work work.means.feeding (x ++ piece) (work.settled x) (work.settled (x ++ piece)))
     → Ended work.means.output told before (work.settled x) (work.settled (x ++ piece)) work.clears fault reached
-    → (is_verdict fault ≡ false → Stops (call_of work work.means.feeding (x ++ piece) (work.settled x) (work.settled (x ++ piece))) reached fault) → (is_verdict fault ≡ true → OfVerdict fault (IsSettled work (x ++ piece)))
-    → (is_verdict fault ≡ true → new ≡ reached) → (is_verdict fault ≡ false → Swept work.clears (length before) reached new) → FedAs told before work opening most content WasRead new (Err fault)
+    → (is_verdict fault ≡ false
+    → Stops
+    (call_of work work.means.feeding (x ++ piece) (work.settled x) (work.settled (x ++ piece))) reached fault)
+    → (is_verdict fault ≡ true → OfVerdict fault (IsSettled work (x ++ piece)))
+    → (is_verdict fault ≡ true → new ≡ reached)
+    → (is_verdict fault ≡ false → Swept work.clears (length before) reached new)
+    → FedAs told before work opening most content WasRead new (Err fault)
 short_of_piece WasRead {x} piece rest {reached} {fault} lawful is within going read (engine.cut unjudged stop) why settles kept swept =
     stopped fault unjudged _ (feeds x piece rest is within going) read reached (why unjudged) stop (swept unjudged)
 short_of_piece {work} WasRead {x} piece rest {fault} lawful is within going read (engine.judged judging first at cleared) why settles kept swept =
@@ -76,33 +89,45 @@ pub alike_itself : {work : Work} {x : List ℕ} → MadeAlike work x x
 alike_itself = grind (arith, common_steps)
 
 -- what comes once the output is complete changes nothing
-pub alike_after : {work : Work} {x y : List ℕ} (rest : List ℕ) → IsLawful work → work.is_complete x ≡ true → y ≡ x ++ rest → MadeAlike work y x
+pub alike_after : {work : Work} {x y : List ℕ} (rest : List ℕ) → IsLawful work → work.is_complete x ≡ true
+    → y ≡ x ++ rest → MadeAlike work y x
 alike_after {work} {x} rest lawful done is =
     let here : IsComplete work x [] = lawful.stays x [] done in
     let there : IsComplete work x rest = lawful.stays x rest done in
     rw is (record { settled = there.settled_stays; whole = there.whole_stays ∙ sym here.whole_stays ∙ ap work.whole (append-nil x); verdict = there.verdict_stays })
 
-got_alike : {work : Work} (content : Content) {x : List ℕ} (fed : Fed) → IsLawful work → HasGot work content x fed → MadeAlike work content.bytes x
+got_alike : {work : Work} (content : Content) {x : List ℕ} (fed : Fed) → IsLawful work → HasGot work content x fed
+    → MadeAlike work content.bytes x
 got_alike content Whole lawful got = rw got.2 alike_itself
 got_alike content Enough lawful got = alike_after got.1.0 lawful got.0 got.1.1
 got_alike content Broken lawful got = absurd got
 
-got_enough : {work : Work} (content : Content) (x : List ℕ) (fed : Fed) → IsLawful work → HasGot work content x fed → is_enough work content ≡ true
+got_enough : {work : Work} (content : Content) (x : List ℕ) (fed : Fed) → IsLawful work → HasGot work content x fed
+    → is_enough work content ≡ true
 got_enough content x Whole lawful got = cc
 got_enough {work} content x Enough lawful got = grind (arith, common_steps)
 got_enough content x Broken lawful got = absurd got
 
-fed_all : {told : Bool} {opening : Needs} {most : ℕ} {work : Work} {content : Content} (WasRead : Step → Type 0) {x : List ℕ} {new before : List Slot} (fed : Fed) → IsLawful work → HasGot work content x fed → work.verdict x ≡ None → OutputsAt told before (work.whole x) new → FedAs told before work opening most content WasRead new (Ok fed)
+fed_all : {told : Bool} {opening : Needs} {most : ℕ} {work : Work} {content : Content} (WasRead : Step → Type 0)
+    {x : List ℕ} {new before : List Slot} (fed : Fed) → IsLawful work → HasGot work content x fed
+    → work.verdict x ≡ None → OutputsAt told before (work.whole x) new
+    → FedAs told before work opening most content WasRead new (Ok fed)
 fed_all WasRead Whole lawful got well at = whole got.0 (rw got.2 got.1) (rw got.2 well) (rw got.2 at)
 fed_all {work} WasRead {x} Enough lawful got well at =
     let alike = alike_after got.1.0 lawful got.0 got.1.1 in had_enough (ap work.is_complete got.1.1 ∙ (lawful.stays x got.1.0 got.0).still) (alike.verdict ∙ well) (rw alike.whole at)
 fed_all WasRead Broken lawful got well at = absurd got
 
 -- What a fault left at the end, and what was made of its files then. The engine was fed x, of which z was used.
-short_of_end : {told : Bool} {opening : Needs} {most : ℕ} {work : Work} {content : Content} (WasRead : Step → Type 0) {x z : List ℕ} {reached new before : List Slot} (fed : Fed) {fault : Fault} → IsLawful work → HasGot work content x fed → HasAll work content z → MadeAlike work x z → IsNeeded work.is_complete most z → WasRead (close_of work z)
+short_of_end : {told : Bool} {opening : Needs} {most : ℕ} {work : Work} {content : Content} (WasRead : Step → Type 0)
+    {x z : List ℕ} {reached new before : List Slot} (fed : Fed) {fault : Fault} → IsLawful work
+    → HasGot work content x fed → HasAll work content z → MadeAlike work x z → IsNeeded work.is_complete most z
+    → WasRead (close_of work z)
     → Ended work.means.output told before (work.settled x) (work.whole x) work.clears fault reached
-    → (is_verdict fault ≡ false → Stops (close_of work z) reached fault) → (is_verdict fault ≡ true → OfVerdict fault (Judges work x))
-    → (is_verdict fault ≡ true → new ≡ reached) → (is_verdict fault ≡ false → Swept work.clears (length before) reached new) → FedAs told before work opening most content WasRead new (Err fault)
+    → (is_verdict fault ≡ false → Stops (close_of work z) reached fault)
+    → (is_verdict fault ≡ true → OfVerdict fault (Judges work x))
+    → (is_verdict fault ≡ true → new ≡ reached)
+    → (is_verdict fault ≡ false → Swept work.clears (length before) reached new)
+    → FedAs told before work opening most content WasRead new (Err fault)
 short_of_end {content} WasRead {z} {reached} fed {fault} lawful got all alike needed read (engine.cut unjudged stop) why verdict kept swept =
     stopped fault unjudged _ (closes z all needed) read reached (why unjudged)
     (rw alike.settled at (rw alike.whole at stop))
@@ -117,14 +142,21 @@ module _ {S : Type 0} (terms : Terms S) where
     pub same : terms.work now.stage ≡ terms.work start.stage
     pub holds : HoldsIn terms.Holds now x
     pub owns : KeepsOwn terms start.stage now.stage old slots
-    pub outputs : (before : List Slot) → terms.Owns start.stage (length before) old → OutputsAt told before ((terms.work start.stage).settled []) old → OutputsAt told before ((terms.work now.stage).settled x) slots
+    pub outputs : (before : List Slot) → terms.Owns start.stage (length before) old
+        → OutputsAt told before ((terms.work start.stage).settled []) old
+        → OutputsAt told before ((terms.work now.stage).settled x) slots
     pub bound : now.fed < 2 ^ 63
 
   -- the engine and its outputs stand at what it was fed
-  pub stands : (told : Bool) {start now : GuardState S} {x : List ℕ} {old mid before : List Slot} → Feeds told start now x old mid → terms.Owns start.stage (length before) old → OutputsAt told before ((terms.work start.stage).settled []) old → StandsAt terms now.stage told before x mid
+  pub stands : (told : Bool) {start now : GuardState S} {x : List ℕ} {old mid before : List Slot}
+      → Feeds told start now x old mid → terms.Owns start.stage (length before) old
+      → OutputsAt told before ((terms.work start.stage).settled []) old → StandsAt terms now.stage told before x mid
   stands told {before} so_far own at = record { holds = so_far.holds.within; owns = so_far.owns (length before) own; outputs = so_far.outputs before own at }
 
-  pub goes_on : (told : Bool) {start now next : GuardState S} {x : List ℕ} (piece : List ℕ) {old mid new : List Slot} {Met : List Slot → List Slot → Fault → Type 0} → Feeds told start now x old mid → Passes terms told piece now.stage next.stage mid new Met (Ok tt) → TakesIn (HoldsIn terms.Holds) piece now next → next.fed < 2 ^ 63 → Feeds told start next (x ++ piece) old new
+  pub goes_on : (told : Bool) {start now next : GuardState S} {x : List ℕ} (piece : List ℕ) {old mid new : List Slot}
+      {Met : List Slot → List Slot → Fault → Type 0} → Feeds told start now x old mid
+      → Passes terms told piece now.stage next.stage mid new Met (Ok tt) → TakesIn (HoldsIn terms.Holds) piece now next
+      → next.fed < 2 ^ 63 → Feeds told start next (x ++ piece) old new
   goes_on told {x} piece so_far passes takes bound = record {
     same = passes.same ∙ so_far.same;
     holds = takes x so_far.holds;
@@ -134,9 +166,16 @@ module _ {S : Type 0} (terms : Terms S) where
   }
 
   -- the loop ended at a fault of the engine, within the input
-  pub stopped_feeding : (laws : (s : S) → IsLawful (terms.work s)) (told : Bool) {opening : Needs} {most : ℕ} {start now : GuardState S} (next : GuardState S) {content : Content} (WasRead : Step → Type 0) {x : List ℕ} (piece rest : List ℕ) {old mid reached new before : List Slot} {fault : Fault} → Feeds told start now x old mid → terms.Owns start.stage (length before) old → OutputsAt told before ((terms.work start.stage).settled []) old
-      → content.bytes ≡ (x ++ piece) ++ rest → length piece ≤ most → (terms.work now.stage).is_complete x ≡ false → WasRead (call_of (terms.work now.stage) (terms.work now.stage).means.feeding (x ++ piece) ((terms.work now.stage).settled x) ((terms.work now.stage).settled (x ++ piece)))
-      → Passes terms told piece now.stage next.stage mid reached (IsRefusedWith terms piece now) (Err fault) → (is_verdict fault ≡ true → new ≡ reached) → (is_verdict fault ≡ false → Clears terms next.stage reached new)
+  pub stopped_feeding : (laws : (s : S) → IsLawful (terms.work s)) (told : Bool) {opening : Needs} {most : ℕ}
+      {start now : GuardState S} (next : GuardState S) {content : Content} (WasRead : Step → Type 0) {x : List ℕ}
+      (piece rest : List ℕ) {old mid reached new before : List Slot} {fault : Fault} → Feeds told start now x old mid
+      → terms.Owns start.stage (length before) old → OutputsAt told before ((terms.work start.stage).settled []) old
+      → content.bytes ≡ (x ++ piece) ++ rest → length piece ≤ most → (terms.work now.stage).is_complete x ≡ false
+      → WasRead
+      (call_of (terms.work now.stage) (terms.work now.stage).means.feeding (x ++ piece)
+      ((terms.work now.stage).settled x) ((terms.work now.stage).settled (x ++ piece)))
+      → Passes terms told piece now.stage next.stage mid reached (IsRefusedWith terms piece now) (Err fault)
+      → (is_verdict fault ≡ true → new ≡ reached) → (is_verdict fault ≡ false → Clears terms next.stage reached new)
       → FedAs told before (terms.work start.stage) opening most content WasRead new (Err fault)
   stopped_feeding laws told {now = now} next WasRead {x} piece rest {before = before} so_far own at is within going read passes kept cleared =
       let why = rw so_far.holds.count at (rw so_far.holds.live at passes.met) in
@@ -147,8 +186,15 @@ module _ {S : Type 0} (terms : Terms S) where
       (λ unjudged. rw passes.same at (cleared unjudged (length before) (passes.owns (length before) (so_far.owns (length before) own)))))
 
   -- the loop ended with the input, or where nothing more can follow
-  pub ended : (laws : (s : S) → IsLawful (terms.work s)) (told : Bool) {opening : Needs} {most : ℕ} {start now : GuardState S} {content : Content} (WasRead : Step → Type 0) {x z : List ℕ} {old mid new before : List Slot} {fed : Fed} {result : Result Fed Fault} → Feeds told start now x old mid → terms.Owns start.stage (length before) old → OutputsAt told before ((terms.work start.stage).settled []) old → HasGot (terms.work now.stage) content x fed → HasAll (terms.work now.stage) content z → MadeAlike (terms.work now.stage) x z → IsNeeded (terms.work now.stage).is_complete most z → WasRead (close_of (terms.work now.stage) z)
-      → EndsSo terms told now fed mid new result → FedAs told before (terms.work start.stage) opening most content WasRead new result
+  pub ended : (laws : (s : S) → IsLawful (terms.work s)) (told : Bool) {opening : Needs} {most : ℕ}
+      {start now : GuardState S} {content : Content} (WasRead : Step → Type 0) {x z : List ℕ}
+      {old mid new before : List Slot} {fed : Fed} {result : Result Fed Fault} → Feeds told start now x old mid
+      → terms.Owns start.stage (length before) old → OutputsAt told before ((terms.work start.stage).settled []) old
+      → HasGot (terms.work now.stage) content x fed → HasAll (terms.work now.stage) content z
+      → MadeAlike (terms.work now.stage) x z → IsNeeded (terms.work now.stage).is_complete most z
+      → WasRead (close_of (terms.work now.stage) z)
+      → EndsSo terms told now fed mid new result
+      → FedAs told before (terms.work start.stage) opening most content WasRead new result
   ended laws told {now} WasRead {x} {before} {fed} so_far own at got all alike needed read (finished next finishes) =
       rw (← so_far.same) (fed_all WasRead fed (laws now.stage) got (finishes.well x so_far.holds.within) (finishes.outputs before x (stands told so_far own at)))
   ended laws told {now} WasRead {x} {z} {before} {fed} so_far own at got all alike needed read (fell_short fault next reached finishes kept cleared) =
@@ -159,13 +205,19 @@ module _ {S : Type 0} (terms : Terms S) where
       kept (λ unjudged. rw finishes.same at (cleared unjudged (length before) (finishes.owns (length before) (so_far.owns (length before) own)))))
 
   -- an input without bytes: the engine is closed at once
-  pub closed_at_start : (laws : (s : S) → IsLawful (terms.work s)) (told : Bool) {opening : Needs} {most : ℕ} {start : GuardState S} {old new before : List Slot} {fed : Fed} {result : Result Fed Fault} → HoldsIn terms.Holds start [] → start.fed < 2 ^ 63 → terms.Owns start.stage (length before) old → OutputsAt told before ((terms.work start.stage).settled []) old → HasGot (terms.work start.stage) empty [] fed
-      → EndsSo terms told start fed old new result → FedAs told before (terms.work start.stage) opening most empty (λ call. Unit {0}) new result
+  pub closed_at_start : (laws : (s : S) → IsLawful (terms.work s)) (told : Bool) {opening : Needs} {most : ℕ}
+      {start : GuardState S} {old new before : List Slot} {fed : Fed} {result : Result Fed Fault}
+      → HoldsIn terms.Holds start [] → start.fed < 2 ^ 63 → terms.Owns start.stage (length before) old
+      → OutputsAt told before ((terms.work start.stage).settled []) old → HasGot (terms.work start.stage) empty [] fed
+      → EndsSo terms told start fed old new result
+      → FedAs told before (terms.work start.stage) opening most empty (λ call. Unit {0}) new result
   closed_at_start laws told {start} {fed} holds bound own at got ends =
       ended laws told {start = start} (λ call. Unit {0}) (record { same = refl; holds = holds; owns = λ first own. own; outputs = λ before own at. at; bound = bound }) own at got (got_all fed got) (alike_itself) (inl refl) tt ends
 
   -- an input that ended, or was enough, didn't break off
-  pub ends_sound : (told : Bool) {engine : GuardState S} {fed : Fed} {old new : List Slot} {result : Result Fed Fault} (P : Type 0) → (fed ≡ Whole) ⊎ (fed ≡ Enough) → EndsSo terms told engine fed old new result → IfOk result (λ found. found ≡ Broken → P)
+  pub ends_sound : (told : Bool) {engine : GuardState S} {fed : Fed} {old new : List Slot} {result : Result Fed Fault}
+      (P : Type 0) → (fed ≡ Whole) ⊎ (fed ≡ Enough) → EndsSo terms told engine fed old new result
+      → IfOk result (λ found. found ≡ Broken → P)
   ends_sound told P sound (finished next finishes) = λ is. absurd (elim sound [ inl one ↦ cc | inr other ↦ cc ])
   ends_sound told P sound (fell_short fault next reached finishes kept cleared) = tt
 
@@ -174,31 +226,44 @@ module _ {S : Type 0} (terms : Terms S) where
 pub piece_within : {n most : ℕ} (buffer : List ℕ) → n ≤ most → length (take n buffer) ≤ most
 piece_within {n} buffer within = omega (arith, length-take n buffer)
 
-pub needed_more : {is_complete : List ℕ → Bool} {most n : ℕ} (x buffer : List ℕ) → is_complete x ≡ false → n ≤ most → IsNeeded is_complete most (x ++ take n buffer)
+pub needed_more : {is_complete : List ℕ → Bool} {most n : ℕ} (x buffer : List ℕ) → is_complete x ≡ false → n ≤ most
+    → IsNeeded is_complete most (x ++ take n buffer)
 needed_more {n} x buffer going within = grind (arith, common_steps)
 
 -- the input that is there, where it tells its bytes, and else one that has what was read of it
 
-pub of_read : (told : Bool) (there : Content) (bytes : List ℕ) (breaks_off : Bool) (source : Source) (P : Content → Type 0) → (told ≡ true → (there.bytes ≡ bytes) × (there.breaks_off ≡ breaks_off)) → ((content : Content) → (told ≡ false → content.breaks_off ≡ breaks_off) → CameFrom told content source)
-    → ((content : Content) → (told ≡ true → content.bytes ≡ there.bytes) → content.bytes ≡ bytes → content.breaks_off ≡ breaks_off → CameFrom told content source → P content) → OfContent told there (λ content. P content × CameFrom told content source)
+pub of_read : (told : Bool) (there : Content) (bytes : List ℕ) (breaks_off : Bool) (source : Source)
+    (P : Content → Type 0) → (told ≡ true → (there.bytes ≡ bytes) × (there.breaks_off ≡ breaks_off))
+    → ((content : Content) → (told ≡ false → content.breaks_off ≡ breaks_off) → CameFrom told content source)
+    → ((content : Content) → (told ≡ true → content.bytes ≡ there.bytes) → content.bytes ≡ bytes
+    → content.breaks_off ≡ breaks_off → CameFrom told content source → P content)
+    → OfContent told there (λ content. P content × CameFrom told content source)
 of_read true there bytes breaks_off source P all came holds =
     let from = came there (λ off. absurd (false≢true (sym off))) in (there, λ t. refl, (holds there (λ t. refl) (all refl).0 (all refl).1 from, from))
 of_read false there bytes breaks_off source P all came holds =
     let from = came (record { bytes = bytes; breaks_off = breaks_off; shown = None }) (λ off. refl) in (record { bytes = bytes; breaks_off = breaks_off; shown = None }, λ t. absurd (false≢true t), (holds _ (λ t. absurd (false≢true t)) refl refl from, from))
 
-pub of_more : (told : Bool) (there : Content) (x rest : List ℕ) (source : Source) (P : Content → Type 0) → (told ≡ true → there.bytes ≡ x ++ rest) → ((content : Content) → (told ≡ false → content.breaks_off ≡ false) → CameFrom told content source)
-    → ((content : Content) → (told ≡ true → content.bytes ≡ there.bytes) → (rest : List ℕ) → content.bytes ≡ x ++ rest → CameFrom told content source → P content) → OfContent told there (λ content. P content × CameFrom told content source)
+pub of_more : (told : Bool) (there : Content) (x rest : List ℕ) (source : Source) (P : Content → Type 0)
+    → (told ≡ true → there.bytes ≡ x ++ rest)
+    → ((content : Content) → (told ≡ false → content.breaks_off ≡ false) → CameFrom told content source)
+    → ((content : Content) → (told ≡ true → content.bytes ≡ there.bytes) → (rest : List ℕ) → content.bytes ≡ x ++ rest
+    → CameFrom told content source → P content)
+    → OfContent told there (λ content. P content × CameFrom told content source)
 of_more true there x rest source P all came holds =
     let from = came there (λ off. absurd (false≢true (sym off))) in (there, λ t. refl, (holds there (λ t. refl) rest (all refl) from, from))
 of_more false there x rest source P all came holds =
     let from = came (unshown x) (λ off. refl) in (unshown x, λ t. absurd (false≢true t), (holds _ (λ t. absurd (false≢true t)) [] (sym (append-nil x)) from, from))
 
 -- where the output was complete, no end had to be told
-pub told_by_complete : {work : Work} (content : Content) (source : Source) {x : List ℕ} (rest : List ℕ) → IsLawful work → work.is_complete x ≡ true → content.bytes ≡ x ++ rest → ToldEnd work content source
+pub told_by_complete : {work : Work} (content : Content) (source : Source) {x : List ℕ} (rest : List ℕ) → IsLawful work
+    → work.is_complete x ≡ true → content.bytes ≡ x ++ rest → ToldEnd work content source
 told_by_complete {work} content source {x} rest lawful complete is ends going = absurd (false≢true (sym going ∙ ap work.is_complete is ∙ (lawful.stays x rest complete).still))
 
 -- what is known of the call that a fault stopped
-pub fed_so : {told : Bool} {before : List Slot} {work : Work} {opening : Needs} {most : ℕ} {content : Content} {A B : Step → Type 0} {new : List Slot} {result : Result Fed Fault} → ((call : Step) → A call → B call) → FedAs told before work opening most content A new result → FedAs told before work opening most content B new result
+pub fed_so : {told : Bool} {before : List Slot} {work : Work} {opening : Needs} {most : ℕ} {content : Content}
+    {A B : Step → Type 0} {new : List Slot} {result : Result Fed Fault} → ((call : Step) → A call → B call)
+    → FedAs told before work opening most content A new result
+    → FedAs told before work opening most content B new result
 fed_so more (whole sound going well at) = whole sound going well at
 fed_so more (had_enough complete well at) = had_enough complete well at
 fed_so more (broke_off breaks going reached at swept) = broke_off breaks going reached at swept
@@ -207,7 +272,8 @@ fed_so more (stopped fault is call is_call read reached why stop swept) = stoppe
 
 -- an engine that took in a front of its input without a read: the loop that feeds it goes on from there
 
-pub needed_front : {is_complete : List ℕ → Bool} {most : ℕ} {x : List ℕ} → (x ≡ []) ⊎ (is_complete x ≡ false) → IsNeeded is_complete most x
+pub needed_front : {is_complete : List ℕ → Bool} {most : ℕ} {x : List ℕ} → (x ≡ []) ⊎ (is_complete x ≡ false)
+    → IsNeeded is_complete most x
 needed_front (inl none) = inl none
 needed_front {x} (inr going) = grind (arith, common_steps)
 
@@ -218,21 +284,31 @@ pub record HasTaken (x : List ℕ) (slot : ℕ) (start sources : List Source) : 
   pub taken : (source_at sources slot).taken ≡ (source_at start slot).taken ++ x
   pub far : IsUnread (source_at start slot) → (source_at sources slot).reached ≤ length x
 
-taken_next : {x buffer old_buffer : List ℕ} {slot : ℕ} (size : ℕ) {n : ℕ} {start sources new : List Source} → HasTaken x slot start sources → IsTrue (is_readable sources slot) → Gave (source_at sources slot).left old_buffer buffer n → new ≡ changed_at slot (gives size n) sources → with_next n (source_at sources slot) ≡ (source_at start slot).taken ++ (x ++ take n buffer)
+taken_next : {x buffer old_buffer : List ℕ} {slot : ℕ} (size : ℕ) {n : ℕ} {start sources new : List Source}
+    → HasTaken x slot start sources → IsTrue (is_readable sources slot)
+    → Gave (source_at sources slot).left old_buffer buffer n → new ≡ changed_at slot (gives size n) sources
+    → with_next n (source_at sources slot) ≡ (source_at start slot).taken ++ (x ++ take n buffer)
 taken_next {x} {slot} size {n} {start} {sources} took can gave is = grind (arith, common_steps)
 
-pub takes_more : {x buffer old_buffer : List ℕ} {slot : ℕ} (size : ℕ) {n : ℕ} {start sources new : List Source} → HasTaken x slot start sources → IsTrue (is_readable sources slot) → Gave (source_at sources slot).left old_buffer buffer n → new ≡ changed_at slot (gives size n) sources → HasTaken (x ++ take n buffer) slot start new
+pub takes_more : {x buffer old_buffer : List ℕ} {slot : ℕ} (size : ℕ) {n : ℕ} {start sources new : List Source}
+    → HasTaken x slot start sources → IsTrue (is_readable sources slot)
+    → Gave (source_at sources slot).left old_buffer buffer n → new ≡ changed_at slot (gives size n) sources
+    → HasTaken (x ++ take n buffer) slot start new
 takes_more {x} {buffer} {slot} size {n} {start} {sources} {new} took can gave is = grind (arith, common_steps, taken_next, changed_source)
 
 -- what is spare was given back
 
-back_at : {taken : List ℕ} (start used : List ℕ) {rest : List ℕ} {n : ℕ} → taken ≡ start ++ (used ++ rest) → length rest ≡ n → drop (length taken - n) taken ≡ rest
+back_at : {taken : List ℕ} (start used : List ℕ) {rest : List ℕ} {n : ℕ} → taken ≡ start ++ (used ++ rest)
+    → length rest ≡ n → drop (length taken - n) taken ≡ rest
 back_at {taken} start used {rest} {n} is long =
     let all : taken ≡ (start ++ used) ++ rest = is ∙ sym (append_assoc start used rest) in
     let at : length taken - n ≡ length (start ++ used) = omega (arith, ap length all ∙ length-append (start ++ used) rest, long) in
     ap (λ k. drop k taken) at ∙ ap (drop (length (start ++ used))) all ∙ drop_at (start ++ used) rest (length (start ++ used)) refl
 
-pub read_used : {work : Work} {content : Content} {x : List ℕ} {slot n : ℕ} {start sources new : List Source} (spare : IsSpare work x n) → HasRead content x slot sources → HasTaken x slot start sources → IsTrue (is_readable sources slot) → new ≡ changed_at slot (gets_back n) sources → content.bytes ≡ spare.used ++ (source_at new slot).left.bytes
+pub read_used : {work : Work} {content : Content} {x : List ℕ} {slot n : ℕ} {start sources new : List Source}
+    (spare : IsSpare work x n) → HasRead content x slot sources → HasTaken x slot start sources
+    → IsTrue (is_readable sources slot) → new ≡ changed_at slot (gets_back n) sources
+    → content.bytes ≡ spare.used ++ (source_at new slot).left.bytes
 read_used {slot} {n} {start} {sources} {new} spare read took can is = rw (
   read.bytes,
   spare.joined,
@@ -242,27 +318,38 @@ read_used {slot} {n} {start} {sources} {new} spare read took can is = rw (
 )
 
 -- one byte at the most is a piece
-pub needed_within : {is_complete : List ℕ → Bool} {most : ℕ} {x : List ℕ} → 0 < most → IsNeeded is_complete 1 x → IsNeeded is_complete most x
+pub needed_within : {is_complete : List ℕ → Bool} {most : ℕ} {x : List ℕ} → 0 < most → IsNeeded is_complete 1 x
+    → IsNeeded is_complete most x
 needed_within room (inl none) = inl none
 needed_within room (inr (before, piece, is, few, going)) = grind (arith, common_steps)
 
 -- what a run leaves of an input
 
 -- all of it was read, and the output was not complete
-pub uses_all : {work : Work} {most slot : ℕ} {there : Content} {x : List ℕ} {source : Source} → there.bytes ≡ x ++ source.left.bytes → source.left.bytes ≡ [] → IsNeeded work.is_complete most x → work.is_complete x ≡ false → source.reached ≤ length x → Uses work most slot there source
+pub uses_all : {work : Work} {most slot : ℕ} {there : Content} {x : List ℕ} {source : Source}
+    → there.bytes ≡ x ++ source.left.bytes → source.left.bytes ≡ [] → IsNeeded work.is_complete most x
+    → work.is_complete x ≡ false → source.reached ≤ length x → Uses work most slot there source
 uses_all {x} joined none needed going few = grind (arith, common_steps)
 
 -- the work ended with a verdict within it
-pub uses_judged : {work : Work} {most slot : ℕ} {there : Content} {x : List ℕ} {source : Source} {verdict : Verdict} → there.bytes ≡ x ++ source.left.bytes → IsNeeded work.is_complete most x → IsSettled work x verdict → source.reached ≤ length x → Uses work most slot there source
+pub uses_judged : {work : Work} {most slot : ℕ} {there : Content} {x : List ℕ} {source : Source} {verdict : Verdict}
+    → there.bytes ≡ x ++ source.left.bytes → IsNeeded work.is_complete most x → IsSettled work x verdict
+    → source.reached ≤ length x → Uses work most slot there source
 uses_judged {x} joined needed settled few = grind (arith, common_steps)
 
 -- what was given back is no more than may be
-pub read_to_used : {work : Work} {x : List ℕ} {slot n : ℕ} {start sources new : List Source} (spare : IsSpare work x n) → (slot ≡ 0 → n ≤ work.ahead) → HasTaken x slot start sources → IsUnread (source_at start slot) → IsTrue (is_readable sources slot) → new ≡ changed_at slot (gets_back n) sources → slot ≡ 0 → (source_at new slot).reached ≤ length spare.used + work.ahead
+pub read_to_used : {work : Work} {x : List ℕ} {slot n : ℕ} {start sources new : List Source} (spare : IsSpare work x n)
+    → (slot ≡ 0 → n ≤ work.ahead) → HasTaken x slot start sources → IsUnread (source_at start slot)
+    → IsTrue (is_readable sources slot) → new ≡ changed_at slot (gets_back n) sources → slot ≡ 0
+    → (source_at new slot).reached ≤ length spare.used + work.ahead
 read_to_used {slot} {n} {sources} {new} spare few took unread can is standard =
     omega (arith, few standard, took.far unread, ap length spare.joined ∙ length-append spare.used spare.rest, spare.long, ap (λ (source : Source). source.reached) (changed_source slot (gets_back n) sources new can is))
 
 -- the output was complete, and what it doesn't use was given back
-pub uses_part : {work : Work} {most slot n : ℕ} {there : Content} {x : List ℕ} {start sources new : List Source} (spare : IsSpare work x n) → there.bytes ≡ spare.used ++ (source_at new slot).left.bytes → 0 < most → work.is_complete spare.used ≡ true → (slot ≡ 0 → n ≤ work.ahead) → HasTaken x slot start sources → IsUnread (source_at start slot) → IsTrue (is_readable sources slot) → new ≡ changed_at slot (gets_back n) sources
+pub uses_part : {work : Work} {most slot n : ℕ} {there : Content} {x : List ℕ} {start sources new : List Source}
+    (spare : IsSpare work x n) → there.bytes ≡ spare.used ++ (source_at new slot).left.bytes → 0 < most
+    → work.is_complete spare.used ≡ true → (slot ≡ 0 → n ≤ work.ahead) → HasTaken x slot start sources
+    → IsUnread (source_at start slot) → IsTrue (is_readable sources slot) → new ≡ changed_at slot (gets_back n) sources
     → Uses work most slot there (source_at new slot)
 uses_part spare joined room complete few took unread can is = record {
   read = spare.used;

@@ -40,14 +40,17 @@ use Rattle.std.proofs.lemmas.List.Recursion.{and_push}
 
 -- one input more
 
-pub last_source : (sources : List Source) {source : Source} → source_at (sources ++ source ∷ []) (length sources) ≡ source
+pub last_source : (sources : List Source) {source : Source}
+    → source_at (sources ++ source ∷ []) (length sources) ≡ source
 last_source sources {source} = grind (arith, common_steps)
 
 -- what is left of the input of a source
 
 -- an input of which nothing was read, before a step that needs none of it
 
-left_unread : (told : Bool) {content : Content} (slot : ℕ) (sources : List Source) → IsTrue (is_readable sources slot) → IsUnread (source_at sources slot) → (told ≡ true → content.bytes ≡ (source_at sources slot).left.bytes) → (told ≡ false → content.breaks_off ≡ false)
+left_unread : (told : Bool) {content : Content} (slot : ℕ) (sources : List Source) → IsTrue (is_readable sources slot)
+    → IsUnread (source_at sources slot) → (told ≡ true → content.bytes ≡ (source_at sources slot).left.bytes)
+    → (told ≡ false → content.breaks_off ≡ false)
     → (step : Step) → step.read ≡ [] → step.ended ≡ false → Leaves told content (Some slot) sources step
 left_unread told slot sources can unread there sound step none going = (
   record {
@@ -59,8 +62,12 @@ left_unread told slot sources can unread there sound step none going = (
   λ t standard. omega (arith, unread.1),
 )
 
-pub unread_source : (told : Bool) (source : Option ℕ) (sources : List Source) (Q : Content → Type 0) → IfSome source (λ slot. IsTrue (is_readable sources slot)) → IfSome source (λ slot. IsUnread (source_at sources slot))
-    → ((content : Content) → ((step : Step) → step.read ≡ [] → step.ended ≡ false → Leaves told content source sources step) → Q content) → OfSource told source sources Q
+pub unread_source : (told : Bool) (source : Option ℕ) (sources : List Source) (Q : Content → Type 0)
+    → IfSome source (λ slot. IsTrue (is_readable sources slot))
+    → IfSome source (λ slot. IsUnread (source_at sources slot))
+    → ((content : Content)
+    → ((step : Step) → step.read ≡ [] → step.ended ≡ false → Leaves told content source sources step) → Q content)
+    → OfSource told source sources Q
 unread_source told None sources Q can unread holds = holds empty (λ step none going. tt)
 unread_source true (Some slot) sources Q can unread holds =
     ((source_at sources slot).left, λ t. refl, holds (source_at sources slot).left (left_unread true slot sources can unread (λ t. refl) (λ off. absurd (false≢true (sym off)))))
@@ -69,30 +76,40 @@ unread_source false (Some slot) sources Q can unread holds =
 
 -- a source that was looked at is as it was, but for what was asked of it
 
-pub of_looked : (told : Bool) (most : ℕ) (source : Option ℕ) (old new : List Source) (Q : Content → Type 0) → OnlyLooked most source old new → OfSource told source new Q → OfSource told source old Q
+pub of_looked : (told : Bool) (most : ℕ) (source : Option ℕ) (old new : List Source) (Q : Content → Type 0)
+    → OnlyLooked most source old new → OfSource told source new Q → OfSource told source old Q
 of_looked told most None old new Q same holds = holds
 of_looked told most (Some slot) old new Q looked (content, is, holds) = (content, λ t. is t ∙ ap (λ (source : Source). source.left) looked.looked, holds)
 
-pub looked_can : (most : ℕ) (source : Option ℕ) (old new : List Source) → OnlyLooked most source old new → IfSome source (λ slot. IsTrue (is_readable old slot)) → IfSome source (λ slot. IsTrue (is_readable new slot))
+pub looked_can : (most : ℕ) (source : Option ℕ) (old new : List Source) → OnlyLooked most source old new
+    → IfSome source (λ slot. IsTrue (is_readable old slot)) → IfSome source (λ slot. IsTrue (is_readable new slot))
 looked_can most None old new looked can = tt
 looked_can most (Some slot) old new looked can = looked_readable looked can
 
-pub looked_unread : (most : ℕ) (source : Option ℕ) (old new : List Source) → OnlyLooked most source old new → IfSome source (λ slot. IsUnread (source_at old slot)) → IfSome source (λ slot. IsUnread (source_at new slot))
+pub looked_unread : (most : ℕ) (source : Option ℕ) (old new : List Source) → OnlyLooked most source old new
+    → IfSome source (λ slot. IsUnread (source_at old slot)) → IfSome source (λ slot. IsUnread (source_at new slot))
 looked_unread most None old new looked unread = tt
 looked_unread most (Some slot) old new looked unread = (ap (λ (source : Source). source.taken) looked.looked ∙ unread.0, ap (λ (source : Source). source.reached) looked.looked ∙ unread.1)
 
 -- where a source is there, it shows what it shows
-pub shows_something : (told : Bool) (source : Option ℕ) (sources : List Source) → (shown : Option (List ℕ)) × IsShown told source sources shown
+pub shows_something : (told : Bool) (source : Option ℕ) (sources : List Source)
+    → (shown : Option (List ℕ)) × IsShown told source sources shown
 shows_something told None sources = (None, refl)
 shows_something told (Some slot) sources = ((source_at sources slot).left.shown, λ t. refl)
 
 -- an input that could be read is still there
-pub still_within : {source : Option ℕ} {slot : ℕ} {old new : List Source} → source ≡ Some slot → IfSome source (λ slot. IsTrue (is_readable old slot)) → KeepsOthers slot old new → slot < length new
+pub still_within : {source : Option ℕ} {slot : ℕ} {old new : List Source} → source ≡ Some slot
+    → IfSome source (λ slot. IsTrue (is_readable old slot)) → KeepsOthers slot old new → slot < length new
 still_within {slot} {old} is can keeps = grind (arith, common_steps)
 
 -- an input that was fed to an engine, unless a fault stopped it
-pub left_of : {told : Bool} {work : Work} {most slot : ℕ} {there : Content} (sources : List Source) (P Q : Content → Type 0) {stops : Bool} → slot < length sources → ((content : Content) → P content → Q content) → (told ≡ true → stops ≡ false → Uses work most slot there (source_at sources slot))
-    → OfContent told there (λ content. (P content × (stops ≡ false → ToldEnd work content (source_at sources slot))) × CameFrom told content (source_at sources slot)) → OfContent told there (λ content. Q content × (stops ≡ false → IsDone told work most (Some slot) (Some content) sources))
+pub left_of : {told : Bool} {work : Work} {most slot : ℕ} {there : Content} (sources : List Source)
+    (P Q : Content → Type 0) {stops : Bool} → slot < length sources → ((content : Content) → P content → Q content)
+    → (told ≡ true → stops ≡ false → Uses work most slot there (source_at sources slot))
+    → OfContent told there (λ content. (P content × (stops ≡ false → ToldEnd work content (source_at sources slot)))
+    × CameFrom told content (source_at sources slot))
+    → OfContent told there (λ content. Q content
+    × (stops ≡ false → IsDone told work most (Some slot) (Some content) sources))
 left_of sources P Q within more uses (content, is, ((holds, ends), came)) =
     (content, is, (more content holds, λ goes. (within, (λ told. rw (is told) (uses told goes), came, ends goes))))
 
@@ -107,19 +124,25 @@ count_more count (name ∷ names) = let rest : next_slot count name ≤ count_af
 
 -- what taking a name leaves
 
-takes_none : {most : ℕ} {was_read : Bool} {name : List ℕ} {old new : List Source} → new ≡ old → TakesOne most was_read name old new
+takes_none : {most : ℕ} {was_read : Bool} {name : List ℕ} {old new : List Source} → new ≡ old
+    → TakesOne most was_read name old new
 takes_none {most} {name} {old} same = grind (arith, common_steps)
 
-pub takes_file : {told : Bool} {laid : ℕ → List ℕ → Option Content} {most : ℕ} {was_read : Bool} {name : List ℕ} {old mid new : List Source} {slot : ℕ} → is_dash name ≡ false → 0 < length old → Opens told laid old mid name slot → KeepsOthers slot mid new → (AsksAtMost most mid → AsksAtMost most new)
+pub takes_file : {told : Bool} {laid : ℕ → List ℕ → Option Content} {most : ℕ} {was_read : Bool} {name : List ℕ}
+    {old mid new : List Source} {slot : ℕ} → is_dash name ≡ false → 0 < length old → Opens told laid old mid name slot
+    → KeepsOthers slot mid new → (AsksAtMost most mid → AsksAtMost most new)
     → TakesOne most was_read name old new
 takes_file differs some opens keeps asked = grind (arith, common_steps)
 
-pub takes_missing : {told : Bool} {laid : ℕ → List ℕ → Option Content} {most : ℕ} {was_read : Bool} {name : List ℕ} {old new : List Source} {fault : Fault} → is_dash name ≡ false → 0 < length old → OpensNothing told laid old new name fault → TakesOne most was_read name old new
+pub takes_missing : {told : Bool} {laid : ℕ → List ℕ → Option Content} {most : ℕ} {was_read : Bool} {name : List ℕ}
+    {old new : List Source} {fault : Fault} → is_dash name ≡ false → 0 < length old
+    → OpensNothing told laid old new name fault → TakesOne most was_read name old new
 takes_missing {old} {new} differs some (from.broke at number lies is) = grind (arith, common_steps)
 takes_missing differs some (from.no_room is) = takes_none is
 
 -- a file that could not be opened is not open
-pub missing_done : (told : Bool) (work : Work) (most : ℕ) (old : List Source) {new : List Source} → new ≡ old ++ missing ∷ [] → IsDone told work most (Some (length old)) None new
+pub missing_done : (told : Bool) (work : Work) (most : ℕ) (old : List Source) {new : List Source}
+    → new ≡ old ++ missing ∷ [] → IsDone told work most (Some (length old)) None new
 missing_done told work most old is = grind (arith, common_steps)
 
 -- the inputs that were done stay so
@@ -132,43 +155,56 @@ abbrev pub StayDone : Bool → (Option (List ℕ) → Work) → ℕ → Bool →
 StayDone told work most was_read [] sources = Unit {0}
 StayDone told work most was_read (input ∷ inputs) sources = StaysDone told (work input.shown) most was_read input.slot input.content sources × StayDone told work most was_read inputs sources
 
-still_done_at : (told : Bool) (work : Work) (most : ℕ) {room : ℕ} {was_read now_read : Bool} {name : List ℕ} (slot : Option ℕ) (content : Option Content) {old new : List Source} → (was_read ≡ true → now_read ≡ true) → TakesOne room was_read name old new
+still_done_at : (told : Bool) (work : Work) (most : ℕ) {room : ℕ} {was_read now_read : Bool} {name : List ℕ}
+    (slot : Option ℕ) (content : Option Content) {old new : List Source} → (was_read ≡ true → now_read ≡ true)
+    → TakesOne room was_read name old new
     → StaysDone told work most was_read slot content old → StaysDone told work most now_read slot content new
 still_done_at told work most None content reads takes done = tt
 still_done_at told work most {was_read} (Some zero) content {old} {new} reads takes done = grind (arith, common_steps)
 still_done_at told work most (Some (suc slot)) content {old} {new} reads takes done = grind (arith, common_steps)
 
-pub still_done : (told : Bool) (work : Option (List ℕ) → Work) (most : ℕ) {room : ℕ} {was_read now_read : Bool} {name : List ℕ} (inputs : List Input) {old new : List Source} → (was_read ≡ true → now_read ≡ true) → TakesOne room was_read name old new
+pub still_done : (told : Bool) (work : Option (List ℕ) → Work) (most : ℕ) {room : ℕ} {was_read now_read : Bool}
+    {name : List ℕ} (inputs : List Input) {old new : List Source} → (was_read ≡ true → now_read ≡ true)
+    → TakesOne room was_read name old new
     → StayDone told work most was_read inputs old → StayDone told work most now_read inputs new
 still_done told work most [] reads takes done = tt
 still_done told work most (input ∷ inputs) reads takes done =
     (still_done_at told (work input.shown) most input.slot input.content reads takes done.0, still_done told work most inputs reads takes done.1)
 
-pub done_more : (told : Bool) (work : Option (List ℕ) → Work) (most : ℕ) (was_read : Bool) (inputs : List Input) (input : Input) (sources : List Source) → StayDone told work most was_read inputs sources → StaysDone told (work input.shown) most was_read input.slot input.content sources
+pub done_more : (told : Bool) (work : Option (List ℕ) → Work) (most : ℕ) (was_read : Bool) (inputs : List Input)
+    (input : Input) (sources : List Source) → StayDone told work most was_read inputs sources
+    → StaysDone told (work input.shown) most was_read input.slot input.content sources
     → StayDone told work most was_read (inputs ++ input ∷ []) sources
 done_more told work most was_read [] input sources done one = (one, tt)
 done_more told work most was_read (first ∷ inputs) input sources done one = (done.0, done_more told work most was_read inputs input sources done.1 one)
 
-done_at : (told : Bool) (work : Work) (most : ℕ) (was_read : Bool) (slot : Option ℕ) (content : Option Content) (sources : List Source) → StaysDone told work most was_read slot content sources → IsDone told work most slot content sources
+done_at : (told : Bool) (work : Work) (most : ℕ) (was_read : Bool) (slot : Option ℕ) (content : Option Content)
+    (sources : List Source) → StaysDone told work most was_read slot content sources
+    → IsDone told work most slot content sources
 done_at told work most was_read None content sources done = tt
 done_at told work most was_read (Some slot) content sources done = done.1
 
-pub all_done : (told : Bool) (work : Option (List ℕ) → Work) (most : ℕ) (was_read : Bool) (inputs : List Input) (sources : List Source) → StayDone told work most was_read inputs sources → AreDone told work most inputs sources
+pub all_done : (told : Bool) (work : Option (List ℕ) → Work) (most : ℕ) (was_read : Bool) (inputs : List Input)
+    (sources : List Source) → StayDone told work most was_read inputs sources → AreDone told work most inputs sources
 all_done told work most was_read [] sources done = tt
 all_done told work most was_read (input ∷ inputs) sources done = (done_at told (work input.shown) most was_read input.slot input.content sources done.0, all_done told work most was_read inputs sources done.1)
 
-pub done_with : (told : Bool) (work : Work) (most : ℕ) (was_read : Bool) {count : ℕ} (name : List ℕ) {input : Input} (sources : List Source) → IsFor was_read count name input → 0 < count
-    → IsDone told work most input.slot input.content sources → StaysDone told work most (was_read || is_dash name) input.slot input.content sources
+pub done_with : (told : Bool) (work : Work) (most : ℕ) (was_read : Bool) {count : ℕ} (name : List ℕ) {input : Input}
+    (sources : List Source) → IsFor was_read count name input → 0 < count
+    → IsDone told work most input.slot input.content sources
+    → StaysDone told work most (was_read || is_dash name) input.slot input.content sources
 done_with told work most was_read name sources (world, shown, is) some done = grind (arith, common_steps)
 
 -- the inputs after the place where a run was stopped were not touched
 
-pub rest_untouched : (world : World) (was_read : Bool) (slot : ℕ) (names : List (List ℕ)) (sources : List Source) → (was_read ≡ false → source_at sources 0 ≡ source_of world.standard) → length sources ≤ slot
+pub rest_untouched : (world : World) (was_read : Bool) (slot : ℕ) (names : List (List ℕ)) (sources : List Source)
+    → (was_read ≡ false → source_at sources 0 ≡ source_of world.standard) → length sources ≤ slot
     → AreUntouched (inputs_from world was_read slot names) sources
 rest_untouched world was_read slot [] sources unread few = tt
 rest_untouched world was_read slot (name ∷ names) sources unread few =
     (by_name was_read (is_dash name) unread, rest_untouched world (was_read || is_dash name) (next_slot slot name) names sources (λ none. unread (or_parts was_read (is_dash name) none).0) (let more : slot ≤ next_slot slot name = count_more slot (name ∷ []) in omega (arith, few, more))) where
-      by_name : (was dash : Bool) → (was ≡ false → source_at sources 0 ≡ source_of world.standard) → (let input = input_of world was slot name dash in IsUntouched input.slot input.content sources)
+      by_name : (was dash : Bool) → (was ≡ false → source_at sources 0 ≡ source_of world.standard)
+          → (let input = input_of world was slot name dash in IsUntouched input.slot input.content sources)
       by_name true true at_first = tt
       by_name false true at_first = inr (world.standard, refl, at_first refl)
       by_name was false at_first = inl few
@@ -177,40 +213,64 @@ rest_untouched world was_read slot (name ∷ names) sources unread few =
 
 -- the streams
 
-pub part_writable : {told : Bool} {error : Slot} {part : Part} {slots : List Slot} → OutputsAt told (streams_with error) part slots → IsTrue (is_writable slots 0)
+pub part_writable : {told : Bool} {error : Slot} {part : Part} {slots : List Slot}
+    → OutputsAt told (streams_with error) part slots → IsTrue (is_writable slots 0)
 part_writable at = rw at.slots refl
 
-pub part_two : {told : Bool} {error : Slot} {part : Part} {slots : List Slot} → OutputsAt told (streams_with error) part slots → 2 ≤ length slots
+pub part_two : {told : Bool} {error : Slot} {part : Part} {slots : List Slot}
+    → OutputsAt told (streams_with error) part slots → 2 ≤ length slots
 part_two {told} {error} {part} {slots} at = grind (arith, common_steps)
 
 -- the header was written
-pub headed : {told : Bool} {base : List Slot} {so_far : Part} (text : List ℕ) {old mid : List Slot} → OutputsAt told base so_far old → mid ≡ with_written 0 (told_of told text) old → OutputsAt told base (after_part so_far (only_out text)) mid
+pub headed : {told : Bool} {base : List Slot} {so_far : Part} (text : List ℕ) {old mid : List Slot}
+    → OutputsAt told base so_far old → mid ≡ with_written 0 (told_of told text) old
+    → OutputsAt told base (after_part so_far (only_out text)) mid
 headed {told} {base} {so_far} text {old} {mid} at wrote = rw (out_on so_far text) at (out_more told base so_far old mid text at wrote)
 
-pub headed_count : (told : Bool) (text : List ℕ) (old : List Slot) {mid : List Slot} → mid ≡ with_written 0 (told_of told text) old → length mid ≡ length old
+pub headed_count : (told : Bool) (text : List ℕ) (old : List Slot) {mid : List Slot}
+    → mid ≡ with_written 0 (told_of told text) old → length mid ≡ length old
 headed_count told text old wrote = ap length wrote ∙ length-changed_at 0 _ old
 
 -- the source of an input
 
-pub of_source_too : (told : Bool) (source : Option ℕ) (sources : List Source) (A B Q : Content → Type 0) → ((content : Content) → A content → B content → Q content) → OfSource told source sources (λ content. A content × B content) → OfSource told source sources Q
+pub of_source_too : (told : Bool) (source : Option ℕ) (sources : List Source) (A B Q : Content → Type 0)
+    → ((content : Content) → A content → B content → Q content)
+    → OfSource told source sources (λ content. A content × B content) → OfSource told source sources Q
 of_source_too told None sources A B Q more (one, two) = more _ one two
 of_source_too told (Some slot) sources A B Q more (content, there, both) = grind (arith, common_steps)
 
-pub from_source : (told : Bool) (source : Option ℕ) (sources : List Source) (A B : Content → Type 0) (Q : Type 0) → ((content : Content) → A content → B content → Q) → OfSource told source sources (λ content. A content × B content) → Q
+pub from_source : (told : Bool) (source : Option ℕ) (sources : List Source) (A B : Content → Type 0) (Q : Type 0)
+    → ((content : Content) → A content → B content → Q)
+    → OfSource told source sources (λ content. A content × B content) → Q
 from_source told None sources A B Q more (one, two) = more _ one two
 from_source told (Some slot) sources A B Q more (content, there, both) = search rules
 
 -- what is made of an input, by how it ends
 
-made_well : (task : Task) (work : Work) (is_first : Bool) (name : List ℕ) (content : Content) → is_enough work content ≡ true → work.verdict content.bytes ≡ None
-    → of_content task work is_first name (Some content) ≡ record { part = after_part (only_out (header_text task.with_header is_first name)) (work.whole content.bytes); messages = []; failed = false; sweeps = false }
+made_well : (task : Task) (work : Work) (is_first : Bool) (name : List ℕ) (content : Content)
+    → is_enough work content ≡ true → work.verdict content.bytes ≡ None
+    → of_content task work is_first name (Some content)
+    ≡ record {
+      part = after_part (only_out (header_text task.with_header is_first name))
+          (work.whole content.bytes);
+      messages = [];
+      failed = false;
+      sweeps = false;
+    }
 made_well task work is_first name content enough well = search rules
 
 -- the header could not be written
 
-pub stopped_in_header : {told_in told : Bool} {task : Task} {most : ℕ} (is_first : Bool) (name : List ℕ) {source : Option ℕ} {shown : Option (List ℕ)} {content : Content} {outcome : Outcome} {failed was_read : Bool} {so_far : Part} {error : Slot} {sources : List Source} {old new : List Slot} {fault : Fault} → task.with_header ≡ true → ((step : Step) → step.read ≡ [] → step.ended ≡ false → Leaves told_in content source sources step)
-    → OutputsAt told (streams_with error) so_far old → HeaderFails told (header_text task.with_header is_first name) old new fault
-    → TookInput told_in told task most (input_from name source shown content) outcome is_first failed was_read so_far error (length old) sources new (Err fault)
+pub stopped_in_header : {told_in told : Bool} {task : Task} {most : ℕ} (is_first : Bool) (name : List ℕ)
+    {source : Option ℕ} {shown : Option (List ℕ)} {content : Content} {outcome : Outcome} {failed was_read : Bool}
+    {so_far : Part} {error : Slot} {sources : List Source} {old new : List Slot} {fault : Fault}
+    → task.with_header ≡ true
+    → ((step : Step) → step.read ≡ [] → step.ended ≡ false → Leaves told_in content source sources step)
+    → OutputsAt told (streams_with error) so_far old
+    → HeaderFails told (header_text task.with_header is_first name) old new fault
+    → TookInput told_in told task most
+    (input_from name source shown content) outcome is_first failed was_read so_far error (length old) sources new
+    (Err fault)
 stopped_in_header {told} {task} is_first name {shown} {content} {so_far} {error} {old} {new} due unread at (no_room is) =
     cut_off Memory _ new (unheaded content due (unread _ refl refl)) refl
     (stopped_here _ told (streams_with error) so_far so_far Memory old new at (part_begins_itself so_far) is tt tt)
@@ -224,24 +284,44 @@ stopped_in_header {told} {task} is_first name {shown} {content} {so_far} {error}
     (none_to_sweep (task.work shown).clears new (omega (arith, count)))
 
 -- the engine's part of an input, after the header
-module _ (told_in told : Bool) (task : Task) (most : ℕ) (is_first failed was_read : Bool) (name : List ℕ) (so_far : Part) (error : Slot) (count : ℕ) (source : Option ℕ) (shown : Option (List ℕ)) (sources : List Source) (mid : List Slot) (counted : length mid ≡ count) (streams_there : 2 ≤ count)
-    (at : OutputsAt told (streams_with error) (after_part so_far (only_out (header_text task.with_header is_first name))) mid) where
+module _ (told_in told : Bool) (task : Task) (most : ℕ) (is_first failed was_read : Bool) (name : List ℕ)
+    (so_far : Part) (error : Slot) (count : ℕ) (source : Option ℕ) (shown : Option (List ℕ)) (sources : List Source)
+    (mid : List Slot) (counted : length mid ≡ count) (streams_there : 2 ≤ count)
+    (at : OutputsAt told (streams_with error)
+    (after_part so_far (only_out (header_text task.with_header is_first name))) mid) where
   abbrev pub TookSo : Content → List Slot → Result Progress Fault → Type 0
   TookSo content new result = TookInput told_in told task most (input_from name source shown content) (of_content task (task.work shown) is_first name (Some content)) is_first failed was_read so_far error count sources new result
 
-  part_after : (error_now : Slot) (part : Part) {reached : List Slot} → OutputsAt told (streams_with error_now) (after_part (after_part so_far (only_out (header_text task.with_header is_first name))) part) reached
-      → OutputsAt told (streams_with error_now) (after_part so_far (after_part (only_out (header_text task.with_header is_first name)) part)) reached
+  part_after : (error_now : Slot) (part : Part) {reached : List Slot}
+      → OutputsAt told (streams_with error_now)
+      (after_part (after_part so_far (only_out (header_text task.with_header is_first name))) part) reached
+      → OutputsAt told (streams_with error_now)
+      (after_part so_far (after_part (only_out (header_text task.with_header is_first name)) part)) reached
   part_after error_now part there = rw (after_assoc so_far (only_out (header_text task.with_header is_first name)) part) at there
 
   -- it went well
-  went_well : (content : Content) (new : List Slot) → IsDone told_in (task.work shown) most source (Some content) sources → is_enough (task.work shown) content ≡ true → (task.work shown).verdict content.bytes ≡ None → OutputsAt told mid ((task.work shown).whole content.bytes) new → TookSo content new (Ok (record { was_read = was_read; is_first = false; failed = failed }))
+  went_well : (content : Content) (new : List Slot)
+      → IsDone told_in (task.work shown) most source (Some content) sources → is_enough (task.work shown) content ≡ true
+      → (task.work shown).verdict content.bytes ≡ None → OutputsAt told mid ((task.work shown).whole content.bytes) new
+      → TookSo content new (Ok (record { was_read = was_read; is_first = false; failed = failed }))
   went_well content new done enough well there =
       rw (made_well task (task.work shown) is_first name content enough well) (took (record { was_read = was_read; is_first = false; failed = failed }) error new (simp (and-false, or-false)) done refl (part_after error _ (at_after at there)) refl)
 
   -- a message is due
-  went_badly : {why : Reason} (content : Content) (part : Part) (message : Message) (reached old new : List Slot) → IsDone told_in (task.work shown) most source (Some content) sources
-      → of_content task (task.work shown) is_first name (Some content) ≡ record { part = after_part (only_out (header_text task.with_header is_first name)) part; messages = message ∷ []; failed = true; sweeps = (task.work shown).clears }
-      → OutputsAt told mid part reached → Swept (task.work shown).clears (length mid) reached old → SaysOn told task.speaker why message old new → TookSo content new (Ok (record { was_read = was_read; is_first = false; failed = true }))
+  went_badly : {why : Reason} (content : Content) (part : Part) (message : Message) (reached old new : List Slot)
+      → IsDone told_in (task.work shown) most source (Some content) sources
+      → of_content task (task.work shown) is_first name (Some content)
+      ≡ record {
+        part = after_part
+            (only_out (header_text task.with_header is_first name)) part;
+        messages = message ∷ [];
+        failed = true;
+        sweeps =
+            (task.work shown).clears;
+      }
+      → OutputsAt told mid part reached → Swept (task.work shown).clears (length mid) reached old
+      → SaysOn told task.speaker why message old new
+      → TookSo content new (Ok (record { was_read = was_read; is_first = false; failed = true }))
   went_badly {why} content part message reached old new done made there swept says =
       let top = adds (told_of told (after_part so_far (after_part (only_out (header_text task.with_header is_first name)) part)).out) standard_output in
       let all = part_after error part (at_after at there) in
@@ -249,23 +329,38 @@ module _ (told_in told : Bool) (task : Task) (most : ℕ) (is_first failed was_r
       rw made (took (record { was_read = was_read; is_first = false; failed = true }) said.after (top ∷ said.after ∷ all.since)
       (simp (and-false, or-true)) done (said.after, (why, said.says), refl) (record { standard = lit< tt; since = all.since; slots = refl; files = all.files }) said.swept)
 
-  pub took_well : {content : Content} {new : List Slot} {fed : Fed} → IsDone told_in (task.work shown) most source (Some content) sources → (fed ≡ Whole) ⊎ (fed ≡ Enough) → FedAs told mid (task.work shown) (task.opening shown) most content (Leaves told_in content source sources) new (Ok fed) → TookSo content new (Ok (record { was_read = was_read; is_first = false; failed = failed }))
+  pub took_well : {content : Content} {new : List Slot} {fed : Fed}
+      → IsDone told_in (task.work shown) most source (Some content) sources → (fed ≡ Whole) ⊎ (fed ≡ Enough)
+      → FedAs told mid (task.work shown) (task.opening shown) most content (Leaves told_in content source sources) new
+      (Ok fed) → TookSo content new (Ok (record { was_read = was_read; is_first = false; failed = failed }))
   took_well {content} {new} done good (whole sound going well there) = went_well content new done (or_left _ _ (ap not sound)) well there
   took_well {content} {new} done good (had_enough complete well there) = went_well content new done (or_right _ _ complete) well there
   took_well done good (broke_off breaks going reached there swept) = absurd (elim good [ inl is ↦ cc | inr is ↦ cc ])
 
-  pub took_broken : {why : Reason} {content : Content} {old new : List Slot} {fed : Fed} → IsDone told_in (task.work shown) most source (Some content) sources → fed ≡ Broken → FedAs told mid (task.work shown) (task.opening shown) most content (Leaves told_in content source sources) old (Ok fed) → SaysOn told task.speaker why (message_of (Read 0) name) old new → TookSo content new (Ok (record { was_read = was_read; is_first = false; failed = true }))
+  pub took_broken : {why : Reason} {content : Content} {old new : List Slot} {fed : Fed}
+      → IsDone told_in (task.work shown) most source (Some content) sources → fed ≡ Broken
+      → FedAs told mid (task.work shown) (task.opening shown) most content (Leaves told_in content source sources) old
+      (Ok fed) → SaysOn told task.speaker why (message_of (Read 0) name) old new
+      → TookSo content new (Ok (record { was_read = was_read; is_first = false; failed = true }))
   took_broken {content} {old} {new} done is (broke_off breaks going reached there swept) says =
       went_badly content ((task.work shown).settled content.bytes) (message_of (Read 0) name) reached old new done
       (let short : is_enough (task.work shown) content ≡ false = ap (λ (b : Bool). not b || (task.work shown).is_complete content.bytes) breaks ∙ going in simp (short, and-true)) there swept says
   took_broken done is ends says = absurd (cc)
 
-  pub took_verdict : {why : Reason} {content : Content} {old new : List Slot} {verdict : Verdict} → IsDone told_in (task.work shown) most source (Some content) sources → FedAs told mid (task.work shown) (task.opening shown) most content (Leaves told_in content source sources) old (Err (fault_is.Verdict verdict)) → SaysOn told task.speaker why (message_of (fault_is.Verdict verdict) (task.subject verdict name)) old new → TookSo content new (Ok (record { was_read = was_read; is_first = false; failed = true }))
+  pub took_verdict : {why : Reason} {content : Content} {old new : List Slot} {verdict : Verdict}
+      → IsDone told_in (task.work shown) most source (Some content) sources
+      → FedAs told mid (task.work shown) (task.opening shown) most content (Leaves told_in content source sources) old
+      (Err (fault_is.Verdict verdict))
+      → SaysOn told task.speaker why (message_of (fault_is.Verdict verdict) (task.subject verdict name)) old new
+      → TookSo content new (Ok (record { was_read = was_read; is_first = false; failed = true }))
   took_verdict {content} {old} {new} {verdict} done (judged _ enough judges reached there swept) says =
       went_badly content ((task.work shown).whole content.bytes) (message_of (fault_is.Verdict verdict) (task.subject verdict name)) reached old new done (simp (enough, judges, and-true)) there swept says
   took_verdict done (stopped _ unjudged call is_call read reached why stop swept) says = absurd (false≢true (sym unjudged))
 
-  pub took_stopped : {content : Content} {new : List Slot} {fault : Fault} → ((verdict : Verdict) → fault ≡ fault_is.Verdict verdict → ⊥) → FedAs told mid (task.work shown) (task.opening shown) most content (Leaves told_in content source sources) new (Err fault) → TookSo content new (Err fault)
+  pub took_stopped : {content : Content} {new : List Slot} {fault : Fault}
+      → ((verdict : Verdict) → fault ≡ fault_is.Verdict verdict → ⊥)
+      → FedAs told mid (task.work shown) (task.opening shown) most content (Leaves told_in content source sources) new
+      (Err fault) → TookSo content new (Err fault)
   took_stopped other (judged verdict enough judges reached there swept) = absurd (other verdict refl)
   took_stopped {content} {fault} other (stopped _ is call is_call read reached why stop swept) =
       cut_off fault (step_after (after_part so_far (only_out (header_text task.with_header is_first name))) call) reached (calling content call is_call read)
@@ -273,10 +368,13 @@ module _ (told_in told : Bool) (task : Task) (most : ℕ) (is_first failed was_r
 
 -- standard error is open after an input was fed
 
-pub swept_open : (clears : Bool) (reached new : List Slot) {first : ℕ} → 2 ≤ first → is_open (slot_at reached 1).state ≡ true → Swept clears first reached new → is_open (slot_at new 1).state ≡ true
+pub swept_open : (clears : Bool) (reached new : List Slot) {first : ℕ} → 2 ≤ first
+    → is_open (slot_at reached 1).state ≡ true → Swept clears first reached new → is_open (slot_at new 1).state ≡ true
 swept_open clears reached new past opened swept = grind (arith, common_steps)
 
-pub fed_open : {told : Bool} {work : Work} {opening : Needs} {most : ℕ} {error : Slot} {part : Part} {mid new : List Slot} {content : Content} (WasRead : Step → Type 0) {result : Result Fed Fault} → is_open error.state ≡ true → OutputsAt told (streams_with error) part mid
+pub fed_open : {told : Bool} {work : Work} {opening : Needs} {most : ℕ} {error : Slot} {part : Part}
+    {mid new : List Slot} {content : Content} (WasRead : Step → Type 0) {result : Result Fed Fault}
+    → is_open error.state ≡ true → OutputsAt told (streams_with error) part mid
     → FedAs told mid work opening most content WasRead new result → is_open (slot_at new 1).state ≡ true
 fed_open WasRead opened at (whole sound going well there) = cc
 fed_open WasRead opened at (had_enough complete well there) = cc
@@ -287,17 +385,25 @@ fed_open {work} {new} WasRead opened at (stopped fault is call is_call read reac
 -- Lemmas on how a run ends.
 
 -- the run that reached the end of its inputs
-pub ran_through : {told_in told : Bool} {breaks_for : ℕ → Reason → Bool} {task : Task} {found : List Input} {sources : List Source} {new : List Slot} {failed : Bool} {status : ℕ} → status ≡ (if failed then 1 else 0) → TookAll told_in told task found sources new (Ok failed) → EndsAs told_in told breaks_for task found sources new status
+pub ran_through : {told_in told : Bool} {breaks_for : ℕ → Reason → Bool} {task : Task} {found : List Input}
+    {sources : List Source} {new : List Slot} {failed : Bool} {status : ℕ} → status ≡ (if failed then 1 else 0)
+    → TookAll told_in told task found sources new (Ok failed)
+    → EndsAs told_in told breaks_for task found sources new status
 ran_through is (all _ error reached same says at swept done) = as_defined error reached says at swept done (is ∙ ap (λ (b : Bool). if b then 1 else 0) same)
 
 -- standard error is there for the fault that stopped the run
-pub stop_open : {told_in told : Bool} {task : Task} {found : List Input} {sources : List Source} {new : List Slot} {fault : Fault} → TookAll told_in told task found sources new (Err fault) → is_open (slot_at new 1).state ≡ true
+pub stop_open : {told_in told : Bool} {task : Task} {found : List Input} {sources : List Source} {new : List Slot}
+    {fault : Fault} → TookAll told_in told task found sources new (Err fault) → is_open (slot_at new 1).state ≡ true
 stop_open {told} {task} {new} (stopped_at _ before input after error step reached among done untouched is_step stops says stop swept) = grind (arith, common_steps, swept_open, error_open, stop_error, all_said_state)
 stop_open (not_begun is untouched none) = grind (arith, common_steps)
 
 -- the run that a fault stopped
-pub ran_into : {told_in told : Bool} {breaks_for : ℕ → Reason → Bool} {task : Task} {found : List Input} {sources : List Source} {mid new : List Slot} {fault : Fault} {status : ℕ} → TookAll told_in told task found sources mid (Err fault)
-    → (why : Reason) × IsWhy breaks_for fault why × TellsOn told task.speaker why fault (output_named mid fault) mid new × (status ≡ status_after fault task.speaker.calling why) → EndsAs told_in told breaks_for task found sources new status
+pub ran_into : {told_in told : Bool} {breaks_for : ℕ → Reason → Bool} {task : Task} {found : List Input}
+    {sources : List Source} {mid new : List Slot} {fault : Fault} {status : ℕ}
+    → TookAll told_in told task found sources mid (Err fault)
+    → (why : Reason) × IsWhy breaks_for fault why × TellsOn told task.speaker why fault (output_named mid fault) mid new
+    × (status ≡ status_after fault task.speaker.calling why)
+    → EndsAs told_in told breaks_for task found sources new status
 ran_into {told} {task} {mid} {fault} (stopped_at _ before input after error step reached among done untouched is_step stops said stop swept) (why, is_why, tells, is) =
     let told_so = stop_swept told (Tells told task.speaker why fault (output_named mid fault)) (told_named told task.speaker why fault _) step (task.work input.shown).clears (lit≤ tt)
     (ap is_open (all_said_state told task.speaker (made_by task before).messages standard_error error said)) stop stops swept tells in
@@ -319,7 +425,10 @@ none_left (word ∷ words) none = absurd (omega arith)
 
 -- which input a name stands for
 
-of_file : {told : Bool} (world : World) (was_read : Bool) {slot : ℕ} {name : List ℕ} {content : Option Content} (shown : Option (List ℕ)) (P : Input → Type 0) → is_dash name ≡ false → (told ≡ true → world.laid slot name ≡ content) → (told ≡ true → shown ≡ shown_of content) → P (showing shown (file_input name slot content)) → OfName told world was_read slot name P
+of_file : {told : Bool} (world : World) (was_read : Bool) {slot : ℕ} {name : List ℕ} {content : Option Content}
+    (shown : Option (List ℕ)) (P : Input → Type 0) → is_dash name ≡ false
+    → (told ≡ true → world.laid slot name ≡ content) → (told ≡ true → shown ≡ shown_of content)
+    → P (showing shown (file_input name slot content)) → OfName told world was_read slot name P
 of_file world was_read {slot} {name} {content} shown P differs lies says holds = (
   showing shown (file_input name slot content),
   (record { laid = λ _ _. content; standard = empty }, shown, sym (ap (λ d. showing shown (input_of (record { laid = λ _ _. content; standard = empty }) was_read slot name d)) differs)),
@@ -327,8 +436,12 @@ of_file world was_read {slot} {name} {content} shown P differs lies says holds =
   holds,
 )
 
-dash_at : {told : Bool} (was_read : Bool) (laid : ℕ → List ℕ → Option Content) (sources : List Source) (slot : ℕ) (name : List ℕ) (shown : Option (List ℕ)) (P : Input → Type 0) → is_dash name ≡ true → IsShown told (standard_source was_read) sources shown
-    → OfSource told (standard_source was_read) sources (λ content. P (input_from (codes "standard input") (standard_source was_read) shown content)) → OfName told (world_of laid sources) was_read slot name P
+dash_at : {told : Bool} (was_read : Bool) (laid : ℕ → List ℕ → Option Content) (sources : List Source) (slot : ℕ)
+    (name : List ℕ) (shown : Option (List ℕ)) (P : Input → Type 0) → is_dash name ≡ true
+    → IsShown told (standard_source was_read) sources shown
+    → OfSource told (standard_source was_read) sources
+    (λ content. P (input_from (codes "standard input") (standard_source was_read) shown content))
+    → OfName told (world_of laid sources) was_read slot name P
 dash_at true laid sources slot name shown P dash none holds = (
   read_before,
   (record { laid = laid; standard = empty }, None, sym (ap (λ d. showing None (input_of (record { laid = laid; standard = empty }) true slot name d)) dash)),
@@ -343,9 +456,18 @@ dash_at false laid sources slot name shown P dash says (content, there, holds) =
 )
 
 -- the file was opened
-pub took_opened : {told_in told : Bool} {task : Task} {most : ℕ} {is_first failed was_read : Bool} {laid : ℕ → List ℕ → Option Content} {name : List ℕ} {old mid : List Source} {slot : ℕ} {so_far : Part} {error : Slot} {first : ℕ} {sources : List Source} {new : List Slot} {result : Result Progress Fault} → is_dash name ≡ false → OpensFile told_in laid old mid name slot
-    → (shown : Option (List ℕ)) × IsShown told_in (Some slot) mid shown × OfSource told_in (Some slot) mid (λ content. TookInput told_in told task most (input_from name (Some slot) shown content) (of_content task (task.work shown) is_first name (Some content)) is_first failed was_read so_far error first sources new result)
-    → OfName told_in (world_of laid old) was_read (length old) name (λ input. TookInput told_in told task most input (of_input task is_first input) is_first failed (was_read || is_dash name) so_far error first sources new result)
+pub took_opened : {told_in told : Bool} {task : Task} {most : ℕ} {is_first failed was_read : Bool}
+    {laid : ℕ → List ℕ → Option Content} {name : List ℕ} {old mid : List Source} {slot : ℕ} {so_far : Part}
+    {error : Slot} {first : ℕ} {sources : List Source} {new : List Slot} {result : Result Progress Fault}
+    → is_dash name ≡ false → OpensFile told_in laid old mid name slot
+    → (shown : Option (List ℕ)) × IsShown told_in (Some slot) mid shown
+    × OfSource told_in (Some slot) mid
+    (λ content. TookInput told_in told task most (input_from name (Some slot) shown content)
+    (of_content task (task.work shown) is_first name (Some content)) is_first failed was_read so_far error first
+    sources new result)
+    → OfName told_in (world_of laid old) was_read (length old) name
+    (λ input. TookInput told_in told task most input (of_input task is_first input) is_first failed
+    (was_read || is_dash name) so_far error first sources new result)
 took_opened {was_read} {laid} {name} {old} {slot} {sources} differs opened_it (shown, says, (content, there, one)) =
     of_file (world_of laid old) was_read shown _ differs (λ t. ap (λ n. laid n name) (sym opened_it.number) ∙ opened_it.lies t
     ∙ ap Some (sym (there t ∙ ap (λ (source : Source). source.left) (ap (λ those. source_at those slot) opened_it.sources ∙ ap (source_at (old ++ source_of opened_it.content ∷ [])) opened_it.number ∙ last_source old))))
@@ -353,9 +475,18 @@ took_opened {was_read} {laid} {name} {old} {slot} {sources} differs opened_it (s
     (rw (ap (λ (b : Bool). was_read || b) differs ∙ or-false was_read) (rw opened_it.number at one))
 
 -- standard input, for the operand `-`
-pub took_standard : {told_in told : Bool} {task : Task} {most : ℕ} {is_first failed : Bool} (was_read : Bool) {source : Option ℕ} (laid : ℕ → List ℕ → Option Content) (name : List ℕ) (old : List Source) {sources : List Source} {so_far : Part} {error : Slot} {first : ℕ} {new : List Slot} {result : Result Progress Fault} → source ≡ standard_source was_read → is_dash name ≡ true
-    → (shown : Option (List ℕ)) × IsShown told_in source old shown × OfSource told_in source old (λ content. TookInput told_in told task most (input_from (codes "standard input") source shown content) (of_content task (task.work shown) is_first (codes "standard input") (Some content)) is_first failed true so_far error first sources new result)
-    → OfName told_in (world_of laid old) was_read (length old) name (λ input. TookInput told_in told task most input (of_input task is_first input) is_first failed (was_read || is_dash name) so_far error first sources new result)
+pub took_standard : {told_in told : Bool} {task : Task} {most : ℕ} {is_first failed : Bool} (was_read : Bool)
+    {source : Option ℕ} (laid : ℕ → List ℕ → Option Content) (name : List ℕ) (old : List Source) {sources : List Source}
+    {so_far : Part} {error : Slot} {first : ℕ} {new : List Slot} {result : Result Progress Fault}
+    → source ≡ standard_source was_read → is_dash name ≡ true
+    → (shown : Option (List ℕ)) × IsShown told_in source old shown
+    × OfSource told_in source old
+    (λ content. TookInput told_in told task most (input_from (codes "standard input") source shown content)
+    (of_content task (task.work shown) is_first (codes "standard input") (Some content)) is_first failed true so_far
+    error first sources new result)
+    → OfName told_in (world_of laid old) was_read (length old) name
+    (λ input. TookInput told_in told task most input (of_input task is_first input) is_first failed
+    (was_read || is_dash name) so_far error first sources new result)
 took_standard {told_in} {told} {task} {most} {is_first} {failed} was_read laid name old {sources} {so_far} {error} {first} {new} {result} is dash (shown, says, holds) =
     let P = λ (read : Bool) (input : Input). TookInput told_in told task most input (of_input task is_first input) is_first failed read so_far error first sources new result in
     dash_at was_read laid old (length old) name shown (P (was_read || is_dash name)) dash (rw is at says)
@@ -363,8 +494,13 @@ took_standard {told_in} {told} {task} {most} {is_first} {failed} was_read laid n
 
 -- a name that could not be opened: it is passed over with a message
 
-pub of_missing : {told_in told : Bool} {IsSaid : Reason → Type 0} {task : Task} {most : ℕ} {is_first failed was_read : Bool} {laid : ℕ → List ℕ → Option Content} {name : List ℕ} {sources after : List Source} {fault : Fault} {slot : ℕ} {so_far : Part} {error : Slot} {old new : List Slot} → is_dash name ≡ false → OpensNothing told_in laid sources after name fault → fault ≡ Open slot → OutputsAt told (streams_with error) so_far old
-    → (why : Reason) × IsSaid why × SaysOn told task.speaker why (message_of (Open slot) name) old new → OfName told_in (world_of laid sources) was_read (length sources) name
+pub of_missing : {told_in told : Bool} {IsSaid : Reason → Type 0} {task : Task} {most : ℕ}
+    {is_first failed was_read : Bool} {laid : ℕ → List ℕ → Option Content} {name : List ℕ} {sources after : List Source}
+    {fault : Fault} {slot : ℕ} {so_far : Part} {error : Slot} {old new : List Slot} → is_dash name ≡ false
+    → OpensNothing told_in laid sources after name fault → fault ≡ Open slot
+    → OutputsAt told (streams_with error) so_far old
+    → (why : Reason) × IsSaid why × SaysOn told task.speaker why (message_of (Open slot) name) old new
+    → OfName told_in (world_of laid sources) was_read (length sources) name
     (λ input. TookInput told_in told task most input (of_input task is_first input) is_first failed (was_read || is_dash name) so_far error (length old) after new (Ok (record { was_read = was_read; is_first = is_first; failed = true })))
 of_missing {told_in} {told} {task} {most} {is_first} {was_read} {laid} {name} {sources} {new} differs (from.broke slot number lies are) cannot at (why, reason, says) =
     of_file (world_of laid sources) was_read None _ differs (λ t. ap (λ n. laid n name) (sym number) ∙ lies t) (λ t. refl)
@@ -374,8 +510,13 @@ of_missing {told_in} {told} {task} {most} {is_first} {was_read} {laid} {name} {s
 of_missing differs (from.no_room are) cannot at says = absurd (cc)
 
 -- there was no room for it
-pub of_no_room : {told_in told : Bool} {task : Task} {most : ℕ} {is_first failed : Bool} (was_read : Bool) {laid : ℕ → List ℕ → Option Content} {name : List ℕ} {sources after : List Source} {fault : Fault} {so_far : Part} {error : Slot} {old : List Slot} → is_dash name ≡ false → OpensNothing told_in laid sources after name fault → ((slot : ℕ) → fault ≡ Open slot → ⊥) → OutputsAt told (streams_with error) so_far old
-    → OfName told_in (world_of laid sources) was_read (length sources) name (λ input. TookInput told_in told task most input (of_input task is_first input) is_first failed (was_read || is_dash name) so_far error (length old) after old (Err fault))
+pub of_no_room : {told_in told : Bool} {task : Task} {most : ℕ} {is_first failed : Bool} (was_read : Bool)
+    {laid : ℕ → List ℕ → Option Content} {name : List ℕ} {sources after : List Source} {fault : Fault} {so_far : Part}
+    {error : Slot} {old : List Slot} → is_dash name ≡ false → OpensNothing told_in laid sources after name fault
+    → ((slot : ℕ) → fault ≡ Open slot → ⊥) → OutputsAt told (streams_with error) so_far old
+    → OfName told_in (world_of laid sources) was_read (length sources) name
+    (λ input. TookInput told_in told task most input (of_input task is_first input) is_first failed
+    (was_read || is_dash name) so_far error (length old) after old (Err fault))
 of_no_room was_read differs (from.broke slot number lies are) other at = absurd (other slot refl)
 of_no_room {told} {task} was_read {laid} {name} {sources} {so_far} {error} {old} differs (from.no_room are) other at =
     of_file (world_of laid sources) was_read (shown_of (laid (length sources) name)) _ differs (λ t. refl) (λ t. refl)
@@ -388,7 +529,8 @@ joined_nothing : {a : Outcome} → joined a no_outcome ≡ a
 joined_nothing = search rules
 
 -- files are removed only where the work clears them
-sweeps_clears : (task : Task) (work : Work) (is_first : Bool) (name : List ℕ) (content : Option Content) → (of_content task work is_first name content).sweeps ≡ true → work.clears ≡ true
+sweeps_clears : (task : Task) (work : Work) (is_first : Bool) (name : List ℕ) (content : Option Content)
+    → (of_content task work is_first name content).sweeps ≡ true → work.clears ≡ true
 sweeps_clears task work is_first name None sweeps = cc
 sweeps_clears task work is_first name (Some content) sweeps = grind (arith, common_steps)
 
@@ -399,12 +541,14 @@ says_itself input = by (is_some input.slot) where
   by true = refl
   by false = refl
 
-pub are_from : (world : World) (was_read : Bool) (slot : ℕ) (names : List (List ℕ)) → AreFrom was_read slot names (inputs_from world was_read slot names)
+pub are_from : (world : World) (was_read : Bool) (slot : ℕ) (names : List (List ℕ))
+    → AreFrom was_read slot names (inputs_from world was_read slot names)
 are_from world was_read slot [] = refl
 are_from world was_read slot (name ∷ names) = ((world, _, sym (says_itself (input_of world was_read slot name (is_dash name)))), are_from world (was_read || is_dash name) (next_slot slot name) names)
 
 -- what was done before the names that are left
-pub record Walked (told_in told : Bool) (task : Task) (world : World) (names left : List (List ℕ)) (progress : Progress) (laid : ℕ → List ℕ → Option Content) (sources : List Source) (slots : List Slot) : Type 0 where
+pub record Walked (told_in told : Bool) (task : Task) (world : World) (names left : List (List ℕ)) (progress : Progress)
+    (laid : ℕ → List ℕ → Option Content) (sources : List Source) (slots : List Slot) : Type 0 where
   pub done : List Input
   pub made : Outcome
   pub error : Slot
@@ -414,12 +558,16 @@ pub record Walked (told_in told : Bool) (task : Task) (world : World) (names lef
   pub says : SaysAll told task.speaker made.messages standard_error error
   pub failed : progress.failed ≡ made.failed
   -- where the work clears files, there is one name at most
-  pub alone : (shown : Option (List ℕ)) → (task.work shown).clears ≡ true → (left ≡ []) ⊎ ((length left ≤ 1) × (length slots ≡ 2))
+  pub alone : (shown : Option (List ℕ)) → (task.work shown).clears ≡ true
+      → (left ≡ []) ⊎ ((length left ≤ 1) × (length slots ≡ 2))
   pub unswept : 1 ≤ length left → made.sweeps ≡ false
   pub first : progress.is_first ≡ are_missing done
-  pub rest_made : (rest : List Input) → of_inputs task true (done ++ rest) ≡ joined made (of_inputs task progress.is_first rest)
-  pub rest_are : (rest : List Input) → AreFrom progress.was_read (length sources) left rest → AreFrom false 1 names (done ++ rest)
-  pub rest_there : told_in ≡ true → done ++ inputs_from world progress.was_read (length sources) left ≡ inputs_at world names
+  pub rest_made : (rest : List Input)
+      → of_inputs task true (done ++ rest) ≡ joined made (of_inputs task progress.is_first rest)
+  pub rest_are : (rest : List Input) → AreFrom progress.was_read (length sources) left rest
+      → AreFrom false 1 names (done ++ rest)
+  pub rest_there : told_in ≡ true
+      → done ++ inputs_from world progress.was_read (length sources) left ≡ inputs_at world names
   pub laid_same : laid ≡ world.laid
   pub standard : progress.was_read ≡ false → source_at sources 0 ≡ source_of world.standard
   pub some : 0 < length sources
@@ -427,8 +575,11 @@ pub record Walked (told_in told : Bool) (task : Task) (world : World) (names lef
   pub asked : AsksAtMost largest_piece sources
   pub count : count_after (length sources) left ≡ count_after 1 names
 
-pub walk_begins : {told_in told : Bool} {task : Task} {names : List (List ℕ)} {laid : ℕ → List ℕ → Option Content} {sources : List Source} {slots : List Slot} → IsFresh sources → slots ≡ streams → ((shown : Option (List ℕ)) → (task.work shown).clears ≡ true → length names ≤ 1)
-    → Walked told_in told task (world_of laid sources) names names (record { was_read = false; is_first = true; failed = false }) laid sources slots
+pub walk_begins : {told_in told : Bool} {task : Task} {names : List (List ℕ)} {laid : ℕ → List ℕ → Option Content}
+    {sources : List Source} {slots : List Slot} → IsFresh sources → slots ≡ streams
+    → ((shown : Option (List ℕ)) → (task.work shown).clears ≡ true → length names ≤ 1)
+    → Walked told_in told task (world_of laid sources) names names
+    (record { was_read = false; is_first = true; failed = false }) laid sources slots
 walk_begins {told} {names} {laid} {sources} {slots} fresh are alone =
     let one : length sources ≡ 1 = ap length fresh.only in
     let at_first : source_at sources 0 ≡ source_of fresh.standard = ap (λ those. source_at those 0) fresh.only in
@@ -456,45 +607,59 @@ walk_begins {told} {names} {laid} {sources} {slots} fresh are alone =
     }
 
 -- where names are left, no file was removed
-pub slots_at : {told_in told : Bool} {task : Task} {world : World} {names left : List (List ℕ)} {progress : Progress} {laid : ℕ → List ℕ → Option Content}
+pub slots_at : {told_in told : Bool} {task : Task} {world : World} {names left : List (List ℕ)} {progress : Progress}
+    {laid : ℕ → List ℕ → Option Content}
     {sources : List Source} {slots : List Slot} → 1 ≤ length left
-    → (walked : Walked told_in told task world names left progress laid sources slots) → OutputsAt told (streams_with walked.error) walked.made.part slots
+    → (walked : Walked told_in told task world names left progress laid sources slots)
+    → OutputsAt told (streams_with walked.error) walked.made.part slots
 slots_at {slots} some walked = grind (arith, common_steps)
 
-pub walked_error : {told_in : Bool} (told : Bool) {task : Task} {world : World} {names left : List (List ℕ)} {progress : Progress}
+pub walked_error : {told_in : Bool} (told : Bool) {task : Task} {world : World} {names left : List (List ℕ)}
+    {progress : Progress}
     {laid : ℕ → List ℕ → Option Content} {sources : List Source} {slots : List Slot}
-    → (walked : Walked told_in told task world names left progress laid sources slots) → is_open walked.error.state ≡ true
+    → (walked : Walked told_in told task world names left progress laid sources slots)
+    → is_open walked.error.state ≡ true
 walked_error told {task} walked = ap is_open (all_said_state told task.speaker walked.made.messages standard_error walked.error walked.says)
 
-pub walk_streams : {told_in told : Bool} {task : Task} {world : World} {names left : List (List ℕ)} {progress : Progress} {laid : ℕ → List ℕ → Option Content} {sources : List Source} {slots : List Slot} → 1 ≤ length left
+pub walk_streams : {told_in told : Bool} {task : Task} {world : World} {names left : List (List ℕ)}
+    {progress : Progress} {laid : ℕ → List ℕ → Option Content} {sources : List Source} {slots : List Slot}
+    → 1 ≤ length left
     → Walked told_in told task world names left progress laid sources slots → HasStreams told slots
 walk_streams {told} some walked = record { part = walked.made.part; error = walked.error; at = slots_at some walked; opened = walked_error told walked }
 
 -- while standard input was not read, what it holds is known
-same_input : {world : World} (was_read : Bool) (slot : ℕ) (name : List ℕ) (d : Bool) {laid : ℕ → List ℕ → Option Content} (sources : List Source) → laid ≡ world.laid → (was_read ≡ false → source_at sources 0 ≡ source_of world.standard)
+same_input : {world : World} (was_read : Bool) (slot : ℕ) (name : List ℕ) (d : Bool)
+    {laid : ℕ → List ℕ → Option Content} (sources : List Source) → laid ≡ world.laid
+    → (was_read ≡ false → source_at sources 0 ≡ source_of world.standard)
     → input_of (world_of laid sources) was_read slot name d ≡ input_of world was_read slot name d
 same_input was_read slot name false sources same standard = rw same
 same_input true slot name true sources same standard = refl
 same_input false slot name true sources same standard = rw (standard refl)
 
 -- the only name was taken
-taken_alone : {clears : Bool} {name : List ℕ} {left : List (List ℕ)} (slots : List Slot) → (clears ≡ true → ((name ∷ left) ≡ []) ⊎ ((length (name ∷ left) ≤ 1) × (length slots ≡ 2))) → clears ≡ true → (left ≡ []) × (length slots ≡ 2)
+taken_alone : {clears : Bool} {name : List ℕ} {left : List (List ℕ)} (slots : List Slot)
+    → (clears ≡ true → ((name ∷ left) ≡ []) ⊎ ((length (name ∷ left) ≤ 1) × (length slots ≡ 2))) → clears ≡ true
+    → (left ≡ []) × (length slots ≡ 2)
 taken_alone {left} slots alone is = elim (alone is) [
   | inl none ↦ absurd (cc)
   | inr few ↦ (nil_from_length left (omega (arith, few.0)), few.1)
 ]
 
-abbrev pub Takes : Bool → Bool → Task → ℕ → Progress → (ℕ → List ℕ → Option Content) → List Source → List Source → List ℕ → Part → Slot → List Slot → List Slot → Result Progress Fault → Type 0
+abbrev pub Takes : Bool → Bool → Task → ℕ → Progress → (ℕ → List ℕ → Option Content) → List Source → List Source
+    → List ℕ → Part → Slot → List Slot → List Slot → Result Progress Fault → Type 0
 Takes told_in told task most progress laid sources new_sources name so_far error slots new result =
     OfName told_in (world_of laid sources) progress.was_read (length sources) name
     (λ input. TookInput told_in told task most input (of_input task progress.is_first input) progress.is_first progress.failed (progress.was_read || is_dash name) so_far error (length slots) new_sources new result)
 
 -- one more name was taken
-pub walk_goes_on : {told_in told : Bool} {task : Task} {world : World} {names : List (List ℕ)} {name : List ℕ} {left : List (List ℕ)} {progress next : Progress}
+pub walk_goes_on : {told_in told : Bool} {task : Task} {world : World} {names : List (List ℕ)} {name : List ℕ}
+    {left : List (List ℕ)} {progress next : Progress}
     {laid new_laid : ℕ → List ℕ → Option Content} {sources new_sources : List Source} {slots new : List Slot}
     → (walked : Walked told_in told task world names (name ∷ left) progress laid sources slots)
-    → TakesOne largest_piece progress.was_read name sources new_sources → length new_sources ≡ next_slot (length sources) name → new_laid ≡ laid
-    → Takes told_in told task largest_piece progress laid sources new_sources name walked.made.part walked.error slots new (Ok next)
+    → TakesOne largest_piece progress.was_read name sources new_sources
+    → length new_sources ≡ next_slot (length sources) name → new_laid ≡ laid
+    → Takes told_in told task largest_piece progress laid sources new_sources name walked.made.part walked.error slots
+    new (Ok next)
     → Walked told_in told task world names left next new_laid new_sources new
 walk_goes_on {told_in} {told} {task} {world} {names} {name} {left} {progress} {next} {laid} {new_laid} {sources} {new_sources} {slots} {new} walked leaves opened_it same (input, is_for, there, took _ after reached is is_done says at swept) =
     let one = of_input task progress.is_first input in
@@ -534,11 +699,14 @@ walk_goes_on {told_in} {told} {task} {world} {names} {name} {left} {progress} {n
     }
 
 -- a fault stopped the run at a name
-pub walk_stops : {told_in : Bool} (told : Bool) {task : Task} {world : World} {names : List (List ℕ)} {name : List ℕ} {left : List (List ℕ)}
-    {progress : Progress} {laid : ℕ → List ℕ → Option Content} {sources new_sources : List Source} {slots new : List Slot} (fault : Fault)
+pub walk_stops : {told_in : Bool} (told : Bool) {task : Task} {world : World} {names : List (List ℕ)} {name : List ℕ}
+    {left : List (List ℕ)}
+    {progress : Progress} {laid : ℕ → List ℕ → Option Content} {sources new_sources : List Source}
+    {slots new : List Slot} (fault : Fault)
     → (walked : Walked told_in told task world names (name ∷ left) progress laid sources slots)
     → TakesOne largest_piece progress.was_read name sources new_sources
-    → Takes told_in told task largest_piece progress laid sources new_sources name walked.made.part walked.error slots new (Err fault)
+    → Takes told_in told task largest_piece progress laid sources new_sources name walked.made.part walked.error slots
+    new (Err fault)
     → RunsOver told_in world names (λ found. TookAll told_in told task found new_sources new (Err fault))
 walk_stops {told_in} told {task} {world} {names} {name} {left} {progress} {laid} {sources} {new_sources} {slots} {new} fault walked leaves (input, is_for, there, cut_off _ step reached is_step stops stop swept) =
     let rest = inputs_from world (progress.was_read || is_dash name) (next_slot (length sources) name) left in
@@ -560,7 +728,8 @@ walk_stops {told_in} told {task} {world} {names} {name} {left} {progress} {laid}
     )
 
 -- all names were taken
-pub walk_ends : {told_in told : Bool} {task : Task} {world : World} {names left : List (List ℕ)} {progress : Progress} {laid : ℕ → List ℕ → Option Content} {sources : List Source} {slots : List Slot} → left ≡ []
+pub walk_ends : {told_in told : Bool} {task : Task} {world : World} {names left : List (List ℕ)} {progress : Progress}
+    {laid : ℕ → List ℕ → Option Content} {sources : List Source} {slots : List Slot} → left ≡ []
     → Walked told_in told task world names left progress laid sources slots
     → RunsOver told_in world names (λ found. TookAll told_in told task found sources slots (Ok progress.failed))
 walk_ends {told_in} {task} {world} {progress} {sources} none walked =
@@ -578,12 +747,18 @@ walk_ends {told_in} {task} {world} {progress} {sources} none walked =
     )
 
 -- the words that a loop has left are the first of them and the rest
-pub walked_at : {told_in : Bool} (told : Bool) {task : Task} {world : World} {names : List (List ℕ)} (none : Bor (List ℕ)) (left : List (Bor (List ℕ))) {progress : Progress} {laid : ℕ → List ℕ → Option Content} {sources : List Source} {slots : List Slot} → 1 ≤ length left
-    → Walked told_in told task world names (map (λ word. word.now) left) progress laid sources slots → Walked told_in told task world names ((get_or left 0 none).now ∷ map (λ word. word.now) (take (length left - 1) (drop 1 left))) progress laid sources slots
+pub walked_at : {told_in : Bool} (told : Bool) {task : Task} {world : World} {names : List (List ℕ)}
+    (none : Bor (List ℕ)) (left : List (Bor (List ℕ))) {progress : Progress} {laid : ℕ → List ℕ → Option Content}
+    {sources : List Source} {slots : List Slot} → 1 ≤ length left
+    → Walked told_in told task world names (map (λ word. word.now) left) progress laid sources slots
+    → Walked told_in told task world names
+    ((get_or left 0 none).now ∷ map (λ word. word.now) (take (length left - 1) (drop 1 left))) progress laid sources
+    slots
 walked_at told none left some walked = grind (arith, common_steps)
 
 -- a run that touched no input
-pub none_touched : {told_in : Bool} {laid : ℕ → List ℕ → Option Content} {sources : List Source} {names : List (List ℕ)} → IsFresh sources → RunsOver told_in (world_of laid sources) names (λ found. AreUntouched found sources)
+pub none_touched : {told_in : Bool} {laid : ℕ → List ℕ → Option Content} {sources : List Source} {names : List (List ℕ)}
+    → IsFresh sources → RunsOver told_in (world_of laid sources) names (λ found. AreUntouched found sources)
 none_touched {laid} {sources} {names} fresh =
     let world = world_of laid sources in
     let at_first : source_at sources 0 ≡ source_of fresh.standard = ap (λ those. source_at those 0) fresh.only in (
@@ -592,7 +767,8 @@ none_touched {laid} {sources} {names} fresh =
       rest_untouched world false 1 names sources (λ _. at_first ∙ ap source_of (sym (ap (λ (source : Source). source.left) at_first))) (omega (arith, ap length fresh.only)),
     )
 
-pub fresh_counts : {sources : List Source} (names : List (List ℕ)) → IsFresh sources → length sources ≤ count_after 1 names
+pub fresh_counts : {sources : List Source} (names : List (List ℕ)) → IsFresh sources
+    → length sources ≤ count_after 1 names
 fresh_counts names fresh = let more : 1 ≤ count_after 1 names = count_more 1 names in omega (arith, ap length fresh.only, more)
 
 -- what a loop over names has left of standard input
@@ -600,7 +776,8 @@ pub record Untouched (names left : List (List ℕ)) (start now : List Source) : 
   pub none_left : has_dash names ≡ false → has_dash left ≡ false
   pub same : has_dash names ≡ false → source_at now 0 ≡ source_at start 0
 
-pub untouched_on : {names : List (List ℕ)} (none : Bor (List ℕ)) (left : List (Bor (List ℕ))) {start now : List Source} (new : List Source) → 1 ≤ length left → Untouched names (map (λ word. word.now) left) start now
+pub untouched_on : {names : List (List ℕ)} (none : Bor (List ℕ)) (left : List (Bor (List ℕ))) {start now : List Source}
+    (new : List Source) → 1 ≤ length left → Untouched names (map (λ word. word.now) left) start now
     → (is_dash (get_or left 0 none).now ≡ false → source_at new 0 ≡ source_at now 0)
     → Untouched names (map (λ word. word.now) (take (length left - 1) (drop 1 left))) start new
 untouched_on {names} none left new some untouched keeps = grind (arith, common_steps)

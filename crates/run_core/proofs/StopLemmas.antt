@@ -22,45 +22,53 @@ use Rattle.ports_core.proofs.PartSteps.{front_begins}
 out_after : (out low : List ℕ) {high : List ℕ} → IsBeginning low high → IsBeginning (out ++ low) (out ++ high)
 out_after out low (rest, is) = (rest, ap (λ bytes. out ++ bytes) is ∙ sym (append_assoc out low rest))
 
-pub begins_after : (first : Part) {low high : Part} → Begins low high → Begins (after_part first low) (after_part first high)
+pub begins_after : (first : Part) {low high : Part} → Begins low high
+    → Begins (after_part first low) (after_part first high)
 begins_after first {low} {high} begins = grind (arith, common_steps, out_after, front_begins)
 
-pub after_assoc : (first next last : Part) → after_part (after_part first next) last ≡ after_part first (after_part next last)
+pub after_assoc : (first next last : Part)
+    → after_part (after_part first next) last ≡ after_part first (after_part next last)
 after_assoc first next last = simp append_assoc
 
 pub nothing_after : {part : Part} → after_part part nothing ≡ part
 nothing_after = simp append-nil
 
 -- bytes on standard output, after a part
-pub out_on : (first : Part) (bytes : List ℕ) → record first { out = first.out ++ bytes } ≡ after_part first (only_out bytes)
+pub out_on : (first : Part) (bytes : List ℕ)
+    → record first { out = first.out ++ bytes } ≡ after_part first (only_out bytes)
 out_on first bytes = rw (append-nil first.files)
 
 -- outputs that are at one part, and from there on at another, are at both
-pub at_after : {told : Bool} {base : List Slot} {first part : Part} {mid now : List Slot} → OutputsAt told base first mid → OutputsAt told mid part now → OutputsAt told base (after_part first part) now
+pub at_after : {told : Bool} {base : List Slot} {first part : Part} {mid now : List Slot}
+    → OutputsAt told base first mid → OutputsAt told mid part now → OutputsAt told base (after_part first part) now
 at_after {told} {base} {first} {part} {mid} one two = record {
   standard = one.standard;
   since = one.since ++ two.since;
   slots = rw (two.slots, more, append_assoc (with_written 0 (told_of told (first.out ++ part.out)) base) one.since two.since);
   files = rw (map-append file_of one.since two.since, one.files, two.files, map-append (told_file told) first.files part.files);
 } where
-  more : with_written 0 (told_of told part.out) mid ≡ with_written 0 (told_of told (first.out ++ part.out)) base ++ one.since
+  more : with_written 0 (told_of told part.out) mid
+      ≡ with_written 0 (told_of told (first.out ++ part.out)) base ++ one.since
   more = ap (with_written 0 (told_of told part.out)) one.slots
       ∙ changed_at-append 0 _ (with_written 0 (told_of told first.out) base) one.since (rw (length-changed_at 0 _ base) one.standard)
       ∙ ap (λ front. front ++ one.since) (with_written-append 0 (told_of told first.out) (told_of told part.out) base ∙ ap (λ bytes. with_written 0 bytes base) (sym (told_of-append told first.out part.out)))
 
-from_after : (fault : Fault) (base : ℕ) {mid : ℕ} (place count : ℕ) (first : ℕ) → mid ≡ base + first → IsAt fault mid place count → IsAt fault base (first + place) (first + count)
+from_after : (fault : Fault) (base : ℕ) {mid : ℕ} (place count : ℕ) (first : ℕ) → mid ≡ base + first
+    → IsAt fault mid place count → IsAt fault base (first + place) (first + count)
 from_after (Write slot) base place count first is (inl here) = inl here
 from_after (Write slot) base place count first is (inr there) = inr (omega (arith, is, there))
 from_after (Open slot) base place count first is at = ap (λ n. first + n) at
 from_after fault base place count first is at = tt
 
 -- what stopped after a part, stopped after it
-lines_for-append : (line : File → List ℕ) (some more : List File) → lines_for line (some ++ more) ≡ lines_for line some ++ lines_for line more
+lines_for-append : (line : File → List ℕ) (some more : List File)
+    → lines_for line (some ++ more) ≡ lines_for line some ++ lines_for line more
 lines_for-append line [] more = refl
 lines_for-append line (file ∷ some) more = grind (arith, common_steps, (lines_for-append line some more))
 
 -- the next file after more files
-next_after : (first : Part) {part high : Part} (name : List ℕ) → IsNext part high name → IsNext (after_part first part) (after_part first high) name
+next_after : (first : Part) {part high : Part} (name : List ℕ) → IsNext part high name
+    → IsNext (after_part first part) (after_part first high) name
 next_after first {part} name next = record {
   front = first.files ++ next.front;
   file = next.file;
@@ -70,7 +78,10 @@ next_after first {part} name next = record {
   name_is = next.name_is;
 }
 
-lines_after : (output : Output) (first low part high : Part) (place : ℕ) (fault : Fault) → LinesInOrder output low part high place fault → LinesInOrder output (after_part first low) (after_part first part) (after_part first high) (length first.files + place) fault
+lines_after : (output : Output) (first low part high : Part) (place : ℕ) (fault : Fault)
+    → LinesInOrder output low part high place fault
+    → LinesInOrder output (after_part first low) (after_part first part) (after_part first high)
+    (length first.files + place) fault
 lines_after gets_none first low part high place fault lines = tt
 lines_after gets_bytes first low part high place fault lines = tt
 lines_after (gets_openings line) first low part high place fault are = record {
@@ -97,7 +108,9 @@ lines_after (gets_lines line) first low part high place fault (inr (since, is, a
   },
 )
 
-pub stop_after : {output : Output} {told : Bool} {base : List Slot} {first low high : Part} {fault : Fault} {mid now : List Slot} → OutputsAt told base first mid → StoppedBetween output told mid low high fault now → StoppedBetween output told base (after_part first low) (after_part first high) fault now
+pub stop_after : {output : Output} {told : Bool} {base : List Slot} {first low high : Part} {fault : Fault}
+    {mid now : List Slot} → OutputsAt told base first mid → StoppedBetween output told mid low high fault now
+    → StoppedBetween output told base (after_part first low) (after_part first high) fault now
 stop_after {output} {told} {base} {first} {low} {high} {fault} {mid} {now} at stop = record {
   part = after_part first stop.part;
   above = begins_after first stop.above;
@@ -117,11 +130,13 @@ stop_after {output} {told} {base} {first} {low} {high} {fault} {mid} {now} at st
 
 -- where there is no file, none is to be removed
 
-pub none_to_sweep : (clears : Bool) {first : ℕ} (slots : List Slot) → length slots ≤ first → Swept clears first slots slots
+pub none_to_sweep : (clears : Bool) {first : ℕ} (slots : List Slot) → length slots ≤ first
+    → Swept clears first slots slots
 none_to_sweep clears {first} slots past = swept_none clears first slots (λ place above. none_past slots place (omega (arith, past, above)))
 
 -- the same from another place, where it matters
-pub swept_from : (clears : Bool) {first other : ℕ} (old new : List Slot) → (clears ≡ true → first ≡ other) → Swept clears first old new → Swept clears other old new
+pub swept_from : (clears : Bool) {first other : ℕ} (old new : List Slot) → (clears ≡ true → first ≡ other)
+    → Swept clears first old new → Swept clears other old new
 swept_from true old new same swept = rw (same refl) at swept
 swept_from false old new same swept = swept
 
@@ -140,22 +155,26 @@ pub record HasError (slots : List Slot) : Type 0 where
 pub error_open : {slots : List Slot} → HasError slots → is_open (slot_at slots 1).state ≡ true
 error_open has = rw (has.are, has.opened)
 
-shape_of : {output error : Slot} {since slots : List Slot} → is_open error.state ≡ true → slots ≡ output ∷ error ∷ since → HasError slots
+shape_of : {output error : Slot} {since slots : List Slot} → is_open error.state ≡ true → slots ≡ output ∷ error ∷ since
+    → HasError slots
 shape_of {output} {error} {since} opened are = record { output = output; error = error; since = since; are = are; opened = opened }
 
-marked_error : (IsName : List ℕ → Type 0) (fault : Fault) (output error : Slot) (since : List Slot) {now : List Slot} → is_open error.state ≡ true → Marks IsName fault (output ∷ error ∷ since) now → HasError now
+marked_error : (IsName : List ℕ → Type 0) (fault : Fault) (output error : Slot) (since : List Slot) {now : List Slot}
+    → is_open error.state ≡ true → Marks IsName fault (output ∷ error ∷ since) now → HasError now
 marked_error IsName (Write zero) output error since opened marks = shape_of opened marks.1
 marked_error IsName (Write (suc zero)) output error since opened marks = shape_of opened marks.1
 marked_error IsName (Write (suc (suc place))) output error since opened marks = shape_of opened marks.1
 marked_error IsName (Open slot) output error since opened marks = shape_of opened marks.1.4
 marked_error IsName fault output error since opened marks = shape_of opened marks
 
-pub stop_error : {how : Output} {told : Bool} {output error : Slot} {low high : Part} {fault : Fault} {now : List Slot} → is_open error.state ≡ true → StoppedBetween how told (output ∷ error ∷ []) low high fault now → HasError now
+pub stop_error : {how : Output} {told : Bool} {output error : Slot} {low high : Part} {fault : Fault} {now : List Slot}
+    → is_open error.state ≡ true → StoppedBetween how told (output ∷ error ∷ []) low high fault now → HasError now
 stop_error {told} {output} {error} {high} {fault} opened stop = grind (arith, common_steps, marked_error)
 
 -- a message changes standard error, and no other output
 
-pub said_at : {told : Bool} {Change : Slot → Slot → Type 0} {output error : Slot} {part : Part} {old new : List Slot} → OutputsAt told (output ∷ error ∷ []) part old → OnError Change old new
+pub said_at : {told : Bool} {Change : Slot → Slot → Type 0} {output error : Slot} {part : Part} {old new : List Slot}
+    → OutputsAt told (output ∷ error ∷ []) part old → OnError Change old new
     → (after : Slot) × Change error after × OutputsAt told (output ∷ after ∷ []) part new
 said_at {told} {output} {error} {part} at says =
     let said = says (adds (told_of told part.out) output) error at.since at.slots in
@@ -163,7 +182,9 @@ said_at {told} {output} {error} {part} at says =
 
 module _ (told : Bool) (Change : Slot → Slot → Type 0) where
   -- what a fault left, with its message after it; standard error is none of the outputs that it can mark
-  told_marked : (IsName : List ℕ → Type 0) (fault : Fault) (place count : ℕ) (output : Slot) {error : Slot} (since : List Slot) {mid : List Slot} (new : List Slot) → IsAt fault 2 place count → Marks IsName fault (output ∷ error ∷ since) mid → OnError Change mid new
+  told_marked : (IsName : List ℕ → Type 0) (fault : Fault) (place count : ℕ) (output : Slot) {error : Slot}
+      (since : List Slot) {mid : List Slot} (new : List Slot) → IsAt fault 2 place count
+      → Marks IsName fault (output ∷ error ∷ since) mid → OnError Change mid new
       → (after : Slot) × Change error after × Marks IsName fault (output ∷ after ∷ since) new
   told_marked IsName (Write zero) place count output {error} since new from marks says = let said = says (breaks output) error since marks.1 in (said.0, said.1, (marks.0, said.2))
   told_marked IsName (Write (suc zero)) place count output since new from marks says = absurd (elim from [ inl is ↦ omega (arith, is) | inr is ↦ omega (arith, is) ])
@@ -172,7 +193,8 @@ module _ (told : Bool) (Change : Slot → Slot → Type 0) where
       let said = says output error (since ++ unopened marks.1.1 ∷ []) marks.1.4 in (said.0, said.1, (marks.0, (marks.1.0, marks.1.1, marks.1.2, marks.1.3, said.2)))
   told_marked IsName fault place count output {error} since new from marks says = says output error since marks
 
-  stop_said : {how : Output} {output error : Slot} {low high : Part} {fault : Fault} {mid new : List Slot} → StoppedBetween how told (output ∷ error ∷ []) low high fault mid → OnError Change mid new
+  stop_said : {how : Output} {output error : Slot} {low high : Part} {fault : Fault} {mid new : List Slot}
+      → StoppedBetween how told (output ∷ error ∷ []) low high fault mid → OnError Change mid new
       → (after : Slot) × Change error after × StoppedBetween how told (output ∷ after ∷ []) low high fault new
   stop_said {output = output} {high} {fault} {new} stop says =
       let first = adds (told_of told stop.part.out) output in
@@ -193,44 +215,54 @@ module _ (told : Bool) (Change : Slot → Slot → Type 0) where
         },
       )
 
-pub beside_error : (output error error_too : Slot) (files : List Slot) (place : ℕ) → (place ≡ 1 → ⊥) → slot_at (output ∷ error ∷ files) place ≡ slot_at (output ∷ error_too ∷ files) place
+pub beside_error : (output error error_too : Slot) (files : List Slot) (place : ℕ) → (place ≡ 1 → ⊥)
+    → slot_at (output ∷ error ∷ files) place ≡ slot_at (output ∷ error_too ∷ files) place
 beside_error output error error_too files (suc zero) differs = absurd (differs refl)
 beside_error output error error_too files place differs = refl
 
 -- what stopped a step did so after the message too
-stops_still : {Change : Slot → Slot → Type 0} (step : Step) {mid new : List Slot} (fault : Fault) (place count : ℕ) → IsAt fault 2 place count → HasError mid → OnError Change mid new → Stops step mid fault → Stops step new fault
+stops_still : {Change : Slot → Slot → Type 0} (step : Step) {mid new : List Slot} (fault : Fault) (place count : ℕ)
+    → IsAt fault 2 place count → HasError mid → OnError Change mid new → Stops step mid fault → Stops step new fault
 stops_still step {mid} {new} (Write slot) place count from has says stops = grind (arith, common_steps, beside_error)
 stops_still step fault place count from has says stops = stops
 
 -- what is said after files were removed
 
-swept_streams : {output error after : Slot} {since now : List Slot} {first : ℕ} → 2 ≤ first → SweptFrom first (output ∷ error ∷ since) (output ∷ error ∷ now) → SweptFrom first (output ∷ after ∷ since) (output ∷ after ∷ now)
+swept_streams : {output error after : Slot} {since now : List Slot} {first : ℕ} → 2 ≤ first
+    → SweptFrom first (output ∷ error ∷ since) (output ∷ error ∷ now)
+    → SweptFrom first (output ∷ after ∷ since) (output ∷ after ∷ now)
 swept_streams {output} {after} {since} {now} {first} past swept = record { size = swept.size; before = same_before; cleared = cleared_still } where
-  same_before : (place : ℕ) → place < first → slot_at (output ∷ after ∷ now) place ≡ slot_at (output ∷ after ∷ since) place
+  same_before : (place : ℕ) → place < first
+      → slot_at (output ∷ after ∷ now) place ≡ slot_at (output ∷ after ∷ since) place
   same_before (suc (suc place)) within = swept.before (suc (suc place)) within
   same_before place within = refl
 
-  cleared_still : (place : ℕ) → first ≤ place → Cleared (slot_at (output ∷ after ∷ since) place) (slot_at (output ∷ after ∷ now) place)
+  cleared_still : (place : ℕ) → first ≤ place
+      → Cleared (slot_at (output ∷ after ∷ since) place) (slot_at (output ∷ after ∷ now) place)
   cleared_still (suc (suc place)) above = swept.cleared (suc (suc place)) above
   cleared_still place above = absurd (omega (arith, past, above))
 
 -- outputs that were swept have the same streams
-pub swept_error : (clears : Bool) {first : ℕ} (old new : List Slot) → 2 ≤ first → Swept clears first old new → slot_at new 1 ≡ slot_at old 1
+pub swept_error : (clears : Bool) {first : ℕ} (old new : List Slot) → 2 ≤ first → Swept clears first old new
+    → slot_at new 1 ≡ slot_at old 1
 swept_error false old new past same = ap (λ slots. slot_at slots 1) same
 swept_error true old new past swept = swept.before 1 (omega (arith, past))
 
-streams_left : {output error : Slot} {since : List Slot} (mid : List Slot) {first : ℕ} → 2 ≤ first → SweptFrom first (output ∷ error ∷ since) mid → (now : List Slot) × (mid ≡ output ∷ error ∷ now)
+streams_left : {output error : Slot} {since : List Slot} (mid : List Slot) {first : ℕ} → 2 ≤ first
+    → SweptFrom first (output ∷ error ∷ since) mid → (now : List Slot) × (mid ≡ output ∷ error ∷ now)
 streams_left {since} [] past swept = absurd (let none : 0 ≡ suc (suc (length since)) = swept.size in omega (arith, none))
 streams_left {since} (one ∷ []) past swept = absurd (let few : 1 ≡ suc (suc (length since)) = swept.size in omega (arith, few))
 streams_left {output} (one ∷ two ∷ now) past swept =
     (now, ap (λ slot. slot ∷ two ∷ now) (swept.before 0 (omega (arith, past))) ∙ ap (λ slot. output ∷ slot ∷ now) (swept.before 1 (omega (arith, past))))
 
-named_same : (fault : Fault) (output error after : Slot) (since : List Slot) → after.name ≡ error.name → output_named (output ∷ after ∷ since) fault ≡ output_named (output ∷ error ∷ since) fault
+named_same : (fault : Fault) (output error after : Slot) (since : List Slot) → after.name ≡ error.name
+    → output_named (output ∷ after ∷ since) fault ≡ output_named (output ∷ error ∷ since) fault
 named_same (Write (suc zero)) output error after since is = is
 named_same (Open (suc zero)) output error after since is = is
 named_same fault output error after since is = refl
 
-module _ (told : Bool) (Change : Slot → Slot → Type 0) (keeps : (old new : Slot) → Change old new → new.name ≡ old.name) where
+module _ (told : Bool) (Change : Slot → Slot → Type 0)
+    (keeps : (old new : Slot) → Change old new → new.name ≡ old.name) where
   -- a message after the files were removed changes standard error alone, and no name
   pub record SaidSwept (clears : Bool) (first : ℕ) (output error : Slot) (since mid new : List Slot) : Type 0 where
     pub after : Slot
@@ -238,10 +270,14 @@ module _ (told : Bool) (Change : Slot → Slot → Type 0) (keeps : (old new : S
     pub swept : Swept clears first (output ∷ after ∷ since) new
     pub named : (fault : Fault) → output_named new fault ≡ output_named mid fault
 
-  said_named : {output error : Slot} {since mid new : List Slot} {after : Slot} → mid ≡ output ∷ error ∷ since → Change error after → new ≡ output ∷ after ∷ since → (fault : Fault) → output_named new fault ≡ output_named mid fault
+  said_named : {output error : Slot} {since mid new : List Slot} {after : Slot} → mid ≡ output ∷ error ∷ since
+      → Change error after → new ≡ output ∷ after ∷ since → (fault : Fault)
+      → output_named new fault ≡ output_named mid fault
   said_named {output} {error} {since} {after} was says is fault = rw (is, named_same fault output error after since (keeps _ _ says), was)
 
-  pub said_swept : (clears : Bool) {output error : Slot} {since : List Slot} (mid new : List Slot) (first : ℕ) → 2 ≤ first → Swept clears first (output ∷ error ∷ since) mid → OnError Change mid new → SaidSwept clears first output error since mid new
+  pub said_swept : (clears : Bool) {output error : Slot} {since : List Slot} (mid new : List Slot) (first : ℕ)
+      → 2 ≤ first → Swept clears first (output ∷ error ∷ since) mid → OnError Change mid new
+      → SaidSwept clears first output error since mid new
   said_swept false {output} {error} {since} mid new first past same says =
       let said = says output error since same in record { after = said.0; says = said.1; swept = said.2; named = said_named same said.1 said.2 }
   said_swept true {output} {error} mid new first past swept says =
@@ -254,7 +290,8 @@ module _ (told : Bool) (Change : Slot → Slot → Type 0) (keeps : (old new : S
       }
 
   -- what a fault left, once its files were removed and its message was said
-  pub record ToldStop (step : Step) (output error : Slot) (low high : Part) (fault : Fault) (clears : Bool) (first : ℕ) (mid new : List Slot) : Type 0 where
+  pub record ToldStop (step : Step) (output error : Slot) (low high : Part) (fault : Fault) (clears : Bool) (first : ℕ)
+      (mid new : List Slot) : Type 0 where
     pub after : Slot
     pub says : Change error after
     pub reached : List Slot
@@ -263,8 +300,11 @@ module _ (told : Bool) (Change : Slot → Slot → Type 0) (keeps : (old new : S
     pub swept : Swept clears first reached new
     pub named : output_named new fault ≡ output_named mid fault
 
-  pub stop_swept : (step : Step) (clears : Bool) {output error : Slot} {low high : Part} {fault : Fault} {reached mid new : List Slot} {first : ℕ} → 2 ≤ first → is_open error.state ≡ true → StoppedBetween step.output told (output ∷ error ∷ []) low high fault reached
-      → Stops step reached fault → Swept clears first reached mid → OnError Change mid new → ToldStop step output error low high fault clears first mid new
+  pub stop_swept : (step : Step) (clears : Bool) {output error : Slot} {low high : Part} {fault : Fault}
+      {reached mid new : List Slot} {first : ℕ} → 2 ≤ first → is_open error.state ≡ true
+      → StoppedBetween step.output told (output ∷ error ∷ []) low high fault reached
+      → Stops step reached fault → Swept clears first reached mid → OnError Change mid new
+      → ToldStop step output error low high fault clears first mid new
   stop_swept step clears {fault} {reached} {mid} {new} {first} past opened stop why swept says =
       let has = stop_error opened stop in
       let said = said_swept clears mid new first past (rw has.are at swept) says in

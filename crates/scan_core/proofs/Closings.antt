@@ -24,7 +24,8 @@ use Rattle.scan_core.proofs.Enterings.{at_index, at_least, each_more, each_to, f
 use Rattle.scan_core.proofs.Insides.{adds_anywhere, adds_both, entered_one, either_bit, flows_join, fresh_bit, is_in_word, is_within, left_bit, right_bit, spreads_out, unset-set}
 
 -- some of a word's numbers are those of a hop, or none
-pub one_of : (word from : ℕ) → word < 2 ^ 64 → (bit_and word from ≡ 0 → ⊥) → (bit : ℕ) × (bit < 64) × (bit_at word bit ≡ 1) × (bit_at from bit ≡ 1)
+pub one_of : (word from : ℕ) → word < 2 ^ 64 → (bit_and word from ≡ 0 → ⊥)
+    → (bit : ℕ) × (bit < 64) × (bit_at word bit ≡ 1) × (bit_at from bit ≡ 1)
 one_of word from fits some =
     let l = and_le_l word from in
     let lowest = bit_at-trailing_zeros w64 (bit_and word from) (omega (arith, some)) (omega (arith, l, fits)) in
@@ -43,27 +44,35 @@ none_of word from bit none here there =
 
 -- Hops are added.
 
-pub adding_one : {code : List Node} {old new : List Hop} {hop : Hop} → AreHops code old → IsHop code hop → new ≡ old ++ hop ∷ [] → AreHops code new
+pub adding_one : {code : List Node} {old new : List Hop} {hop : Hop} → AreHops code old → IsHop code hop
+    → new ≡ old ++ hop ∷ [] → AreHops code new
 adding_one {old = old} {hop = hop} are is e = let l = ap length e in let m = length-append old (hop ∷ []) in each_to (each_more are is e) (omega (arith, l, m))
 
-pub hops_added : (old more : List Hop) {new : List Hop} (at to : ℕ) → new ≡ old ++ more → HopsTo old at to → HopsTo new at to
+pub hops_added : (old more : List Hop) {new : List Hop} (at to : ℕ) → new ≡ old ++ more → HopsTo old at to
+    → HopsTo new at to
 hops_added old more at to e h = grind (arith, common_steps)
 
 -- what is met stays so when hops are added
-pub meets_kept : (base : List ℕ) (old new : List Hop) {at to : ℕ} → (more : List Hop) × (new ≡ old ++ more) → Meets base old at to → Meets base new at to
+pub meets_kept : (base : List ℕ) (old new : List Hop) {at to : ℕ} → (more : List Hop) × (new ≡ old ++ more)
+    → Meets base old at to → Meets base new at to
 meets_kept base old new grown (inl near) = inl near
 meets_kept base old new grown (inr (inl based)) = inr (inl based)
 meets_kept base old new {at} {to} grown (inr (inr hop)) = inr (inr (hops_added old grown.0 at to grown.1 hop))
 
 -- what a node leads to is met once both are
-pub both_met : {code : List Node} (base : List ℕ) (old new : List Hop) {number : ℕ} {way : Way} {T : Type 0} {E : Type 0} (result : Result T E) → IsWay code number way → Meets base old (number / 64) way.one
-    → OnOk result ((more : List Hop) × (new ≡ old ++ more)) → OnOk result (Meets base new (number / 64) way.other) → OnOk result ((to : ℕ) → Flows code false false number to → Meets base new (number / 64) to)
+pub both_met : {code : List Node} (base : List ℕ) (old new : List Hop) {number : ℕ} {way : Way} {T : Type 0}
+    {E : Type 0} (result : Result T E) → IsWay code number way → Meets base old (number / 64) way.one
+    → OnOk result ((more : List Hop) × (new ≡ old ++ more)) → OnOk result (Meets base new (number / 64) way.other)
+    → OnOk result ((to : ℕ) → Flows code false false number to → Meets base new (number / 64) to)
 both_met base old new {number} (Ok done) w one grown other = λ to f. led_by (Meets base new (number / 64)) w (meets_kept base old new grown one) other f
 both_met base old new (Err fault) w one grown other = tt
 
 -- what the first numbers lead to is met
-pub all_met : (code : List Node) (base : List ℕ) (old new : List Hop) {count : ℕ} → ((number to : ℕ) → number < count → Flows code false false number to → Meets base old (number / 64) to) → (more : List Hop) × (new ≡ old ++ more)
-    → ((to : ℕ) → Flows code false false count to → Meets base new (count / 64) to) → (number to : ℕ) → number < count + 1 → Flows code false false number to → Meets base new (number / 64) to
+pub all_met : (code : List Node) (base : List ℕ) (old new : List Hop) {count : ℕ}
+    → ((number to : ℕ) → number < count → Flows code false false number to → Meets base old (number / 64) to)
+    → (more : List Hop) × (new ≡ old ++ more)
+    → ((to : ℕ) → Flows code false false count to → Meets base new (count / 64) to) → (number to : ℕ)
+    → number < count + 1 → Flows code false false number to → Meets base new (number / 64) to
 all_met code base old new {count} before grown here number to h f = elim (cases_eq number count) [
   | inl same ↦ subst (λ n. Meets base new (n / 64) to) (sym same) (here to (subst (λ n. Flows code false false n to) same f))
   | inr other ↦ meets_kept base old new grown (before number to (omega (arith, h, other)) f)
@@ -73,12 +82,15 @@ all_met code base old new {count} before grown here number to h f = elim (cases_
 pub record Parting (code : List Node) (base : List ℕ) (all onward landings : List Hop) (count : ℕ) : Type 0 where
   pub first : AreHops code onward
   pub last : AreLandings code base landings
-  pub parted : (place : ℕ) → place < count → PartsTo onward landings (get_or all place no_hop).at (end_of (get_or all place no_hop))
+  pub parted : (place : ℕ) → place < count
+      → PartsTo onward landings (get_or all place no_hop).at (end_of (get_or all place no_hop))
 
 hops_to_last : (old : List Hop) (hop : Hop) {new : List Hop} → new ≡ old ++ hop ∷ [] → HopsTo new hop.at (end_of hop)
 hops_to_last old hop e = grind (arith, common_steps)
 
-pub part_onward : {code : List Node} {base : List ℕ} {all onward landings new : List Hop} {count : ℕ} {hop : Hop} → Parting code base all onward landings count → IsHop code hop → hop ≡ get_or all count no_hop → new ≡ onward ++ hop ∷ []
+pub part_onward : {code : List Node} {base : List ℕ} {all onward landings new : List Hop} {count : ℕ} {hop : Hop}
+    → Parting code base all onward landings count → IsHop code hop → hop ≡ get_or all count no_hop
+    → new ≡ onward ++ hop ∷ []
     → Parting code base all new landings (count + 1)
 part_onward {all = all} {onward} {landings} {new} {count} {hop} p is eh en = record {
   first = adding_one p.first is en;
@@ -92,7 +104,9 @@ part_onward {all = all} {onward} {landings} {new} {count} {hop} p is eh en = rec
   ];
 }
 
-pub part_landing : {code : List Node} {base : List ℕ} {all onward landings new : List Hop} {count : ℕ} {hop : Hop} → Parting code base all onward landings count → IsLanding code base hop → hop ≡ get_or all count no_hop → new ≡ landings ++ hop ∷ []
+pub part_landing : {code : List Node} {base : List ℕ} {all onward landings new : List Hop} {count : ℕ} {hop : Hop}
+    → Parting code base all onward landings count → IsLanding code base hop → hop ≡ get_or all count no_hop
+    → new ≡ landings ++ hop ∷ []
     → Parting code base all onward new (count + 1)
 part_landing {all = all} {onward} {landings} {new} {count} {hop} p is eh en = record {
   first = p.first;
@@ -106,9 +120,11 @@ part_landing {all = all} {onward} {landings} {new} {count} {hop} p is eh en = re
   ];
 }
 
-pub parting_ends : {code : List Node} {base : List ℕ} {all onward landings : List Hop} {count : ℕ} → Parting code base all onward landings count → length all ≤ count
+pub parting_ends : {code : List Node} {base : List ℕ} {all onward landings : List Hop} {count : ℕ}
+    → Parting code base all onward landings count → length all ≤ count
     → ((number to : ℕ) → Flows code false false number to → Meets base all (number / 64) to)
-    → (number to : ℕ) → Flows code false false number to → (to / 64 ≡ number / 64) ⊎ (IsIn base to ⊎ PartsTo onward landings (number / 64) to)
+    → (number to : ℕ) → Flows code false false number to
+    → (to / 64 ≡ number / 64) ⊎ (IsIn base to ⊎ PartsTo onward landings (number / 64) to)
 parting_ends {all = all} {onward} {landings} p h met number to f = elim (met number to f) [
   | inl near ↦ inl near
   | inr other ↦ inr (elim other [
@@ -132,7 +148,8 @@ plain_beyond code number h = λ to f. absurd (let l = at_least code number f.0 f
 abbrev pub NoneAnchors : List Node → List ℕ → ℕ → Type 0
 NoneAnchors code words count = (number : ℕ) → number < 64 * count → IsIn words number → IsPlain code number
 
-pub none_more : (code : List Node) (words : List ℕ) (count anchors : ℕ) → NoneAnchors code words count → HasAnchors code count anchors
+pub none_more : (code : List Node) (words : List ℕ) (count anchors : ℕ) → NoneAnchors code words count
+    → HasAnchors code count anchors
     → bit_and (get_or words count 0) anchors ≡ 0 → NoneAnchors code words (count + 1)
 none_more code words count anchors before has none = λ number h k. elim (cases_lt number (64 * count)) [
   | inl l ↦ before number l k
@@ -148,7 +165,8 @@ none_more code words count anchors before has none = λ number h k. elim (cases_
 -- Closing a word.
 
 -- what a word's numbers lead to has the word's own
-kept_or : {code : List Node} {at word all : ℕ} → Closes code at word all → word < 2 ^ 64 → all < 2 ^ 64 → bit_or word all ≡ all
+kept_or : {code : List Node} {at word all : ℕ} → Closes code at word all → word < 2 ^ 64 → all < 2 ^ 64
+    → bit_or word all ≡ all
 kept_or {word = word} {all} c fits small = same_from_bits_below 64 (bit_or word all) all (or_lt 64 word all fits small) small (λ bit h.
     let e = bit_at_or word all bit in
     let l = bit_at-lt word bit in
@@ -166,7 +184,9 @@ pub record Closed (code : List Node) (at : ℕ) (old now : List ℕ) : Type 0 wh
   pub fuller : unset now ≤ unset old
   pub closed : (start to : ℕ) → start / 64 ≡ at → IsIn now start → Stays code start to → IsIn now to
 
-pub close_word : {code : List Node} {at word : ℕ} (all : ℕ) {old now : List ℕ} → at < length old → word ≡ get_or old at 0 → Closes code at word all → word < 2 ^ 64 → all < 2 ^ 64 → now ≡ set old at all → Closed code at old now
+pub close_word : {code : List Node} {at word : ℕ} (all : ℕ) {old now : List ℕ} → at < length old
+    → word ≡ get_or old at 0 → Closes code at word all → word < 2 ^ 64 → all < 2 ^ 64 → now ≡ set old at all
+    → Closed code at old now
 close_word {code} {at} {word} all {old} {now} h ew c fits small es = record {
   adds = record {
     size = ap length en ∙ length-set old at (bit_or word all);
@@ -208,7 +228,9 @@ close_word {code} {at} {word} all {old} {now} h ew c fits small es = record {
     in_all bit l k = elim (either_bit word all bit (sym (ap (λ w. bit_at w bit) read) ∙ (is_in_word now at bit l).1 k)) [ inl w ↦ c.kept bit l w | inr a ↦ a ]
 
 -- a number of a word of which none leads out of the base leads to numbers of it
-based_of : {code : List Node} {closures : Closures} {at : ℕ} (words : List ℕ) (start to : ℕ) → AreClosures code closures → at < width code → bit_and (get_or words at 0) (get_or closures.leads.items at 0) ≡ 0 → start / 64 ≡ at → IsIn words start → Flows code false false start to
+based_of : {code : List Node} {closures : Closures} {at : ℕ} (words : List ℕ) (start to : ℕ) → AreClosures code closures
+    → at < width code → bit_and (get_or words at 0) (get_or closures.leads.items at 0) ≡ 0 → start / 64 ≡ at
+    → IsIn words start → Flows code false false start to
     → IsIn closures.base.items to
 based_of {code} {closures} {at} words start to c inside e here h f =
     let same : start ≡ at * 64 + start % 64 = omega (arith, here) in
@@ -219,8 +241,10 @@ based_of {code} {closures} {at} words start to c inside e here h f =
     ]
 
 -- a number of a word that was closed leads to numbers of the set, or by a hop
-closed_meets : {code : List Node} {closures : Closures} {at : ℕ} {old now : List ℕ} → AreClosures code closures → Closed code at old now → ((number : ℕ) → IsIn closures.base.items number → IsIn old number)
-    → (start to : ℕ) → start / 64 ≡ at → IsIn now start → Flows code false false start to → IsIn now to ⊎ PartsTo closures.hops.onward.items closures.hops.landings.items (start / 64) to
+closed_meets : {code : List Node} {closures : Closures} {at : ℕ} {old now : List ℕ} → AreClosures code closures
+    → Closed code at old now → ((number : ℕ) → IsIn closures.base.items number → IsIn old number)
+    → (start to : ℕ) → start / 64 ≡ at → IsIn now start → Flows code false false start to
+    → IsIn now to ⊎ PartsTo closures.hops.onward.items closures.hops.landings.items (start / 64) to
 closed_meets c w begun start to here k f = elim (c.hops.met start to f) [
   | inl near ↦ inl (w.closed start to here k (f, near))
   | inr other ↦ elim other [ inl based ↦ inl (w.adds.kept to (begun to based)) | inr hop ↦ inr hop ]
@@ -229,9 +253,12 @@ closed_meets c w begun start to here k f = elim (c.hops.met start to f) [
 -- the first words were closed
 pub record Apart (code : List Node) (closures : Closures) (old now : List ℕ) (count : ℕ) : Type 0 where
   pub adds : Adds code false false old now
-  pub done : (start to : ℕ) → start < 64 * count → IsIn now start → Flows code false false start to → IsIn now to ⊎ PartsTo closures.hops.onward.items closures.hops.landings.items (start / 64) to
+  pub done : (start to : ℕ) → start < 64 * count → IsIn now start → Flows code false false start to
+      → IsIn now to ⊎ PartsTo closures.hops.onward.items closures.hops.landings.items (start / 64) to
 
-pub apart_skip : {code : List Node} {closures : Closures} {old now : List ℕ} {count : ℕ} → Apart code closures old now count → AreClosures code closures → ((number : ℕ) → IsIn closures.base.items number → IsIn old number) → count < width code
+pub apart_skip : {code : List Node} {closures : Closures} {old now : List ℕ} {count : ℕ}
+    → Apart code closures old now count → AreClosures code closures
+    → ((number : ℕ) → IsIn closures.base.items number → IsIn old number) → count < width code
     → bit_and (get_or now count 0) (get_or closures.leads.items count 0) ≡ 0 → Apart code closures old now (count + 1)
 apart_skip {now = now} {count = count} s c begun inside e = record {
   adds = s.adds;
@@ -241,8 +268,11 @@ apart_skip {now = now} {count = count} s c begun inside e = record {
   ];
 }
 
-pub apart_more : {code : List Node} {closures : Closures} {old now new : List ℕ} {count : ℕ} (all : ℕ) → Apart code closures old now count → AreClosures code closures → ((number : ℕ) → IsIn closures.base.items number → IsIn old number) → count < width code → length old ≡ width code
-    → Closes code count (get_or now count 0) all → get_or now count 0 < 2 ^ 64 → all < 2 ^ 64 → new ≡ set now count all → Apart code closures old new (count + 1)
+pub apart_more : {code : List Node} {closures : Closures} {old now new : List ℕ} {count : ℕ} (all : ℕ)
+    → Apart code closures old now count → AreClosures code closures
+    → ((number : ℕ) → IsIn closures.base.items number → IsIn old number) → count < width code → length old ≡ width code
+    → Closes code count (get_or now count 0) all → get_or now count 0 < 2 ^ 64 → all < 2 ^ 64 → new ≡ set now count all
+    → Apart code closures old new (count + 1)
 apart_more {code} {closures} {old} {now} {new} {count} all s c begun inside size closes fits small en = record {
   adds = adds_both s.adds w.adds;
   done = λ start to h k flow. elim (cases_eq (start / 64) count) [
@@ -254,13 +284,15 @@ apart_more {code} {closures} {old} {now} {new} {count} all s c begun inside size
     w : Closed code count now new
     w = close_word all (let e = s.adds.size in omega (arith, e, size, inside)) refl closes fits small en
 
-pub apart_ends : {code : List Node} {closures : Closures} {old now : List ℕ} {count : ℕ} → Apart code closures old now count → length now ≤ count → IsApart code closures.hops now
+pub apart_ends : {code : List Node} {closures : Closures} {old now : List ℕ} {count : ℕ}
+    → Apart code closures old now count → length now ≤ count → IsApart code closures.hops now
 apart_ends {now = now} s h = λ start to k flow. let w = is_within now start k in s.done start to (omega (arith, w, h)) k flow
 
 -- Following a hop.
 
 -- a number of a word is entered if something holds
-entered_if : (words : List ℕ) {new : List ℕ} (at bit : ℕ) (holds : Bool) → at < length words → bit < 64 → new ≡ set words at (bit_or (get_or words at 0) (bool_byte holds * 2 ^ bit % 2 ^ 64))
+entered_if : (words : List ℕ) {new : List ℕ} (at bit : ℕ) (holds : Bool) → at < length words → bit < 64
+    → new ≡ set words at (bit_or (get_or words at 0) (bool_byte holds * 2 ^ bit % 2 ^ 64))
     → (other : ℕ) → IsIn new other ↔ (IsIn words other ⊎ (IsTrue holds × (other ≡ at * 64 + bit)))
 entered_if words {new} at bit true h small en other =
     let here : (at * 64 + bit) / 64 ≡ at = omega (arith, small) in
@@ -279,8 +311,10 @@ pub record Led (code : List Node) (hop : Hop) (old mid : List ℕ) (all : ℕ) :
   pub larger : get_or old hop.word 0 ≤ all
   pub fits : all < 2 ^ 64
 
-pub led_is : {code : List Node} {hop : Hop} {old mid : List ℕ} (holds : Bool) → IsHop code hop → length old ≡ width code → get_or old hop.at 0 < 2 ^ 64 → get_or old hop.word 0 < 2 ^ 64
-    → (IsTrue holds → bit_and (get_or old hop.at 0) hop.from ≡ 0 → ⊥) → ((bit_and (get_or old hop.at 0) hop.from ≡ 0 → ⊥) → IsTrue holds)
+pub led_is : {code : List Node} {hop : Hop} {old mid : List ℕ} (holds : Bool) → IsHop code hop → length old ≡ width code
+    → get_or old hop.at 0 < 2 ^ 64 → get_or old hop.word 0 < 2 ^ 64
+    → (IsTrue holds → bit_and (get_or old hop.at 0) hop.from ≡ 0 → ⊥)
+    → ((bit_and (get_or old hop.at 0) hop.from ≡ 0 → ⊥) → IsTrue holds)
     → mid ≡ set old hop.word (bit_or (get_or old hop.word 0) (bool_byte holds * 2 ^ hop.bit % 2 ^ 64))
     → Led code hop old mid (bit_or (get_or old hop.word 0) (bool_byte holds * 2 ^ hop.bit % 2 ^ 64))
 led_is {code} {hop} {old} {mid} holds is size fits high some any em = record {
@@ -301,14 +335,17 @@ led_is {code} {hop} {old} {mid} holds is size fits high some any em = record {
     exact : (other : ℕ) → IsIn mid other ↔ (IsIn old other ⊎ (IsTrue holds × (other ≡ end_of hop)))
     exact = entered_if old hop.word hop.bit holds (let w = is.word in omega (arith, w, size)) is.bit em
 
-    entered : (number : ℕ) → IsTrue holds → number ≡ end_of hop → (start : ℕ) × IsIn old start × FlowsOn code false false start number
+    entered : (number : ℕ) → IsTrue holds → number ≡ end_of hop
+        → (start : ℕ) × IsIn old start × FlowsOn code false false start number
     entered number t e =
         let one = one_of (get_or old hop.at 0) hop.from fits (some t) in
         let start : ℕ = hop.at * 64 + one.0 in
         (start, (is_in_word old hop.at one.0 one.1).0 one.2, (1, (start, refl, subst (Flows code false false start) (sym e) ((is.exact one.0 one.1).0 one.3))))
 
 -- no number is new
-pub follows_none : {code : List Node} {closures : Closures} {hop : Hop} {old mid : List ℕ} (all : ℕ) {over : ℕ} → IsHop code hop → length old ≡ width code → get_or old hop.word 0 < 2 ^ 64 → IsApart code closures.hops old → Led code hop old mid all
+pub follows_none : {code : List Node} {closures : Closures} {hop : Hop} {old mid : List ℕ} (all : ℕ) {over : ℕ}
+    → IsHop code hop → length old ≡ width code → get_or old hop.word 0 < 2 ^ 64 → IsApart code closures.hops old
+    → Led code hop old mid all
     → over ≡ bit_and all (bit_not w64 (get_or old hop.word 0)) → over ≡ 0 → Follows code closures hop old mid over
 follows_none {code} {closures} {hop} {old} {mid} all is size high apart led eo z = record {
   closer = record {
@@ -337,10 +374,13 @@ follows_none {code} {closures} {hop} {old} {mid} all is size high apart led eo z
     settled number k = elim (led.new number k) [ inl was ↦ was | inr e ↦ subst (IsIn old) (sym e) (was_in (subst (IsIn mid) e k)) ]
 
 -- a number is new, and its word was closed
-pub follows_more : {code : List Node} {closures : Closures} {hop : Hop} {old mid new : List ℕ} (all inside : ℕ) {over : ℕ} → AreClosures code closures → IsHop code hop → length old ≡ width code → get_or old hop.word 0 < 2 ^ 64
-    → ((number : ℕ) → IsIn closures.base.items number → IsIn old number) → IsApart code closures.hops old → Led code hop old mid all
+pub follows_more : {code : List Node} {closures : Closures} {hop : Hop} {old mid new : List ℕ} (all inside : ℕ)
+    {over : ℕ} → AreClosures code closures → IsHop code hop → length old ≡ width code → get_or old hop.word 0 < 2 ^ 64
+    → ((number : ℕ) → IsIn closures.base.items number → IsIn old number) → IsApart code closures.hops old
+    → Led code hop old mid all
     → over ≡ bit_and all (bit_not w64 (get_or old hop.word 0)) → (over ≡ 0 → ⊥)
-    → Closes code hop.word all inside → inside < 2 ^ 64 → new ≡ set mid hop.word inside → Follows code closures hop old new over
+    → Closes code hop.word all inside → inside < 2 ^ 64 → new ≡ set mid hop.word inside
+    → Follows code closures hop old new over
 follows_more {code} {closures} {hop} {old} {mid} {new} all inside {over} c is size high begun apart led eo some closes small en = record {
   closer = record {
     adds = adds_both led.adds w.adds;
@@ -386,11 +426,15 @@ follows_more {code} {closures} {hop} {old} {mid} {new} all inside {over} c is si
 -- the first hops were followed
 pub record Following (code : List Node) (closures : Closures) (old now : List ℕ) (count over : ℕ) : Type 0 where
   pub closer : Closer code closures.hops old now over
-  pub done : over ≡ 0 → (place : ℕ) → place < count → (bit : ℕ) → bit < 64 → bit_at (get_or closures.hops.onward.items place no_hop).from bit ≡ 1
-      → IsIn now ((get_or closures.hops.onward.items place no_hop).at * 64 + bit) → IsIn now (end_of (get_or closures.hops.onward.items place no_hop))
+  pub done : over ≡ 0 → (place : ℕ) → place < count → (bit : ℕ) → bit < 64
+      → bit_at (get_or closures.hops.onward.items place no_hop).from bit ≡ 1
+      → IsIn now ((get_or closures.hops.onward.items place no_hop).at * 64 + bit)
+      → IsIn now (end_of (get_or closures.hops.onward.items place no_hop))
 
-pub following_more : {code : List Node} {closures : Closures} {hop : Hop} {old now new : List ℕ} {count over : ℕ} (led : ℕ) → Following code closures old now count over → Follows code closures hop now new led
-    → hop ≡ get_or closures.hops.onward.items count no_hop → Following code closures old new (count + 1) (bit_or over led)
+pub following_more : {code : List Node} {closures : Closures} {hop : Hop} {old now new : List ℕ} {count over : ℕ}
+    (led : ℕ) → Following code closures old now count over → Follows code closures hop now new led
+    → hop ≡ get_or closures.hops.onward.items count no_hop
+    → Following code closures old new (count + 1) (bit_or over led)
 following_more {code} {closures} {hop} {old} {now} {new} {count} {over} led s f eh = record {
   closer = record {
     adds = adds_both s.closer.adds f.closer.adds;
@@ -414,12 +458,15 @@ following_more {code} {closures} {hop} {old} {now} {new} {count} {over} led s f 
 }
 
 -- the numbers of a hop are those that lead to its end
-from_bit : {code : List Node} {hop : Hop} (from to : ℕ) → IsHop code hop → hop.at ≡ from / 64 → end_of hop ≡ to → Flows code false false from to → bit_at hop.from (from % 64) ≡ 1
+from_bit : {code : List Node} {hop : Hop} (from to : ℕ) → IsHop code hop → hop.at ≡ from / 64 → end_of hop ≡ to
+    → Flows code false false from to → bit_at hop.from (from % 64) ≡ 1
 from_bit {code} {hop} from to is at end flow =
     let same : from ≡ hop.at * 64 + from % 64 = omega (arith, at) in
     (is.exact (from % 64) (omega arith)).1 (subst (λ n. Flows code false false n (end_of hop)) same (subst (Flows code false false from) (sym end) flow))
 
-pub following_ends : {code : List Node} {closures : Closures} {old now : List ℕ} {count over : ℕ} → Following code closures old now count over → AreHops code closures.hops.onward.items → length closures.hops.onward.items ≤ count → Passes code closures old now over
+pub following_ends : {code : List Node} {closures : Closures} {old now : List ℕ} {count over : ℕ}
+    → Following code closures old now count over → AreHops code closures.hops.onward.items
+    → length closures.hops.onward.items ≤ count → Passes code closures old now over
 following_ends {code} {closures} {old} {now} {count} {over} s are h = record {
   closer = s.closer;
   done = λ z from to k flow. elim (s.closer.apart from to k flow) [
@@ -428,7 +475,8 @@ following_ends {code} {closures} {old} {now} {count} {over} s are h = record {
   ];
 }
   where
-    ended : over ≡ 0 → (from to : ℕ) → IsIn now from → Flows code false false from to → HopsTo closures.hops.onward.items (from / 64) to → IsIn now to
+    ended : over ≡ 0 → (from to : ℕ) → IsIn now from → Flows code false false from to
+        → HopsTo closures.hops.onward.items (from / 64) to → IsIn now to
     ended z from to k flow hop =
         let same : from ≡ (get_or closures.hops.onward.items hop.0 no_hop).at * 64 + from % 64 = (let e = hop.2 in omega (arith, e)) in
         let one = from_bit from to (are.each hop.0 hop.1) hop.2 hop.3 flow in
@@ -437,12 +485,17 @@ following_ends {code} {closures} {old} {now} {count} {over} s are h = record {
 -- Following the landings.
 
 -- the first landings were followed
-pub record Landing_on (code : List Node) (base : List ℕ) (landings : List Hop) (old now : List ℕ) (count : ℕ) : Type 0 where
+pub record Landing_on (code : List Node) (base : List ℕ) (landings : List Hop) (old now : List ℕ) (count : ℕ)
+    : Type 0 where
   pub adds : Adds code false false old now
-  pub over : (number : ℕ) → IsIn now number → IsIn old number ⊎ ((to : ℕ) → Flows code false false number to → IsIn base to)
-  pub led : (place : ℕ) → place < count → (bit : ℕ) → bit < 64 → bit_at (get_or landings place no_hop).from bit ≡ 1 → IsIn old ((get_or landings place no_hop).at * 64 + bit) → IsIn now (end_of (get_or landings place no_hop))
+  pub over : (number : ℕ) → IsIn now number
+      → IsIn old number ⊎ ((to : ℕ) → Flows code false false number to → IsIn base to)
+  pub led : (place : ℕ) → place < count → (bit : ℕ) → bit < 64 → bit_at (get_or landings place no_hop).from bit ≡ 1
+      → IsIn old ((get_or landings place no_hop).at * 64 + bit) → IsIn now (end_of (get_or landings place no_hop))
 
-pub landing_more : {code : List Node} {base : List ℕ} {landings : List Hop} {hop : Hop} {old now new : List ℕ} {count all : ℕ} → Landing_on code base landings old now count → IsLanding code base hop → Led code hop now new all → hop ≡ get_or landings count no_hop
+pub landing_more : {code : List Node} {base : List ℕ} {landings : List Hop} {hop : Hop} {old now new : List ℕ}
+    {count all : ℕ} → Landing_on code base landings old now count → IsLanding code base hop → Led code hop now new all
+    → hop ≡ get_or landings count no_hop
     → Landing_on code base landings old new (count + 1)
 landing_more {code} {base} {landings} {hop} {old} {now} {new} {count} s is led eh = record {
   adds = adds_both s.adds led.adds;
@@ -455,7 +508,9 @@ landing_more {code} {base} {landings} {hop} {old} {now} {new} {count} s is led e
   ];
 }
 
-pub landing_ends : {code : List Node} {base : List ℕ} {landings : List Hop} {old now : List ℕ} {count : ℕ} → Landing_on code base landings old now count → AreLandings code base landings → length landings ≤ count → HasLanded code base landings old now
+pub landing_ends : {code : List Node} {base : List ℕ} {landings : List Hop} {old now : List ℕ} {count : ℕ}
+    → Landing_on code base landings old now count → AreLandings code base landings → length landings ≤ count
+    → HasLanded code base landings old now
 landing_ends {code} {landings = landings} {old} {now} s are h = record {
   adds = s.adds;
   over = s.over;
@@ -470,12 +525,16 @@ landing_ends {code} {landings = landings} {old} {now} s are h = record {
 pub record Spreads (code : List Node) (closures : Closures) (old now : List ℕ) (over : ℕ) : Type 0 where
   pub adds : Adds code false false old now
   pub apart : IsApart code closures.hops now
-  pub done : over ≡ 0 → (from to : ℕ) → IsIn now from → Flows code false false from to → IsIn now to ⊎ HopsTo closures.hops.landings.items (from / 64) to
+  pub done : over ≡ 0 → (from to : ℕ) → IsIn now from → Flows code false false from to
+      → IsIn now to ⊎ HopsTo closures.hops.landings.items (from / 64) to
 
-pub spreads_more : {code : List Node} {closures : Closures} {old now new : List ℕ} {before over : ℕ} → Spreads code closures old now before → Passes code closures now new over → Spreads code closures old new over
+pub spreads_more : {code : List Node} {closures : Closures} {old now new : List ℕ} {before over : ℕ}
+    → Spreads code closures old now before → Passes code closures now new over → Spreads code closures old new over
 spreads_more s p = record { adds = adds_both s.adds p.closer.adds; apart = p.closer.apart; done = p.done }
 
-pub spreads_end : {code : List Node} {closures : Closures} (base : List ℕ) (landings : List Hop) {old now new : List ℕ} {over : ℕ} → Spreads code closures old now over → over ≡ 0 → HasLanded code base landings now new → base ≡ closures.base.items → landings ≡ closures.hops.landings.items
+pub spreads_end : {code : List Node} {closures : Closures} (base : List ℕ) (landings : List Hop) {old now new : List ℕ}
+    {over : ℕ} → Spreads code closures old now over → over ≡ 0 → HasLanded code base landings now new
+    → base ≡ closures.base.items → landings ≡ closures.hops.landings.items
     → ((number : ℕ) → IsIn closures.base.items number → IsIn old number) → SpreadsOut code false false old new
 spreads_end {code} base landings {old} {now} {new} s z l eb el begun = spreads_out (adds_both s.adds l.adds) closed
   where
@@ -490,8 +549,10 @@ spreads_end {code} base landings {old} {now} {new} s z l eb el begun = spreads_o
 
 -- At a line's front and end.
 
-pub spreads_front : {code : List Node} {base front old new : List ℕ} {at_first at_last : Bool} → IsBase code base → IsBegun code true front → length old ≡ width code → ((number : ℕ) → IsIn base number → IsIn old number)
-    → ((number : ℕ) → IsIn old number → IsIn base number) → new ≡ front → IsTrue at_first → at_last ≡ false → SpreadsOut code at_first at_last old new
+pub spreads_front : {code : List Node} {base front old new : List ℕ} {at_first at_last : Bool} → IsBase code base
+    → IsBegun code true front → length old ≡ width code → ((number : ℕ) → IsIn base number → IsIn old number)
+    → ((number : ℕ) → IsIn old number → IsIn base number) → new ≡ front → IsTrue at_first → at_last ≡ false
+    → SpreadsOut code at_first at_last old new
 spreads_front {code} {old = old} {new} {at_last = at_last} b f size begun only e t l = subst (λ first. SpreadsOut code first at_last old new) (sym t) (subst (λ last. SpreadsOut code true last old new) (sym l) (record {
   size = ap length e ∙ f.size ∙ sym size;
   exact = λ number. (
@@ -501,19 +562,24 @@ spreads_front {code} {old = old} {new} {at_last = at_last} b f size begun only e
   );
 }))
 
-adds_of : {code : List Node} {at_first at_last : Bool} {old new : List ℕ} → SpreadsOut code at_first at_last old new → Adds code at_first at_last old new
+adds_of : {code : List Node} {at_first at_last : Bool} {old new : List ℕ} → SpreadsOut code at_first at_last old new
+    → Adds code at_first at_last old new
 adds_of s = record { size = s.size; kept = λ number k. (s.exact number).1 (number, k, (0, refl)); from = λ number. (s.exact number).0 }
 
-closed_of : {code : List Node} {at_first at_last : Bool} {old new : List ℕ} → SpreadsOut code at_first at_last old new → (from to : ℕ) → IsIn new from → Flows code at_first at_last from to → IsIn new to
+closed_of : {code : List Node} {at_first at_last : Bool} {old new : List ℕ} → SpreadsOut code at_first at_last old new
+    → (from to : ℕ) → IsIn new from → Flows code at_first at_last from to → IsIn new to
 closed_of {code} {at_first} {at_last} s from to k f =
     let was = (s.exact from).0 k in
     (s.exact to).1 (was.0, was.1, flows_join code at_first at_last 1 was.0 from to was.2 (from, refl, f))
 
-pub spreads_plainly : {code : List Node} {at_first at_last : Bool} {old new : List ℕ} → SpreadsOut code false false old new
-    → ((from to : ℕ) → IsIn new from → Flows code at_first at_last from to → Flows code false false from to) → SpreadsOut code at_first at_last old new
+pub spreads_plainly : {code : List Node} {at_first at_last : Bool} {old new : List ℕ}
+    → SpreadsOut code false false old new
+    → ((from to : ℕ) → IsIn new from → Flows code at_first at_last from to → Flows code false false from to)
+    → SpreadsOut code at_first at_last old new
 spreads_plainly {at_first = at_first} {at_last} s plain = spreads_out (adds_anywhere at_first at_last (adds_of s)) (λ from to k f. closed_of s from to k (plain from to k f))
 
-pub spreads_again : {code : List Node} {at_first at_last : Bool} {old now new : List ℕ} → SpreadsOut code false false old now → SpreadsOut code at_first at_last now new
+pub spreads_again : {code : List Node} {at_first at_last : Bool} {old now new : List ℕ}
+    → SpreadsOut code false false old now → SpreadsOut code at_first at_last now new
     → SpreadsOut code at_first at_last old new
 spreads_again {at_first = at_first} {at_last} s t = spreads_out (adds_both (adds_anywhere at_first at_last (adds_of s)) (adds_of t)) (closed_of t)
 

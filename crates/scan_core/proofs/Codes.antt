@@ -28,46 +28,55 @@ at-right (x ∷ a) b n node h =
     at_at (x ∷ (a ++ b)) node e (at-right a b n node h)
 
 -- a node of two parts is one of the first's or of the second's
-pub at-split : (a b : List Node) (n : ℕ) (node : Node) → At (a ++ b) n node → (At a n node) ⊎ ((k : ℕ) × (n ≡ length a + k) × At b k node)
+pub at-split : (a b : List Node) (n : ℕ) (node : Node) → At (a ++ b) n node
+    → (At a n node) ⊎ ((k : ℕ) × (n ≡ length a + k) × At b k node)
 at-split [] b n node h = inr (n, omega arith, h)
 at-split (x ∷ a) b zero node h = inl h
 at-split (x ∷ a) b (suc n) node h = elim (at-split a b n node h) [ inl g ↦ inl g | inr g ↦ inr (g.0, omega (arith, g.1), g.2) ]
 
 -- the same step further on in a longer code
-pub leads_shift : (node : Node) (line : List ℕ) (base at place at' place' : ℕ) → Leads node line at place at' place' → Leads node line (base + at) place (base + at') place'
+pub leads_shift : (node : Node) (line : List ℕ) (base at place at' place' : ℕ) → Leads node line at place at' place'
+    → Leads node line (base + at) place (base + at') place'
 leads_shift (Take bytes) line base at place at' place' h = (omega (arith, h.0), h.1, h.2, h.3)
 leads_shift First line base at place at' place' h = (omega (arith, h.0), h.1, h.2)
 leads_shift Last line base at place at' place' h = (omega (arith, h.0), h.1, h.2)
 leads_shift (Choose skip) line base at place at' place' h = (elim h.0 [ inl e ↦ inl (omega (arith, e)) | inr e ↦ inr (omega (arith, e)) ], h.1)
 leads_shift (Back by) line base at place at' place' h = (omega (arith, h.0), h.1)
 
-pub walk-left : (a b : List Node) (line : List ℕ) (count at place to stop : ℕ) → Walks a line count at place to stop → Walks (a ++ b) line count at place to stop
+pub walk-left : (a b : List Node) (line : List ℕ) (count at place to stop : ℕ) → Walks a line count at place to stop
+    → Walks (a ++ b) line count at place to stop
 walk-left a b line zero at place to stop w = w
 walk-left a b line (suc count) at place to stop w = (w.0, w.1, (w.2.0, at-left a b at w.2.0 w.2.1, w.2.2), walk-left a b line count w.0 w.1 to stop w.3)
 
-pub walk-right : (a b : List Node) (line : List ℕ) (count at place to stop : ℕ) → Walks b line count at place to stop → Walks (a ++ b) line count (length a + at) place (length a + to) stop
+pub walk-right : (a b : List Node) (line : List ℕ) (count at place to stop : ℕ) → Walks b line count at place to stop
+    → Walks (a ++ b) line count (length a + at) place (length a + to) stop
 walk-right a b line zero at place to stop w = (ap (λ n. length a + n) w.0, w.1)
 walk-right a b line (suc count) at place to stop w =
     (length a + w.0, w.1, (w.2.0, at-right a b at w.2.0 w.2.1, leads_shift w.2.0 line (length a) at place w.0 w.1 w.2.2), walk-right a b line count w.0 w.1 to stop w.3)
 
-pub walk_on : (code : List Node) (line : List ℕ) (first second at place at' place' to stop : ℕ) → Walks code line first at place at' place' → Walks code line second at' place' to stop → Path code line at place to stop
+pub walk_on : (code : List Node) (line : List ℕ) (first second at place at' place' to stop : ℕ)
+    → Walks code line first at place at' place' → Walks code line second at' place' to stop
+    → Path code line at place to stop
 walk_on code line zero second at place at' place' to stop v w = search rules
 walk_on code line (suc first) second at place at' place' to stop v w =
     let rest = walk_on code line first second v.0 v.1 at' place' to stop v.3 w in
     (suc rest.0, (v.0, v.1, v.2, rest.1))
 
-pub path_on : (code : List Node) (line : List ℕ) (at place at' place' to stop : ℕ) → Path code line at place at' place' → Path code line at' place' to stop → Path code line at place to stop
+pub path_on : (code : List Node) (line : List ℕ) (at place at' place' to stop : ℕ) → Path code line at place at' place'
+    → Path code line at' place' to stop → Path code line at place to stop
 path_on code line at place at' place' to stop p q = walk_on code line p.0 q.0 at place at' place' to stop p.1 q.1
 
 -- a node that fits also fits further on in a longer code, and leads to one of the code or to its end
-pub fits_moved : (node : Node) (base size number : ℕ) {more moved : ℕ} → FitsIn size number node → base + size ≤ more → moved ≡ base + number → FitsIn more moved node
+pub fits_moved : (node : Node) (base size number : ℕ) {more moved : ℕ} → FitsIn size number node → base + size ≤ more
+    → moved ≡ base + number → FitsIn more moved node
 fits_moved (Take bytes) base size number f l e = tt
 fits_moved First base size number f l e = tt
 fits_moved Last base size number f l e = tt
 fits_moved (Choose skip) base size number f l e = omega (arith, f, l, e)
 fits_moved (Back by) base size number f l e = omega (arith, f, e)
 
-pub fits_led : (code : List Node) (line : List ℕ) (at place : ℕ) {at' : ℕ} (place' : ℕ) (node : Node) → IsCode code → At code at node → Leads node line at place at' place' → at' ≤ length code
+pub fits_led : (code : List Node) (line : List ℕ) (at place : ℕ) {at' : ℕ} (place' : ℕ) (node : Node) → IsCode code
+    → At code at node → Leads node line at place at' place' → at' ≤ length code
 fits_led code line at place place' (Take bytes) c here h = let l = at_least code at (Take bytes) here in omega (arith, l, h.0)
 fits_led code line at place place' First c here h = let l = at_least code at First here in omega (arith, l, h.0)
 fits_led code line at place place' Last c here h = let l = at_least code at Last here in omega (arith, l, h.0)
@@ -80,7 +89,8 @@ pub record Exact (code : List Node) (line : List ℕ) (Kind : ℕ → ℕ → Ty
   pub sound : (from to : ℕ) → Path code line 0 from (length code) to → Kind from to
   pub complete : (from to : ℕ) → Kind from to → Path code line 0 from (length code) to
 
-pub leads_unshift : (node : Node) (line : List ℕ) (base size at place : ℕ) {at' : ℕ} (place' : ℕ) → FitsIn size at node → Leads node line (base + at) place at' place' → (k : ℕ) × (at' ≡ base + k) × Leads node line at place k place'
+pub leads_unshift : (node : Node) (line : List ℕ) (base size at place : ℕ) {at' : ℕ} (place' : ℕ) → FitsIn size at node
+    → Leads node line (base + at) place at' place' → (k : ℕ) × (at' ≡ base + k) × Leads node line at place k place'
 leads_unshift (Take bytes) line base size at place place' b h = (at + 1, omega (arith, h.0), (refl, h.1, h.2, h.3))
 leads_unshift First line base size at place place' b h = (at + 1, omega (arith, h.0), (refl, h.1, h.2))
 leads_unshift Last line base size at place place' b h = (at + 1, omega (arith, h.0), (refl, h.1, h.2))
@@ -89,7 +99,9 @@ leads_unshift (Choose skip) line base size at place place' b h =
 leads_unshift (Back by) line base size at place place' b h = (at - by, omega (arith, h.0, b), (omega (arith, b), h.1))
 
 -- a walk that begins in the second of two parts stays there
-pub in_second : (a : List Node) {b : List Node} (line : List ℕ) → IsCode b → (count : ℕ) {at : ℕ} (k place stop : ℕ) → at ≡ length a + k → Walks (a ++ b) line count at place (length (a ++ b)) stop → Walks b line count k place (length b) stop
+pub in_second : (a : List Node) {b : List Node} (line : List ℕ) → IsCode b → (count : ℕ) {at : ℕ} (k place stop : ℕ)
+    → at ≡ length a + k → Walks (a ++ b) line count at place (length (a ++ b)) stop
+    → Walks b line count k place (length b) stop
 in_second a {b} line f zero k place stop e w = let l = length-append a b in (omega (arith, l, e, w.0), w.1)
 in_second a {b} line f (suc count) {at} k place stop e w = elim (at-split a b at w.2.0 w.2.1) [
   | inl h ↦ let l = at_least a at w.2.0 h in absurd (omega (arith, l, e))
@@ -102,7 +114,8 @@ in_second a {b} line f (suc count) {at} k place stop e w = elim (at-split a b at
 ]
 
 -- a walk through two parts goes through the first and then through the second
-pub through : {a b : List Node} (line : List ℕ) → IsCode a → IsCode b → (count at place stop : ℕ) → at ≤ length a → Walks (a ++ b) line count at place (length (a ++ b)) stop
+pub through : {a b : List Node} (line : List ℕ) → IsCode a → IsCode b → (count at place stop : ℕ) → at ≤ length a
+    → Walks (a ++ b) line count at place (length (a ++ b)) stop
     → (middle : ℕ) × Path a line at place (length a) middle × Path b line 0 middle (length b) stop
 through {a} {b} line f g zero at place stop h w =
     let l = length-append a b in
@@ -118,13 +131,16 @@ through {a} {b} line f g (suc count) at place stop h w = elim (cases_eq at (leng
   ]
 ]
 
-pub ended : (code : List Node) (line : List ℕ) (count : ℕ) {at place : ℕ} (to : ℕ) {stop : ℕ} → at ≡ length code → Walks code line count at place to stop → place ≡ stop
+pub ended : (code : List Node) (line : List ℕ) (count : ℕ) {at place : ℕ} (to : ℕ) {stop : ℕ} → at ≡ length code
+    → Walks code line count at place to stop → place ≡ stop
 ended code line zero to e w = w.1
 ended code line (suc count) {at} to e w = let l = at_least code at w.2.0 w.2.1 in absurd (omega (arith, l, e))
 
 -- The walks of a pattern's code are what it matches: each way of putting codes together.
 
-pub exact_by : {code : List Node} (line : List ℕ) (Kind Other : ℕ → ℕ → Type 0) → Exact code line Kind → ((from to : ℕ) → Kind from to → Other from to) → ((from to : ℕ) → Other from to → Kind from to) → Exact code line Other
+pub exact_by : {code : List Node} (line : List ℕ) (Kind Other : ℕ → ℕ → Type 0) → Exact code line Kind
+    → ((from to : ℕ) → Kind from to → Other from to) → ((from to : ℕ) → Other from to → Kind from to)
+    → Exact code line Other
 exact_by line Kind Other e there here = search rules
 
 pub exact_none : (line : List ℕ) → Exact [] line (λ from to. from ≡ to)
@@ -133,7 +149,8 @@ exact_none line = search rules
 -- a code of one node that leads to its end
 pub exact_one : {node : Node} (line : List ℕ) (Kind : ℕ → ℕ → Type 0)
     → ((at place at' place' : ℕ) → Leads node line at place at' place' → (at' ≡ at + 1) × Kind place place')
-    → ((place place' : ℕ) → Kind place place' → Leads node line 0 place 1 place') → FitsIn 1 0 node → Exact (node ∷ []) line Kind
+    → ((place place' : ℕ) → Kind place place' → Leads node line 0 place 1 place') → FitsIn 1 0 node
+    → Exact (node ∷ []) line Kind
 exact_one {node} line Kind out there here = record {
   fits = record { fits = λ n node h. fits n node h };
   sound = λ from to p. sound from to p.0 p.1;
@@ -151,7 +168,8 @@ exact_one {node} line Kind out there here = record {
         subst (λ p. Kind from p) (ended (node ∷ []) line count 1 (omega (arith, o.0)) w.3) o.1
 
 -- one code after another
-pub exact_both : {a b : List Node} (line : List ℕ) (Kind Other : ℕ → ℕ → Type 0) → Exact a line Kind → Exact b line Other → Exact (a ++ b) line (λ from to. (middle : ℕ) × Kind from middle × Other middle to)
+pub exact_both : {a b : List Node} (line : List ℕ) (Kind Other : ℕ → ℕ → Type 0) → Exact a line Kind
+    → Exact b line Other → Exact (a ++ b) line (λ from to. (middle : ℕ) × Kind from middle × Other middle to)
 exact_both {a} {b} line Kind Other e f = record {
   fits = record {
     fits = λ n node h. let l = length-append a b in elim (at-split a b n node h) [
@@ -163,7 +181,8 @@ exact_both {a} {b} line Kind Other e f = record {
   complete = λ from to k. complete from to k.0 (e.complete from k.0 k.1) (f.complete k.0 to k.2);
 }
   where
-    complete : (from to middle : ℕ) → Path a line 0 from (length a) middle → Path b line 0 middle (length b) to → Path (a ++ b) line 0 from (length (a ++ b)) to
+    complete : (from to middle : ℕ) → Path a line 0 from (length a) middle → Path b line 0 middle (length b) to
+        → Path (a ++ b) line 0 from (length (a ++ b)) to
     complete from to middle p q =
         let e1 : length a + length b ≡ length (a ++ b) = sym (length-append a b) in
         let e2 : length a + 0 ≡ length a = omega arith in
@@ -172,7 +191,8 @@ exact_both {a} {b} line Kind Other e f = record {
         walk_on (a ++ b) line p.0 q.0 0 from (length a) middle (length (a ++ b)) to (walk-left a b line p.0 0 from (length a) middle p.1) second
 
 -- a code that may be passed by
-pub exact_maybe : {code : List Node} (line : List ℕ) (Kind : ℕ → ℕ → Type 0) → Exact code line Kind → Exact (maybe code) line (λ from to. (from ≡ to) ⊎ Kind from to)
+pub exact_maybe : {code : List Node} (line : List ℕ) (Kind : ℕ → ℕ → Type 0) → Exact code line Kind
+    → Exact (maybe code) line (λ from to. (from ≡ to) ⊎ Kind from to)
 exact_maybe {code} line Kind e = record {
   fits = record { fits = λ n node h. fits n node h };
   sound = λ from to p. sound from to p.0 p.1;
@@ -183,7 +203,8 @@ exact_maybe {code} line Kind e = record {
     fits zero node h = subst (FitsIn (suc (length code)) 0) (sym h) (omega arith)
     fits (suc n) node h = fits_moved node 1 _ _ (e.fits.fits n node h) (omega arith) (omega arith)
 
-    sound : (from to count : ℕ) → Walks (maybe code) line count 0 from (suc (length code)) to → (from ≡ to) ⊎ Kind from to
+    sound : (from to count : ℕ) → Walks (maybe code) line count 0 from (suc (length code)) to
+        → (from ≡ to) ⊎ Kind from to
     sound from to zero w = absurd (omega (arith, w.0))
     sound from to (suc count) w =
         let led : ((w.0 ≡ 0 + 1) ⊎ (w.0 ≡ 0 + (length code + 1))) × (w.1 ≡ from) = subst (λ m. Leads m line 0 from w.0 w.1) w.2.1 w.2.2 in
@@ -202,11 +223,13 @@ exact_maybe {code} line Kind e = record {
         let e1 : 1 + length code ≡ suc (length code) = omega arith in
         (suc p.0, (1 + 0, from, (Choose (length code + 1), refl, (inl refl, refl)), subst (λ n. Walks (maybe code) line p.0 (1 + 0) from n to) e1 right))
 
-pub parts_first : (Kind : ℕ → ℕ → Type 0) (count from middle to : ℕ) → Kind from middle → Parts Kind count middle to → Parts Kind (suc count) from to
+pub parts_first : (Kind : ℕ → ℕ → Type 0) (count from middle to : ℕ) → Kind from middle → Parts Kind count middle to
+    → Parts Kind (suc count) from to
 parts_first Kind zero from middle to k p = (from, refl, subst (λ n. Kind from n) p k)
 parts_first Kind (suc count) from middle to k p = (p.0, parts_first Kind count from middle p.0 k p.1, p.2)
 
-pub parts_next : (Kind : ℕ → ℕ → Type 0) (count from to : ℕ) → Parts Kind (suc count) from to → (middle : ℕ) × Kind from middle × Parts Kind count middle to
+pub parts_next : (Kind : ℕ → ℕ → Type 0) (count from to : ℕ) → Parts Kind (suc count) from to
+    → (middle : ℕ) × Kind from middle × Parts Kind count middle to
 parts_next Kind zero from to p = (to, subst (λ n. Kind n to) (sym p.1) p.2, refl)
 parts_next Kind (suc count) from to p = let q = parts_next Kind count from p.0 p.1 in (q.0, q.1, (p.0, q.2, p.2))
 
@@ -217,9 +240,13 @@ Often Kind from to = (count : ℕ) × Parts Kind count from to
 -- what walks of a given number of steps are, from the front of the code and from within it
 record StarHolds (code : List Node) (line : List ℕ) (Kind : ℕ → ℕ → Type 0) (count : ℕ) : Type 0 where
   whole : (place stop : ℕ) → Walks (starred code) line count 0 place (length code + 2) stop → Often Kind place stop
-  within : (at k place stop : ℕ) → at ≡ suc k → k ≤ length code → Walks (starred code) line count at place (length code + 2) stop → (middle : ℕ) × Path code line k place (length code) middle × Often Kind middle stop
+  within : (at k place stop : ℕ) → at ≡ suc k → k ≤ length code
+      → Walks (starred code) line count at place (length code + 2) stop
+      → (middle : ℕ) × Path code line k place (length code) middle × Often Kind middle stop
 
-star_begun : {code : List Node} (line : List ℕ) (Kind : ℕ → ℕ → Type 0) → Exact code line Kind → {count at' place' place : ℕ} (stop : ℕ) → StarHolds code line Kind count → (at' ≡ 0 + 1) ⊎ (at' ≡ 0 + (length code + 2)) → place' ≡ place
+star_begun : {code : List Node} (line : List ℕ) (Kind : ℕ → ℕ → Type 0) → Exact code line Kind
+    → {count at' place' place : ℕ} (stop : ℕ) → StarHolds code line Kind count
+    → (at' ≡ 0 + 1) ⊎ (at' ≡ 0 + (length code + 2)) → place' ≡ place
     → Walks (starred code) line count at' place' (length code + 2) stop → Often Kind place stop
 star_begun {code} line Kind e {at'} {place'} {place} stop ih (inl q) same w =
     let inside = ih.within at' 0 place' stop (omega (arith, q)) (omega arith) w in
@@ -229,8 +256,10 @@ star_begun {code} line Kind e {count} stop ih (inr q) same w =
     let l = length-append code (Back (length code + 1) ∷ []) in
     (0, sym same ∙ ended (starred code) line count (length code + 2) (omega (arith, q, l)) w)
 
-star_at : {code : List Node} (line : List ℕ) (Kind : ℕ → ℕ → Type 0) → Exact code line Kind → {count k place : ℕ} (stop : ℕ) → StarHolds code line Kind count → k ≤ length code → (at' place' : ℕ) {node : Node}
-    → (At code k node) ⊎ ((j : ℕ) × (k ≡ length code + j) × At (Back (length code + 1) ∷ []) j node) → Leads node line (suc k) place at' place' → Walks (starred code) line count at' place' (length code + 2) stop
+star_at : {code : List Node} (line : List ℕ) (Kind : ℕ → ℕ → Type 0) → Exact code line Kind
+    → {count k place : ℕ} (stop : ℕ) → StarHolds code line Kind count → k ≤ length code → (at' place' : ℕ) {node : Node}
+    → (At code k node) ⊎ ((j : ℕ) × (k ≡ length code + j) × At (Back (length code + 1) ∷ []) j node)
+    → Leads node line (suc k) place at' place' → Walks (starred code) line count at' place' (length code + 2) stop
     → (middle : ℕ) × Path code line k place (length code) middle × Often Kind middle stop
 star_at {code} line Kind e {k} {place} stop ih h at' place' {node} (inl here) led w =
     let n1 : suc k ≡ 1 + k = omega arith in
@@ -245,7 +274,8 @@ star_at {code} line Kind e {count} {k} {place} stop ih h at' place' (inr (zero, 
     (place', (zero, (omega (arith, far), sym back_led.1)), rest)
 star_at line Kind e stop ih h at' place' (inr (suc j, far, last)) led w = absurd last
 
-star_holds : {code : List Node} (line : List ℕ) (Kind : ℕ → ℕ → Type 0) → Exact code line Kind → (count : ℕ) → StarHolds code line Kind count
+star_holds : {code : List Node} (line : List ℕ) (Kind : ℕ → ℕ → Type 0) → Exact code line Kind → (count : ℕ)
+    → StarHolds code line Kind count
 star_holds line Kind e zero = grind (arith, common_steps)
 star_holds {code} line Kind e (suc count) = let ih = star_holds line Kind e count in record {
   whole = λ place stop w. let led : ((w.0 ≡ 0 + 1) ⊎ (w.0 ≡ 0 + (length code + 2))) × (w.1 ≡ place) = subst (λ m. Leads m line 0 place w.0 w.1) w.2.1 w.2.2 in
@@ -255,7 +285,8 @@ star_holds {code} line Kind e (suc count) = let ih = star_holds line Kind e coun
 }
 
 -- a code any number of times
-pub exact_starred : {code : List Node} (line : List ℕ) (Kind : ℕ → ℕ → Type 0) → Exact code line Kind → Exact (starred code) line (Often Kind)
+pub exact_starred : {code : List Node} (line : List ℕ) (Kind : ℕ → ℕ → Type 0) → Exact code line Kind
+    → Exact (starred code) line (Often Kind)
 exact_starred {code} line Kind e = record {
   fits = record { fits = λ n node h. fits n node h };
   sound = λ from to p. (star_holds line Kind e p.0).whole from to (subst (λ n. Walks (starred code) line p.0 0 from n to) (sym size) p.1);
@@ -269,7 +300,8 @@ exact_starred {code} line Kind e = record {
     fits zero node h = subst (FitsIn (length (starred code)) 0) (sym h) (let l = size in omega (arith, l))
     fits (suc n) node h = there (at-split code (Back (length code + 1) ∷ []) n node h)
       where
-        there : (At code n node) ⊎ ((j : ℕ) × (n ≡ length code + j) × At (Back (length code + 1) ∷ []) j node) → FitsIn (length (starred code)) (suc n) node
+        there : (At code n node) ⊎ ((j : ℕ) × (n ≡ length code + j) × At (Back (length code + 1) ∷ []) j node)
+            → FitsIn (length (starred code)) (suc n) node
         there (inl k) = fits_moved node 1 _ _ (e.fits.fits n node k) (let l = size in omega (arith, l)) (omega arith)
         there (inr (zero, far, last)) = subst (FitsIn (length (starred code)) (suc n)) (sym last) (omega (arith, far))
         there (inr (suc j, far, last)) = absurd last
@@ -290,7 +322,8 @@ exact_starred {code} line Kind e = record {
     loops zero from to q = (0, (refl, q))
     loops (suc count) from to q = path_on (starred code) line 0 from 0 q.0 0 to (loops count from q.0 q.1) (around q.0 to q.2)
 
-    complete : (count from to : ℕ) → Parts Kind count from to → Path (starred code) line 0 from (length (starred code)) to
+    complete : (count from to : ℕ) → Parts Kind count from to
+        → Path (starred code) line 0 from (length (starred code)) to
     complete count from to q =
         path_on (starred code) line 0 from 0 to (length (starred code)) to (loops count from to q)
         (1, (length (starred code), to, (Choose (length code + 2), refl, (inr (sym size ∙ out), refl)), (refl, refl)))
@@ -303,11 +336,13 @@ exact_starred {code} line Kind e = record {
 abbrev pub AtMost : (ℕ → ℕ → Type 0) → ℕ → ℕ → ℕ → Type 0
 AtMost Kind most from to = (count : ℕ) × (count ≤ most) × Parts Kind count from to
 
-exact_copies : {code : List Node} (line : List ℕ) (Kind : ℕ → ℕ → Type 0) → Exact code line Kind → (count : ℕ) → Exact (copies count code) line (Parts Kind count)
+exact_copies : {code : List Node} (line : List ℕ) (Kind : ℕ → ℕ → Type 0) → Exact code line Kind → (count : ℕ)
+    → Exact (copies count code) line (Parts Kind count)
 exact_copies line Kind e zero = exact_none line
 exact_copies line Kind e (suc count) = exact_both line (Parts Kind count) Kind (exact_copies line Kind e count) e
 
-exact_up_to : {code : List Node} (line : List ℕ) (Kind : ℕ → ℕ → Type 0) → Exact code line Kind → (most : ℕ) → Exact (up_to most code) line (AtMost Kind most)
+exact_up_to : {code : List Node} (line : List ℕ) (Kind : ℕ → ℕ → Type 0) → Exact code line Kind → (most : ℕ)
+    → Exact (up_to most code) line (AtMost Kind most)
 exact_up_to line Kind e zero = exact_by line (λ from to. from ≡ to) (AtMost Kind 0) (exact_none line) (λ from to q. (0, omega arith, q))
     (λ from to k. let e : k.0 ≡ 0 = omega (arith, k.1) in subst (λ n. Parts Kind n from to) e k.2)
 exact_up_to line Kind e (suc most) =
@@ -315,22 +350,26 @@ exact_up_to line Kind e (suc most) =
     (exact_maybe line (λ from to. (middle : ℕ) × Kind from middle × AtMost Kind most middle to) (exact_both line Kind (AtMost Kind most) e (exact_up_to line Kind e most)))
     there (λ from to k. here k.0 from to k.1 k.2)
   where
-    there : (from to : ℕ) → (from ≡ to) ⊎ ((middle : ℕ) × Kind from middle × AtMost Kind most middle to) → AtMost Kind (suc most) from to
+    there : (from to : ℕ) → (from ≡ to) ⊎ ((middle : ℕ) × Kind from middle × AtMost Kind most middle to)
+        → AtMost Kind (suc most) from to
     there from to (inl q) = (0, omega arith, q)
     there from to (inr (middle, k, (count, h, p))) = (suc count, omega (arith, h), parts_first Kind count from middle to k p)
 
-    here : (count from to : ℕ) → count ≤ suc most → Parts Kind count from to → (from ≡ to) ⊎ ((middle : ℕ) × Kind from middle × AtMost Kind most middle to)
+    here : (count from to : ℕ) → count ≤ suc most → Parts Kind count from to
+        → (from ≡ to) ⊎ ((middle : ℕ) × Kind from middle × AtMost Kind most middle to)
     here zero from to h p = inl p
     here (suc count) from to h p = let q = parts_next Kind count from to p in inr (q.0, q.1, (count, omega (arith, h), q.2))
 
-pub parts_join : (Kind : ℕ → ℕ → Type 0) (first second from middle to : ℕ) → Parts Kind first from middle → Parts Kind second middle to → Parts Kind (first + second) from to
+pub parts_join : (Kind : ℕ → ℕ → Type 0) (first second from middle to : ℕ) → Parts Kind first from middle
+    → Parts Kind second middle to → Parts Kind (first + second) from to
 parts_join Kind first zero from middle to r s = grind (arith, common_steps)
 parts_join Kind first (suc second) from middle to r s =
     let e : suc (first + second) ≡ first + suc second = omega arith in
     let longer : Parts Kind (suc (first + second)) from to = (s.0, parts_join Kind first second from middle s.0 r s.1, s.2) in
     subst (λ c. Parts Kind c from to) e longer
 
-parts_split : (Kind : ℕ → ℕ → Type 0) (first second from to : ℕ) → Parts Kind (first + second) from to → (middle : ℕ) × Parts Kind first from middle × Parts Kind second middle to
+parts_split : (Kind : ℕ → ℕ → Type 0) (first second from to : ℕ) → Parts Kind (first + second) from to
+    → (middle : ℕ) × Parts Kind first from middle × Parts Kind second middle to
 parts_split Kind first zero from to r = let e : first + zero ≡ first = omega arith in (to, subst (λ c. Parts Kind c from to) e r, refl)
 parts_split Kind first (suc second) from to r =
     let e : first + suc second ≡ suc (first + second) = omega arith in
@@ -342,29 +381,35 @@ parts_split Kind first (suc second) from to r =
 abbrev Between : (ℕ → ℕ → Type 0) → ℕ → Option ℕ → ℕ → ℕ → Type 0
 Between Kind low high from to = (count : ℕ) × (low ≤ count) × IsAtMost high count × Parts Kind count from to
 
-exact_repeated : {code : List Node} (line : List ℕ) (Kind : ℕ → ℕ → Type 0) (low : ℕ) (high : Option ℕ) → Exact code line Kind → IsAtMost high low → Exact (copies low code ++ tail_of code low high) line (Between Kind low high)
+exact_repeated : {code : List Node} (line : List ℕ) (Kind : ℕ → ℕ → Type 0) (low : ℕ) (high : Option ℕ)
+    → Exact code line Kind → IsAtMost high low
+    → Exact (copies low code ++ tail_of code low high) line (Between Kind low high)
 exact_repeated line Kind low None e b =
     exact_by line (λ from to. (middle : ℕ) × Parts Kind low from middle × Often Kind middle to) (Between Kind low None)
     (exact_both line (Parts Kind low) (Often Kind) (exact_copies line Kind e low) (exact_starred line Kind e))
-    (λ from to k. let often : Often Kind k.0 to = k.2 in (low + often.0, omega arith, tt, parts_join Kind low often.0 from k.0 to k.1 often.1)) (λ from to k.
+    (λ from to k. let often : Often Kind k.0 to = k.2 in
+    (low + often.0, omega arith, tt, parts_join Kind low often.0 from k.0 to k.1 often.1)) (λ from to k.
     let q : k.0 ≡ low + (k.0 - low) = omega (arith, k.1) in
     let split = parts_split Kind low (k.0 - low) from to (subst (λ c. Parts Kind c from to) q k.3) in
     (split.0, split.1, (k.0 - low, split.2)))
 exact_repeated line Kind low (Some high) e b =
     exact_by line (λ from to. (middle : ℕ) × Parts Kind low from middle × AtMost Kind (high - low) middle to) (Between Kind low (Some high))
     (exact_both line (Parts Kind low) (AtMost Kind (high - low)) (exact_copies line Kind e low) (exact_up_to line Kind e (high - low)))
-    (λ from to k. let most : AtMost Kind (high - low) k.0 to = k.2 in (low + most.0, omega arith, omega (arith, most.1, b), parts_join Kind low most.0 from k.0 to k.1 most.2))
+    (λ from to k. let most : AtMost Kind (high - low) k.0 to = k.2 in
+    (low + most.0, omega arith, omega (arith, most.1, b), parts_join Kind low most.0 from k.0 to k.1 most.2))
     (λ from to k.
     let q : k.0 ≡ low + (k.0 - low) = omega (arith, k.1) in
     let split = parts_split Kind low (k.0 - low) from to (subst (λ c. Parts Kind c from to) q k.3) in
     (split.0, split.1, (k.0 - low, omega (arith, k.2), split.2)))
 
 mutual
-  pub code_exact : (pattern : Pattern) (line : List ℕ) → IsOrdered pattern → Exact (code_of pattern) line (Matches pattern line)
+  pub code_exact : (pattern : Pattern) (line : List ℕ) → IsOrdered pattern
+      → Exact (code_of pattern) line (Matches pattern line)
   code_exact nothing line o = exact_none line
   code_exact (append pattern item) line o = exact_both line (Matches pattern line) (MatchesItem item line) (code_exact pattern line o.0) (item_exact item line o.1)
 
-  pub item_exact : (item : Item) (line : List ℕ) → IsOrderedItem item → Exact (code_of_item item) line (MatchesItem item line)
+  pub item_exact : (item : Item) (line : List ℕ) → IsOrderedItem item
+      → Exact (code_of_item item) line (MatchesItem item line)
   item_exact (set bytes) line o = exact_one {node = Take bytes} line (MatchesItem (set bytes) line) (λ at place at' place' h. (h.0, (h.1, h.2, h.3))) (λ place place' h. (omega arith, h.0, h.1, h.2)) tt
   item_exact front line o = exact_one {node = First} line (MatchesItem front line) (λ at place at' place' h. (h.0, (h.2, h.1 ∙ h.2))) (λ place place' h. (omega arith, h.1 ∙ sym h.0, h.0)) tt
   item_exact end line o = exact_one {node = Last} line (MatchesItem end line) (λ at place at' place' h. (h.0, (h.2, h.1 ∙ h.2))) (λ place place' h. (omega arith, h.1 ∙ sym h.0, h.0)) tt
@@ -372,7 +417,9 @@ mutual
   item_exact (repeat item low high) line o = exact_repeated {code = code_of_item item} line (MatchesItem item line) low high (item_exact item line o.0) o.1
 
 -- the line contains a match just where the end is entered at one of its places
-pub contained : (pattern : Pattern) (line : List ℕ) → IsOrdered pattern → Contains pattern line ↔ ((place : ℕ) × (place ≤ length line) × Entered (code_of pattern) line (length (code_of pattern)) place)
+pub contained : (pattern : Pattern) (line : List ℕ) → IsOrdered pattern
+    → Contains pattern line ↔ ((place : ℕ) × (place ≤ length line)
+    × Entered (code_of pattern) line (length (code_of pattern)) place)
 contained pattern line o = (
   λ c. let s = (code_exact pattern line o).complete c.0 c.1 c.4 in (c.1, c.3, (c.0, omega (arith, c.2, c.3), s)),
   λ c.
@@ -411,7 +458,8 @@ weighs_up_to (suc count) {code} {n} w =
 weighs_starred : {code : List Node} {n : ℕ} → Weighs code n → Weighs (starred code) (n + 1)
 weighs_starred {code} {n} w = search (rules, weight-append, length-append)
 
-weighs_repeated : {code : List Node} {n : ℕ} (low : ℕ) (high : Option ℕ) → IsAtMost high low → Weighs code n → Weighs (copies low code ++ tail_of code low high) (repeated n low high)
+weighs_repeated : {code : List Node} {n : ℕ} (low : ℕ) (high : Option ℕ) → IsAtMost high low → Weighs code n
+    → Weighs (copies low code ++ tail_of code low high) (repeated n low high)
 weighs_repeated {n} low None o w =
     let one : 1 * n ≡ n = grind arith in
     let t = add-mul low 1 n in
@@ -440,7 +488,8 @@ pub is_code : (pattern : Pattern) → IsOrdered pattern → IsCode (code_of patt
 is_code pattern o = (code_exact pattern [] o).fits
 
 -- what the search finds is what the line contains
-pub found_contains : (pattern : Pattern) (line : List ℕ) {found : Bool} → IsOrdered pattern → (IsTrue found ↔ EndsIn (code_of pattern) line) → found ≡ contains pattern line
+pub found_contains : (pattern : Pattern) (line : List ℕ) {found : Bool} → IsOrdered pattern
+    → (IsTrue found ↔ EndsIn (code_of pattern) line) → found ≡ contains pattern line
 found_contains pattern line {found} o f =
     one_truth found (contains pattern line) (Contains pattern line) ((λ t. (contained pattern line o).1 (f.0 t), λ c. f.1 ((contained pattern line o).0 c))) (contains_tells pattern line)
 
@@ -448,5 +497,6 @@ found_contains pattern line {found} o f =
 pub enough_room : (pattern : Pattern) → IsOrdered pattern → length (code_of pattern) < 2 * positions_of pattern
 enough_room pattern o = let w = weighs pattern o in omega (arith, w.most)
 
-pub bound_of : (pattern : Pattern) (places steps : ℕ) → IsOrdered pattern → steps ≤ places * (weight (code_of pattern) + 1) → steps ≤ places * positions_of pattern
+pub bound_of : (pattern : Pattern) (places steps : ℕ) → IsOrdered pattern
+    → steps ≤ places * (weight (code_of pattern) + 1) → steps ≤ places * positions_of pattern
 bound_of pattern places steps o h = let e = ap (λ n. places * (n + 1)) (weighs pattern o).exact in omega (arith, h, e)

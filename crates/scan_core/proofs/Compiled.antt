@@ -20,68 +20,83 @@ use Rattle.scan_core.specs.Code.{code_of, code_of_item, IsOrdered, IsOrderedItem
 
 -- Items that are complete, and what waits for them.
 
-pub begun_wider : (pending : List Pending) {size wider : ℕ} → size ≤ wider → All (Waits size) pending → All (Waits wider) pending
+pub begun_wider : (pending : List Pending) {size wider : ℕ} → size ≤ wider → All (Waits size) pending
+    → All (Waits wider) pending
 begun_wider pending {size} {wider} h = search rules
 
-pub popped_begun : (old new : Compiling) (d : Duplication) → Pops old (Some d) new → AreBegun old → IsBegun d.high d.low d.start (length new.nodes.items) × AreBegun new
+pub popped_begun : (old new : Compiling) (d : Duplication) → Pops old (Some d) new → AreBegun old
+    → IsBegun d.high d.low d.start (length new.nodes.items) × AreBegun new
 popped_begun old new d p b =
     let parts = All-pop (Waits (length new.nodes.items)) old.pending.items new.pending.items (Some (Repeated d)) p.2 (subst (λ n. All (Waits (length n)) old.pending.items) (sym p.0) b) in
     (parts.1, parts.0)
 
-turned : {pending : List Pending} (around : List Pending) (last : Pending) → pending ≡ around ++ last ∷ [] → reverse pending ≡ last ∷ reverse around
+turned : {pending : List Pending} (around : List Pending) (last : Pending) → pending ≡ around ++ last ∷ []
+    → reverse pending ≡ last ∷ reverse around
 turned around last e = ap reverse e ∙ reverse-append around (last ∷ [])
 
 -- the last duplication that waits is written out
-pub finish_more : (nodes written : List Node) {pending : List Pending} (around : List Pending) (d : Duplication) (final : Compiling) → pending ≡ around ++ Repeated d ∷ [] → Repeats d nodes written → Finishes written around final → Finishes nodes pending final
+pub finish_more : (nodes written : List Node) {pending : List Pending} (around : List Pending) (d : Duplication)
+    (final : Compiling) → pending ≡ around ++ Repeated d ∷ [] → Repeats d nodes written → Finishes written around final
+    → Finishes nodes pending final
 finish_more nodes written around d final e r f = subst (λ stack. FinishesBy stack nodes final) (sym (turned around (Repeated d) e)) (written, r, f)
 
 -- no duplication waits
-ends_by : (stack : List Pending) {nodes : List Node} {pending : List Pending} (final : Compiling) → pending ≡ reverse stack → PopsNone pending → IsNow nodes pending None final → FinishesBy stack nodes final
+ends_by : (stack : List Pending) {nodes : List Node} {pending : List Pending} (final : Compiling)
+    → pending ≡ reverse stack → PopsNone pending → IsNow nodes pending None final → FinishesBy stack nodes final
 ends_by (Repeated d ∷ stack) final s none n = absurd (none (reverse stack) d (s ∙ reverse-append (Repeated d ∷ []) stack))
 ends_by [] final s none n = record { nodes = n.nodes; pending = n.pending ∙ s; passing = n.passing }
 ends_by (Group ∷ stack) final s none n = record { nodes = n.nodes; pending = n.pending ∙ s; passing = n.passing }
 
-pub finish_ends : {nodes : List Node} {pending : List Pending} (final : Compiling) → PopsNone pending → IsNow nodes pending None final → Finishes nodes pending final
+pub finish_ends : {nodes : List Node} {pending : List Pending} (final : Compiling) → PopsNone pending
+    → IsNow nodes pending None final → Finishes nodes pending final
 finish_ends {pending} final none n = ends_by (reverse pending) final (sym (reverse-reverse pending)) none n
 
 -- what follows from an item that is complete
-pub finished_group : {nodes : List Node} {pending : List Pending} (around : List Pending) {new : Compiling} → Finishes nodes pending new → pending ≡ around ++ Group ∷ [] → IsNow nodes pending None new
+pub finished_group : {nodes : List Node} {pending : List Pending} (around : List Pending) {new : Compiling}
+    → Finishes nodes pending new → pending ≡ around ++ Group ∷ [] → IsNow nodes pending None new
 finished_group {nodes} {pending} around {new} f e = grind (arith, common_steps)
 
-pub finished_all : {nodes : List Node} {pending : List Pending} {new : Compiling} → Finishes nodes pending new → pending ≡ [] → IsNow nodes [] None new
+pub finished_all : {nodes : List Node} {pending : List Pending} {new : Compiling} → Finishes nodes pending new
+    → pending ≡ [] → IsNow nodes [] None new
 finished_all {nodes} {new} f e = subst (λ p. FinishesBy (reverse p) nodes new) e f
 
-parted : (one other : List Token) (old new : Compiling) → TakesAll old (one ++ other) new → (now : Compiling) × TakesAll old other now × TakesAll now one new
+parted : (one other : List Token) (old new : Compiling) → TakesAll old (one ++ other) new
+    → (now : Compiling) × TakesAll old other now × TakesAll now one new
 parted [] other old new s = (new, s, refl)
 parted (token ∷ one) other old new s = let p = parted one other old s.0 s.1 in (p.0, p.1, (s.0, p.2, s.2))
 
 alone : (token : Token) (old new : Compiling) → TakesAll old (token ∷ []) new → Takes old token new
 alone token old new s = subst (λ c. Takes c token new) (sym s.1) s.2
 
-last_taken : (one : List Token) (token : Token) (old new : Compiling) → TakesAll old (one ++ token ∷ []) new → (now : Compiling) × Takes old token now × TakesAll now one new
+last_taken : (one : List Token) (token : Token) (old new : Compiling) → TakesAll old (one ++ token ∷ []) new
+    → (now : Compiling) × Takes old token now × TakesAll now one new
 last_taken one token old new s = let p = parted one (token ∷ []) old new s in (p.0, alone token old p.0 p.1, p.2)
 
 -- no duplication waits
 abbrev Base : List Pending → Type 0
 Base pending = (pending ≡ []) ⊎ ((around : List Pending) × (pending ≡ around ++ Group ∷ []))
 
-finished_base : {nodes : List Node} {pending : List Pending} {new : Compiling} → Base pending → Finishes nodes pending new → IsNow nodes pending None new
+finished_base : {nodes : List Node} {pending : List Pending} {new : Compiling} → Base pending
+    → Finishes nodes pending new → IsNow nodes pending None new
 finished_base {nodes} {new} (inl e) f = subst (λ p. IsNow nodes p None new) (sym e) (finished_all f e)
 finished_base (inr e) f = finished_group e.0 f e.1
 
 takes_writing : (old new : Compiling) (token : Token) → old.passing ≡ None → Takes old token new → Writes token old new
 takes_writing old new token e t = subst (λ p. TakesIn p token old new) e t
 
-takes_passing : (old new : Compiling) (token : Token) {depth : ℕ} → old.passing ≡ Some depth → Takes old token new → Passes depth token old new
+takes_passing : (old new : Compiling) (token : Token) {depth : ℕ} → old.passing ≡ Some depth → Takes old token new
+    → Passes depth token old new
 takes_passing old new token e t = subst (λ p. TakesIn p token old new) e t
 
 -- what is passed over leaves nodes and what waits
-passed_from : (depth : ℕ) (old now new : Compiling) → now.nodes.items ≡ old.nodes.items → now.pending.items ≡ old.pending.items → PassesLeaf depth now new → PassesLeaf depth old new
+passed_from : (depth : ℕ) (old now new : Compiling) → now.nodes.items ≡ old.nodes.items
+    → now.pending.items ≡ old.pending.items → PassesLeaf depth now new → PassesLeaf depth old new
 passed_from zero old now new n p f = subst (λ l. Finishes l old.pending.items new) n (subst (λ l. Finishes now.nodes.items l new) p f)
 passed_from (suc depth) old now new n p f = record { nodes = f.nodes ∙ n; pending = f.pending ∙ p; passing = f.passing }
 
 mutual
-  pass_pattern : (pattern : Pattern) {depth : ℕ} (old new : Compiling) → old.passing ≡ Some (suc depth) → TakesAll old (written pattern) new → IsNow old.nodes.items old.pending.items (Some (suc depth)) new
+  pass_pattern : (pattern : Pattern) {depth : ℕ} (old new : Compiling) → old.passing ≡ Some (suc depth)
+      → TakesAll old (written pattern) new → IsNow old.nodes.items old.pending.items (Some (suc depth)) new
   pass_pattern nothing {depth} old new e s = subst (IsNow old.nodes.items old.pending.items (Some (suc depth))) s (record { nodes = refl; pending = refl; passing = e })
   pass_pattern (append pattern item) {depth} old new e s =
       let p = parted (written pattern) (written_item item) old new s in
@@ -89,7 +104,8 @@ mutual
       let next = pass_pattern pattern p.0 new now.passing p.2 in
       record { nodes = next.nodes ∙ now.nodes; pending = next.pending ∙ now.pending; passing = next.passing }
 
-  pass_item : (item : Item) (depth : ℕ) (old new : Compiling) → old.passing ≡ Some depth → TakesAll old (written_item item) new → PassesLeaf depth old new
+  pass_item : (item : Item) (depth : ℕ) (old new : Compiling) → old.passing ≡ Some depth
+      → TakesAll old (written_item item) new → PassesLeaf depth old new
   pass_item (set bytes) depth old new e s = takes_passing old new (Set bytes) {depth = depth} e (alone (Set bytes) old new s)
   pass_item front depth old new e s = takes_passing old new Front {depth = depth} e (alone Front old new s)
   pass_item end depth old new e s = takes_passing old new End {depth = depth} e (alone End old new s)
@@ -104,17 +120,23 @@ mutual
       passed_from depth old p.0 new stays.nodes stays.pending (pass_item item depth p.0 new stays.passing p.2)
 
 -- a duplication's item was written out
-repeated_out : (old code : List Node) (now new : Compiling) (pending : List Pending) (d : Duplication) → d.start ≡ length old
-    → now.nodes.items ++ reverse code ≡ old ++ begun d.high (reverse code) → now.pending.items ≡ pending ++ Repeated d ∷ []
-    → Finishes (now.nodes.items ++ reverse code) now.pending.items new → Finishes (old ++ reverse (copies d.low code ++ tail_of code d.low d.high)) pending new
+repeated_out : (old code : List Node) (now new : Compiling) (pending : List Pending) (d : Duplication)
+    → d.start ≡ length old
+    → now.nodes.items ++ reverse code ≡ old ++ begun d.high (reverse code)
+    → now.pending.items ≡ pending ++ Repeated d ∷ []
+    → Finishes (now.nodes.items ++ reverse code) now.pending.items new
+    → Finishes (old ++ reverse (copies d.low code ++ tail_of code d.low d.high)) pending new
 repeated_out old code now new pending d s n p f = grind (arith, common_steps)
 
 -- an item that stands no time
-none_of : {nodes : List Node} (code : List Node) (low : ℕ) → low ≤ 0 → nodes ≡ nodes ++ reverse (copies low code ++ up_to (0 - low) code)
+none_of : {nodes : List Node} (code : List Node) (low : ℕ) → low ≤ 0
+    → nodes ≡ nodes ++ reverse (copies low code ++ up_to (0 - low) code)
 none_of {nodes} code low h = search rules
 
 mutual
-  write_pattern : (pattern : Pattern) (old new : Compiling) → IsOrdered pattern → old.passing ≡ None → Base old.pending.items → TakesAll old (written pattern) new → IsNow (old.nodes.items ++ reverse (code_of pattern)) old.pending.items None new
+  write_pattern : (pattern : Pattern) (old new : Compiling) → IsOrdered pattern → old.passing ≡ None
+      → Base old.pending.items → TakesAll old (written pattern) new
+      → IsNow (old.nodes.items ++ reverse (code_of pattern)) old.pending.items None new
   write_pattern nothing old new o e b s = subst (IsNow (old.nodes.items ++ []) old.pending.items None) s (record { nodes = sym (append-nil old.nodes.items); pending = refl; passing = e })
   write_pattern (append pattern item) old new o e b s =
       let p = parted (written pattern) (written_item item) old new s in
@@ -127,7 +149,9 @@ mutual
         passing = next.passing;
       }
 
-  write_item : (item : Item) (old new : Compiling) → IsOrderedItem item → old.passing ≡ None → TakesAll old (written_item item) new → Finishes (old.nodes.items ++ reverse (code_of_item item)) old.pending.items new
+  write_item : (item : Item) (old new : Compiling) → IsOrderedItem item → old.passing ≡ None
+      → TakesAll old (written_item item) new
+      → Finishes (old.nodes.items ++ reverse (code_of_item item)) old.pending.items new
   write_item (set bytes) old new o e s = takes_writing old new (Set bytes) e (alone (Set bytes) old new s)
   write_item front old new o e s = takes_writing old new Front e (alone Front old new s)
   write_item end old new o e s = takes_writing old new End e (alone End old new s)
@@ -177,18 +201,23 @@ mutual
       (ordered_item item parts.0, bound_order low high parts.1.0)
 
 -- all tokens were read
-pub compiled : (pattern : Pattern) {tokens : List Token} {first : Compiling} (final : Compiling) → tokens ≡ written pattern → AreBounded tokens → IsNow [] [] None first → TakesAll first tokens final → reverse final.nodes.items ≡ code_of pattern
+pub compiled : (pattern : Pattern) {tokens : List Token} {first : Compiling} (final : Compiling)
+    → tokens ≡ written pattern → AreBounded tokens → IsNow [] [] None first → TakesAll first tokens final
+    → reverse final.nodes.items ≡ code_of pattern
 compiled pattern {first} final e b n s =
     let now = write_pattern pattern first final (ordered pattern (subst AreBounded e b)) n.passing (inl n.pending) (subst (λ ts. TakesAll first ts final) e s) in
     ap reverse (now.nodes ∙ ap (λ l. l ++ reverse (code_of pattern)) n.nodes) ∙ reverse-reverse (code_of pattern)
 
 -- one token more, towards the front
-pub way_more : (tokens : List Token) (before : ℕ) {place : ℕ} {token : Token} (first now new : Compiling) → place ≡ before + 1 → before < length tokens → token ≡ get_or tokens before token → TakesAll first (drop place tokens) now → Takes now token new
+pub way_more : (tokens : List Token) (before : ℕ) {place : ℕ} {token : Token} (first now new : Compiling)
+    → place ≡ before + 1 → before < length tokens → token ≡ get_or tokens before token
+    → TakesAll first (drop place tokens) now → Takes now token new
     → TakesAll first (drop before tokens) new
 way_more tokens before {token} first now new e h is s t =
     subst (λ l. TakesAll first l new) (sym (at_drop_more (λ ts. ts) tokens before token h ∙ ap (λ k. k ∷ drop (before + 1) tokens) (sym is))) (now, subst (λ n. TakesAll first (drop n tokens) now) e s, t)
 
-pub bounded_at : (tokens : List Token) (place : ℕ) {token : Token} → AreBounded tokens → place < length tokens → token ≡ get_or tokens place token → IsBounded token
+pub bounded_at : (tokens : List Token) (place : ℕ) {token : Token} → AreBounded tokens → place < length tokens
+    → token ≡ get_or tokens place token → IsBounded token
 bounded_at [] place b h e = absurd (omega arith)
 bounded_at (first ∷ tokens) zero b h e = subst IsBounded (sym e) b.0
 bounded_at (first ∷ tokens) (suc place) b h e = bounded_at tokens place b.1 (omega arith) e

@@ -19,19 +19,22 @@ use Rattle.std.proofs.lemmas.Grind.{common_steps}
 -- The words of the numbers of a kind.
 
 -- the word of a byte
-pub takes_word : (code : List Node) (takes : List ℕ) {size : ℕ} (byte at : ℕ) → AreTakes code takes → size ≡ width code → byte < 256 → at < width code → IsMask code (Takes byte) at (get_or takes (byte * size + at) 0)
+pub takes_word : (code : List Node) (takes : List ℕ) {size : ℕ} (byte at : ℕ) → AreTakes code takes → size ≡ width code
+    → byte < 256 → at < width code → IsMask code (Takes byte) at (get_or takes (byte * size + at) 0)
 takes_word code takes byte at t e small within =
     let place : ℕ = byte * width code + at in
     subst (λ n. IsMask code (Takes byte) at (get_or takes (byte * n + at) 0)) (sym e) (subst (λ b. IsMask code (Takes b) at (get_or takes place 0)) (div-mul-add byte (width code) at within)
     (subst (λ n. IsMask code (Takes (place / width code)) n (get_or takes place 0)) (mod-mul-add byte (width code) at within)
     (t.each place (omega (arith, mul-add-lt byte (width code) at 256 small within)))))
 
-pub counted_in : (code : List Node) (number : ℕ) (node : Node) → At code number node → weight_of node ≡ counted_at code number
+pub counted_in : (code : List Node) (number : ℕ) (node : Node) → At code number node
+    → weight_of node ≡ counted_at code number
 counted_in [] number node here = absurd here
 counted_in (head ∷ code) zero node here = ap weight_of here
 counted_in (head ∷ code) (suc number) node here = counted_in code number node here
 
-pub counted_out : (code : List Node) (number : ℕ) → length code ≤ number → (number ≡ length code) ↔ (counted_at code number ≡ 1)
+pub counted_out : (code : List Node) (number : ℕ) → length code ≤ number
+    → (number ≡ length code) ↔ (counted_at code number ≡ 1)
 counted_out [] zero h = (λ e. refl, λ e. refl)
 counted_out [] (suc number) h = (λ e. absurd (omega (arith, e)), λ e. absurd (omega (arith, e)))
 counted_out (node ∷ code) zero h = absurd (omega (arith, h))
@@ -55,7 +58,8 @@ shifted_low kept {carry} h =
     let b = bit_at_lowest carry in
     omega (arith, e, a, b, h)
 
-shifted_high : (kept carry bit : ℕ) → carry < 2 → bit + 1 < 64 → bit_at (bit_or (kept * 2 ^ 1 % 2 ^ 64) carry) (suc bit) ≡ bit_at kept bit
+shifted_high : (kept carry bit : ℕ) → carry < 2 → bit + 1 < 64
+    → bit_at (bit_or (kept * 2 ^ 1 % 2 ^ 64) carry) (suc bit) ≡ bit_at kept bit
 shifted_high kept carry bit h small =
     let e = bit_at_or (kept * 2 ^ 1 % 2 ^ 64) carry (suc bit) in
     let none = bit_at_above carry 1 (suc bit) h (omega arith) in
@@ -71,7 +75,8 @@ kept_bit : (code : List Node) (words : List ℕ) (byte at bit takes : ℕ) → I
     → (bit_at (bit_and (get_or words at 0) takes) bit ≡ 1) ↔ Led code byte words (at * 64 + bit + 1)
 kept_bit code words byte at bit takes m small = search (rules, is_in_word, bit_at_and)
 
-pub set_elsewhere : (words : List ℕ) {at : ℕ} (word number : ℕ) → (number / 64 ≡ at → ⊥) → IsIn (set words at word) number ↔ IsIn words number
+pub set_elsewhere : (words : List ℕ) {at : ℕ} (word number : ℕ) → (number / 64 ≡ at → ⊥)
+    → IsIn (set words at word) number ↔ IsIn words number
 unfolding IsIn
 set_elsewhere words {at} word number differs = search rules
 
@@ -83,8 +88,11 @@ pub record Passing (code : List Node) (byte : ℕ) (base old now : List ℕ) (at
   pub bit : carry < 2
   pub over : (carry ≡ 1) ↔ Led code byte old (at * 64)
 
-pub passing_more : {code : List Node} {byte : ℕ} {base old now new : List ℕ} {at carry kept : ℕ} (takes : ℕ) → Passing code byte base old now at carry → IsMask code (Takes byte) at takes → at < length old
-    → kept ≡ bit_and (get_or now at 0) takes → kept < 2 ^ 64 → new ≡ set now at (bit_or (bit_or (kept * 2 ^ 1 % 2 ^ 64) carry) (get_or base at 0)) → Passing code byte base old new (at + 1) (kept / 2 ^ 63)
+pub passing_more : {code : List Node} {byte : ℕ} {base old now new : List ℕ} {at carry kept : ℕ} (takes : ℕ)
+    → Passing code byte base old now at carry → IsMask code (Takes byte) at takes → at < length old
+    → kept ≡ bit_and (get_or now at 0) takes → kept < 2 ^ 64
+    → new ≡ set now at (bit_or (bit_or (kept * 2 ^ 1 % 2 ^ 64) carry) (get_or base at 0))
+    → Passing code byte base old new (at + 1) (kept / 2 ^ 63)
 passing_more {code} {byte} {base} {old} {now} {new} {at} {carry} {kept} takes p m h ek fits en = record {
   size = ap length en ∙ length-set now at (bit_or (bit_or (kept * 2 ^ 1 % 2 ^ 64) carry) (get_or base at 0)) ∙ p.size;
   past = λ number l. elim (cases_lt number (64 * at)) [
@@ -112,12 +120,17 @@ passing_more {code} {byte} {base} {old} {now} {new} {at} {carry} {kept} takes p 
     read : get_or new at 0 ≡ bit_or (bit_or (kept * 2 ^ 1 % 2 ^ 64) carry) (get_or base at 0)
     read = let s = p.size in ap (λ w. get_or w at 0) en ∙ get_or-set_same now at (bit_or (bit_or (kept * 2 ^ 1 % 2 ^ 64) carry) (get_or base at 0)) 0 (omega (arith, h, s))
 
-    earlier : (number : ℕ) → number < 64 * at → IsIn now number ↔ LedOrBase code byte base old number → IsIn (set now at (bit_or (bit_or (kept * 2 ^ 1 % 2 ^ 64) carry) (get_or base at 0))) number ↔ LedOrBase code byte base old number
+    earlier : (number : ℕ) → number < 64 * at → IsIn now number ↔ LedOrBase code byte base old number
+        → IsIn
+        (set now at (bit_or (bit_or (kept * 2 ^ 1 % 2 ^ 64) carry) (get_or base at 0))) number ↔ LedOrBase code byte
+        base old number
     earlier number l i =
         let e = set_elsewhere now (bit_or (bit_or (kept * 2 ^ 1 % 2 ^ 64) carry) (get_or base at 0)) number (λ q. omega (arith, q, l)) in
         (λ k. i.0 (e.0 k), λ k. e.1 (i.1 k))
 
-    joined : (bit : ℕ) → bit < 64 → ((bit_at (bit_or (kept * 2 ^ 1 % 2 ^ 64) carry) bit ≡ 1) ↔ Led code byte old (at * 64 + bit)) → IsIn new (at * 64 + bit) ↔ LedOrBase code byte base old (at * 64 + bit)
+    joined : (bit : ℕ) → bit < 64
+        → ((bit_at (bit_or (kept * 2 ^ 1 % 2 ^ 64) carry) bit ≡ 1) ↔ Led code byte old (at * 64 + bit))
+        → IsIn new (at * 64 + bit) ↔ LedOrBase code byte base old (at * 64 + bit)
     joined bit small i =
         let w = is_in_word new at bit small in
         let b = is_in_word base at bit small in
@@ -129,7 +142,8 @@ passing_more {code} {byte} {base} {old} {now} {new} {at} {carry} {kept} takes p 
           ],
         )
 
-    inside : (bit : ℕ) → bit < 64 → (bit_at (bit_or (kept * 2 ^ 1 % 2 ^ 64) carry) bit ≡ 1) ↔ Led code byte old (at * 64 + bit)
+    inside : (bit : ℕ) → bit < 64
+        → (bit_at (bit_or (kept * 2 ^ 1 % 2 ^ 64) carry) bit ≡ 1) ↔ Led code byte old (at * 64 + bit)
     inside zero small =
         let e = shifted_low kept p.bit in
         let z : at * 64 + 0 ≡ at * 64 = omega arith in (
@@ -144,7 +158,9 @@ passing_more {code} {byte} {base} {old} {now} {new} {at} {carry} {kept} takes p 
           λ led. e ∙ k.1 (subst (Led code byte old) (sym z) led),
         )
 
-pub passing_ends : {code : List Node} {byte : ℕ} {base old now : List ℕ} {at carry : ℕ} → Passing code byte base old now at carry → length old ≤ at → length old ≡ width code → length base ≡ width code → (number : ℕ) → IsIn now number ↔ LedOrBase code byte base old number
+pub passing_ends : {code : List Node} {byte : ℕ} {base old now : List ℕ} {at carry : ℕ}
+    → Passing code byte base old now at carry → length old ≤ at → length old ≡ width code → length base ≡ width code
+    → (number : ℕ) → IsIn now number ↔ LedOrBase code byte base old number
 passing_ends {code} {byte} {base} {old} {now} {at} p h size same number = (
   λ k. let l = is_within now number k in let s = p.size in (p.past number (omega (arith, l, s, h))).0 k,
   λ k. (p.past number (within k)).1 k,
@@ -158,7 +174,8 @@ passing_ends {code} {byte} {base} {old} {now} {at} p h size same number = (
     within (inr front) = let l = is_within base number front in omega (arith, l, same, size, h)
 
 -- no bit of words that are 0
-pub none_in : (words : List ℕ) (at : ℕ) → ((n : ℕ) → n < at → get_or words n 0 ≡ 0) → length words ≤ at → (number : ℕ) → IsIn words number → ⊥
+pub none_in : (words : List ℕ) (at : ℕ) → ((n : ℕ) → n < at → get_or words n 0 ≡ 0) → length words ≤ at → (number : ℕ)
+    → IsIn words number → ⊥
 none_in words at zeros h number k =
     let l = is_within words number k in
     let same : number ≡ number / 64 * 64 + number % 64 = omega arith in
@@ -171,7 +188,8 @@ abbrev sum_of : (ℕ → ℕ) → List Bool → ℕ
 sum_of weight [] = 0
 sum_of weight (mark ∷ marks) = weight_if mark (weight 0) + sum_of (λ n. weight (suc n)) marks
 
-sum_same : (one other : ℕ → ℕ) → ((n : ℕ) → one n ≡ other n) → (marks : List Bool) → sum_of one marks ≡ sum_of other marks
+sum_same : (one other : ℕ → ℕ) → ((n : ℕ) → one n ≡ other n) → (marks : List Bool)
+    → sum_of one marks ≡ sum_of other marks
 sum_same one other e [] = refl
 sum_same one other e (mark ∷ marks) = grind (arith, common_steps)
 
@@ -185,7 +203,8 @@ among_sum code [] = refl
 among_sum [] (mark ∷ marks) = let z = sum_none marks in omega (arith, z)
 among_sum (node ∷ code) (mark ∷ marks) = let r = among_sum code marks in omega (arith, r)
 
-weight_bit : {weight : ℕ} (word counts : ℕ) → bit_at counts 0 ≡ weight → weight_if (word % 2 == 1) weight ≡ bit_and word counts % 2
+weight_bit : {weight : ℕ} (word counts : ℕ) → bit_at counts 0 ≡ weight
+    → weight_if (word % 2 == 1) weight ≡ bit_and word counts % 2
 weight_bit word counts e =
     let both = bit_at_and word counts 0 in
     let a = bit_at_lowest (bit_and word counts) in
@@ -194,7 +213,8 @@ weight_bit word counts e =
     let least = bit_at-lt word 0 in
     grind (arith, both, a, b, e, l, least)
 
-sum_bits : (count : ℕ) (weight : ℕ → ℕ) (word counts : ℕ) (rest : List Bool) → word < 2 ^ count → ((bit : ℕ) → bit < count → bit_at counts bit ≡ weight bit)
+sum_bits : (count : ℕ) (weight : ℕ → ℕ) (word counts : ℕ) (rest : List Bool) → word < 2 ^ count
+    → ((bit : ℕ) → bit < count → bit_at counts bit ≡ weight bit)
     → sum_of weight (bits count word ++ rest) ≡ count_ones (bit_and word counts) + sum_of (λ n. weight (count + n)) rest
 unfolding bits
 sum_bits zero weight word counts rest small exact = grind (arith, common_steps)
@@ -216,11 +236,14 @@ abbrev pub ones_below : List ℕ → List ℕ → ℕ → ℕ
 ones_below words counts zero = 0
 ones_below words counts (suc n) = ones_below words counts n + count_ones (bit_and (get_or words n 0) (get_or counts n 0))
 
-ones_front : (word other : ℕ) (words counts : List ℕ) (n : ℕ) → ones_below (word ∷ words) (other ∷ counts) (suc n) ≡ count_ones (bit_and word other) + ones_below words counts n
+ones_front : (word other : ℕ) (words counts : List ℕ) (n : ℕ)
+    → ones_below (word ∷ words) (other ∷ counts) (suc n) ≡ count_ones (bit_and word other) + ones_below words counts n
 ones_front word other words counts zero = omega arith
 ones_front word other words counts (suc n) = let r = ones_front word other words counts n in omega (arith, r)
 
-ones_sum : (weight : ℕ → ℕ) (words counts : List ℕ) → length counts ≡ length words → ((n : ℕ) → n < length words → get_or words n 0 < 2 ^ 64) → ((n bit : ℕ) → n < length words → bit < 64 → bit_at (get_or counts n 0) bit ≡ weight (64 * n + bit))
+ones_sum : (weight : ℕ → ℕ) (words counts : List ℕ) → length counts ≡ length words
+    → ((n : ℕ) → n < length words → get_or words n 0 < 2 ^ 64)
+    → ((n bit : ℕ) → n < length words → bit < 64 → bit_at (get_or counts n 0) bit ≡ weight (64 * n + bit))
     → ones_below words counts (length words) ≡ sum_of weight (flags_of words)
 ones_sum weight [] counts size fits exact = refl
 ones_sum weight (word ∷ words) [] size fits exact = absurd (omega (arith, size))
@@ -237,16 +260,20 @@ counted_most [] (suc n) = omega arith
 counted_most (node ∷ code) zero = weight_most node
 counted_most (node ∷ code) (suc n) = counted_most code n
 
-pub positions_are : (code : List Node) (words counts : List ℕ) → length words ≡ width code → AreEach 0 (IsMask code Counts) (width code) counts → ((n : ℕ) → n < length words → get_or words n 0 < 2 ^ 64) → ones_below words counts (length words) ≡ positions_among code (flags_of words)
+pub positions_are : (code : List Node) (words counts : List ℕ) → length words ≡ width code
+    → AreEach 0 (IsMask code Counts) (width code) counts → ((n : ℕ) → n < length words → get_or words n 0 < 2 ^ 64)
+    → ones_below words counts (length words) ≡ positions_among code (flags_of words)
 positions_are code words counts size m fits = search (rules, ones_sum, among_sum, bit_at-lt, counted_most)
 
-bits_front : (count word n : ℕ) (rest : List Bool) → n < count → get_or (bits count word ++ rest) n false ≡ (bit_at word n == 1)
+bits_front : (count word n : ℕ) (rest : List Bool) → n < count
+    → get_or (bits count word ++ rest) n false ≡ (bit_at word n == 1)
 unfolding bits
 bits_front zero word n rest h = absurd (omega (arith, h))
 bits_front (suc count) word zero rest h = ap (λ x. x == 1) (sym (bit_at_lowest word))
 bits_front (suc count) word (suc n) rest h = bits_front count (word / 2) n rest (omega (arith, h)) ∙ ap (λ x. x == 1) (sym (bit_at-suc word n))
 
-bits_beyond : (count word n : ℕ) (rest : List Bool) → get_or (bits count word ++ rest) (count + n) false ≡ get_or rest n false
+bits_beyond : (count word n : ℕ) (rest : List Bool)
+    → get_or (bits count word ++ rest) (count + n) false ≡ get_or rest n false
 unfolding bits
 bits_beyond zero word n rest = ap (λ k. get_or rest k false) (omega arith)
 bits_beyond (suc count) word n rest =

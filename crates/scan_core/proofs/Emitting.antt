@@ -11,7 +11,8 @@ use Rattle.scan_core.specs.declared.node.Node.TheVariants.{Choose, Back}
 -- Stretches of nodes, and their copies.
 
 -- one copy more
-pub copies_more : (old : List Node) {now new : List Node} (from size count : ℕ) → now ≡ old ++ copies count (stretch from size old) → from + size ≤ length old → new ≡ now ++ stretch from size now
+pub copies_more : (old : List Node) {now new : List Node} (from size count : ℕ)
+    → now ≡ old ++ copies count (stretch from size old) → from + size ≤ length old → new ≡ now ++ stretch from size now
     → new ≡ old ++ copies (count + 1) (stretch from size old)
 copies_more old from size count e h m = grind (arith, common_steps)
 
@@ -25,15 +26,19 @@ reverse-copies zero code = refl
 reverse-copies (suc count) code = reverse-append (copies count code) code ∙ ap (λ l. reverse code ++ l) (reverse-copies count code) ∙ copies_turn count (reverse code)
 
 -- the stretch after a front
-pub stretch_after : (before : List Node) {code : List Node} (more : List Node) {from size : ℕ} → length before ≡ from → length code ≡ size → stretch from size (before ++ (code ++ more)) ≡ code
+pub stretch_after : (before : List Node) {code : List Node} (more : List Node) {from size : ℕ} → length before ≡ from
+    → length code ≡ size → stretch from size (before ++ (code ++ more)) ≡ code
 stretch_after before {code} more {size} e f = grind (arith, common_steps)
 
-reverse-starred : (code : List Node) → reverse (starred code) ≡ (Back (length code + 1) ∷ reverse code) ++ Choose (length code + 2) ∷ []
+reverse-starred : (code : List Node)
+    → reverse (starred code) ≡ (Back (length code + 1) ∷ reverse code) ++ Choose (length code + 2) ∷ []
 reverse-starred code = grind (arith, common_steps)
 
 -- without a bound
-pub starred_out : {nodes marked chosen new : List Node} (before code : List Node) {start size : ℕ} (low : ℕ) → length before ≡ start → nodes ≡ before ++ Back 0 ∷ reverse code → size ≡ length nodes - start - 1
-    → marked ≡ set nodes start (Back (size + 1)) → chosen ≡ marked ++ Choose (length marked - start + 1) ∷ [] → new ≡ chosen ++ copies low (stretch (start + 1) size chosen)
+pub starred_out : {nodes marked chosen new : List Node} (before code : List Node) {start size : ℕ} (low : ℕ)
+    → length before ≡ start → nodes ≡ before ++ Back 0 ∷ reverse code → size ≡ length nodes - start - 1
+    → marked ≡ set nodes start (Back (size + 1)) → chosen ≡ marked ++ Choose (length marked - start + 1) ∷ []
+    → new ≡ chosen ++ copies low (stretch (start + 1) size chosen)
     → new ≡ before ++ reverse (copies low code ++ starred code)
 starred_out {marked} {chosen} before code {start} {size} low b n s m ch e =
     e ∙ ap (λ l. chosen ++ copies low l) here ∙ ap (λ l. l ++ copies low (reverse code)) whole
@@ -75,13 +80,16 @@ starred_out {marked} {chosen} before code {start} {size} low b n s m ch e =
         ap (stretch (start + 1) size) parted ∙ stretch_after (before ++ Back (length code + 1) ∷ []) (Choose (length code + 2) ∷ []) (omega (arith, a, b)) (omega (arith, r, counted))
 
 -- the item where it stands, nodes having been written after it
-item_here : {nodes now : List Node} (more before code : List Node) {start size : ℕ} → length before ≡ start → nodes ≡ before ++ reverse code → size ≡ length nodes - start
+item_here : {nodes now : List Node} (more before code : List Node) {start size : ℕ} → length before ≡ start
+    → nodes ≡ before ++ reverse code → size ≡ length nodes - start
     → now ≡ nodes ++ more → stretch start size now ≡ reverse code
 item_here more before code {start} {size} b n s g = grind (arith, common_steps)
 
 -- `count` times
-pub exact_out : {nodes new : List Node} (before code : List Node) {start size low high : ℕ} → length before ≡ start → nodes ≡ before ++ reverse code → size ≡ length nodes - start → low ≡ high → 0 < high
-    → new ≡ nodes ++ copies (low - 1) (stretch start size nodes) → new ≡ before ++ reverse (copies low code ++ up_to (high - low) code)
+pub exact_out : {nodes new : List Node} (before code : List Node) {start size low high : ℕ} → length before ≡ start
+    → nodes ≡ before ++ reverse code → size ≡ length nodes - start → low ≡ high → 0 < high
+    → new ≡ nodes ++ copies (low - 1) (stretch start size nodes)
+    → new ≡ before ++ reverse (copies low code ++ up_to (high - low) code)
 exact_out {nodes} before code {low} {high} b n s same some e =
     e ∙ ap (λ l. nodes ++ copies (low - 1) l) (item_here [] before code b n s (sym (append-nil nodes))) ∙ ap (λ l. l ++ copies (low - 1) (reverse code)) n
     ∙ append_assoc before (reverse code) (copies (low - 1) (reverse code)) ∙ ap (λ l. before ++ l) (copies_turn (low - 1) (reverse code))
@@ -95,15 +103,20 @@ exact_out {nodes} before code {low} {high} b n s same some e =
     none = omega (arith, same)
 
 -- one more optional copy
-pub optional_more : {nodes now middle new : List Node} (more before code : List Node) {start size : ℕ} (count : ℕ) → length before ≡ start → nodes ≡ before ++ reverse code → size ≡ length nodes - start → now ≡ nodes ++ more
-    → now ≡ before ++ reverse (up_to count code) → middle ≡ now ++ stretch start size now → new ≡ middle ++ Choose (length middle - start + 1) ∷ [] → new ≡ before ++ reverse (up_to (count + 1) code)
+pub optional_more : {nodes now middle new : List Node} (more before code : List Node) {start size : ℕ} (count : ℕ)
+    → length before ≡ start → nodes ≡ before ++ reverse code → size ≡ length nodes - start → now ≡ nodes ++ more
+    → now ≡ before ++ reverse (up_to count code) → middle ≡ now ++ stretch start size now
+    → new ≡ middle ++ Choose (length middle - start + 1) ∷ [] → new ≡ before ++ reverse (up_to (count + 1) code)
 optional_more {now} {middle} more before code {start} count b n s g w m e = grind (arith, common_steps)
 
 -- the copies that are always there, before the optional ones
-pub bounded_out : {nodes now new : List Node} (more before code : List Node) {start size : ℕ} (low high : ℕ) {count : ℕ} → length before ≡ start → nodes ≡ before ++ reverse code → size ≡ length nodes - start → now ≡ nodes ++ more
-    → now ≡ before ++ reverse (up_to count code) → count ≡ high - low → new ≡ now ++ copies low (stretch start size now) → new ≡ before ++ reverse (copies low code ++ up_to (high - low) code)
+pub bounded_out : {nodes now new : List Node} (more before code : List Node) {start size : ℕ} (low high : ℕ) {count : ℕ}
+    → length before ≡ start → nodes ≡ before ++ reverse code → size ≡ length nodes - start → now ≡ nodes ++ more
+    → now ≡ before ++ reverse (up_to count code) → count ≡ high - low → new ≡ now ++ copies low (stretch start size now)
+    → new ≡ before ++ reverse (copies low code ++ up_to (high - low) code)
 bounded_out {now} more before code low high {count} b n s g w k e = search (rules, item_here, append_assoc, reverse-copies, reverse-append)
 
 -- what was written stays at the front
-pub grown_on : (nodes : List Node) {now middle new : List Node} (more first second : List Node) → now ≡ nodes ++ more → middle ≡ now ++ first → new ≡ middle ++ second → (all : List Node) × (new ≡ nodes ++ all)
+pub grown_on : (nodes : List Node) {now middle new : List Node} (more first second : List Node) → now ≡ nodes ++ more
+    → middle ≡ now ++ first → new ≡ middle ++ second → (all : List Node) × (new ≡ nodes ++ all)
 grown_on nodes more first second g m e = grind (arith, common_steps)

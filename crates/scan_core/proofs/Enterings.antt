@@ -46,28 +46,33 @@ at_least (x ∷ code) zero node h = omega arith
 at_least (x ∷ code) (suc n) node h = let l = at_least code n node h in omega (arith, l)
 
 -- what leads on without a place's help leads on anywhere
-leads_anywhere : (node : Node) (at_first at_last : Bool) (from to : ℕ) → LeadsOn node false false from to → LeadsOn node at_first at_last from to
+leads_anywhere : (node : Node) (at_first at_last : Bool) (from to : ℕ) → LeadsOn node false false from to
+    → LeadsOn node at_first at_last from to
 leads_anywhere (Take bytes) at_first at_last from to h = h
 leads_anywhere First at_first at_last from to h = absurd (false≢true h.0)
 leads_anywhere Last at_first at_last from to h = absurd (false≢true h.0)
 leads_anywhere (Choose skip) at_first at_last from to h = h
 leads_anywhere (Back by) at_first at_last from to h = h
 
-pub parts_anywhere : (code : List Node) (at_first at_last : Bool) (count from to : ℕ) → Parts (Flows code false false) count from to → Parts (Flows code at_first at_last) count from to
+pub parts_anywhere : (code : List Node) (at_first at_last : Bool) (count from to : ℕ)
+    → Parts (Flows code false false) count from to → Parts (Flows code at_first at_last) count from to
 parts_anywhere code at_first at_last zero from to p = p
 parts_anywhere code at_first at_last (suc count) from to p = (p.0, parts_anywhere code at_first at_last count from p.0 p.1, (p.2.0, p.2.1, leads_anywhere p.2.0 at_first at_last p.0 to p.2.2))
 
 -- what a known node leads to
-pub flows_of : (code : List Node) {n : ℕ} (node : Node) (at_first at_last : Bool) (to : ℕ) → At code n node → Flows code at_first at_last n to → LeadsOn node at_first at_last n to
+pub flows_of : (code : List Node) {n : ℕ} (node : Node) (at_first at_last : Bool) (to : ℕ) → At code n node
+    → Flows code at_first at_last n to → LeadsOn node at_first at_last n to
 flows_of code {n} node at_first at_last to here f = subst (λ m. LeadsOn m at_first at_last n to) (at_once code n f.0 node f.1 here) f.2
 
-pub node_here : (code : List Node) {n : ℕ} {node read : Node} → n < length code → read ≡ node → read ≡ get_or code n read → At code n node
+pub node_here : (code : List Node) {n : ℕ} {node read : Node} → n < length code → read ≡ node
+    → read ≡ get_or code n read → At code n node
 node_here code {n} {read} h e is = subst (At code n) (sym is ∙ e) (at_index code n read h)
 
 pub target_in : {code : List Node} (n skip : ℕ) → IsCode code → At code n (Choose skip) → n + skip ≤ length code
 target_in n skip c here = c.fits n (Choose skip) here
 
-pub pass_found : (code : List Node) (n byte to : ℕ) (bytes : List Bool) → At code n (Take bytes) → Passes code byte n to → IsTrue (has bytes byte)
+pub pass_found : (code : List Node) (n byte to : ℕ) (bytes : List Bool) → At code n (Take bytes) → Passes code byte n to
+    → IsTrue (has bytes byte)
 pass_found code n byte to bytes here p = search (rules, at_once)
 
 pub pass_least : (code : List Node) {n byte to : ℕ} → Passes code byte n to → n < length code
@@ -79,7 +84,8 @@ weight_length (node ∷ code) = let w = weight_most node in let r = weight_lengt
 
 -- Where the numbers of a code lead without a byte.
 
-pub way_nowhere : (code : List Node) (number : ℕ) → length code ≤ number → IsWay code number (record { when = Never; one = 0; other = 0 })
+pub way_nowhere : (code : List Node) (number : ℕ) → length code ≤ number
+    → IsWay code number (record { when = Never; one = 0; other = 0 })
 way_nowhere code number h = search (rules, at_least)
 
 -- where a node leads
@@ -94,7 +100,8 @@ one_of : {A : Type 0} → A ⊎ A → A
 one_of (inl a) = a
 one_of (inr a) = a
 
-pub way_is : (code : List Node) (number : ℕ) (node : Node) → IsCode code → At code number node → IsWay code number (way_at node number)
+pub way_is : (code : List Node) (number : ℕ) (node : Node) → IsCode code → At code number node
+    → IsWay code number (way_at node number)
 way_is code number (Take bytes) c here = record {
   one = omega arith;
   other = omega arith;
@@ -126,18 +133,21 @@ way_is code number (Back by) c here = let l = at_least code number (Back by) her
 
 module _ {code : List Node} {number : ℕ} {way : Way} where
   -- what is so of both is so of all that is led to
-  pub led_by : {at_first at_last : Bool} {to : ℕ} (So : ℕ → Type 0) → IsWay code number way → So way.one → So way.other → Flows code at_first at_last number to → So to
+  pub led_by : {at_first at_last : Bool} {to : ℕ} (So : ℕ → Type 0) → IsWay code number way → So way.one → So way.other
+      → Flows code at_first at_last number to → So to
   led_by {at_first} {at_last} {to} So w one other f = elim ((w.exact at_first at_last to).0 f).1 [ inl e ↦ subst So (sym e) one | inr e ↦ subst So (sym e) other ]
 
 -- Lists of which each entry is what its place asks for.
 
 module _ {A : Type 0} {none : A} {Is : ℕ → A → Type 0} {count : ℕ} {list : List A} where
   -- one entry more
-  pub each_more : {new : List A} {entry : A} → AreEach none Is count list → Is count entry → new ≡ list ++ entry ∷ [] → AreEach none Is (count + 1) new
+  pub each_more : {new : List A} {entry : A} → AreEach none Is count list → Is count entry → new ≡ list ++ entry ∷ []
+      → AreEach none Is (count + 1) new
   each_more {entry} a is e = grind (arith, common_steps)
 
   pub each_to : {all : ℕ} → AreEach none Is count list → count ≡ all → AreEach none Is all list
   each_to a e = subst (λ n. AreEach none Is n list) e a
 
-  pub each_by : {Other : ℕ → A → Type 0} → AreEach none Is count list → ((place : ℕ) (entry : A) → place < count → Is place entry → Other place entry) → AreEach none Other count list
+  pub each_by : {Other : ℕ → A → Type 0} → AreEach none Is count list
+      → ((place : ℕ) (entry : A) → place < count → Is place entry → Other place entry) → AreEach none Other count list
   each_by a there = record { size = a.size; each = λ place h. there place (get_or list place none) h (a.each place h) }

@@ -18,11 +18,13 @@ use Rattle.std.proofs.lemmas.Grind.{common_steps}
 use Rattle.scan_core.specs.inner.Each.{AreEach}
 use Rattle.scan_core.specs.inner.Closures.{Closes, IsInside, chosen_at}
 
-pub has_tests : (words : List ℕ) (number : ℕ) → (eqb (bit_and (get_or words (number / 64) 0 / 2 ^ (number % 64)) 1) 1 ≡ true) ↔ IsIn words number
+pub has_tests : (words : List ℕ) (number : ℕ)
+    → (eqb (bit_and (get_or words (number / 64) 0 / 2 ^ (number % 64)) 1) 1 ≡ true) ↔ IsIn words number
 unfolding IsIn
 has_tests words number = rw shr_and_one (eqb-true _ 1, eq-eqb _ 1)
 
-pub unset-set : (words : List ℕ) (at word : ℕ) → at < length words → get_or words at 0 < word → word ≤ 2 ^ 64 → unset (set words at word) < unset words
+pub unset-set : (words : List ℕ) (at word : ℕ) → at < length words → get_or words at 0 < word → word ≤ 2 ^ 64
+    → unset (set words at word) < unset words
 unset-set [] at word h l m = absurd (omega (arith, h))
 unset-set (x ∷ words) zero word h l m = omega (arith, l, m)
 unset-set (x ∷ words) (suc at) word h l m = let r = unset-set words at word (omega (arith, h)) l m in omega (arith, r)
@@ -32,7 +34,8 @@ pub record AreBits (Is : ℕ → ℕ → Type 0) (count word : ℕ) : Type 0 whe
   pub past : (bit : ℕ) → bit < count → Is bit (bit_at word bit)
   pub rest : (bit : ℕ) → count ≤ bit → bit_at word bit ≡ 0
 
-pub bits_more : {Is : ℕ → ℕ → Type 0} {count word : ℕ} (flag : Bool) → AreBits Is count word → count < 64 → Is count (bool_byte flag)
+pub bits_more : {Is : ℕ → ℕ → Type 0} {count word : ℕ} (flag : Bool) → AreBits Is count word → count < 64
+    → Is count (bool_byte flag)
     → AreBits Is (count + 1) (bit_or word (bool_byte flag * 2 ^ count % 2 ^ 64))
 bits_more {Is} {count} {word} true a h is = record {
   past = λ bit l. elim (cases_eq bit count) [
@@ -52,8 +55,10 @@ not_one true = inl refl
 not_one false = inr refl
 
 -- a number's bit is set
-pub entered_one : (old : List ℕ) {new : List ℕ} (number : ℕ) {word : ℕ} → number < 64 * length old → word ≡ get_or old (number / 64) 0
-    → new ≡ set old (number / 64) (bit_or word (1 * 2 ^ (number % 64) % 2 ^ 64)) → (other : ℕ) → IsIn new other ↔ (IsIn old other ⊎ (other ≡ number))
+pub entered_one : (old : List ℕ) {new : List ℕ} (number : ℕ) {word : ℕ} → number < 64 * length old
+    → word ≡ get_or old (number / 64) 0
+    → new ≡ set old (number / 64) (bit_or word (1 * 2 ^ (number % 64) % 2 ^ 64)) → (other : ℕ)
+    → IsIn new other ↔ (IsIn old other ⊎ (other ≡ number))
 unfolding IsIn
 entered_one old {new} number {word} h ew en other = elim (cases_eq other number) [
   | inl same ↦
@@ -65,7 +70,8 @@ entered_one old {new} number {word} h ew en other = elim (cases_eq other number)
     read : get_or new (number / 64) 0 ≡ bit_or word (1 * 2 ^ (number % 64) % 2 ^ 64)
     read = ap (λ l. get_or l (number / 64) 0) en ∙ get_or-set_same old (number / 64) (bit_or word (1 * 2 ^ (number % 64) % 2 ^ 64)) 0 (omega (arith, h))
 
-    elsewhere : (other ≡ number → ⊥) → bit_at (get_or new (other / 64) 0) (other % 64) ≡ bit_at (get_or old (other / 64) 0) (other % 64)
+    elsewhere : (other ≡ number → ⊥)
+        → bit_at (get_or new (other / 64) 0) (other % 64) ≡ bit_at (get_or old (other / 64) 0) (other % 64)
     elsewhere differs = elim (cases_eq (other / 64) (number / 64)) [
       | inl same ↦ ap (λ k. bit_at (get_or new k 0) (other % 64)) same ∙ ap (λ x. bit_at x (other % 64)) read
           ∙ bit_at_set_other w64 word (number % 64) (omega arith) (other % 64) (λ e. differs (omega (arith, e, same)))
@@ -74,7 +80,9 @@ entered_one old {new} number {word} h ew en other = elim (cases_eq other number)
     ]
 
 -- one number more
-pub grows_one : {old new : List ℕ} (number : ℕ) {word before on : ℕ} → number < 64 * length old → (IsIn old number → ⊥) → word ≡ get_or old (number / 64) 0 → word < 2 ^ 64 → new ≡ set old (number / 64) (bit_or word (1 * 2 ^ (number % 64) % 2 ^ 64)) → on ≡ min before number
+pub grows_one : {old new : List ℕ} (number : ℕ) {word before on : ℕ} → number < 64 * length old → (IsIn old number → ⊥)
+    → word ≡ get_or old (number / 64) 0 → word < 2 ^ 64
+    → new ≡ set old (number / 64) (bit_or word (1 * 2 ^ (number % 64) % 2 ^ 64)) → on ≡ min before number
     → Grows (λ other. other ≡ number) old new before on
 grows_one {old} {new} number {word} h none ew fits en eo = record {
   size = ap length en ∙ length-set old (number / 64) more;
@@ -108,31 +116,39 @@ grows_one {old} {new} number {word} h none ew fits en eo = record {
 pub goes_none : (words : List ℕ) (before : ℕ) → GoesOn words words before before
 goes_none words before = record { low = omega arith; under = λ number l h. h; fuller = omega arith; less = λ l. absurd (omega (arith, l)) }
 
-pub grows_none : (Added : ℕ → Type 0) {words : List ℕ} {on : ℕ} → ((number : ℕ) → Added number → IsIn words number) → Grows Added words words on on
+pub grows_none : (Added : ℕ → Type 0) {words : List ℕ} {on : ℕ} → ((number : ℕ) → Added number → IsIn words number)
+    → Grows Added words words on on
 grows_none Added {words} {on} within = record { size = refl; exact = λ number. (λ h. inl h, elim [ inl h ↦ h | inr h ↦ within number h ]); goes = goes_none words on }
 
 -- Sets of numbers as words that grow by what a node leads to.
 
-pub grows_by : (Added Other : ℕ → Type 0) {old new : List ℕ} {before on : ℕ} → Grows Added old new before on → ((n : ℕ) → Added n → Other n) → ((n : ℕ) → Other n → Added n) → Grows Other old new before on
+pub grows_by : (Added Other : ℕ → Type 0) {old new : List ℕ} {before on : ℕ} → Grows Added old new before on
+    → ((n : ℕ) → Added n → Other n) → ((n : ℕ) → Other n → Added n) → Grows Other old new before on
 grows_by Added Other g there here = search rules
 
-pub grows_both : (Added Other : ℕ → Type 0) {old middle new : List ℕ} {before : ℕ} (between : ℕ) {on : ℕ} → Grows Added old middle before between → Grows Other middle new between on → Grows (λ n. Added n ⊎ Other n) old new before on
+pub grows_both : (Added Other : ℕ → Type 0) {old middle new : List ℕ} {before : ℕ} (between : ℕ) {on : ℕ}
+    → Grows Added old middle before between → Grows Other middle new between on
+    → Grows (λ n. Added n ⊎ Other n) old new before on
 grows_both Added Other between {on} f g = search rules
 
 -- a node that leads nowhere at this place, and one that leads to two numbers
-pub grows_closed : {code : List Node} {number : ℕ} {way : Way} {at_first at_last : Bool} {words : List ℕ} {on : ℕ} → IsWay code number way → (Opens way.when at_first at_last → ⊥)
+pub grows_closed : {code : List Node} {number : ℕ} {way : Way} {at_first at_last : Bool} {words : List ℕ} {on : ℕ}
+    → IsWay code number way → (Opens way.when at_first at_last → ⊥)
     → Grows (Flows code at_first at_last number) words words on on
 grows_closed {at_first} {at_last} w never = grows_none _ (λ to f. absurd (never ((w.exact at_first at_last to).0 f).0))
 
-pub grows_way : {code : List Node} {number : ℕ} {way : Way} {at_first at_last : Bool} {old middle new : List ℕ} {before between on : ℕ} → IsWay code number way → Opens way.when at_first at_last
-    → Grows (λ n. n ≡ way.one) old middle before between → Grows (λ n. n ≡ way.other) middle new between on → Grows (Flows code at_first at_last number) old new before on
+pub grows_way : {code : List Node} {number : ℕ} {way : Way} {at_first at_last : Bool} {old middle new : List ℕ}
+    {before between on : ℕ} → IsWay code number way → Opens way.when at_first at_last
+    → Grows (λ n. n ≡ way.one) old middle before between → Grows (λ n. n ≡ way.other) middle new between on
+    → Grows (Flows code at_first at_last number) old new before on
 grows_way {code} {number} {way} {at_first} {at_last} {between} w o f g =
     grows_by (λ n. (n ≡ way.one) ⊎ (n ≡ way.other)) (Flows code at_first at_last number) (grows_both (λ n. n ≡ way.one) (λ n. n ≡ way.other) between f g)
     (λ to e. (w.exact at_first at_last to).1 (o, e)) (λ to k. ((w.exact at_first at_last to).0 k).1)
 
 -- Entering all that a set of words leads to, number by number.
 
-pub is_in_word : (words : List ℕ) (at bit : ℕ) → bit < 64 → (bit_at (get_or words at 0) bit ≡ 1) ↔ IsIn words (at * 64 + bit)
+pub is_in_word : (words : List ℕ) (at bit : ℕ) → bit < 64
+    → (bit_at (get_or words at 0) bit ≡ 1) ↔ IsIn words (at * 64 + bit)
 unfolding IsIn
 is_in_word words at bit h = search rules
 
@@ -140,11 +156,14 @@ pub is_within : (words : List ℕ) (number : ℕ) → IsIn words number → numb
 unfolding IsIn
 is_within words number h = grind (arith, common_steps)
 
-pub flows_join : (code : List Node) (at_first at_last : Bool) (count start middle number : ℕ) → FlowsOn code at_first at_last start middle → Parts (Flows code at_first at_last) count middle number → FlowsOn code at_first at_last start number
+pub flows_join : (code : List Node) (at_first at_last : Bool) (count start middle number : ℕ)
+    → FlowsOn code at_first at_last start middle → Parts (Flows code at_first at_last) count middle number
+    → FlowsOn code at_first at_last start number
 flows_join code at_first at_last zero start middle number f p = subst (FlowsOn code at_first at_last start) p f
 flows_join code at_first at_last (suc count) start middle number f p = let r = flows_join code at_first at_last count start middle p.0 f p.1 in (suc r.0, (p.0, r.1, p.2))
 
-pub adds_both : {code : List Node} {at_first at_last : Bool} {old middle new : List ℕ} → Adds code at_first at_last old middle → Adds code at_first at_last middle new → Adds code at_first at_last old new
+pub adds_both : {code : List Node} {at_first at_last : Bool} {old middle new : List ℕ}
+    → Adds code at_first at_last old middle → Adds code at_first at_last middle new → Adds code at_first at_last old new
 adds_both {code} {at_first} {at_last} f g = record {
   size = g.size ∙ f.size;
   kept = λ number h. g.kept number (f.kept number h);
@@ -152,18 +171,21 @@ adds_both {code} {at_first} {at_last} f g = record {
 }
 
 -- what follows at any place follows at each
-pub adds_anywhere : {code : List Node} (at_first at_last : Bool) {old new : List ℕ} → Adds code false false old new → Adds code at_first at_last old new
+pub adds_anywhere : {code : List Node} (at_first at_last : Bool) {old new : List ℕ} → Adds code false false old new
+    → Adds code at_first at_last old new
 adds_anywhere {code} at_first at_last a = search (rules, parts_anywhere)
 
 -- what a set leads to is in it
 pub spreads_out : {code : List Node} {at_first at_last : Bool} {old now : List ℕ} → Adds code at_first at_last old now
-    → ((start to : ℕ) → IsIn now start → Flows code at_first at_last start to → IsIn now to) → SpreadsOut code at_first at_last old now
+    → ((start to : ℕ) → IsIn now start → Flows code at_first at_last start to → IsIn now to)
+    → SpreadsOut code at_first at_last old now
 spreads_out {code} {at_first} {at_last} {old} {now} adds closed = record {
   size = adds.size;
   exact = λ number. (adds.from number, λ f. follow f.2.0 f.0 number f.1 f.2.1);
 }
   where
-    follow : (count start number : ℕ) → IsIn old start → Parts (Flows code at_first at_last) count start number → IsIn now number
+    follow : (count start number : ℕ) → IsIn old start → Parts (Flows code at_first at_last) count start number
+        → IsIn now number
     follow zero start number k p = subst (IsIn now) p (adds.kept start k)
     follow (suc count) start number k p = closed p.0 number (follow count start p.0 k p.1) p.2
 
@@ -172,8 +194,10 @@ pub record Spreading (code : List Node) (at_first at_last : Bool) (old now : Lis
   pub adds : Adds code at_first at_last old now
   pub closed : (start to : ℕ) → start < number → IsIn now start → Flows code at_first at_last start to → IsIn now to
 
-pub spreading_more : {code : List Node} {at_first at_last : Bool} {old now new : List ℕ} {number on : ℕ} → Spreading code at_first at_last old now number
-    → Grows (λ to. IsIn now number × Flows code at_first at_last number to) now new (number + 1) on → Spreading code at_first at_last old new on
+pub spreading_more : {code : List Node} {at_first at_last : Bool} {old now new : List ℕ} {number on : ℕ}
+    → Spreading code at_first at_last old now number
+    → Grows (λ to. IsIn now number × Flows code at_first at_last number to) now new (number + 1) on
+    → Spreading code at_first at_last old new on
 spreading_more {code} {at_first} {at_last} {now = now} {number = number} s g = record {
   adds = adds_both s.adds (record {
     size = g.size;
@@ -189,7 +213,8 @@ spreading_more {code} {at_first} {at_last} {now = now} {number = number} s g = r
   ];
 }
 
-pub spreading_ends : {code : List Node} {at_first at_last : Bool} {old now : List ℕ} {number : ℕ} → Spreading code at_first at_last old now number → length code ≤ number → SpreadsOut code at_first at_last old now
+pub spreading_ends : {code : List Node} {at_first at_last : Bool} {old now : List ℕ} {number : ℕ}
+    → Spreading code at_first at_last old now number → length code ≤ number → SpreadsOut code at_first at_last old now
 spreading_ends {code} s h = spreads_out s.adds (λ start to k flow. s.closed start to (let l = at_least code start flow.0 flow.1 in omega (arith, l, h)) k flow)
 
 pub visits_smaller : (Added : ℕ → Type 0) {old new : List ℕ} {number on most : ℕ} → Grows Added old new (number + 1) on
@@ -208,7 +233,8 @@ pub right_bit : (a b bit : ℕ) → bit_at b bit ≡ 1 → bit_at (bit_or a b) b
 right_bit a b bit h = let e = bit_at_or a b bit in let l = bit_at-lt a bit in omega (arith, e, h, l)
 
 -- a bit that stands for a number of a word
-pub bit_is : {at : ℕ} (number bit : ℕ) → number / 64 ≡ at → bit < 64 → (bit_at (1 * 2 ^ (number % 64) % 2 ^ 64) bit ≡ 1) ↔ (number ≡ at * 64 + bit)
+pub bit_is : {at : ℕ} (number bit : ℕ) → number / 64 ≡ at → bit < 64
+    → (bit_at (1 * 2 ^ (number % 64) % 2 ^ 64) bit ≡ 1) ↔ (number ≡ at * 64 + bit)
 bit_is number bit here h =
     let zero_or : (n : ℕ) → bit_or 0 n ≡ n = λ n. or_zero_l n in
     let same = bit_at_set_same w64 0 (number % 64) (omega arith) in
@@ -225,28 +251,36 @@ bit_is number bit here h =
     )
 
 -- what a number of a word leads to in it
-pub both_led : {code : List Node} {number to : ℕ} {way : Way} (one other bit : ℕ) → IsWay code number way → Opens way.when false false → ((bit_at one bit ≡ 1) ↔ (way.one ≡ to))
-    → ((bit_at other bit ≡ 1) ↔ (way.other ≡ to)) → (bit_at (bit_or one other) bit ≡ 1) ↔ Flows code false false number to
+pub both_led : {code : List Node} {number to : ℕ} {way : Way} (one other bit : ℕ) → IsWay code number way
+    → Opens way.when false false → ((bit_at one bit ≡ 1) ↔ (way.one ≡ to))
+    → ((bit_at other bit ≡ 1) ↔ (way.other ≡ to))
+    → (bit_at (bit_or one other) bit ≡ 1) ↔ Flows code false false number to
 both_led {to} one other bit w o a b = (
   λ k. (w.exact false false to).1 (o, elim (either_bit one other bit k) [ inl first ↦ inl (sym (a.0 first)) | inr second ↦ inr (sym (b.0 second)) ]),
   λ f. elim ((w.exact false false to).0 f).1 [ inl e ↦ left_bit one other bit (a.1 (sym e)) | inr e ↦ right_bit one other bit (b.1 (sym e)) ],
 )
 
-pub none_led : (code : List Node) (number to bit : ℕ) → (Flows code false false number to → ⊥) → (bit_at 0 bit ≡ 1) ↔ Flows code false false number to
+pub none_led : (code : List Node) (number to bit : ℕ) → (Flows code false false number to → ⊥)
+    → (bit_at 0 bit ≡ 1) ↔ Flows code false false number to
 none_led code number to bit never = (λ k. let z = bit_at-zero bit in absurd (omega (arith, z, k)), λ f. absurd (never f))
 
 -- what some of the numbers lead to is there
 pub record Insiding (code : List Node) (at word all done : ℕ) : Type 0 where
   pub kept : (bit : ℕ) → bit < 64 → bit_at word bit ≡ 1 → bit_at all bit ≡ 1
-  pub from_word : (number : ℕ) → number < 64 → bit_at all number ≡ 1 → (bit : ℕ) × (bit < 64) × (bit_at word bit ≡ 1) × FlowsOn code false false (at * 64 + bit) (at * 64 + number)
-  pub looked : (bit to : ℕ) → bit < 64 → to < 64 → bit_at done bit ≡ 1 → Flows code false false (at * 64 + bit) (at * 64 + to) → bit_at all to ≡ 1
+  pub from_word : (number : ℕ) → number < 64 → bit_at all number ≡ 1
+      → (bit : ℕ) × (bit < 64) × (bit_at word bit ≡ 1) × FlowsOn code false false (at * 64 + bit) (at * 64 + number)
+  pub looked : (bit to : ℕ) → bit < 64 → to < 64 → bit_at done bit ≡ 1
+      → Flows code false false (at * 64 + bit) (at * 64 + to) → bit_at all to ≡ 1
 
 -- what isn't in a word yet
-pub fresh_bit : (found all bit : ℕ) → all < 2 ^ 64 → bit < 64 → bit_at (bit_and found (bit_not w64 all)) bit ≡ min (bit_at found bit) (1 - bit_at all bit)
+pub fresh_bit : (found all bit : ℕ) → all < 2 ^ 64 → bit < 64
+    → bit_at (bit_and found (bit_not w64 all)) bit ≡ min (bit_at found bit) (1 - bit_at all bit)
 fresh_bit found all bit m l = bit_at_and found (bit_not w64 all) bit ∙ ap (min (bit_at found bit)) (bit_at_not w64 all bit m l)
 
-pub inside_more : {code : List Node} {at word : ℕ} (all done found : ℕ) {bit : ℕ} → Insiding code at word all done → bit < 64 → done < 2 ^ 64 → bit_at (bit_and all (bit_not w64 done)) bit ≡ 1
-    → ((to : ℕ) → to < 64 → (bit_at found to ≡ 1) ↔ Flows code false false (at * 64 + bit) (at * 64 + to)) → Insiding code at word (bit_or all found) (bit_or done (1 * 2 ^ bit % 2 ^ 64))
+pub inside_more : {code : List Node} {at word : ℕ} (all done found : ℕ) {bit : ℕ} → Insiding code at word all done
+    → bit < 64 → done < 2 ^ 64 → bit_at (bit_and all (bit_not w64 done)) bit ≡ 1
+    → ((to : ℕ) → to < 64 → (bit_at found to ≡ 1) ↔ Flows code false false (at * 64 + bit) (at * 64 + to))
+    → Insiding code at word (bit_or all found) (bit_or done (1 * 2 ^ bit % 2 ^ 64))
 inside_more {code} {at} all done found {bit} i small fits here is = record {
   kept = λ b h k. left_bit all found b (i.kept b h k);
   from_word = λ n h k. elim (either_bit all found n k) [
@@ -262,7 +296,8 @@ inside_more {code} {at} all done found {bit} i small fits here is = record {
   ];
 }
 
-pub inside_ends : {code : List Node} {at word : ℕ} (all done : ℕ) → Insiding code at word all done → done < 2 ^ 64 → bit_and all (bit_not w64 done) ≡ 0 → Closes code at word all
+pub inside_ends : {code : List Node} {at word : ℕ} (all done : ℕ) → Insiding code at word all done → done < 2 ^ 64
+    → bit_and all (bit_not w64 done) ≡ 0 → Closes code at word all
 inside_ends all done i fits none = record {
   kept = i.kept;
   from_chosen = i.from_word;
@@ -270,7 +305,8 @@ inside_ends all done i fits none = record {
 }
 
 -- one more was looked at
-pub inside_smaller : (all done : ℕ) {bit : ℕ} → bit < 64 → done < 2 ^ 64 → bit_at (bit_and all (bit_not w64 done)) bit ≡ 1 → 2 ^ 64 - bit_or done (1 * 2 ^ bit % 2 ^ 64) < 2 ^ 64 - done
+pub inside_smaller : (all done : ℕ) {bit : ℕ} → bit < 64 → done < 2 ^ 64
+    → bit_at (bit_and all (bit_not w64 done)) bit ≡ 1 → 2 ^ 64 - bit_or done (1 * 2 ^ bit % 2 ^ 64) < 2 ^ 64 - done
 inside_smaller all done {bit} small fits here = elim (cases_eq (bit_or done (1 * 2 ^ bit % 2 ^ 64)) done) [
   | inl same ↦
       let e = fresh_bit all done bit fits small in
@@ -282,11 +318,15 @@ inside_smaller all done {bit} small fits here = elim (cases_eq (bit_or done (1 *
 -- the first eights of a word are joined
 pub record Joining (code : List Node) (at word eight all : ℕ) : Type 0 where
   pub kept : (bit : ℕ) → bit < eight * 8 → bit_at word bit ≡ 1 → bit_at all bit ≡ 1
-  pub from_word : (number : ℕ) → number < 64 → bit_at all number ≡ 1 → (bit : ℕ) × (bit < 64) × (bit_at word bit ≡ 1) × FlowsOn code false false (at * 64 + bit) (at * 64 + number)
-  pub closed : (number to : ℕ) → number < 64 → to < 64 → bit_at all number ≡ 1 → Flows code false false (at * 64 + number) (at * 64 + to) → bit_at all to ≡ 1
+  pub from_word : (number : ℕ) → number < 64 → bit_at all number ≡ 1
+      → (bit : ℕ) × (bit < 64) × (bit_at word bit ≡ 1) × FlowsOn code false false (at * 64 + bit) (at * 64 + number)
+  pub closed : (number to : ℕ) → number < 64 → to < 64 → bit_at all number ≡ 1
+      → Flows code false false (at * 64 + number) (at * 64 + to) → bit_at all to ≡ 1
 
 -- the bits of eight numbers of a word
-eight_bits : (word eight bit : ℕ) → word < 2 ^ 64 → bit_at (word / 2 ^ (eight * 8) % 256 * 2 ^ (eight * 8) % 2 ^ 64) bit ≡ min (bit_at word bit) (bit_at (2 ^ (8 + eight * 8) - 2 ^ (eight * 8)) bit)
+eight_bits : (word eight bit : ℕ) → word < 2 ^ 64
+    → bit_at (word / 2 ^ (eight * 8) % 256 * 2 ^ (eight * 8) % 2 ^ 64) bit
+    ≡ min (bit_at word bit) (bit_at (2 ^ (8 + eight * 8) - 2 ^ (eight * 8)) bit)
 eight_bits word eight bit h =
     let e : bit_and word (2 ^ (8 + eight * 8) - 2 ^ (eight * 8)) ≡ word / 2 ^ (eight * 8) % 256 * 2 ^ (eight * 8) = and_high word 8 (eight * 8) in
     let l = and_le_l word (2 ^ (8 + eight * 8) - 2 ^ (eight * 8)) in
@@ -294,11 +334,15 @@ eight_bits word eight bit h =
     ap (λ x. bit_at x bit) q ∙ bit_at_and word (2 ^ (8 + eight * 8) - 2 ^ (eight * 8)) bit
 
 -- an entry by its word, its eight and its choice
-entry_at : {code : List Node} (place : ℕ) {at eight chosen entry : ℕ} → place / 2048 ≡ at → place / 256 % 8 ≡ eight → place % 256 ≡ chosen
+entry_at : {code : List Node} (place : ℕ) {at eight chosen entry : ℕ} → place / 2048 ≡ at → place / 256 % 8 ≡ eight
+    → place % 256 ≡ chosen
     → Closes code (place / 2048) (chosen_at place) entry → Closes code at (chosen * 2 ^ (eight * 8) % 2 ^ 64) entry
 entry_at {code} place {eight} {chosen} {entry} word which low c = search rules
 
-pub join_more : {code : List Node} {inside : List ℕ} {at word eight : ℕ} (all : ℕ) {entry : ℕ} → Joining code at word eight all → AreEach 0 (IsInside code) (width code * 2048) inside → at < width code → eight < 8 → word < 2 ^ 64 → entry ≡ get_or inside (at * 2048 + (eight * 256 + word / 2 ^ (eight * 8) % 256)) 0 → Joining code at word (eight + 1) (bit_or all entry)
+pub join_more : {code : List Node} {inside : List ℕ} {at word eight : ℕ} (all : ℕ) {entry : ℕ}
+    → Joining code at word eight all → AreEach 0 (IsInside code) (width code * 2048) inside → at < width code
+    → eight < 8 → word < 2 ^ 64 → entry ≡ get_or inside (at * 2048 + (eight * 256 + word / 2 ^ (eight * 8) % 256)) 0
+    → Joining code at word (eight + 1) (bit_or all entry)
 join_more {code} {at} {word} {eight} all {entry} j i within h fits e = record {
   kept = λ bit l is. elim (cases_lt bit (eight * 8)) [
     | inl before ↦ left_bit all entry bit (j.kept bit before is)
@@ -360,7 +404,9 @@ halved high low j h = elim (cases_lt j 4) [
       omega (arith, a, b, z, e)
 ]
 
-halved_placed : (high low s i : ℕ) → low < 16 → i < 64 → bit_at ((high * 16 + low) * 2 ^ s % 2 ^ 64) i ≡ max (bit_at (high * 16 * 2 ^ s % 2 ^ 64) i) (bit_at (low * 2 ^ s % 2 ^ 64) i)
+halved_placed : (high low s i : ℕ) → low < 16 → i < 64
+    → bit_at ((high * 16 + low) * 2 ^ s % 2 ^ 64) i
+    ≡ max (bit_at (high * 16 * 2 ^ s % 2 ^ 64) i) (bit_at (low * 2 ^ s % 2 ^ 64) i)
 halved_placed high low s i h small = elim (cases_lt i s) [
   | inl l ↦
       let a = placed_below (high * 16 + low) s i small l in
@@ -376,7 +422,9 @@ halved_placed high low s i h small = elim (cases_lt i s) [
 ]
 
 -- what two choices lead to is what both together lead to
-closes_both : {code : List Node} {at : ℕ} (one other : ℕ) {chosen : ℕ} (all more : ℕ) → Closes code at one all → Closes code at other more → ((bit : ℕ) → bit < 64 → bit_at chosen bit ≡ max (bit_at one bit) (bit_at other bit)) → Closes code at chosen (bit_or all more)
+closes_both : {code : List Node} {at : ℕ} (one other : ℕ) {chosen : ℕ} (all more : ℕ) → Closes code at one all
+    → Closes code at other more → ((bit : ℕ) → bit < 64 → bit_at chosen bit ≡ max (bit_at one bit) (bit_at other bit))
+    → Closes code at chosen (bit_or all more)
 closes_both one other all more c d e = record {
   kept = λ bit h is. elim (cases_eq (bit_at one bit) 1) [
     | inl first ↦ left_bit all more bit (c.kept bit h first)
@@ -393,22 +441,28 @@ closes_both one other all more c d e = record {
 }
 
 -- the entry of a choice with both lower and higher numbers
-pub entry_of_halves : {code : List Node} {inside : List ℕ} {place : ℕ} → AreEach 0 (IsInside code) place inside → 0 < place % 16 → 0 < place / 16 % 16 * 16
-    → Closes code (place / 2048) (chosen_at place) (bit_or (get_or inside (place - place % 16) 0) (get_or inside (place - place / 16 % 16 * 16) 0))
+pub entry_of_halves : {code : List Node} {inside : List ℕ} {place : ℕ} → AreEach 0 (IsInside code) place inside
+    → 0 < place % 16 → 0 < place / 16 % 16 * 16
+    → Closes code (place / 2048) (chosen_at place)
+    (bit_or (get_or inside (place - place % 16) 0) (get_or inside (place - place / 16 % 16 * 16) 0))
 entry_of_halves {code} {inside} {place} i low high = closes_both _ _ _ _ one other bits
   where
     chosen : place % 256 ≡ place / 16 % 16 * 16 + place % 16
     chosen = omega arith
 
-    one : Closes code (place / 2048) (place / 16 % 16 * 16 * 2 ^ (place / 256 % 8 * 8) % 2 ^ 64) (get_or inside (place - place % 16) 0)
+    one : Closes code (place / 2048) (place / 16 % 16 * 16 * 2 ^ (place / 256 % 8 * 8) % 2 ^ 64)
+        (get_or inside (place - place % 16) 0)
     one =
         let before : ℕ = place - place % 16 in
         entry_at before (omega arith) (omega arith) (omega arith) (i.each before (omega (arith, low)))
 
-    other : Closes code (place / 2048) (place % 16 * 2 ^ (place / 256 % 8 * 8) % 2 ^ 64) (get_or inside (place - place / 16 % 16 * 16) 0)
+    other : Closes code (place / 2048) (place % 16 * 2 ^ (place / 256 % 8 * 8) % 2 ^ 64)
+        (get_or inside (place - place / 16 % 16 * 16) 0)
     other =
         let before : ℕ = place - place / 16 % 16 * 16 in
         entry_at before (omega arith) (omega arith) (omega arith) (i.each before (omega (arith, high)))
 
-    bits : (bit : ℕ) → bit < 64 → bit_at (chosen_at place) bit ≡ max (bit_at (place / 16 % 16 * 16 * 2 ^ (place / 256 % 8 * 8) % 2 ^ 64) bit) (bit_at (place % 16 * 2 ^ (place / 256 % 8 * 8) % 2 ^ 64) bit)
+    bits : (bit : ℕ) → bit < 64
+        → bit_at (chosen_at place) bit ≡ max (bit_at (place / 16 % 16 * 16 * 2 ^ (place / 256 % 8 * 8) % 2 ^ 64) bit)
+        (bit_at (place % 16 * 2 ^ (place / 256 % 8 * 8) % 2 ^ 64) bit)
     bits bit h = ap (λ n. bit_at (n * 2 ^ (place / 256 % 8 * 8) % 2 ^ 64) bit) chosen ∙ halved_placed (place / 16 % 16) (place % 16) (place / 256 % 8 * 8) bit (omega arith) h

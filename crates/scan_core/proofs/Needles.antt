@@ -23,14 +23,17 @@ use Rattle.std.proofs.lemmas.Grind.{common_steps}
 
 -- Each walk to the end comes by a node beyond which no choice leads.
 
-step_near : (code : List Node) (line : List ℕ) (number : ℕ) (node : Node) {at : ℕ} (place : ℕ) {at' : ℕ} (place' : ℕ) → IsPassed code number → At code at node → Leads node line at place at' place' → at < number → at' ≤ number
+step_near : (code : List Node) (line : List ℕ) (number : ℕ) (node : Node) {at : ℕ} (place : ℕ) {at' : ℕ} (place' : ℕ)
+    → IsPassed code number → At code at node → Leads node line at place at' place' → at < number → at' ≤ number
 step_near code line number (Take bytes) place place' passed here led low = omega (arith, led.0, low)
 step_near code line number First place place' passed here led low = omega (arith, led.0, low)
 step_near code line number Last place place' passed here led low = omega (arith, led.0, low)
 step_near code line number (Choose skip) {at} place place' passed here led low = grind (arith, common_steps)
 step_near code line number (Back by) place place' passed here led low = omega (arith, led.0, low)
 
-come_by : (code : List Node) (line : List ℕ) (number : ℕ) → IsPassed code number → (count at place to stop : ℕ) → Walks code line count at place to stop → at ≤ number → number < to → (there : ℕ) × (rest : ℕ) × Walks code line rest number there to stop
+come_by : (code : List Node) (line : List ℕ) (number : ℕ) → IsPassed code number → (count at place to stop : ℕ)
+    → Walks code line count at place to stop → at ≤ number → number < to
+    → (there : ℕ) × (rest : ℕ) × Walks code line rest number there to stop
 come_by code line number passed zero at place to stop w low high = absurd (omega (arith, w.0, low, high))
 come_by code line number passed (suc count) at place to stop w low high = elim (cases_eq at number) [
   | inl same ↦ (place, suc count, subst (λ n. Walks code line (suc count) n place to stop) same w)
@@ -39,14 +42,19 @@ come_by code line number passed (suc count) at place to stop w low high = elim (
 
 -- A walk that goes on from nodes which take bytes takes one after another.
 
-led_on : (code : List Node) (line : List ℕ) (count number place to stop : ℕ) (bytes : List Bool) → Walks code line (suc count) number place to stop → At code number (Take bytes) → (place < length line) × IsTrue (has bytes (slice_index line place)) × Walks code line count (number + 1) (place + 1) to stop
+led_on : (code : List Node) (line : List ℕ) (count number place to stop : ℕ) (bytes : List Bool)
+    → Walks code line (suc count) number place to stop → At code number (Take bytes)
+    → (place < length line) × IsTrue (has bytes (slice_index line place))
+    × Walks code line count (number + 1) (place + 1) to stop
 led_on code line count number place to stop bytes w here = search (rules, at_once)
 
 abbrev AreTakes : List Node → ℕ → ℕ → Type 0
 AreTakes code number last = (k : ℕ) → k ≤ last → (bytes : List Bool) × At code (number + k) (Take bytes)
 
-taken : (code : List Node) (line : List ℕ) (k number place to stop count : ℕ) → Walks code line count number place to stop → number + k < to → AreTakes code number k
-    → (place + k < length line) × ((bytes : List Bool) → At code (number + k) (Take bytes) → IsTrue (has bytes (slice_index line (place + k))))
+taken : (code : List Node) (line : List ℕ) (k number place to stop count : ℕ)
+    → Walks code line count number place to stop → number + k < to → AreTakes code number k
+    → (place + k < length line) × ((bytes : List Bool) → At code (number + k) (Take bytes)
+    → IsTrue (has bytes (slice_index line (place + k))))
 taken code line k number place to stop zero w high takes = absurd (omega (arith, w.0, high))
 taken code line zero number place to stop (suc count) w high takes =
     let first = takes 0 (omega arith) in
@@ -66,12 +74,15 @@ taken code line (suc k) number place to stop (suc count) w high takes =
     )
 
 -- the walk of a line with a match, from such a node on
-comes : (code : List Node) (line : List ℕ) (number : ℕ) → IsPassed code number → number < length code → EndsIn code line → (there : ℕ) × (rest : ℕ) × (stop : ℕ) × Walks code line rest number there (length code) stop
+comes : (code : List Node) (line : List ℕ) (number : ℕ) → IsPassed code number → number < length code → EndsIn code line
+    → (there : ℕ) × (rest : ℕ) × (stop : ℕ) × Walks code line rest number there (length code) stop
 comes code line number passed within ends =
     let by = come_by code line number passed ends.2.2.0 0 ends.2.0 (length code) ends.0 ends.2.2.1 (omega arith) within in
     (by.0, by.1, ends.0, by.2)
 
-pub is_byte_needle : (code : List Node) (number : ℕ) (bytes : List Bool) (few : FewBytes) → IsPassed code number → At code number (Take bytes) → ((byte : ℕ) → byte < 256 → IsTrue (has bytes byte) → is_among few byte ≡ true) → IsNeedle code (Byte few)
+pub is_byte_needle : (code : List Node) (number : ℕ) (bytes : List Bool) (few : FewBytes) → IsPassed code number
+    → At code number (Take bytes) → ((byte : ℕ) → byte < 256 → IsTrue (has bytes byte) → is_among few byte ≡ true)
+    → IsNeedle code (Byte few)
 is_byte_needle code number bytes few passed here among line are ends =
     let walk = comes code line number passed (at_least code number (Take bytes) here) ends in
     let same : number ≡ number + 0 = omega arith in
@@ -80,14 +91,17 @@ is_byte_needle code number bytes few passed here among line are ends =
     (walk.0 + 0, t.0, among (slice_index line (walk.0 + 0)) (are (walk.0 + 0) t.0) (t.1 bytes (at_at code (Take bytes) same here)))
 
 -- a node that takes one byte alone takes bytes
-only_takes : (code : List Node) (number : ℕ) {byte : ℕ} (node : Node) → At code number node → TakesOnly node byte → (bytes : List Bool) × At code number (Take bytes) × ((other : ℕ) → other < 256 → IsTrue (has bytes other) → other ≡ byte)
+only_takes : (code : List Node) (number : ℕ) {byte : ℕ} (node : Node) → At code number node → TakesOnly node byte
+    → (bytes : List Bool) × At code number (Take bytes)
+    × ((other : ℕ) → other < 256 → IsTrue (has bytes other) → other ≡ byte)
 only_takes code number (Take bytes) here only = (bytes, here, only)
 only_takes code number First here only = absurd only
 only_takes code number Last here only = absurd only
 only_takes code number (Choose skip) here only = absurd only
 only_takes code number (Back by) here only = absurd only
 
-pub is_text_needle : (code : List Node) (number : ℕ) {text needle : List ℕ} → IsPassed code number → IsLiteral code number text → needle ≡ text → 0 < length text → IsNeedle code (Text needle)
+pub is_text_needle : (code : List Node) (number : ℕ) {text needle : List ℕ} → IsPassed code number
+    → IsLiteral code number text → needle ≡ text → 0 < length text → IsNeedle code (Text needle)
 is_text_needle code number {text} passed literal same some line are ends = (
   walk.0,
   subst (λ those. OccursAt line those walk.0) (sym same) (record {
@@ -96,7 +110,8 @@ is_text_needle code number {text} passed literal same some line are ends = (
   }),
 )
   where
-    takes : (k : ℕ) → k < length text → (bytes : List Bool) × At code (number + k) (Take bytes) × ((other : ℕ) → other < 256 → IsTrue (has bytes other) → other ≡ slice_index text k)
+    takes : (k : ℕ) → k < length text → (bytes : List Bool) × At code (number + k) (Take bytes)
+        × ((other : ℕ) → other < 256 → IsTrue (has bytes other) → other ≡ slice_index text k)
     takes k within = let one = literal k within in only_takes code (number + k) one.0 one.1 one.2
 
     walk : (there : ℕ) × (rest : ℕ) × (stop : ℕ) × Walks code line rest number there (length code) stop
@@ -110,13 +125,16 @@ is_text_needle code number {text} passed literal same some line are ends = (
 
 -- Stretches of a text
 
-pub part_at : (before part after : List ℕ) (k : ℕ) → k < length part → slice_index (before ++ part ++ after) (length before + k) ≡ slice_index part k
+pub part_at : (before part after : List ℕ) (k : ℕ) → k < length part
+    → slice_index (before ++ part ++ after) (length before + k) ≡ slice_index part k
 part_at before part after k within = grind (arith, common_steps)
 
-pub lacks_byte : (few : FewBytes) (text : List ℕ) (place : ℕ) → Nowhere (Passes (is_among few) text) 0 place → LacksBefore (Byte few) text place
+pub lacks_byte : (few : FewBytes) (text : List ℕ) (place : ℕ) → Nowhere (Passes (is_among few) text) 0 place
+    → LacksBefore (Byte few) text place
 lacks_byte few text place none before part after all ends has = search (rules, part_at)
 
-pub lacks_text : (needle text : List ℕ) (place : ℕ) → Nowhere (OccursAt text needle) 0 place → LacksBefore (Text needle) text place
+pub lacks_text : (needle text : List ℕ) (place : ℕ) → Nowhere (OccursAt text needle) 0 place
+    → LacksBefore (Text needle) text place
 lacks_text needle text place none before part after all ends has =
     let fits = has.1.fits in
     none (length before + has.0) (omega arith) (omega (arith, ends, fits)) (subst (λ those. OccursAt those needle (length before + has.0)) (sym all) (record {
@@ -131,7 +149,8 @@ lacks_text needle text place none before part after all ends has =
 part_bytes : (before part after : List ℕ) → AreBytes (before ++ part ++ after) → AreBytes part
 part_bytes before part after are k within = search (rules, length-append, part_at)
 
-pub clear_of : (pattern : Pattern) (needle : Needle) (text : List ℕ) (place : ℕ) → IsOrdered pattern → AreBytes text → IsNeedle (code_of pattern) needle → LacksBefore needle text place → IsClear pattern text place
+pub clear_of : (pattern : Pattern) (needle : Needle) (text : List ℕ) (place : ℕ) → IsOrdered pattern → AreBytes text
+    → IsNeedle (code_of pattern) needle → LacksBefore needle text place → IsClear pattern text place
 clear_of pattern needle text place ordered are is lacks before line after all ends = by (contains pattern line) refl
   where
     by : (found : Bool) → contains pattern line ≡ found → found ≡ false
@@ -140,10 +159,13 @@ clear_of pattern needle text place ordered are is lacks before line after all en
 
 -- Choosing the rarest nodes
 
-pub other_node : (code : List Node) (number : ℕ) {node : Node} → At code number node → ((skip : ℕ) → node ≡ Choose skip → ⊥) → (skip : ℕ) → At code number (Choose skip) → ⊥
+pub other_node : (code : List Node) (number : ℕ) {node : Node} → At code number node
+    → ((skip : ℕ) → node ≡ Choose skip → ⊥) → (skip : ℕ) → At code number (Choose skip) → ⊥
 other_node code number {node} here differs skip there = differs skip (at_once code number node (Choose skip) here there)
 
-pub literal_more : (code : List Node) (from : ℕ) {at : ℕ} (byte : ℕ) (text : List ℕ) (node : Node) → from + length text ≡ at → IsLiteral code from text → At code at node → TakesOnly node byte → IsLiteral code from (text ++ byte ∷ [])
+pub literal_more : (code : List Node) (from : ℕ) {at : ℕ} (byte : ℕ) (text : List ℕ) (node : Node)
+    → from + length text ≡ at → IsLiteral code from text → At code at node → TakesOnly node byte
+    → IsLiteral code from (text ++ byte ∷ [])
 literal_more code from {at} byte text node all literal here only k within = elim (cases_eq k (length text)) [
   | inl same ↦
       let there : at ≡ from + k = omega (arith, all, same) in

@@ -30,11 +30,15 @@ pub record Searched (code : List Node) (line : List ℕ) (place : ℕ) (words : 
   pub so_far : IsCounted code line place steps
 
 -- at the line's front nothing came before
-pub front_is : {code : List Node} (line : List ℕ) {base words : List ℕ} {place steps : ℕ} → Searched code line place words steps → IsBase code base → place ≡ 0 → (number : ℕ) → IsIn words number → IsIn base number
+pub front_is : {code : List Node} (line : List ℕ) {base words : List ℕ} {place steps : ℕ}
+    → Searched code line place words steps → IsBase code base → place ≡ 0 → (number : ℕ) → IsIn words number
+    → IsIn base number
 front_is line s b z number k = elim ((s.came number).0 k) [ inl came ↦ absurd (let e = came.1 in omega (arith, e, z)) | inr on ↦ (b.exact number).1 on ]
 
 -- what is entered at a place
-pub entered_here : {code : List Node} (line : List ℕ) {place steps : ℕ} {at_first at_last : Bool} {old new : List ℕ} → Searched code line place old steps → IsPlace line place at_first at_last → SpreadsOut code at_first at_last old new
+pub entered_here : {code : List Node} (line : List ℕ) {place steps : ℕ} {at_first at_last : Bool} {old new : List ℕ}
+    → Searched code line place old steps → IsPlace line place at_first at_last
+    → SpreadsOut code at_first at_last old new
     → (number : ℕ) → IsIn new number ↔ Entered code line number place
 entered_here {code} line {at_first} {at_last} s p o number = let r = reaches_exact code line p number in (
   λ h. let f = (o.exact number).0 h in r.0 (elim ((s.came f.0).0 f.1) [
@@ -45,11 +49,13 @@ entered_here {code} line {at_first} {at_last} s p o number = let r = reaches_exa
 )
 
 -- the set of a place has no more positions than the code
-pub few_positions : (code : List Node) (words : List ℕ) {positions : ℕ} → positions ≡ positions_among code (flags_of words) → positions ≤ weight code + 1
+pub few_positions : (code : List Node) (words : List ℕ) {positions : ℕ}
+    → positions ≡ positions_among code (flags_of words) → positions ≤ weight code + 1
 few_positions code words e = let m = positions_most code (flags_of words) in omega (arith, m, e)
 
 -- the steps so far and those of one place more fit 128 bits
-pub search_fits : {code : List Node} (line : List ℕ) {place steps positions : ℕ} {old : List ℕ} (now : List ℕ) → Searched code line place old steps
+pub search_fits : {code : List Node} (line : List ℕ) {place steps positions : ℕ} {old : List ℕ} (now : List ℕ)
+    → Searched code line place old steps
     → positions ≡ positions_among code (flags_of now) → length code < 9223372036854775808 → place ≤ 18446744073709551616
     → steps + positions < 340282366920938463463374607431768211456
 search_fits {code} line {place} now s e few far =
@@ -59,14 +65,20 @@ search_fits {code} line {place} now s e few far =
     let most : place * (weight code + 1) ≤ 18446744073709551616 * 9223372036854775808 = mul-le-mul far size in
     omega (arith, s.so_far.bound, most, m, size)
 
-marked_here : (code : List Node) (line : List ℕ) (place : ℕ) (words : List ℕ) → ((number : ℕ) → IsIn words number ↔ Entered code line number place) → (number : ℕ) → IsMarked (flags_of words) number ↔ Entered code line number place
+marked_here : (code : List Node) (line : List ℕ) (place : ℕ) (words : List ℕ)
+    → ((number : ℕ) → IsIn words number ↔ Entered code line number place) → (number : ℕ)
+    → IsMarked (flags_of words) number ↔ Entered code line number place
 marked_here code line place words here number = (λ h. (here number).0 ((flags_are words number).0 h), λ e. (flags_are words number).1 ((here number).1 e))
 
 -- one byte more
-pub search_more : {code : List Node} (line : List ℕ) {base : List ℕ} {place byte steps positions : ℕ} {old : List ℕ} (now : List ℕ) {new : List ℕ} {found : Bool} → IsBase code base → Searched code line place old steps
-    → ((number : ℕ) → IsIn now number ↔ Entered code line number place) → place < length line → byte ≡ slice_index line place → positions ≡ positions_among code (flags_of now)
+pub search_more : {code : List Node} (line : List ℕ) {base : List ℕ} {place byte steps positions : ℕ} {old : List ℕ}
+    (now : List ℕ) {new : List ℕ} {found : Bool} → IsBase code base → Searched code line place old steps
+    → ((number : ℕ) → IsIn now number ↔ Entered code line number place) → place < length line
+    → byte ≡ slice_index line place → positions ≡ positions_among code (flags_of now)
     → found ≡ false → (IsTrue found ↔ IsIn now (length code)) → length new ≡ width code
-    → ((number : ℕ) → IsIn new number ↔ (((before : ℕ) × IsIn now before × Passes code byte before number) ⊎ IsIn base number)) → Searched code line (place + 1) new (steps + positions)
+    → ((number : ℕ)
+    → IsIn new number ↔ (((before : ℕ) × IsIn now before × Passes code byte before number) ⊎ IsIn base number))
+    → Searched code line (place + 1) new (steps + positions)
 search_more {code} line {place} {byte} {steps} now {new} b s here h e p absent test size passed = record {
   size = size;
   came = λ number.
@@ -81,15 +93,20 @@ search_more {code} line {place} {byte} {steps} now {new} b s here h e p absent t
 }
 
 -- the end is entered
-pub search_found : {code : List Node} (line : List ℕ) {place steps positions : ℕ} {old : List ℕ} (now : List ℕ) → Searched code line place old steps → ((number : ℕ) → IsIn now number ↔ Entered code line number place)
-    → place < length line → positions ≡ positions_among code (flags_of now) → IsIn now (length code) → IsOutcome code line (record { found = true; steps = steps + positions })
+pub search_found : {code : List Node} (line : List ℕ) {place steps positions : ℕ} {old : List ℕ} (now : List ℕ)
+    → Searched code line place old steps → ((number : ℕ) → IsIn now number ↔ Entered code line number place)
+    → place < length line → positions ≡ positions_among code (flags_of now) → IsIn now (length code)
+    → IsOutcome code line (record { found = true; steps = steps + positions })
 search_found {code} line {place} {steps} {positions} now s here h p is =
     counted_found s.so_far (omega (arith, h)) ((here (length code)).0 is) (omega arith)
     (steps_wider (place + 1) (length line + 1) (steps + positions) (weight code + 1) (steps_more place steps positions (weight code + 1) s.so_far.bound (few_positions code now p)) (omega (arith, h)))
 
 -- the line's end
-pub search_ends : {code : List Node} (line : List ℕ) {place steps positions : ℕ} {old : List ℕ} (now : List ℕ) {found : Bool} → Searched code line place old steps → ((number : ℕ) → IsIn now number ↔ Entered code line number place)
-    → place ≡ length line → positions ≡ positions_among code (flags_of now) → (IsTrue found ↔ IsIn now (length code)) → IsOutcome code line (record { found = found; steps = steps + positions })
+pub search_ends : {code : List Node} (line : List ℕ) {place steps positions : ℕ} {old : List ℕ} (now : List ℕ)
+    {found : Bool} → Searched code line place old steps
+    → ((number : ℕ) → IsIn now number ↔ Entered code line number place)
+    → place ≡ length line → positions ≡ positions_among code (flags_of now) → (IsTrue found ↔ IsIn now (length code))
+    → IsOutcome code line (record { found = found; steps = steps + positions })
 search_ends {code} line {place} {steps} now {found} s here e p test =
     let f = flags_are now (length code) in
     subst (λ q. IsOutcome code line (record { found = found; steps = steps + q })) (sym p)
@@ -97,12 +114,14 @@ search_ends {code} line {place} {steps} now {found} s here e p test =
 
 -- A table that is built set by set and entry by entry.
 
-tells_more : {code : List Node} {sets : List (List Bool)} (set : List Bool) {state byte read : ℕ} → state < length sets → Tells code sets state byte read
+tells_more : {code : List Node} {sets : List (List Bool)} (set : List Bool) {state byte read : ℕ} → state < length sets
+    → Tells code sets state byte read
     → Tells code (sets ++ set ∷ []) state byte read
 tells_more {code} {sets} set {state} {byte} {read} h t = search (rules, length-append, get_or_append_left)
 
 -- one more set; no entries of it are there yet
-built_set : {code : List Node} {entries : ℕ} {sets : List (List Bool)} {rows : List ℕ} {set : List Bool} → Built code entries sets rows → entries ≤ length sets * 256
+built_set : {code : List Node} {entries : ℕ} {sets : List (List Bool)} {rows : List ℕ} {set : List Bool}
+    → Built code entries sets rows → entries ≤ length sets * 256
     → IsOpen code set → Built code entries (sets ++ set ∷ []) rows
 built_set {code} {sets} {set} b small o = let l = length-append sets (set ∷ []) in record {
   some = omega (arith, l);
@@ -112,26 +131,32 @@ built_set {code} {sets} {set} b small o = let l = length-append sets (set ∷ []
 }
 
 -- the entry of a state and a byte by its place
-tells_at : {code : List Node} {sets : List (List Bool)} {place state byte read : ℕ} → place ≡ state * 256 + byte → byte < 256
+tells_at : {code : List Node} {sets : List (List Bool)} {place state byte read : ℕ} → place ≡ state * 256 + byte
+    → byte < 256
     → Tells code sets state byte read ≡ Tells code sets (place / 256) (place % 256) read
 tells_at {code} {sets} {place} {state} {byte} {read} e h = search rules
 
-next_by : (code : List Node) {byte : ℕ} (One Other : ℕ → Type 0) → ((n : ℕ) → One n → Other n) → (number : ℕ) → Next code byte One number → Next code byte Other number
+next_by : (code : List Node) {byte : ℕ} (One Other : ℕ → Type 0) → ((n : ℕ) → One n → Other n) → (number : ℕ)
+    → Next code byte One number → Next code byte Other number
 next_by code One Other there number h = (h.0, elim h.1 [ inl s ↦ inl (s.0, there s.0 s.1, s.2) | inr e ↦ inr e ], h.2)
 
 -- two bytes that every node treats alike lead alike
-next_alike : (code : List Node) (one other : ℕ) (Set : ℕ → Type 0) (number : ℕ) → AreAlike code one other → Next code one Set number → Next code other Set number
+next_alike : (code : List Node) (one other : ℕ) (Set : ℕ → Type 0) (number : ℕ) → AreAlike code one other
+    → Next code one Set number → Next code other Set number
 next_alike code one other Set number a n = (n.0, elim n.1 [ inl s ↦ inl (s.0, s.1, (s.2.0, s.2.1, sym (a s.0 s.2.0 s.2.1) ∙ s.2.2, s.2.3)) | inr e ↦ inr e ], n.2)
 
 -- the entry of a byte's twin is the byte's
-pub twin_entry : {code : List Node} {most place twin read : ℕ} (d : ℕ) {building : Building} → IsBuilding code most place building → AreAlike code (place % 256) twin → twin < place % 256
-    → read ≡ get_or building.rows.items (place / 256 * 256 + twin) d → Tells code building.sets.items (place / 256) (place % 256) read
+pub twin_entry : {code : List Node} {most place twin read : ℕ} (d : ℕ) {building : Building}
+    → IsBuilding code most place building → AreAlike code (place % 256) twin → twin < place % 256
+    → read ≡ get_or building.rows.items (place / 256 * 256 + twin) d
+    → Tells code building.sets.items (place / 256) (place % 256) read
 twin_entry {code} {place} {twin} {read} d {building} f a less e = record {
   next = λ s. let n = t.next s in (n.0, λ number. (λ i. there number ((n.1 number).0 i), λ i. (n.1 number).1 (next_alike code (place % 256) twin (InSets building.sets.items (place / 256)) number a i)));
   stop = λ s. there (length code) (t.stop s);
 }
   where
-    there : (number : ℕ) → Next code twin (InSets building.sets.items (place / 256)) number → Next code (place % 256) (InSets building.sets.items (place / 256)) number
+    there : (number : ℕ) → Next code twin (InSets building.sets.items (place / 256)) number
+        → Next code (place % 256) (InSets building.sets.items (place / 256)) number
     there number n = next_alike code twin (place % 256) (InSets building.sets.items (place / 256)) number (λ number bytes h. sym (a number bytes h)) n
 
     t : Tells code building.sets.items (place / 256) twin read
@@ -147,8 +172,10 @@ record Grown (code : List Node) (place : ℕ) (sets sets' : List (List Bool)) (r
   known : place / 256 < length sets'
   same : set_at sets' (place / 256) ≡ set_at sets (place / 256)
 
-grown : {code : List Node} {place : ℕ} {sets sets' : List (List Bool)} {rows : List ℕ} {set : List Bool} → Built code place sets rows → place ≤ length sets * 256
-    → place / 256 < length sets → (sets' ≡ sets) ⊎ ((sets' ≡ sets ++ set ∷ []) × IsOpen code set) → Grown code place sets sets' rows
+grown : {code : List Node} {place : ℕ} {sets sets' : List (List Bool)} {rows : List ℕ} {set : List Bool}
+    → Built code place sets rows → place ≤ length sets * 256
+    → place / 256 < length sets → (sets' ≡ sets) ⊎ ((sets' ≡ sets ++ set ∷ []) × IsOpen code set)
+    → Grown code place sets sets' rows
 grown {code} {place} {sets} {rows} b r k (inl e) = subst (λ t. Grown code place sets t rows) (sym e) (record { built = b; order = r; known = k; same = refl })
 grown {code} {place} {sets} {rows} {set} b r k (inr e) = let l = length-append sets (set ∷ []) in subst (λ t. Grown code place sets t rows) (sym e.0) (record {
   built = built_set b r e.1;
@@ -158,13 +185,17 @@ grown {code} {place} {sets} {rows} {set} b r k (inr e) = let l = length-append s
 })
 
 -- a set has as many words as the code asks for
-pub set_size : {code : List Node} {sets : List (List Bool)} {state : ℕ} (words : List ℕ) → AreEach [] (λ _. IsOpen code) (length sets) sets → state < length sets
+pub set_size : {code : List Node} {sets : List (List Bool)} {state : ℕ} (words : List ℕ)
+    → AreEach [] (λ _. IsOpen code) (length sets) sets → state < length sets
     → flags_of words ≡ set_at sets state → length words ≡ width code
 set_size words are h e = let l = flags_length words in let m = ap length e in let s = (are.each _ h).size in omega (arith, l, m, s)
 
-pub led_on : {code : List Node} {most place read : ℕ} {old new : Building} (before : List ℕ) {words : List ℕ} → IsBuilding code most place old → place / 256 < length old.sets.items
-    → flags_of before ≡ set_at old.sets.items (place / 256) → length words ≡ width code → ((number : ℕ) → IsIn words number ↔ Next code (place % 256) (IsIn before) number)
-    → LeadsTo (length code) most words old.sets.items new.sets.items read → new.rows ≡ old.rows → new.words.items ≡ words → Led code most place new read
+pub led_on : {code : List Node} {most place read : ℕ} {old new : Building} (before : List ℕ) {words : List ℕ}
+    → IsBuilding code most place old → place / 256 < length old.sets.items
+    → flags_of before ≡ set_at old.sets.items (place / 256) → length words ≡ width code
+    → ((number : ℕ) → IsIn words number ↔ Next code (place % 256) (IsIn before) number)
+    → LeadsTo (length code) most words old.sets.items new.sets.items read → new.rows ≡ old.rows
+    → new.words.items ≡ words → Led code most place new read
 led_on {code} {most} {place} {read} {old} {new} before {words} f k is size advanced l er ew = record {
   so_far = record { built = subst (λ rows. Built code place new.sets.items rows.items) (sym er) g.built; room = l.room; size = ap length ew ∙ size; order = g.order };
   known = g.known;
@@ -174,7 +205,8 @@ led_on {code} {most} {place} {read} {old} {new} before {words} f k is size advan
   };
 }
   where
-    set : (new.sets.items ≡ old.sets.items) ⊎ ((new.sets.items ≡ old.sets.items ++ flags_of words ∷ []) × IsOpen code (flags_of words))
+    set : (new.sets.items ≡ old.sets.items)
+        ⊎ ((new.sets.items ≡ old.sets.items ++ flags_of words ∷ []) × IsOpen code (flags_of words))
     set = elim l.sets [
       | inl e ↦ inl e
       | inr e ↦ inr (e.0, record { size = flags_length words ∙ ap (λ n. 64 * n) size; going = λ m. e.1 ((flags_are words (length code)).0 m) })
@@ -183,14 +215,16 @@ led_on {code} {most} {place} {read} {old} {new} before {words} f k is size advan
     g : Grown code place old.sets.items new.sets.items old.rows.items
     g = grown f.built f.order k set
 
-    exact : (number : ℕ) → IsMarked (flags_of words) number ↔ Next code (place % 256) (InSets new.sets.items (place / 256)) number
+    exact : (number : ℕ)
+        → IsMarked (flags_of words) number ↔ Next code (place % 256) (InSets new.sets.items (place / 256)) number
     exact number = subst (λ s. IsMarked (flags_of words) number ↔ Next code (place % 256) (IsMarked s) number) (is ∙ sym g.same) (
       λ m. next_by code (IsIn before) (IsMarked (flags_of before)) (λ n. (flags_are before n).1) number ((advanced number).0 ((flags_are words number).0 m)),
       λ n. (flags_are words number).1 ((advanced number).1 (next_by code (IsMarked (flags_of before)) (IsIn before) (λ n. (flags_are before n).0) number n)),
     )
 
 -- one entry more
-pub building_more : {code : List Node} {most place read : ℕ} {old new : Building} → Led code most place old read → new.sets ≡ old.sets → new.words ≡ old.words → new.rows.items ≡ old.rows.items ++ read ∷ []
+pub building_more : {code : List Node} {most place read : ℕ} {old new : Building} → Led code most place old read
+    → new.sets ≡ old.sets → new.words ≡ old.words → new.rows.items ≡ old.rows.items ++ read ∷ []
     → IsBuilding code most (place + 1) new
 building_more {code} {most} {place} {old} {new} l es ew er =
     let b = l.so_far.built in
@@ -199,13 +233,16 @@ building_more {code} {most} {place} {old} {new} l es ew er =
     (record { built = built; room = l.so_far.room; size = ap (λ w. length w.items) ew ∙ l.so_far.size; order = omega (arith, l.known) })
 
 -- a set that a line's front has
-pub front_built : {code : List Node} (words : List ℕ) {sets : List (List Bool)} → length words ≡ width code → ((number : ℕ) → IsIn words number ↔ FlowsOn code true false 0 number)
+pub front_built : {code : List Node} (words : List ℕ) {sets : List (List Bool)} → length words ≡ width code
+    → ((number : ℕ) → IsIn words number ↔ FlowsOn code true false 0 number)
     → (IsIn words (length code) → ⊥) → sets ≡ flags_of words ∷ [] → Built code 0 sets []
 front_built {code} words size exact none e = search (rules, flags_are, each_more, flags_length)
 
 -- what a byte leads to from a set, with all that follows
 pub advanced : {code : List Node} {byte : ℕ} {base : List ℕ} (old : List ℕ) {middle new : List ℕ} → IsBase code base
-    → ((number : ℕ) → IsIn middle number ↔ (((before : ℕ) × IsIn old before × Passes code byte before number) ⊎ IsIn base number)) → SpreadsOut code false false middle new
+    → ((number : ℕ)
+    → IsIn middle number ↔ (((before : ℕ) × IsIn old before × Passes code byte before number) ⊎ IsIn base number))
+    → SpreadsOut code false false middle new
     → (number : ℕ) → IsIn new number ↔ Next code byte (IsIn old) number
 advanced {code} old b passed s number = (
   λ h. let f = (s.exact number).0 h in elim ((passed f.0).0 f.1) [
@@ -216,23 +253,32 @@ advanced {code} old b passed s number = (
 )
 
 -- the first nodes don't tell two bytes apart
-pub alike_below : (code : List Node) (n one other : ℕ) {node : Node} → ((m : ℕ) (bytes : List Bool) → m < n → At code m (Take bytes) → has bytes one ≡ has bytes other) → node ≡ get_or code n node → n < length code
-    → ((bytes : List Bool) → node ≡ Take bytes → has bytes one ≡ has bytes other) → (m : ℕ) (bytes : List Bool) → m < n + 1 → At code m (Take bytes) → has bytes one ≡ has bytes other
+pub alike_below : (code : List Node) (n one other : ℕ) {node : Node}
+    → ((m : ℕ) (bytes : List Bool) → m < n → At code m (Take bytes) → has bytes one ≡ has bytes other)
+    → node ≡ get_or code n node → n < length code
+    → ((bytes : List Bool) → node ≡ Take bytes → has bytes one ≡ has bytes other) → (m : ℕ) (bytes : List Bool)
+    → m < n + 1 → At code m (Take bytes) → has bytes one ≡ has bytes other
 alike_below code n one other {node} before is h here m bytes l at = elim (cases_eq m n) [
   | inl same ↦ here bytes (at_once code n node (Take bytes) (subst (At code n) (sym is) (at_index code n node h)) (subst (λ k. At code k (Take bytes)) same at))
   | inr differs ↦ before m bytes (omega (arith, l, differs)) at
 ]
 
-pub alike_all : (code : List Node) (n one other : ℕ) → length code ≤ n → ((m : ℕ) (bytes : List Bool) → m < n → At code m (Take bytes) → has bytes one ≡ has bytes other) → AreAlike code one other
+pub alike_all : (code : List Node) (n one other : ℕ) → length code ≤ n
+    → ((m : ℕ) (bytes : List Bool) → m < n → At code m (Take bytes) → has bytes one ≡ has bytes other)
+    → AreAlike code one other
 alike_all code n one other h before number bytes at = let l = at_least code number (Take bytes) at in before number bytes (omega (arith, l, h)) at
 
 -- what was seen of a set is so
-pub state_is : {code : List Node} {sets : List (List Bool)} {rows : List ℕ} {number : ℕ} {now last : List ℕ} {state : State} → flags_of now ≡ set_at sets number
-    → SpreadsOut code false true now last → state.positions ≡ positions_among code (flags_of now) → (IsTrue state.is_fixed → (byte : ℕ) → byte < 256 → entry rows number byte ≡ number)
-    → state.last_positions ≡ positions_among code (flags_of last) → (IsTrue state.ends ↔ IsIn last (length code)) → IsState code sets rows number state
+pub state_is : {code : List Node} {sets : List (List Bool)} {rows : List ℕ} {number : ℕ} {now last : List ℕ}
+    {state : State} → flags_of now ≡ set_at sets number
+    → SpreadsOut code false true now last → state.positions ≡ positions_among code (flags_of now)
+    → (IsTrue state.is_fixed → (byte : ℕ) → byte < 256 → entry rows number byte ≡ number)
+    → state.last_positions ≡ positions_among code (flags_of last) → (IsTrue state.ends ↔ IsIn last (length code))
+    → IsState code sets rows number state
 state_is {code} {now} {last} e s p f q x = search (rules, flags_are)
 
 -- a table that was built, with what is noted of each state
-pub table_is : {code : List Node} {sets : List (List Bool)} {table : Table} → Built code (length sets * 256) sets table.rows.items → length code ≤ 65536 → length sets < 65534
+pub table_is : {code : List Node} {sets : List (List Bool)} {table : Table}
+    → Built code (length sets * 256) sets table.rows.items → length code ≤ 65536 → length sets < 65534
     → AreEach no_state (IsState code sets table.rows.items) (length sets) table.states.items → IsTable code table
 table_is {sets} b few small noted = search rules

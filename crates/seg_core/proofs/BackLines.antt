@@ -21,9 +21,13 @@ at_most_one true = omega arith
 at_most_one false = omega arith
 
 -- the byte that brings the count to n is a delimiter
-pub begins_after : {delim : ℕ} {x : List ℕ} (i : ℕ) {n seen : ℕ} (one : ℕ) → i < length x → seen ≡ delimiters delim (drop (i + 1) x) → one ≡ bool_byte (eqb (get_or x i 0) delim) → seen < n → seen + one ≡ n → BeginsAt delim n x (i + 1)
+pub begins_after : {delim : ℕ} {x : List ℕ} (i : ℕ) {n seen : ℕ} (one : ℕ) → i < length x
+    → seen ≡ delimiters delim (drop (i + 1) x) → one ≡ bool_byte (eqb (get_or x i 0) delim) → seen < n → seen + one ≡ n
+    → BeginsAt delim n x (i + 1)
 begins_after {delim} {x} i one here so_far is fewer full = grind (arith, common_steps, at_most_one, is_one, take_more, ends_with-append)
 
 -- the delimiters of a stretch that ends at `end`, and those after it
-pub stretch_back : (delim : ℕ) (x : List ℕ) (end width : ℕ) {n : ℕ} (more : ℕ) → width ≤ end → n ≡ delimiters delim (drop end x) → more ≡ delimiters delim (take (end - (end - width)) (drop (end - width) x)) → n + more ≡ delimiters delim (drop (end - width) x)
+pub stretch_back : (delim : ℕ) (x : List ℕ) (end width : ℕ) {n : ℕ} (more : ℕ) → width ≤ end
+    → n ≡ delimiters delim (drop end x) → more ≡ delimiters delim (take (end - (end - width)) (drop (end - width) x))
+    → n + more ≡ delimiters delim (drop (end - width) x)
 stretch_back delim x end width more fits so_far is = grind (arith, common_steps, drop-drop, delimiters-take-drop)

@@ -21,20 +21,27 @@ pub but_last_lines-last : (delim n : ℕ) (x : List ℕ) → but_last_lines deli
 but_last_lines-last delim n x = but_last_lines-few delim n (last_lines delim n x) (omega (arith, line_count-last delim n x))
 
 -- what a window that holds `held` keeps of it and a piece: the end of what is held, and the piece
-pub left_after : (delim n : ℕ) (held piece : List ℕ) (over : ℕ) → over ≡ length (but_last_lines delim n (held ++ piece)) → over ≤ length held → drop over held ++ piece ≡ last_lines delim n (held ++ piece)
+pub left_after : (delim n : ℕ) (held piece : List ℕ) (over : ℕ) → over ≡ length (but_last_lines delim n (held ++ piece))
+    → over ≤ length held → drop over held ++ piece ≡ last_lines delim n (held ++ piece)
 left_after delim n held piece over is within =
     sym (drop-append-le over held piece within) ∙ ap (λ k. drop k (held ++ piece)) is ∙ last_lines-is_drop delim n (held ++ piece)
 
 -- or the end of the piece alone
-pub left_alone : (delim n : ℕ) (held piece : List ℕ) (over more : ℕ) → over ≡ length (but_last_lines delim n (held ++ piece)) → over ≡ length held + more → drop more piece ≡ last_lines delim n (held ++ piece)
+pub left_alone : (delim n : ℕ) (held piece : List ℕ) (over more : ℕ)
+    → over ≡ length (but_last_lines delim n (held ++ piece)) → over ≡ length held + more
+    → drop more piece ≡ last_lines delim n (held ++ piece)
 left_alone delim n held piece over more is beyond = grind (arith, common_steps, drop-append-add, last_lines-is_drop)
 
 -- so it has room for the piece, or for the end of the piece, once what is over has left at the front
-pub fits_after : (delim n : ℕ) (held piece : List ℕ) (over : ℕ) → over ≡ length (but_last_lines delim n (held ++ piece)) → over ≤ length held → but_last_lines delim n (drop over held ++ piece) ≡ []
+pub fits_after : (delim n : ℕ) (held piece : List ℕ) (over : ℕ) → over ≡ length (but_last_lines delim n (held ++ piece))
+    → over ≤ length held → but_last_lines delim n (drop over held ++ piece) ≡ []
 fits_after delim n held piece over is within = ap (but_last_lines delim n) (left_after delim n held piece over is within) ∙ but_last_lines-last delim n (held ++ piece)
 
-pub fits_alone : (delim n : ℕ) (held piece : List ℕ) (over more : ℕ) → over ≡ length (but_last_lines delim n (held ++ piece)) → over ≡ length held + more → but_last_lines delim n (drop more piece) ≡ []
+pub fits_alone : (delim n : ℕ) (held piece : List ℕ) (over more : ℕ)
+    → over ≡ length (but_last_lines delim n (held ++ piece)) → over ≡ length held + more
+    → but_last_lines delim n (drop more piece) ≡ []
 fits_alone delim n held piece over more is beyond = ap (but_last_lines delim n) (left_alone delim n held piece over more is beyond) ∙ but_last_lines-last delim n (held ++ piece)
 
-pub over-le-length : (delim n : ℕ) (held piece : List ℕ) → length (but_last_lines delim n (held ++ piece)) ≤ length held + length piece
+pub over-le-length : (delim n : ℕ) (held piece : List ℕ)
+    → length (but_last_lines delim n (held ++ piece)) ≤ length held + length piece
 over-le-length delim n held piece = grind (arith, common_steps, length-first_lines-le, length-append)

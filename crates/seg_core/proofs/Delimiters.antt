@@ -20,13 +20,15 @@ pub delimiters-le-length : (delim : ℕ) (x : List ℕ) → delimiters delim x �
 delimiters-le-length delim [] = omega arith
 delimiters-le-length delim (byte ∷ x) = omega (arith, length_step (eqb byte delim) (delimiters delim x) (length x) (delimiters-le-length delim x))
 
-pub delimiters-take-drop : (delim k : ℕ) (x : List ℕ) → delimiters delim x ≡ delimiters delim (take k x) + delimiters delim (drop k x)
+pub delimiters-take-drop : (delim k : ℕ) (x : List ℕ)
+    → delimiters delim x ≡ delimiters delim (take k x) + delimiters delim (drop k x)
 delimiters-take-drop delim k x = ap (delimiters delim) (sym (take-append-drop k x)) ∙ delimiters-append delim (take k x) (drop k x)
 
 pub delimiters-take-le : (delim k : ℕ) (x : List ℕ) → delimiters delim (take k x) ≤ delimiters delim x
 delimiters-take-le delim k x = omega (arith, delimiters-take-drop delim k x)
 
-pub delimiters_more : (delim : ℕ) (x : List ℕ) (i : ℕ) → i < length x → delimiters delim (take (i + 1) x) ≡ delimiters delim (take i x) + delimiters delim (get_or x i 0 ∷ [])
+pub delimiters_more : (delim : ℕ) (x : List ℕ) (i : ℕ) → i < length x
+    → delimiters delim (take (i + 1) x) ≡ delimiters delim (take i x) + delimiters delim (get_or x i 0 ∷ [])
 delimiters_more delim x i h = ap (delimiters delim) (take_more x i 0 h) ∙ delimiters-append delim (take i x) (get_or x i 0 ∷ [])
 
 pub delimiters-one_yes : (delim byte : ℕ) → eqb byte delim ≡ true → delimiters delim (byte ∷ []) ≡ 1
@@ -35,20 +37,25 @@ delimiters-one_yes delim byte e = cc
 pub delimiters-one_no : (delim byte : ℕ) → eqb byte delim ≡ false → delimiters delim (byte ∷ []) ≡ 0
 delimiters-one_no delim byte e = cc
 
-pub delimiters-take-add : (delim i k : ℕ) (x : List ℕ) → delimiters delim (take (i + k) x) ≡ delimiters delim (take i x) + delimiters delim (take k (drop i x))
+pub delimiters-take-add : (delim i k : ℕ) (x : List ℕ)
+    → delimiters delim (take (i + k) x) ≡ delimiters delim (take i x) + delimiters delim (take k (drop i x))
 delimiters-take-add delim i k x = ap (delimiters delim) (take-add i k x) ∙ delimiters-append delim (take i x) (take k (drop i x))
 
 -- a count that goes on by a stretch
-pub count_stretch : (delim : ℕ) (x : List ℕ) (at width : ℕ) {n : ℕ} (more : ℕ) → n ≡ delimiters delim (take at x) → more ≡ delimiters delim (take (at + width - at) (drop at x)) → n + more ≡ delimiters delim (take (at + width) x)
+pub count_stretch : (delim : ℕ) (x : List ℕ) (at width : ℕ) {n : ℕ} (more : ℕ) → n ≡ delimiters delim (take at x)
+    → more ≡ delimiters delim (take (at + width - at) (drop at x)) → n + more ≡ delimiters delim (take (at + width) x)
 count_stretch delim x at width more so_far is = grind (arith, common_steps, delimiters-take-add)
 
 -- a count that goes on by one byte
-pub count_more : (delim : ℕ) (x : List ℕ) (i : ℕ) {n : ℕ} (one : ℕ) → n ≡ delimiters delim (take i x) → i < length x → one ≡ delimiters delim (get_or x i 0 ∷ []) → n + one ≡ delimiters delim (take (i + 1) x)
+pub count_more : (delim : ℕ) (x : List ℕ) (i : ℕ) {n : ℕ} (one : ℕ) → n ≡ delimiters delim (take i x) → i < length x
+    → one ≡ delimiters delim (get_or x i 0 ∷ []) → n + one ≡ delimiters delim (take (i + 1) x)
 count_more delim x i one so_far h here = omega (arith, delimiters_more delim x i h)
 
 -- a count that goes on byte by byte
-pub count_yes : {delim : ℕ} (x : List ℕ) (i : ℕ) {n : ℕ} → n ≡ delimiters delim (take i x) → i < length x → get_or x i 0 ≡ delim → n + 1 ≡ delimiters delim (take (i + 1) x)
+pub count_yes : {delim : ℕ} (x : List ℕ) (i : ℕ) {n : ℕ} → n ≡ delimiters delim (take i x) → i < length x
+    → get_or x i 0 ≡ delim → n + 1 ≡ delimiters delim (take (i + 1) x)
 count_yes {delim} x i so_far h here = grind (arith, common_steps, count_more, delimiters-one_yes, eq-eqb)
 
-pub count_no : (delim : ℕ) (x : List ℕ) (i : ℕ) {n : ℕ} → n ≡ delimiters delim (take i x) → i < length x → get_or x i 0 ≢ delim → n ≡ delimiters delim (take (i + 1) x)
+pub count_no : (delim : ℕ) (x : List ℕ) (i : ℕ) {n : ℕ} → n ≡ delimiters delim (take i x) → i < length x
+    → get_or x i 0 ≢ delim → n ≡ delimiters delim (take (i + 1) x)
 count_no delim x i so_far h here = grind (arith, common_steps, count_more, delimiters-one_no, ne_eqb)

@@ -9,7 +9,8 @@ use Rattle.seg_core.proofs.LineCounts.{line_count-some, line_count-front, line_c
 use Rattle.seg_core.proofs.Carried.{line_count-last}
 
 -- once n lines are complete, what follows the text is added to what stands after them
-pub after_lines-append : (delim n : ℕ) (x y : List ℕ) → n ≤ delimiters delim x → after_lines delim n x ++ y ≡ after_lines delim n (x ++ y)
+pub after_lines-append : (delim n : ℕ) (x y : List ℕ) → n ≤ delimiters delim x
+    → after_lines delim n x ++ y ≡ after_lines delim n (x ++ y)
 after_lines-append delim n x y enough = grind (arith, common_steps, after_lines-is_drop, drop-append-le, length-first_lines-le, first_lines-full)
 
 -- a text that goes on has no fewer lines
@@ -21,7 +22,8 @@ pub after_lines-past : (delim n : ℕ) (x : List ℕ) → delimiters delim x < n
 after_lines-past delim n x past = ap joined (drop_all n (lines_of delim x) (omega (arith, (line_count_near delim x).1)))
 
 -- the last lines of a text that goes on are among its last lines and what follows
-pub last_lines-append : (delim n : ℕ) (x y : List ℕ) → last_lines delim n (x ++ y) ≡ last_lines delim n (last_lines delim n x ++ y)
+pub last_lines-append : (delim n : ℕ) (x y : List ℕ)
+    → last_lines delim n (x ++ y) ≡ last_lines delim n (last_lines delim n x ++ y)
 last_lines-append delim zero x y = grind (arith, common_steps)
 last_lines-append delim (suc n) x y = grind (arith, common_steps, line_count_near, line_count-grows, after_lines-append, lines_of-after_lines, drop-drop)
 

@@ -14,11 +14,13 @@ HasNone-drop delim zero (byte ∷ x) none =
 HasNone-drop delim (suc k) [] none = tt
 HasNone-drop delim (suc k) (byte ∷ x) none = HasNone-drop delim k x (λ i low high. none (suc i) (omega arith) (omega arith))
 
-pub delimiters-after : (delim k : ℕ) (x : List ℕ) → Nowhere (Passes (is_byte delim) x) k (length x) → delimiters delim (drop k x) ≡ 0
+pub delimiters-after : (delim k : ℕ) (x : List ℕ) → Nowhere (Passes (is_byte delim) x) k (length x)
+    → delimiters delim (drop k x) ≡ 0
 delimiters-after delim k x none = delimiters-none delim (drop k x) (HasNone-drop delim k x none)
 
 -- a delimiter after which there is no other
-pub last_ends : {delim : ℕ} {x : List ℕ} (k : ℕ) → k < length x → eqb (get_or x k 0) delim ≡ true → Nowhere (Passes (is_byte delim) x) (k + 1) (length x) → LastEndsAt delim x (k + 1)
+pub last_ends : {delim : ℕ} {x : List ℕ} (k : ℕ) → k < length x → eqb (get_or x k 0) delim ≡ true
+    → Nowhere (Passes (is_byte delim) x) (k + 1) (length x) → LastEndsAt delim x (k + 1)
 last_ends {delim} {x} k here is none =
     let none_after = delimiters-after delim (k + 1) x none in
     let one = delimiters-one_yes delim (get_or x k 0) is in

@@ -17,7 +17,8 @@ first_lines-some delim zero x one some = absurd (omega arith)
 first_lines-some delim (suc n) [] one some = absurd (omega arith)
 first_lines-some delim (suc n) (byte ∷ x) one some = grind (arith, common_steps)
 
-few_step : (delim n k : ℕ) (x : List ℕ) → line_count delim x - n ≡ k → first_lines delim k x ≡ [] → line_count delim x ≤ n
+few_step : (delim n k : ℕ) (x : List ℕ) → line_count delim x - n ≡ k → first_lines delim k x ≡ []
+    → line_count delim x ≤ n
 few_step delim n zero x is none = omega arith
 few_step delim n (suc k) x is none =
     let some : 0 < length x = omega (arith, line_count-le-length delim x) in
@@ -30,11 +31,13 @@ pub few_from_nothing : (delim n : ℕ) (x : List ℕ) → but_last_lines delim n
 few_from_nothing delim n x none = few_step delim n (line_count delim x - n) x refl none
 
 -- complete lines, and what follows
-pub first_lines-whole : (delim : ℕ) (x y : List ℕ) (n : ℕ) → ends_with delim x ≡ true → n ≡ delimiters delim x → first_lines delim n (x ++ y) ≡ x
+pub first_lines-whole : (delim : ℕ) (x y : List ℕ) (n : ℕ) → ends_with delim x ≡ true → n ≡ delimiters delim x
+    → first_lines delim n (x ++ y) ≡ x
 first_lines-whole delim x y n ends is = grind (arith, common_steps, first_lines-full, first_lines-all, line_count-closed)
 
 -- the piece has the last n lines by itself; `front` is the piece without its last delimiter
-pub over_begins : {delim n : ℕ} (held piece front : List ℕ) {at : ℕ} → front ≡ take (length front) piece → line_count delim (held ++ piece) ≡ delimiters delim held + delimiters delim front + 1 → BeginsAt delim n front at
+pub over_begins : {delim n : ℕ} (held piece front : List ℕ) {at : ℕ} → front ≡ take (length front) piece
+    → line_count delim (held ++ piece) ≡ delimiters delim held + delimiters delim front + 1 → BeginsAt delim n front at
     → length held + at ≡ length (but_last_lines delim n (held ++ piece))
 over_begins {delim} {n} held piece front {at} is lines begins =
     let some : 0 < length (take at front) = ends_with-some delim (take at front) begins.after in
@@ -52,12 +55,14 @@ over_begins {delim} {n} held piece front {at} is lines begins =
     )
 
 -- the piece has fewer lines: the lines that go are complete in what is held
-pub over_short : (delim n : ℕ) (held piece : List ℕ) {lines : ℕ} → line_count delim (held ++ piece) ≡ lines → lines - n ≤ delimiters delim held
+pub over_short : (delim n : ℕ) (held piece : List ℕ) {lines : ℕ} → line_count delim (held ++ piece) ≡ lines
+    → lines - n ≤ delimiters delim held
     → length (first_lines delim (lines - n) held) ≡ length (but_last_lines delim n (held ++ piece))
 over_short delim n held piece {lines} is enough = grind (arith, common_steps, first_lines-full)
 
 -- what stands after the last delimiters of a text, by the number of lines before it
-pub begins_first : {delim n : ℕ} (lines : ℕ) {x : List ℕ} {at : ℕ} → n + lines ≡ delimiters delim x + 1 → BeginsAt delim n x at → at ≡ length (first_lines delim lines x)
+pub begins_first : {delim n : ℕ} (lines : ℕ) {x : List ℕ} {at : ℕ} → n + lines ≡ delimiters delim x + 1
+    → BeginsAt delim n x at → at ≡ length (first_lines delim lines x)
 begins_first {delim} lines {x} {at} is begins =
     let after = begins.counted in
     let count : lines ≡ delimiters delim (take at x) = omega (arith, delimiters-take-drop delim at x) in

@@ -9,7 +9,8 @@ use Rattle.seg_core.proofs.Delimiters.{delimiters-append, delimiters-one_yes, de
 
 -- a byte before lines makes a line more, or none; at least one is there then
 cons_step : (is_delim : Bool) (byte : ℕ) (lines : List (List ℕ))
-    → let now = length (cond is_delim ((byte ∷ []) ∷ lines) (onto_first byte lines)) in (length lines ≤ now) × (now ≤ suc (length lines)) × (0 < now)
+    → let now = length (cond is_delim ((byte ∷ []) ∷ lines) (onto_first byte lines)) in (length lines ≤ now)
+    × (now ≤ suc (length lines)) × (0 < now)
 cons_step true byte lines = search rules
 cons_step false byte [] = search rules
 cons_step false byte (line ∷ lines) = search rules
@@ -29,12 +30,14 @@ line_count-drop delim (suc k) [] = omega arith
 line_count-drop delim (suc k) (byte ∷ x) = let here = cons_step (eqb byte delim) byte (lines_of delim x) in omega (arith, line_count-drop delim k x)
 
 count_step : (is_delim : Bool) (byte : ℕ) (lines : List (List ℕ)) → 0 < length lines
-    → length (cond is_delim ((byte ∷ []) ∷ lines) (onto_first byte lines)) ≡ cond is_delim (length lines + 1) (length lines)
+    → length (cond is_delim ((byte ∷ []) ∷ lines) (onto_first byte lines))
+    ≡ cond is_delim (length lines + 1) (length lines)
 count_step true byte lines some = omega arith
 count_step false byte [] some = absurd (omega arith)
 count_step false byte (line ∷ lines) some = refl
 
-line_count-cons : (delim byte : ℕ) (x : List ℕ) → 0 < length x → line_count delim (byte ∷ x) ≡ cond (eqb byte delim) (line_count delim x + 1) (line_count delim x)
+line_count-cons : (delim byte : ℕ) (x : List ℕ) → 0 < length x
+    → line_count delim (byte ∷ x) ≡ cond (eqb byte delim) (line_count delim x + 1) (line_count delim x)
 line_count-cons delim byte x some = count_step (eqb byte delim) byte (lines_of delim x) (line_count-some delim x some)
 
 -- a text that ends with a delimiter has as many lines as delimiters
@@ -49,7 +52,8 @@ open_step true n = refl
 open_step false n = refl
 
 -- a text with an open last line has one line more
-pub line_count-open : (delim : ℕ) (x : List ℕ) → 0 < length x → ends_with delim x ≡ false → line_count delim x ≡ delimiters delim x + 1
+pub line_count-open : (delim : ℕ) (x : List ℕ) → 0 < length x → ends_with delim x ≡ false
+    → line_count delim x ≡ delimiters delim x + 1
 line_count-open delim [] some open_end = absurd (omega arith)
 line_count-open delim (byte ∷ []) some open_end = grind (arith, common_steps)
 line_count-open delim (byte ∷ next ∷ x) some open_end =
@@ -81,7 +85,8 @@ near_step false byte n [] low high = (omega arith, omega arith)
 near_step false byte n (line ∷ lines) low high = (omega arith, omega arith)
 
 -- a text has as many lines as delimiters, or one more
-pub line_count_near : (delim : ℕ) (x : List ℕ) → (delimiters delim x ≤ line_count delim x) × (line_count delim x ≤ delimiters delim x + 1)
+pub line_count_near : (delim : ℕ) (x : List ℕ)
+    → (delimiters delim x ≤ line_count delim x) × (line_count delim x ≤ delimiters delim x + 1)
 line_count_near delim [] = (omega arith, omega arith)
 line_count_near delim (byte ∷ x) = let near = line_count_near delim x in near_step (eqb byte delim) byte (delimiters delim x) (lines_of delim x) near.0 near.1
 
@@ -92,16 +97,20 @@ line_count-by_end delim x true some is = line_count-closed delim x (sym is) ∙ 
 line_count-by_end delim x false some is = line_count-open delim x some (sym is)
 
 -- a block before a text that isn't empty adds as many lines as it has delimiters
-pub line_count-front : (delim : ℕ) (block x : List ℕ) → 0 < length x → line_count delim (block ++ x) ≡ delimiters delim block + line_count delim x
+pub line_count-front : (delim : ℕ) (block x : List ℕ) → 0 < length x
+    → line_count delim (block ++ x) ≡ delimiters delim block + line_count delim x
 line_count-front delim block x some = grind (arith, common_steps, length-append, line_count-by_end, ends_with-append, delimiters-append)
 
 -- without its last delimiter a text has one delimiter less
-pub closed_delimiters : {delim : ℕ} (x : List ℕ) (n : ℕ) → n + 1 ≡ length x → get_or x n 0 ≡ delim → delimiters delim x ≡ delimiters delim (take n x) + (length x - length (take n x))
+pub closed_delimiters : {delim : ℕ} (x : List ℕ) (n : ℕ) → n + 1 ≡ length x → get_or x n 0 ≡ delim
+    → delimiters delim x ≡ delimiters delim (take n x) + (length x - length (take n x))
 closed_delimiters {delim} x n last is = grind (arith, common_steps, delimiters-one_yes, eq-eqb, delimiters_more, take_all, length-take-le)
 
 -- the lines of a text that goes on, by what stands before its last delimiter
-pub closed_text : {delim : ℕ} (before x : List ℕ) (n : ℕ) → n + 1 ≡ length x → get_or x n 0 ≡ delim → line_count delim (before ++ x) ≡ delimiters delim before + delimiters delim (take n x) + 1
+pub closed_text : {delim : ℕ} (before x : List ℕ) (n : ℕ) → n + 1 ≡ length x → get_or x n 0 ≡ delim
+    → line_count delim (before ++ x) ≡ delimiters delim before + delimiters delim (take n x) + 1
 closed_text {delim} before x n last is = grind (arith, common_steps, ends_with-append, ends_with-last, eq-eqb, closed_delimiters, length-take-le, delimiters-append, line_count-closed)
 
-pub open_text : (delim : ℕ) (before x : List ℕ) (n : ℕ) → n + 1 ≡ length x → get_or x n 0 ≢ delim → line_count delim (before ++ x) ≡ delimiters delim before + delimiters delim x + 1
+pub open_text : (delim : ℕ) (before x : List ℕ) (n : ℕ) → n + 1 ≡ length x → get_or x n 0 ≢ delim
+    → line_count delim (before ++ x) ≡ delimiters delim before + delimiters delim x + 1
 open_text delim before x n last other = grind (arith, common_steps, ends_with-append, ends_with-last, ne_eqb, length-append, line_count-open, delimiters-append)

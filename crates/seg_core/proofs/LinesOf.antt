@@ -5,7 +5,8 @@ use Rattle.std.specs.List.{onto_first}
 use Rattle.std.proofs.lemmas.Bool.{cases_eq}
 use Rattle.seg_core.specs.Line.{ends_with, joined, HasNone, IsComplete, AreLines, IsLines, lines_of}
 
-joined_step : (is_delim : Bool) {byte : ℕ} (lines : List (List ℕ)) → joined (cond is_delim ((byte ∷ []) ∷ lines) (onto_first byte lines)) ≡ byte ∷ joined lines
+joined_step : (is_delim : Bool) {byte : ℕ} (lines : List (List ℕ))
+    → joined (cond is_delim ((byte ∷ []) ∷ lines) (onto_first byte lines)) ≡ byte ∷ joined lines
 joined_step true lines = refl
 joined_step false [] = refl
 joined_step false (line ∷ lines) = refl
@@ -21,16 +22,19 @@ complete_first delim (line ∷ lines) each = (([], refl, tt), each)
 complete_cons : {delim byte : ℕ} (line : List ℕ) → byte ≢ delim → IsComplete delim line → IsComplete delim (byte ∷ line)
 complete_cons {byte} line other (text, whole, none) = (byte ∷ text, ap (λ z. byte ∷ z) whole, (other, none))
 
-other_first : (delim byte : ℕ) (lines : List (List ℕ)) → byte ≢ delim → AreLines delim lines → AreLines delim (onto_first byte lines)
+other_first : (delim byte : ℕ) (lines : List (List ℕ)) → byte ≢ delim → AreLines delim lines
+    → AreLines delim (onto_first byte lines)
 other_first delim byte [] other each = search rules
 other_first delim byte (line ∷ []) other (inl complete) = inl (complete_cons line other complete)
 other_first delim byte (line ∷ []) other (inr (some, none)) = search rules
 other_first delim byte (line ∷ next ∷ lines) other (complete, each) = (complete_cons line other complete, each)
 
-lines_of-delimiter : {delim byte : ℕ} (x : List ℕ) → byte ≡ delim → lines_of delim (byte ∷ x) ≡ (byte ∷ []) ∷ lines_of delim x
+lines_of-delimiter : {delim byte : ℕ} (x : List ℕ) → byte ≡ delim
+    → lines_of delim (byte ∷ x) ≡ (byte ∷ []) ∷ lines_of delim x
 lines_of-delimiter {delim} {byte} x e = grind (arith, common_steps)
 
-lines_of-other : (delim byte : ℕ) (x : List ℕ) → byte ≢ delim → lines_of delim (byte ∷ x) ≡ onto_first byte (lines_of delim x)
+lines_of-other : (delim byte : ℕ) (x : List ℕ) → byte ≢ delim
+    → lines_of delim (byte ∷ x) ≡ onto_first byte (lines_of delim x)
 lines_of-other delim byte x other = grind (arith, common_steps)
 
 pub AreLines-lines_of : (delim : ℕ) (x : List ℕ) → AreLines delim (lines_of delim x)
@@ -44,7 +48,8 @@ pub IsLines-lines_of : {delim : ℕ} {x : List ℕ} → IsLines delim x (lines_o
 IsLines-lines_of {delim} {x} = record { whole = joined-lines_of delim x; each = AreLines-lines_of delim x }
 
 -- the text begins with a complete line
-pub lines_of-complete : (delim : ℕ) (text rest : List ℕ) → HasNone delim text → lines_of delim ((text ++ delim ∷ []) ++ rest) ≡ (text ++ delim ∷ []) ∷ lines_of delim rest
+pub lines_of-complete : (delim : ℕ) (text rest : List ℕ) → HasNone delim text
+    → lines_of delim ((text ++ delim ∷ []) ++ rest) ≡ (text ++ delim ∷ []) ∷ lines_of delim rest
 lines_of-complete delim [] rest none = search rules
 lines_of-complete delim (byte ∷ text) rest (other, none) =
     lines_of-other delim byte ((text ++ delim ∷ []) ++ rest) other ∙ ap (onto_first byte) (lines_of-complete delim text rest none)
@@ -56,7 +61,8 @@ lines_of-open delim (byte ∷ []) some (other, none) = search rules
 lines_of-open delim (byte ∷ next ∷ line) some (other, none) =
     lines_of-other delim byte (next ∷ line) other ∙ ap (onto_first byte) (lines_of-open delim (next ∷ line) (omega arith) none)
 
-line_first : {delim : ℕ} (line rest : List ℕ) → IsComplete delim line → lines_of delim (line ++ rest) ≡ line ∷ lines_of delim rest
+line_first : {delim : ℕ} (line rest : List ℕ) → IsComplete delim line
+    → lines_of delim (line ++ rest) ≡ line ∷ lines_of delim rest
 line_first {delim} line rest (text, whole, none) = grind (arith, common_steps, lines_of-complete)
 
 pub lines_of-joined : (delim : ℕ) (lines : List (List ℕ)) → AreLines delim lines → lines_of delim (joined lines) ≡ lines
@@ -69,14 +75,17 @@ lines_of-joined delim (line ∷ next ∷ lines) (complete, each) =
 pub lines_of-only : {delim : ℕ} {x : List ℕ} (lines : List (List ℕ)) → IsLines delim x lines → lines ≡ lines_of delim x
 lines_of-only {delim} lines are = sym (lines_of-joined delim lines are.each) ∙ ap (lines_of delim) are.whole
 
-append_step : (is_delim : Bool) (byte : ℕ) {next : ℕ} {rest : List ℕ} (front back : List (List ℕ)) → joined front ≡ next ∷ rest
-    → cond is_delim ((byte ∷ []) ∷ (front ++ back)) (onto_first byte (front ++ back)) ≡ cond is_delim ((byte ∷ []) ∷ front) (onto_first byte front) ++ back
+append_step : (is_delim : Bool) (byte : ℕ) {next : ℕ} {rest : List ℕ} (front back : List (List ℕ))
+    → joined front ≡ next ∷ rest
+    → cond is_delim ((byte ∷ []) ∷ (front ++ back)) (onto_first byte (front ++ back))
+    ≡ cond is_delim ((byte ∷ []) ∷ front) (onto_first byte front) ++ back
 append_step true byte front back some = refl
 append_step false byte [] back some = absurd (cc)
 append_step false byte (line ∷ front) back some = refl
 
 -- a text that ends with a delimiter and goes on: its lines, and those of what follows
-pub lines_of-append : (delim : ℕ) (x y : List ℕ) → ends_with delim x ≡ true → lines_of delim (x ++ y) ≡ lines_of delim x ++ lines_of delim y
+pub lines_of-append : (delim : ℕ) (x y : List ℕ) → ends_with delim x ≡ true
+    → lines_of delim (x ++ y) ≡ lines_of delim x ++ lines_of delim y
 lines_of-append delim [] y ends = cc
 lines_of-append delim (byte ∷ []) y ends = search rules
 lines_of-append delim (byte ∷ next ∷ x) y ends =

@@ -16,7 +16,8 @@ pub record IsCutFrom (delim : ℕ) (x line rest : List ℕ) : Type 0 where
   pub count : delimiters delim x ≡ cond (ends_with delim line) (delimiters delim rest + 1) (delimiters delim rest)
   pub last : ends_with delim line ≡ false → rest ≡ []
 
-HasNone-take : (delim k : ℕ) (x : List ℕ) → k ≤ length x → Nowhere (Passes (is_byte delim) x) 0 k → HasNone delim (take k x)
+HasNone-take : (delim k : ℕ) (x : List ℕ) → k ≤ length x → Nowhere (Passes (is_byte delim) x) 0 k
+    → HasNone delim (take k x)
 HasNone-take delim zero x h none = tt
 HasNone-take delim (suc k) [] h none = tt
 HasNone-take delim (suc k) (byte ∷ x) h none =
@@ -34,7 +35,8 @@ ends-none delim [] none = refl
 ends-none delim (byte ∷ []) (other, none) = ne_eqb byte delim other
 ends-none delim (byte ∷ next ∷ x) (other, none) = ends-none delim (next ∷ x) none
 
-complete_cut : {delim : ℕ} (text : List ℕ) {rest : List ℕ} → HasNone delim text → IsCutFrom delim ((text ++ delim ∷ []) ++ rest) (text ++ delim ∷ []) rest
+complete_cut : {delim : ℕ} (text : List ℕ) {rest : List ℕ} → HasNone delim text
+    → IsCutFrom delim ((text ++ delim ∷ []) ++ rest) (text ++ delim ∷ []) rest
 complete_cut {delim} text {rest} none =
     let counted : delimiters delim ((text ++ delim ∷ []) ++ rest) ≡ delimiters delim rest + 1 =
     omega (arith, delimiters-append delim (text ++ delim ∷ []) rest, delimiters-append delim text (delim ∷ []), delimiters-one_yes delim delim (eq-eqb delim delim refl), delimiters-none delim text none) in
@@ -48,7 +50,8 @@ complete_cut {delim} text {rest} none =
 open_cut : {delim : ℕ} {x : List ℕ} → HasNone delim x → IsCutFrom delim x x []
 open_cut {delim} {x} none = grind (arith, common_steps, lines_of-open, delimiters-none, ends-none)
 
-pub cut_after : {delim : ℕ} {x : List ℕ} {k : ℕ} (line : List ℕ) {rest : List ℕ} → k < length x → Passes (is_byte delim) x k → Nowhere (Passes (is_byte delim) x) 0 k
+pub cut_after : {delim : ℕ} {x : List ℕ} {k : ℕ} (line : List ℕ) {rest : List ℕ} → k < length x
+    → Passes (is_byte delim) x k → Nowhere (Passes (is_byte delim) x) 0 k
     → line ≡ take (k + 1) x → rest ≡ drop (k + 1) x → IsCutFrom delim x line rest
 cut_after {delim} {x} {k} line {rest} h here none front back =
     let ends : line ≡ take k x ++ delim ∷ [] = front ∙ take_more x k 0 h ∙ ap (λ byte. take k x ++ byte ∷ []) (eqb-true (get_or x k 0) delim here) in
@@ -56,7 +59,8 @@ cut_after {delim} {x} {k} line {rest} h here none front back =
     let cut = complete_cut (take k x) (HasNone-take delim k x (omega arith) none) in
     rw ends (subst (λ z. IsCutFrom delim z (take k x ++ delim ∷ []) rest) whole cut)
 
-pub cut_at_end : {delim : ℕ} {x : List ℕ} (line : List ℕ) {rest : List ℕ} → Nowhere (Passes (is_byte delim) x) 0 (length x) → line ≡ take (length x) x → rest ≡ drop (length x) x
+pub cut_at_end : {delim : ℕ} {x : List ℕ} (line : List ℕ) {rest : List ℕ}
+    → Nowhere (Passes (is_byte delim) x) 0 (length x) → line ≡ take (length x) x → rest ≡ drop (length x) x
     → IsCutFrom delim x line rest
 cut_at_end {delim} {x} line {rest} none front back =
     let whole = take_all (length x) x (omega arith) in

@@ -3,7 +3,8 @@ use Rattle.std.proofs.Common.{◌≡◌, ℕ, ◌+◌, ◌≤◌, List, ◌++◌
 use Rattle.std.proofs.lemmas.List.{append_assoc, length-take-le, drop-drop, take_at, drop_at, take-append-le}
 
 -- after the first `at` bytes of what was held, n more bytes of the stretch that follows them
-pub taken_more : (held front rest before : List ℕ) {out : List ℕ} (at n : ℕ) → at ≤ length held → drop at held ≡ front ++ rest → n ≤ length front → out ≡ take at held ++ drop at before
+pub taken_more : (held front rest before : List ℕ) {out : List ℕ} (at n : ℕ) → at ≤ length held
+    → drop at held ≡ front ++ rest → n ≤ length front → out ≡ take at held ++ drop at before
     → take at out ++ (take n front ++ drop (at + n) out) ≡ take (at + n) held ++ drop (at + n) before
 taken_more held front rest before {out} at n within next fits so_far =
     let long : length (take at held) ≡ at = length-take-le at held within in

@@ -213,7 +213,8 @@ parts_split f p m = let e : 0 + p ≡ p = omega arith in
     map_parts f 0 p m ∙ ap (λ n. map f (range_with_len 0 p) ++ f n ∷ map f (range_with_len (n + 1) m)) e
 
 -- the files of a whole text, by a place
-pub files_split : (elide : Bool) (chunks : Chunks) (size : ℕ) (w : List ℕ) (p m : ℕ) → 0 < chunks.count → length w ≡ size
+pub files_split : (elide : Bool) (chunks : Chunks) (size : ℕ) (w : List ℕ) (p m : ℕ) → 0 < chunks.count
+    → length w ≡ size
     → p + suc m ≡ chunks.count → files_by elide (chunks_of chunks size w)
     ≡ kept elide (map (chunk_at chunks size w) (range_with_len 0 p))
     ++ kept elide (map (chunk_at chunks size w) (range_with_len p (suc m)))

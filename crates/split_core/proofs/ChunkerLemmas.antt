@@ -26,18 +26,21 @@ use Rattle.split_core.specs.laws.WorkLaws.{work_lawful}
 
 -- What is made
 
-settled_is : (on : Course) (chunks : Chunks) (size : ℕ) (x : List ℕ) → (work_on on chunks (Some size)).settled x ≡ part_on on (chunks_of chunks size x)
+settled_is : (on : Course) (chunks : Chunks) (size : ℕ) (x : List ℕ)
+    → (work_on on chunks (Some size)).settled x ≡ part_on on (chunks_of chunks size x)
 settled_is (in_files filing elide) chunks size x = refl
 settled_is (in_output chunk) chunks size x = refl
 
-whole_is : (on : Course) (chunks : Chunks) (size : ℕ) (x : List ℕ) → (work_on on chunks (Some size)).whole x ≡ whole_on on (chunks_of chunks size x)
+whole_is : (on : Course) (chunks : Chunks) (size : ℕ) (x : List ℕ)
+    → (work_on on chunks (Some size)).whole x ≡ whole_on on (chunks_of chunks size x)
 whole_is (in_files filing elide) chunks size x = refl
 whole_is (in_output chunk) chunks size x = refl
 
 -- Where the size was said
 
 -- the output is complete just where the one chunk that is written has ended
-past_at : (chunks : Chunks) (size place : ℕ) (aim : AimState) (x : List ℕ) → can_cut (course_of aim) chunks.count ≡ true → length x ≤ size → ended chunks size x ≡ place
+past_at : (chunks : Chunks) (size place : ℕ) (aim : AimState) (x : List ℕ) → can_cut (course_of aim) chunks.count ≡ true
+    → length x ≤ size → ended chunks size x ≡ place
     → is_past_at aim place ≡ (work_on (course_of aim) chunks (Some size)).is_complete x
 past_at chunks size place (to_files writer elide) x can fits is = sym (le-ltb _ _ fits)
 past_at chunks size place (to_output chunk) x can fits is = elim (cases_lt chunk place) [
@@ -48,26 +51,31 @@ past_at chunks size place (to_output chunk) x can fits is = elim (cases_lt chunk
   by true has past = absurd (omega (arith, past, is, ended_after chunks size x chunk (ltb-true _ _ can) has))
   by false has past = has
 
-pub past_is : {cutter : CutterState} {size : ℕ} {x : List ℕ} → IsCut cutter size x → is_past_on cutter.target ≡ (said_work cutter size).is_complete x
+pub past_is : {cutter : CutterState} {size : ℕ} {x : List ℕ} → IsCut cutter size x
+    → is_past_on cutter.target ≡ (said_work cutter size).is_complete x
 past_is {cutter} {size} {x} is = past_at cutter.chunks size cutter.target.place cutter.target.aim x is.cut.can is.fits (placed_at is)
 
 -- and where a text has its size
-full_at : (on : Course) (chunks : Chunks) (size : ℕ) (aim : AimState) (x : List ℕ) → can_cut (course_of aim) chunks.count ≡ true → is_each_on aim ≡ false → size ≤ length x
+full_at : (on : Course) (chunks : Chunks) (size : ℕ) (aim : AimState) (x : List ℕ)
+    → can_cut (course_of aim) chunks.count ≡ true → is_each_on aim ≡ false → size ≤ length x
     → (work_on (course_of aim) chunks (Some size)).is_complete x ≡ true
 full_at on chunks size (to_files writer elide) x can one full = absurd (false≢true (sym one))
 full_at on chunks size (to_output chunk) x can one full = le-leb _ _ (omega (arith, passed_full chunks size x full, start_within chunks.count size (chunk + 1) (omega (arith, ltb-true _ _ can)) (omega (arith, ltb-true _ _ can))))
 
 -- what is written of what came in is what is written of what was used of it
-so_used : {work : Work} {x : List ℕ} {n : ℕ} → IsLawful work → (spare : IsSpare work x n) → work.settled spare.used ≡ work.settled x
+so_used : {work : Work} {x : List ℕ} {n : ℕ} → IsLawful work → (spare : IsSpare work x n)
+    → work.settled spare.used ≡ work.settled x
 so_used {work} {x} lawful spare = elim spare.enough [
   | inl none ↦ ap work.settled (sym (spare.joined ∙ ap (λ rest. spare.used ++ rest) none ∙ append-nil spare.used))
   | inr complete ↦ sym (ap work.settled spare.joined ∙ (lawful.stays spare.used spare.rest complete).settled_stays)
 ]
 
-pub cut_is : {chunker : ChunkerState} {size : ℕ} {x : List ℕ} (has : IsSaid chunker size x) → IsCut chunker.cutter size has.spare.used
+pub cut_is : {chunker : ChunkerState} {size : ℕ} {x : List ℕ} (has : IsSaid chunker size x)
+    → IsCut chunker.cutter size has.spare.used
 cut_is has = record { cut = has.cut; fits = has.within }
 
-part_is : {chunker : ChunkerState} {size : ℕ} {x : List ℕ} → IsSaid chunker size x → part_so chunker.cutter size (take chunker.cutter.at x) ≡ (said_work chunker.cutter size).settled x
+part_is : {chunker : ChunkerState} {size : ℕ} {x : List ℕ} → IsSaid chunker size x
+    → part_so chunker.cutter size (take chunker.cutter.at x) ≡ (said_work chunker.cutter size).settled x
 part_is {chunker} {size} {x} has = let on = course chunker.cutter in let chunks = chunker.cutter.chunks in
     let used : take chunker.cutter.at x ≡ has.spare.used = ap (take chunker.cutter.at) has.spare.joined ∙ take_at has.spare.used has.spare.rest chunker.cutter.at (sym has.cut.at) in
     ap (part_so chunker.cutter size) used ∙ ap (part_on on) (sym (cut_of chunks size has.spare.used has.within)) ∙ sym (settled_is on chunks size has.spare.used)
@@ -75,8 +83,10 @@ part_is {chunker} {size} {x} has = let on = course chunker.cutter in let chunks 
 
 -- A piece
 
-module _ {chunker next : ChunkerState} {size : ℕ} {piece : List ℕ} {x : List ℕ} {past : ℕ} {told : Bool} {old new : List Slot}
-    (takes : TakesAs told chunker size piece old new next past) (ok : (past ≡ 0) ⊎ (is_each_on next.cutter.target.aim ≡ false)) (has : IsSaid chunker size x) where
+module _ {chunker next : ChunkerState} {size : ℕ} {piece : List ℕ} {x : List ℕ} {past : ℕ} {told : Bool}
+    {old new : List Slot}
+    (takes : TakesAs told chunker size piece old new next past)
+    (ok : (past ≡ 0) ⊎ (is_each_on next.cutter.target.aim ≡ false)) (has : IsSaid chunker size x) where
   abbrev done : List ℕ
   done = take (length piece - past) piece
 
@@ -118,7 +128,8 @@ module _ {chunker next : ChunkerState} {size : ℕ} {piece : List ℕ} {x : List
     | inr needed ↦ needed has.spare.used (cut_is has)
   ]
 
-  enough_so : ((has.spare.rest ++ over) ≡ []) ⊎ ((said_work chunker.cutter size).is_complete (has.spare.used ++ done) ≡ true)
+  enough_so : ((has.spare.rest ++ over) ≡ [])
+      ⊎ ((said_work chunker.cutter size).is_complete (has.spare.used ++ done) ≡ true)
   enough_so = elim takes.enough [
     | inl none ↦ zero_past none
     | inr later ↦ elim later [
@@ -130,7 +141,8 @@ module _ {chunker next : ChunkerState} {size : ℕ} {piece : List ℕ} {x : List
       ]
     ]
   ] where
-    zero_past : past ≡ 0 → ((has.spare.rest ++ over) ≡ []) ⊎ ((said_work chunker.cutter size).is_complete (has.spare.used ++ done) ≡ true)
+    zero_past : past ≡ 0 → ((has.spare.rest ++ over) ≡ [])
+        ⊎ ((said_work chunker.cutter size).is_complete (has.spare.used ++ done) ≡ true)
     zero_past none = let out : over ≡ [] = drop_all (length piece - past) piece (omega (arith, none)) in elim has.spare.enough [
       | inl rest ↦ inl (rw (rest, out) refl)
       | inr complete ↦ (let e : length piece - past ≡ 0 = omega (arith, takes.still (past_is (cut_is has) ∙ complete)) in
@@ -162,31 +174,41 @@ module _ {chunker next : ChunkerState} {size : ℕ} {piece : List ℕ} {x : List
     waits = takes.waiting ∙ has.waits;
   }
 
-  pub part_on_said : part_so chunker.cutter size (has.spare.used ++ done) ≡ (said_work chunker.cutter size).settled (x ++ piece)
+  pub part_on_said : part_so chunker.cutter size (has.spare.used ++ done)
+      ≡ (said_work chunker.cutter size).settled (x ++ piece)
   part_on_said = let on = course chunker.cutter in let chunks = chunker.cutter.chunks in
       ap (part_on on) (sym (cut_of chunks size (has.spare.used ++ done) fits_done)) ∙ sym (settled_is on chunks size (has.spare.used ++ done)) ∙ so_used (work_lawful on chunks (Some size) has.cut.can) spare_on
 
-used_is : {chunker : ChunkerState} {size : ℕ} {x : List ℕ} (has : IsSaid chunker size x) → take chunker.cutter.at x ≡ has.spare.used
+used_is : {chunker : ChunkerState} {size : ℕ} {x : List ℕ} (has : IsSaid chunker size x)
+    → take chunker.cutter.at x ≡ has.spare.used
 used_is {chunker} has = ap (take chunker.cutter.at) has.spare.joined ∙ take_at has.spare.used has.spare.rest chunker.cutter.at (sym has.cut.at)
 
-pub is_said : {chunker : ChunkerState} {size : ℕ} {x : List ℕ} → chunker.said ≡ Some size → Holds chunker x → IsSaid chunker size x
+pub is_said : {chunker : ChunkerState} {size : ℕ} {x : List ℕ} → chunker.said ≡ Some size → Holds chunker x
+    → IsSaid chunker size x
 is_said {chunker} {size} {x} said holds = subst (λ said. HoldsBy said chunker x) said holds
 
-said_is : {chunker : ChunkerState} {size : ℕ} {x : List ℕ} → chunker.said ≡ Some size → IsSaid chunker size x → Holds chunker x
+said_is : {chunker : ChunkerState} {size : ℕ} {x : List ℕ} → chunker.said ≡ Some size → IsSaid chunker size x
+    → Holds chunker x
 said_is {chunker} {size} {x} said is = subst (λ said. HoldsBy said chunker x) (sym said) is
 
-made_is : (chunker : ChunkerState) {size : ℕ} → chunker.said ≡ Some size → work_on (course chunker.cutter) chunker.cutter.chunks (Some size) ≡ made chunker
+made_is : (chunker : ChunkerState) {size : ℕ} → chunker.said ≡ Some size
+    → work_on (course chunker.cutter) chunker.cutter.chunks (Some size) ≡ made chunker
 made_is chunker said = ap (work_on (course chunker.cutter) chunker.cutter.chunks) (sym said)
 
-module _ (chunker : ChunkerState) {size : ℕ} (said : chunker.said ≡ Some size) (can : can_cut (course chunker.cutter) chunker.cutter.chunks.count ≡ true) where
-  cut_has : (x : List ℕ) (bytes : List ℕ) → Holds chunker x → chunker.cutter.at + length bytes ≤ size → IsCut chunker.cutter size (take chunker.cutter.at x) × (length (take chunker.cutter.at x ++ bytes) ≤ size)
+module _ (chunker : ChunkerState) {size : ℕ} (said : chunker.said ≡ Some size)
+    (can : can_cut (course chunker.cutter) chunker.cutter.chunks.count ≡ true) where
+  cut_has : (x : List ℕ) (bytes : List ℕ) → Holds chunker x → chunker.cutter.at + length bytes ≤ size
+      → IsCut chunker.cutter size (take chunker.cutter.at x) × (length (take chunker.cutter.at x ++ bytes) ≤ size)
   cut_has x bytes holds fits = let has = is_said said holds in rw (used_is has) (cut_is has, omega (arith, fits, has.cut.at, length-append has.spare.used bytes))
 
-  low_is : (x : List ℕ) → Holds chunker x → part_so chunker.cutter size (take chunker.cutter.at x) ≡ (made chunker).settled x
+  low_is : (x : List ℕ) → Holds chunker x
+      → part_so chunker.cutter size (take chunker.cutter.at x) ≡ (made chunker).settled x
   low_is x holds = part_is (is_said said holds) ∙ ap (λ (work : Work). work.settled x) (made_is chunker said)
 
   -- a fault came
-  to_all : (piece bytes more : List ℕ) → piece ≡ bytes ++ more → (x : List ℕ) → Holds chunker x → chunker.cutter.at + length bytes ≤ size → Begins (part_so chunker.cutter size (take chunker.cutter.at x ++ bytes)) ((made chunker).settled (x ++ piece))
+  to_all : (piece bytes more : List ℕ) → piece ≡ bytes ++ more → (x : List ℕ) → Holds chunker x
+      → chunker.cutter.at + length bytes ≤ size
+      → Begins (part_so chunker.cutter size (take chunker.cutter.at x ++ bytes)) ((made chunker).settled (x ++ piece))
   to_all piece bytes more both x holds fits =
       let has = is_said said holds in
       let on = course chunker.cutter in
@@ -206,9 +228,12 @@ module _ (chunker : ChunkerState) {size : ℕ} (said : chunker.said ≡ Some siz
       ] in
       rw (here, ← made_is chunker said) there
 
-module _ {chunker next : ChunkerState} {size : ℕ} (piece : List ℕ) {told : Bool} {old new : List Slot} (said : chunker.said ≡ Some size) (same : next.said ≡ chunker.said)
+module _ {chunker next : ChunkerState} {size : ℕ} (piece : List ℕ) {told : Bool} {old new : List Slot}
+    (said : chunker.said ≡ Some size) (same : next.said ≡ chunker.said)
     (can : can_cut (course chunker.cutter) chunker.cutter.chunks.count ≡ true) where
-  pub passes_said : {past : ℕ} (after : ℕ) → after ≡ chunker.spare + past → TakesAs told chunker size piece old new next past → (past ≡ 0) ⊎ (is_each_on next.cutter.target.aim ≡ false) → Passes told chunker piece old new (record next { spare = after }) None
+  pub passes_said : {past : ℕ} (after : ℕ) → after ≡ chunker.spare + past
+      → TakesAs told chunker size piece old new next past → (past ≡ 0) ⊎ (is_each_on next.cutter.target.aim ≡ false)
+      → Passes told chunker piece old new (record next { spare = after }) None
   passes_said {past} after is takes ok = record {
     same = record { can = can; said = same; chunks = takes.cuts.chunks };
     bound = omega (arith, is, takes.at, takes.few, ap length takes.waiting);
@@ -217,7 +242,9 @@ module _ {chunker next : ChunkerState} {size : ℕ} (piece : List ℕ) {told : B
     stands = λ x holds. said_is (same ∙ said) (said_on takes ok (is_said said holds) after is);
   }
 
-  pub passes_not : {why : Fault} → next.waiting ≡ chunker.waiting → next.spare ≡ chunker.spare → Cuts told chunker.cutter size (take (min (length piece) (size - chunker.cutter.at)) piece) old new next.cutter (Some why) → Passes told chunker piece old new next (Some why)
+  pub passes_not : {why : Fault} → next.waiting ≡ chunker.waiting → next.spare ≡ chunker.spare
+      → Cuts told chunker.cutter size (take (min (length piece) (size - chunker.cutter.at)) piece) old new next.cutter
+      (Some why) → Passes told chunker piece old new next (Some why)
   passes_not {why} waits spare cuts = let n = min (length piece) (size - chunker.cutter.at) in
       let fits : (x : List ℕ) → Holds chunker x → chunker.cutter.at + length (take n piece) ≤ size = λ x holds. let has = is_said said holds in omega (arith, length-take n piece, has.within, has.cut.at) in record {
         same = record { can = can; said = same; chunks = cuts.chunks };
@@ -227,11 +254,13 @@ module _ {chunker next : ChunkerState} {size : ℕ} (piece : List ℕ) {told : B
       }
 
 -- the input has more than it said
-each_course : (aim : AimState) (chunks : Chunks) (size : ℕ) → is_each_on aim ≡ true → (x : List ℕ) → (work_on (course_of aim) chunks (Some size)).is_complete x ≡ nat_lt size (length x)
+each_course : (aim : AimState) (chunks : Chunks) (size : ℕ) → is_each_on aim ≡ true → (x : List ℕ)
+    → (work_on (course_of aim) chunks (Some size)).is_complete x ≡ nat_lt size (length x)
 each_course (to_files writer elide) chunks size each x = refl
 each_course (to_output chunk) chunks size each x = absurd (false≢true each)
 
-each_judges : (aim : AimState) (chunks : Chunks) (size : ℕ) → is_each_on aim ≡ true → (x : List ℕ) → eqb (length x) size ≡ false → (work_on (course_of aim) chunks (Some size)).verdict x ≡ Some Changed
+each_judges : (aim : AimState) (chunks : Chunks) (size : ℕ) → is_each_on aim ≡ true → (x : List ℕ)
+    → eqb (length x) size ≡ false → (work_on (course_of aim) chunks (Some size)).verdict x ≡ Some Changed
 each_judges (to_files writer elide) chunks size each x differs = rw differs refl
 each_judges (to_output chunk) chunks size each x differs = absurd (false≢true each)
 
@@ -245,8 +274,11 @@ never_past : (aim : AimState) (place : ℕ) → is_each_on aim ≡ true → is_p
 never_past (to_files writer elide) place each = refl
 never_past (to_output chunk) place each = absurd (false≢true each)
 
-module _ {chunker next : ChunkerState} {size : ℕ} (piece : List ℕ) {past : ℕ} {told : Bool} {old new : List Slot} (said : chunker.said ≡ Some size) (same : next.said ≡ chunker.said)
-    (can : can_cut (course chunker.cutter) chunker.cutter.chunks.count ≡ true) (takes : TakesAs told chunker size piece old new next past) (some : 0 < past) (each : is_each_on next.cutter.target.aim ≡ true) where
+module _ {chunker next : ChunkerState} {size : ℕ} (piece : List ℕ) {past : ℕ} {told : Bool} {old new : List Slot}
+    (said : chunker.said ≡ Some size) (same : next.said ≡ chunker.said)
+    (can : can_cut (course chunker.cutter) chunker.cutter.chunks.count ≡ true)
+    (takes : TakesAs told chunker size piece old new next past) (some : 0 < past)
+    (each : is_each_on next.cutter.target.aim ≡ true) where
   abbrev cut_off : List ℕ
   cut_off = take (length piece - past) piece
 
@@ -271,7 +303,8 @@ module _ {chunker next : ChunkerState} {size : ℕ} (piece : List ℕ) {past : �
   size_is : (x : List ℕ) (has : IsSaid chunker size x) → length (has.spare.used ++ cut_off) ≡ size
   size_is x has = omega (arith, full, takes.at, takes.fits (omega (arith, has.within, has.cut.at)), has.cut.at, length-append has.spare.used cut_off, length-take (length piece - past) piece, takes.few)
 
-  all_so : (x : List ℕ) (has : IsSaid chunker size x) → x ++ piece ≡ (has.spare.used ++ cut_off) ++ drop (length piece - past) piece
+  all_so : (x : List ℕ) (has : IsSaid chunker size x)
+      → x ++ piece ≡ (has.spare.used ++ cut_off) ++ drop (length piece - past) piece
   all_so x has = ap (λ x. x ++ piece) (has.spare.joined ∙ ap (λ rest. has.spare.used ++ rest) (all_used x has) ∙ append-nil has.spare.used)
       ∙ ap (λ piece. has.spare.used ++ piece) (sym (take-append-drop (length piece - past) piece)) ∙ sym (append_assoc has.spare.used cut_off _)
 
@@ -281,7 +314,9 @@ module _ {chunker next : ChunkerState} {size : ℕ} (piece : List ℕ) {past : �
   longer_so : (x : List ℕ) (has : IsSaid chunker size x) → size < length (x ++ piece)
   longer_so x has = omega (arith, ap length (all_so x has), length-append (has.spare.used ++ cut_off) (drop (length piece - past) piece), size_is x has, length-drop (length piece - past) piece, takes.few, some)
 
-  pub changed_more : (total next ≤ total chunker + length piece) × Changes told chunker (λ x. (made chunker).settled (x ++ piece)) (λ x. IsSettled (made chunker) (x ++ piece) Changed) old new next
+  pub changed_more : (total next ≤ total chunker + length piece)
+      × Changes told chunker (λ x. (made chunker).settled (x ++ piece))
+      (λ x. IsSettled (made chunker) (x ++ piece) Changed) old new next
   changed_more = (
     omega (arith, takes.at, takes.few, takes.spare, ap length takes.waiting),
     record {
@@ -299,8 +334,11 @@ module _ {chunker next : ChunkerState} {size : ℕ} (piece : List ℕ) {past : �
 
 -- What was cut off of a piece
 
-pub takes_as : {told : Bool} {chunker next : ChunkerState} {size : ℕ} (piece : List ℕ) (own left : ℕ) {old new : List Slot} → own ≡ min (length piece) (size - chunker.cutter.at) → next.waiting ≡ chunker.waiting → next.spare ≡ chunker.spare
-    → CutsAs told chunker.cutter size (take own piece) old new next.cutter left → TakesAs told chunker size piece old new next (left + (length piece - own))
+pub takes_as : {told : Bool} {chunker next : ChunkerState} {size : ℕ} (piece : List ℕ) (own left : ℕ)
+    {old new : List Slot} → own ≡ min (length piece) (size - chunker.cutter.at) → next.waiting ≡ chunker.waiting
+    → next.spare ≡ chunker.spare
+    → CutsAs told chunker.cutter size (take own piece) old new next.cutter left
+    → TakesAs told chunker size piece old new next (left + (length piece - own))
 takes_as {told} {chunker} {next} {size} piece own left {old} {new} is waiting spare cuts = let n = length piece - (left + (length piece - own)) in
     let long : length (take own piece) ≡ own = omega (arith, length-take own piece, is) in
     let e : take (length (take own piece) - left) (take own piece) ≡ take n piece = let m : length (take own piece) - left ≡ n = omega (arith, long, cuts.few, is) in ap (λ m. take m (take own piece)) m ∙ take-take n own piece (omega (arith, is)) in record {
@@ -333,11 +371,14 @@ shorter_differs size n less = elim (eqb_tells n size) [
 ]
 
 -- where the output is complete, it was one chunk's
-complete_whole : (on : Course) (chunks : Chunks) (size : ℕ) (x : List ℕ) → length x ≤ size → (work_on on chunks (Some size)).is_complete x ≡ true → (cut : CutUp) → part_on on cut ≡ whole_on on cut
+complete_whole : (on : Course) (chunks : Chunks) (size : ℕ) (x : List ℕ) → length x ≤ size
+    → (work_on on chunks (Some size)).is_complete x ≡ true → (cut : CutUp) → part_on on cut ≡ whole_on on cut
 complete_whole (in_files filing elide) chunks size x fits complete = absurd (omega (arith, fits, ltb-true _ _ complete))
 complete_whole (in_output chunk) chunks size x fits complete = λ cut. refl
 
-whole_said : {chunker : ChunkerState} {size : ℕ} {x : List ℕ} → IsSaid chunker size x → whole_on (course chunker.cutter) (chunks_within chunker.cutter.chunks size (take chunker.cutter.at x)) ≡ (said_work chunker.cutter size).whole x
+whole_said : {chunker : ChunkerState} {size : ℕ} {x : List ℕ} → IsSaid chunker size x
+    → whole_on (course chunker.cutter) (chunks_within chunker.cutter.chunks size (take chunker.cutter.at x))
+    ≡ (said_work chunker.cutter size).whole x
 whole_said {chunker} {size} {x} has =
     let on = course chunker.cutter in let chunks = chunker.cutter.chunks in let work = work_on on chunks (Some size) in let used = has.spare.used in
     let here : whole_on on (chunks_within chunks size (take chunker.cutter.at x)) ≡ work.whole used =
@@ -348,8 +389,12 @@ whole_said {chunker} {size} {x} has =
           ∙ sym (ap work.whole has.spare.joined ∙ ((work_lawful on chunks (Some size) has.cut.can).stays used has.spare.rest complete).whole_stays)
     ]
 
-ends_well : (aim : AimState) (chunks : Chunks) (size : ℕ) (x : List ℕ) {n : ℕ} → (spare : IsSpare (work_on (course_of aim) chunks (Some size)) x n) → IsLawful (work_on (course_of aim) chunks (Some size)) → can_cut (course_of aim) chunks.count ≡ true → length spare.used ≤ size
-    → ((work_on (course_of aim) chunks (Some size)).is_complete spare.used ≡ true) ⊎ (size ≤ length spare.used) → (work_on (course_of aim) chunks (Some size)).verdict x ≡ None
+ends_well : (aim : AimState) (chunks : Chunks) (size : ℕ) (x : List ℕ) {n : ℕ}
+    → (spare : IsSpare (work_on (course_of aim) chunks (Some size)) x n)
+    → IsLawful (work_on (course_of aim) chunks (Some size)) → can_cut (course_of aim) chunks.count ≡ true
+    → length spare.used ≤ size
+    → ((work_on (course_of aim) chunks (Some size)).is_complete spare.used ≡ true) ⊎ (size ≤ length spare.used)
+    → (work_on (course_of aim) chunks (Some size)).verdict x ≡ None
 ends_well (to_files writer elide) chunks size x spare lawful can fits ends = elim spare.enough [
   | inr complete ↦ absurd (omega (arith, fits, ltb-true _ _ complete))
   | inl none ↦ elim ends [
@@ -362,20 +407,26 @@ ends_well (to_output chunk) chunks size x spare lawful can fits ends = let compl
   | inr full ↦ full_at (in_output chunk) chunks size (to_output chunk) spare.used can refl full
 ] in let all : has_ended chunks size x chunk ≡ true = ap (λ x. has_ended chunks size x chunk) spare.joined ∙ (lawful.stays spare.used spare.rest complete).still in rw all refl
 
-ends_badly : (aim : AimState) (chunks : Chunks) (size : ℕ) (x : List ℕ) → length x < size → (work_on (course_of aim) chunks (Some size)).is_complete x ≡ false → (work_on (course_of aim) chunks (Some size)).verdict x ≡ Some Changed
+ends_badly : (aim : AimState) (chunks : Chunks) (size : ℕ) (x : List ℕ) → length x < size
+    → (work_on (course_of aim) chunks (Some size)).is_complete x ≡ false
+    → (work_on (course_of aim) chunks (Some size)).verdict x ≡ Some Changed
 ends_badly (to_files writer elide) chunks size x short open_still = rw (shorter_differs size (length x) short) refl
 ends_badly (to_output chunk) chunks size x short open_still = rw (open_still, shorter_differs size (length x) short) refl
 
-module _ {chunker next : ChunkerState} {size : ℕ} {told : Bool} {old new : List Slot} (said : chunker.said ≡ Some size) (same : IsLike chunker next) (bound : total next ≤ total chunker) where
-  end_comes : (fault : Option Fault) → TargetEnds told chunker.cutter.target old new next.cutter.target fault → Comes told chunker (made chunker).whole old new next fault
+module _ {chunker next : ChunkerState} {size : ℕ} {told : Bool} {old new : List Slot} (said : chunker.said ≡ Some size)
+    (same : IsLike chunker next) (bound : total next ≤ total chunker) where
+  end_comes : (fault : Option Fault) → TargetEnds told chunker.cutter.target old new next.cutter.target fault
+      → Comes told chunker (made chunker).whole old new next fault
   end_comes fault ends = brings_as (λ x. chunks_within chunker.cutter.chunks size (take chunker.cutter.at x)) fault
       (λ x holds. let has = is_said said holds in rw (← used_is has) at has.cut.carries)
       (low_is chunker said same.can) (λ x holds. whole_said (is_said said holds) ∙ ap (λ (work : Work). work.whole x) (made_is chunker said)) ends
 
-  pub said_stops : {why : Fault} → TargetEnds told chunker.cutter.target old new next.cutter.target (Some why) → IsWrite why → Ends told chunker old new next (Some why)
+  pub said_stops : {why : Fault} → TargetEnds told chunker.cutter.target old new next.cutter.target (Some why)
+      → IsWrite why → Ends told chunker old new next (Some why)
   said_stops {why} ends broke = record { same = same; bound = bound; comes = end_comes (Some why) ends; well = tt; only_write = λ some. broke }
 
-  pub said_ends : TargetEnds told chunker.cutter.target old new next.cutter.target None → (is_past_on chunker.cutter.target ≡ true) ⊎ (size ≤ chunker.cutter.at) → Ends told chunker old new next None
+  pub said_ends : TargetEnds told chunker.cutter.target old new next.cutter.target None
+      → (is_past_on chunker.cutter.target ≡ true) ⊎ (size ≤ chunker.cutter.at) → Ends told chunker old new next None
   said_ends ends full = record {
     same = same;
     bound = bound;
@@ -388,7 +439,8 @@ module _ {chunker next : ChunkerState} {size : ℕ} {told : Bool} {old new : Lis
     only_write = λ some. tt;
   }
 
-  pub said_changed : TargetEnds told chunker.cutter.target old new next.cutter.target None → is_past_on chunker.cutter.target ≡ false → chunker.cutter.at < size
+  pub said_changed : TargetEnds told chunker.cutter.target old new next.cutter.target None
+      → is_past_on chunker.cutter.target ≡ false → chunker.cutter.at < size
       → Changes told chunker (made chunker).whole (λ x. Judges (made chunker) x Changed) old new next
   said_changed ends going short = record {
     same = same;
@@ -408,5 +460,6 @@ past_so (to_files writer elide) (to_output chunk) place same = absurd (cc)
 past_so (to_output chunk) (to_files writer elide) place same = absurd (cc)
 past_so (to_output chunk) (to_output other) place same = ap (λ chunk. nat_lt chunk place) (cc)
 
-pub past_same : (one two : TargetState) → course_of two.aim ≡ course_of one.aim → two.place ≡ one.place → is_past_on two ≡ is_past_on one
+pub past_same : (one two : TargetState) → course_of two.aim ≡ course_of one.aim → two.place ≡ one.place
+    → is_past_on two ≡ is_past_on one
 past_same one two same place = ap (is_past_at two.aim) place ∙ past_so one.aim two.aim one.place same

@@ -32,11 +32,13 @@ use Rattle.split_core.proofs.PartsLemmas.{met_files, told_writable, unjudged}
 
 -- What is made
 
-pub works_so : (state : ChunkerState) → can_cut (course state.cutter) state.cutter.chunks.count ≡ true → work state ≡ made state
+pub works_so : (state : ChunkerState) → can_cut (course state.cutter) state.cutter.chunks.count ≡ true
+    → work state ≡ made state
 works_so state is = ap (λ can. made_if can (made state)) is
 
 -- the same was asked for
-same_work : (state next : ChunkerState) → IsLike state next → course next.cutter ≡ course state.cutter → work next ≡ work state
+same_work : (state next : ChunkerState) → IsLike state next → course next.cutter ≡ course state.cutter
+    → work next ≡ work state
 same_work state next like stays = grind (arith, common_steps)
 
 output_is : (on : Course) (chunks : Chunks) (said : Option ℕ) → (work_on on chunks said).means.output ≡ output_on on
@@ -47,7 +49,8 @@ clears_none : (on : Course) (chunks : Chunks) (said : Option ℕ) → (work_on o
 clears_none (in_files filing elide) chunks said = refl
 clears_none (in_output chunk) chunks said = refl
 
-feeds_memory : (on : Course) (chunks : Chunks) {said : Option ℕ} → said ≡ None → (work_on on chunks said).means.feeding.memory ≡ true
+feeds_memory : (on : Course) (chunks : Chunks) {said : Option ℕ} → said ≡ None
+    → (work_on on chunks said).means.feeding.memory ≡ true
 feeds_memory (in_files filing elide) chunks unsaid = refl
 feeds_memory (in_output chunk) chunks unsaid = ap is_none unsaid
 
@@ -59,12 +62,15 @@ settled_lines (in_output chunk) chunks said x = tt
 
 -- Faults
 
-met_output : (memory : Bool) (needs : Needs) (Lacks : Type 0) (Why : Judgement → Type 0) (old new : List Slot) (chunk : ℕ) (fault : Fault)
-    → Breaks (manner_on (in_output chunk)) old new fault → fault ≡ Write 0 → IsMet (on_output memory) needs Lacks Why old new fault
+met_output : (memory : Bool) (needs : Needs) (Lacks : Type 0) (Why : Judgement → Type 0) (old new : List Slot)
+    (chunk : ℕ) (fault : Fault)
+    → Breaks (manner_on (in_output chunk)) old new fault → fault ≡ Write 0
+    → IsMet (on_output memory) needs Lacks Why old new fault
 met_output memory needs Lacks Why old new chunk (Write slot) breaks is = ((λ none. refl), (λ none. cc), breaks.1)
 met_output memory needs Lacks Why old new chunk fault breaks is = absurd (cc)
 
-module _ (chunks : Chunks) (Why : Judgement → Type 0) (old new : List Slot) (fault : Fault) (ends : fault ≡ Verdict Suffixes → Why Suffixes) where
+module _ (chunks : Chunks) (Why : Judgement → Type 0) (old new : List Slot) (fault : Fault)
+    (ends : fault ≡ Verdict Suffixes → Why Suffixes) where
   met_feeding : (on : Course) (said : Option ℕ) → Breaks (manner_on on) old new fault → IsOf on fault
       → IsMet (work_on on chunks said).means (work_on on chunks said).means.feeding (true ≡ true) Why old new fault
   met_feeding (in_files filing elide) said breaks of =
@@ -100,7 +106,8 @@ at_aim {told} {state} {start} {x} {now} can at = record {
 -- How a call leaves the outputs that were to come to what is due.
 module _ {told : Bool} {old : ChunkerState} (new : ChunkerState) {before after : List Slot} (due : Work → List ℕ → Part)
     (can : can_cut (course old.cutter) old.cutter.chunks.count ≡ true) where
-  went_out : Comes told old (due (made old)) before after new None → engine.PutsOut ways.terms (way.Chunks old) (due (work old)) told before after
+  went_out : Comes told old (due (made old)) before after new None
+      → engine.PutsOut ways.terms (way.Chunks old) (due (work old)) told before after
   went_out comes start x at = rw (← works_so old can) at (comes.reaches x at.holds start (at_aim can at)).outputs
 
   was_cut : {why : Fault} → Comes told old (due (made old)) before after new (Some why)
@@ -168,7 +175,8 @@ module _ (told : Bool) (old new : ChunkerState) (piece : List ℕ) (before after
   }
 
   passes_changed : total new ≤ total old + length piece
-      → Changes told old (λ x. (made old).settled (x ++ piece)) (λ x. IsSettled (made old) (x ++ piece) Changed) before after new
+      → Changes told old (λ x. (made old).settled (x ++ piece))
+      (λ x. IsSettled (made old) (x ++ piece) Changed) before after new
       → Owed (Err (Verdict Changed))
   passes_changed bound changes = record {
     same = same_work old new changes.same changes.all.stays;
@@ -182,8 +190,11 @@ module _ (told : Bool) (old new : ChunkerState) (piece : List ℕ) (before after
     met = λ x holds. rw (← works_so old changes.same.can) at (changes.judged x holds);
   }
 
-pub passes_by : (told : Bool) (old new : ChunkerState) (piece : List ℕ) (before after : List Slot) (result : Result (Unit {0}) Fault)
-    → PassesAs told old piece before after new result → engine.Passes ways.terms told piece (way.Chunks old) (way.Chunks new) before after (engine.IsMetWith ways.terms piece (way.Chunks old)) result
+pub passes_by : (told : Bool) (old new : ChunkerState) (piece : List ℕ) (before after : List Slot)
+    (result : Result (Unit {0}) Fault)
+    → PassesAs told old piece before after new result
+    → engine.Passes ways.terms told piece (way.Chunks old) (way.Chunks new) before after
+    (engine.IsMetWith ways.terms piece (way.Chunks old)) result
 passes_by told old new piece before after (Ok u) passes = passes_well told old new piece before after passes
 passes_by told old new piece before after (Err why) (inl passes) = passes_cut told old new piece before after why passes
 passes_by told old new piece before after (Err why) (inr (inl (is, lacks))) = rw is (passes_lacking told old new piece before after lacks)
@@ -229,7 +240,8 @@ module _ (told : Bool) (old new : ChunkerState) (before after : List Slot) where
     met = rw (works_so old ends.same.can) (met_closing old.cutter.chunks _ before after why (λ is x holds. absurd (ends.comes.named is x holds)) (course old.cutter) old.said ends.comes.slots ends.comes.only ends.only_write);
   }
 
-  ends_changed : total new ≤ total old → Changes told old (made old).whole (λ x. Judges (made old) x Changed) before after new
+  ends_changed : total new ≤ total old
+      → Changes told old (made old).whole (λ x. Judges (made old) x Changed) before after new
       → OwedThere (Err (Verdict Changed))
   ends_changed bound changes = record {
     same = same_work old new changes.same changes.all.stays;
@@ -245,7 +257,8 @@ module _ (told : Bool) (old new : ChunkerState) (before after : List Slot) where
 
 pub finishes_by : (told : Bool) (old new : ChunkerState) (before after : List Slot) (result : Result (Unit {0}) Fault)
     → IsAimed old.cutter.target.aim before → EndsAs told old before after new result
-    → engine.Finishes ways.terms told (way.Chunks old) (way.Chunks new) before after (engine.IsMetThere ways.terms (way.Chunks old)) result
+    → engine.Finishes ways.terms told (way.Chunks old) (way.Chunks new) before after
+    (engine.IsMetThere ways.terms (way.Chunks old)) result
 finishes_by told old new before after (Ok u) aimed ends = ends_well told old new before after aimed ends
 finishes_by told old new before after (Err why) aimed (inl ends) = ends_cut told old new before after why ends
 finishes_by told old new before after (Err why) aimed (inr (is, bound, changes)) =
@@ -268,7 +281,8 @@ said_waits : (said : Option ℕ) (state : ChunkerState) (x : List ℕ) → Holds
 said_waits None state x holds = holds.waits
 said_waits (Some size) state x holds = holds.waits
 
-pub chunks_wait : (state : ChunkerState) (x : List ℕ) → Holds state x → length state.waiting ≡ length ((work state).waiting x)
+pub chunks_wait : (state : ChunkerState) (x : List ℕ) → Holds state x
+    → length state.waiting ≡ length ((work state).waiting x)
 chunks_wait state x holds = ap length (said_waits state.said state x holds
     ∙ sym (waiting_is (course state.cutter) state.cutter.chunks state.said x)
     ∙ ap (λ (those : Work). those.waiting x) (sym (works_so state (holds_can state.said state x holds))))
@@ -278,11 +292,13 @@ if_suffixes : (test : Bool) → (if test then None else Some Changed) ≡ Some S
 if_suffixes true is = cc
 if_suffixes false is = cc
 
-suffixes_on : (on : Course) (chunks : Chunks) (said : Option ℕ) (x : List ℕ) → Judges (work_on on chunks said) x Suffixes → ⊥
+suffixes_on : (on : Course) (chunks : Chunks) (said : Option ℕ) (x : List ℕ)
+    → Judges (work_on on chunks said) x Suffixes → ⊥
 suffixes_on (in_files filing elide) chunks said x is = if_suffixes _ is
 suffixes_on (in_output chunk) chunks said x is = if_suffixes _ is
 
-suffixes_if : (can : Bool) (those : Work) (x : List ℕ) → (Judges those x Suffixes → ⊥) → Judges (made_if can those) x Suffixes → ⊥
+suffixes_if : (can : Bool) (those : Work) (x : List ℕ) → (Judges those x Suffixes → ⊥)
+    → Judges (made_if can those) x Suffixes → ⊥
 suffixes_if true those x none is = none is
 suffixes_if false those x none is = cc
 
@@ -291,7 +307,8 @@ no_suffixes state x = suffixes_if _ (made state) x (suffixes_on (course state.cu
 
 -- where all go to files, more can come until there is more than was said
 files_open : (filing : Filing) (elide : Bool) (chunks : Chunks) (said : Option ℕ) (state : ChunkerState) (z : List ℕ)
-    → course state.cutter ≡ in_files filing elide → state.cutter.chunks ≡ chunks → HoldsBy said state z → is_longer said z ≡ false
+    → course state.cutter ≡ in_files filing elide → state.cutter.chunks ≡ chunks → HoldsBy said state z
+    → is_longer said z ≡ false
 files_open filing elide chunks None state z on same holds = refl
 files_open filing elide chunks (Some size) state z on same holds = elim holds.spare.enough [
   | inl none ↦
@@ -303,7 +320,8 @@ files_open filing elide chunks (Some size) state z on same holds = elim holds.sp
 ]
 
 -- what doesn't write bytes of its own to standard output isn't complete
-pub open_beside : (state : ChunkerState) (z : List ℕ) (those : Work) → work state ≡ those → (those.means.output ≡ gets_bytes → ⊥)
+pub open_beside : (state : ChunkerState) (z : List ℕ) (those : Work) → work state ≡ those
+    → (those.means.output ≡ gets_bytes → ⊥)
     → Holds state z → those.is_complete z ≡ false
 open_beside state z those same beside holds = by (course state.cutter) refl where
   is : work state ≡ made state

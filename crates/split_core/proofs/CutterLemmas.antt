@@ -43,7 +43,9 @@ begun_from delim (suc q) [] = refl
 begun_from delim (suc q) (byte ∷ x) =
     begun_first delim byte (suc (suc q)) x (omega arith) ∙ ap (λ more. byte ∷ more) (same (eqb byte delim) ∙ begun_from delim q x)
   where
-    same : (ends : Bool) → cond ends (begun_before Lines delim (suc (suc q) - 1) x) (begun_before Lines delim (max (suc (suc q) - 1) 1) x)
+    same : (ends : Bool)
+        → cond ends (begun_before Lines delim (suc (suc q) - 1) x)
+        (begun_before Lines delim (max (suc (suc q) - 1) 1) x)
         ≡ begun_before Lines delim (suc q) x
     same true = ap (λ n. begun_before Lines delim n x) (omega arith)
     same false = ap (λ n. begun_before Lines delim n x) (omega arith)
@@ -60,7 +62,8 @@ begun_line delim {rest = byte ∷ rest} {first} more is line some =
     ∙ ap (λ n. first ++ joined (lines_before n (lines_of delim more))) e
     ∙ ap (λ past. first ++ past) (begun_none delim (lines_of delim more)) ∙ append-nil first
 
-pub cut_lines : (delim q w : ℕ) (x : List ℕ) {rest first : List ℕ} (more : List ℕ) → w ≤ length x → w ≤ q → (w < q → w ≡ length x)
+pub cut_lines : (delim q w : ℕ) (x : List ℕ) {rest first : List ℕ} (more : List ℕ) → w ≤ length x → w ≤ q
+    → (w < q → w ≡ length x)
     → rest ≡ drop w x → rest ≡ first ++ more → (0 < length rest → lines_of delim rest ≡ first ∷ lines_of delim more)
     → (0 < length rest → 0 < length first) → take (w + length first) x ≡ begun_before Lines delim (suc q) x
 cut_lines delim q w x {rest} {first} more within low all is split line some = elim (cases_lt w q) [
@@ -77,7 +80,8 @@ cut_lines delim q w x {rest} {first} more within low all is split line some = el
 -- Chunks end one after another
 
 -- each of them changes what is there to what it is once it ended
-pub record Ending (told : Bool) (cutter : CutterState) (size : ℕ) (old slots : List Slot) (now : CutterState) : Type 0 where
+pub record Ending (told : Bool) (cutter : CutterState) (size : ℕ) (old slots : List Slot) (now : CutterState)
+    : Type 0 where
   pub chunks : now.chunks ≡ cutter.chunks
   pub at : now.at ≡ cutter.at
   pub within : now.is_within ≡ cutter.is_within
@@ -86,7 +90,8 @@ pub record Ending (told : Bool) (cutter : CutterState) (size : ℕ) (old slots :
       (λ x. with_fulls (now.target.place - cutter.target.place) x.1) old slots now.target None
   pub low : (p : ℕ) → cutter.target.place ≤ p → IsUpTo cutter.chunks.count size cutter.at p → now.target.place ≤ p
 
-pub ends_none : {told : Bool} {cutter : CutterState} {size : ℕ} {slots : List Slot} → IsAimed cutter.target.aim slots → Ending told cutter size slots slots cutter
+pub ends_none : {told : Bool} {cutter : CutterState} {size : ℕ} {slots : List Slot} → IsAimed cutter.target.aim slots
+    → Ending told cutter size slots slots cutter
 ends_none {told} {cutter} {size} {slots} ready = record {
   chunks = refl;
   at = refl;
@@ -104,13 +109,16 @@ full_begins : (on : Course) (cut : CutUp) → Begins (part_on on cut) (part_on o
 full_begins (in_files filing elide) cut = subst (λ high. Begins (draft_part (manner_of filing) (draft_by elide cut)) (draft_part (manner_of filing) high)) (ends_full elide cut) (ends_begin elide (manner_of filing) (draft_by elide cut))
 full_begins (in_output chunk) cut = rw (piece_full (pieces_in cut) chunk) (part_begins_itself (piece_at chunk cut))
 
-pub fulls_begin : (on : Course) (cut : CutUp) (few more : ℕ) → Begins (part_on on (with_fulls few cut)) (part_on on (with_fulls (few + more) cut))
+pub fulls_begin : (on : Course) (cut : CutUp) (few more : ℕ)
+    → Begins (part_on on (with_fulls few cut)) (part_on on (with_fulls (few + more) cut))
 fulls_begin on cut few zero = let e : few + 0 ≡ few = omega arith in rw e (part_begins_itself _)
 fulls_begin on cut few (suc more) = let e : few + suc more ≡ suc (few + more) = omega arith in
     rw e (part_trans _ _ _ (fulls_begin on cut few more) (full_begins on (with_fulls (few + more) cut)))
 
-module _ {told : Bool} {cutter now : CutterState} {size : ℕ} {old slots : List Slot} (so_far : Ending told cutter size old slots now)
-    (less : now.target.place < now.chunks.count) (ends : chunk_start now.chunks.count size (now.target.place + 1) ≤ now.at) where
+module _ {told : Bool} {cutter now : CutterState} {size : ℕ} {old slots : List Slot}
+    (so_far : Ending told cutter size old slots now)
+    (less : now.target.place < now.chunks.count)
+    (ends : chunk_start now.chunks.count size (now.target.place + 1) ≤ now.at) where
   abbrev k : ℕ
   k = now.target.place - cutter.target.place
 
@@ -122,13 +130,15 @@ module _ {told : Bool} {cutter now : CutterState} {size : ℕ} {old slots : List
         absurd (omega (arith, next, ends, so_far.at, ap (λ (chunks : Chunks). chunk_start chunks.count size (now.target.place + 1)) so_far.chunks, ap (λ p. chunk_start cutter.chunks.count size (p + 1)) e)))
   ]
 
-  pub next_sends : {next : TargetState} {new : List Slot} (fault : Option Fault) → Changes told now.target with_full slots new next fault
+  pub next_sends : {next : TargetState} {new : List Slot} (fault : Option Fault)
+      → Changes told now.target with_full slots new next fault
       → Sends told cutter.target (EndsBefore cutter size) (λ x. x.1) (λ x. with_fulls (suc k) x.1) old new next fault
   next_sends {next} {new} fault went = sends_then so_far.sends
       (λ x so has. (has, rw so_far.sends.brings.stays (name_of (course cutter) cutter.chunks.count now.target.place so.all (omega (arith, less, ap (λ (chunks : Chunks). chunks.count) so_far.chunks)))))
       (sends_as {Also = λ x. GoesOn now.target (with_fulls k x.1)} (λ x. with_fulls k x.1) fault (λ x so. so) (λ x so. refl) (λ x so. refl) went)
 
-  pub ends_next : {next : CutterState} {new : List Slot} → next.chunks ≡ now.chunks → next.at ≡ now.at → next.is_within ≡ now.is_within → next.target.place ≡ now.target.place + 1
+  pub ends_next : {next : CutterState} {new : List Slot} → next.chunks ≡ now.chunks → next.at ≡ now.at
+      → next.is_within ≡ now.is_within → next.target.place ≡ now.target.place + 1
       → Changes told now.target with_full slots new next.target None → Ending told cutter size old new next
   ends_next {next} {new} chunks at within place went = record {
     chunks = chunks ∙ so_far.chunks;
@@ -139,8 +149,10 @@ module _ {told : Bool} {cutter now : CutterState} {size : ℕ} {old slots : List
     low = λ p from is. omega (arith, place, later p from is);
   }
 
-  pub ends_stopped : {next : CutterState} {new : List Slot} {why : Fault} → next.chunks ≡ now.chunks → next.at ≡ now.at → next.is_within ≡ now.is_within
-      → Changes told now.target with_full slots new next.target (Some why) → EndsUp told cutter size old new next (Some why)
+  pub ends_stopped : {next : CutterState} {new : List Slot} {why : Fault} → next.chunks ≡ now.chunks → next.at ≡ now.at
+      → next.is_within ≡ now.is_within
+      → Changes told now.target with_full slots new next.target (Some why)
+      → EndsUp told cutter size old new next (Some why)
   ends_stopped {next} {new} {why} chunks at within stopped = record {
     chunks = chunks ∙ so_far.chunks;
     at = at ∙ so_far.at;
@@ -150,8 +162,10 @@ module _ {told : Bool} {cutter now : CutterState} {size : ℕ} {old slots : List
         rw e at (fulls_begin (course cutter) x.1 (suc k) more)) (next_sends (Some why) stopped);
   }
 
-pub ends_so : {told : Bool} {cutter now : CutterState} {size : ℕ} {old slots : List Slot} → Ending told cutter size old slots now
-    → (now.target.place < now.chunks.count → now.at < chunk_start now.chunks.count size (now.target.place + 1)) → EndsUp told cutter size old slots now None
+pub ends_so : {told : Bool} {cutter now : CutterState} {size : ℕ} {old slots : List Slot}
+    → Ending told cutter size old slots now
+    → (now.target.place < now.chunks.count → now.at < chunk_start now.chunks.count size (now.target.place + 1))
+    → EndsUp told cutter size old slots now None
 ends_so {told} {cutter} {now} {size} so_far last = record {
   chunks = so_far.chunks;
   at = so_far.at;
@@ -174,18 +188,21 @@ ends_so {told} {cutter} {now} {size} so_far last = record {
 -- Where a line is open
 
 -- what begins before a place and goes on begins before it
-pub begins_early : (unit : Unit) (delim place : ℕ) (x y : List ℕ) → begun_before unit delim place (x ++ y) ≡ x ++ y → 0 < length y → open_from unit delim x < place
+pub begins_early : (unit : Unit) (delim place : ℕ) (x y : List ℕ) → begun_before unit delim place (x ++ y) ≡ x ++ y
+    → 0 < length y → open_from unit delim x < place
 begins_early unit delim place x y all some = elim (cases_lt (open_from unit delim x) place) [
   | inl before ↦ before
   | inr past ↦ absurd (omega (arith, some, length-append x y, ap length all, ap length (begun_stays unit delim place x y past), begun_within unit delim place x))
 ]
 
-open_of_whole : (delim : ℕ) (x : List ℕ) → open_from Lines delim (first_lines delim (delimiters delim x) x) ≡ open_from Lines delim x
+open_of_whole : (delim : ℕ) (x : List ℕ)
+    → open_from Lines delim (first_lines delim (delimiters delim x) x) ≡ open_from Lines delim x
 open_of_whole delim x = let d = delimiters delim x in let first = first_lines delim d x in
     ap (λ n. length (first_lines delim n first)) (delimiters-first_lines delim d x (omega arith))
     ∙ ap length (ap joined (ap (take d) (lines_of-first_lines delim d x) ∙ take-take d d (lines_of delim x) (omega arith)))
 
-pub open_early : (unit : Unit) (delim place : ℕ) (x : List ℕ) → begun_before unit delim place x ≡ x → is_within unit delim x ≡ true → open_from unit delim x < place
+pub open_early : (unit : Unit) (delim place : ℕ) (x : List ℕ) → begun_before unit delim place x ≡ x
+    → is_within unit delim x ≡ true → open_from unit delim x < place
 open_early Bytes delim place x all within = absurd (omega (arith, ltb-true _ _ within))
 open_early Lines delim place x all within = let first = first_lines delim (delimiters delim x) x in
     let rest = drop (length first) x in
@@ -193,13 +210,16 @@ open_early Lines delim place x all within = let first = first_lines delim (delim
     let early = begins_early Lines delim place first rest (ap (begun_before Lines delim place) both ∙ all ∙ sym both) (omega (arith, ltb-true _ _ within, ap length both, length-append first rest)) in
     omega (arith, early, open_of_whole delim x)
 
-pub no_line : (unit : Unit) (delim : ℕ) (x : List ℕ) → is_within unit delim x ≡ false → open_from unit delim x ≡ length x
+pub no_line : (unit : Unit) (delim : ℕ) (x : List ℕ) → is_within unit delim x ≡ false
+    → open_from unit delim x ≡ length x
 no_line unit delim x none = omega (arith, ltb-false _ _ none, open_within unit delim x)
 
-pub within_last : (unit : Unit) (delim : ℕ) (x y : List ℕ) → 0 < length y → is_within unit delim (x ++ y) ≡ is_within unit delim y
+pub within_last : (unit : Unit) (delim : ℕ) (x y : List ℕ) → 0 < length y
+    → is_within unit delim (x ++ y) ≡ is_within unit delim y
 within_last Bytes delim x y some = grind (arith, nat_tests)
 within_last Lines delim x y some = by (nat_lt 0 (delimiters delim y)) refl (open_append delim x y) where
-  by : (more : Bool) → nat_lt 0 (delimiters delim y) ≡ more → open_from Lines delim (x ++ y) ≡ cond more (length x + open_from Lines delim y) (open_from Lines delim x)
+  by : (more : Bool) → nat_lt 0 (delimiters delim y) ≡ more
+      → open_from Lines delim (x ++ y) ≡ cond more (length x + open_from Lines delim y) (open_from Lines delim x)
       → is_within Lines delim (x ++ y) ≡ is_within Lines delim y
   by true has is = rw (is, length-append x y) (grind (arith, nat_tests))
   by false has is = let none : delimiters delim y ≡ 0 = omega (arith, ltb-false _ _ has) in
@@ -208,7 +228,8 @@ within_last Lines delim x y some = by (nat_lt 0 (delimiters delim y)) refl (open
 -- The chunks that have ended
 
 -- where a line is open before the end of its chunk, no more
-pub still_ended : (chunks : Chunks) (size place : ℕ) (x : List ℕ) → length x < size → before_chunk chunks size (place + 1) x ≡ x → is_within chunks.unit chunks.delim x ≡ true
+pub still_ended : (chunks : Chunks) (size place : ℕ) (x : List ℕ) → length x < size
+    → before_chunk chunks size (place + 1) x ≡ x → is_within chunks.unit chunks.delim x ≡ true
     → place ≤ ended chunks size x → ended chunks size x ≡ place
 still_ended chunks size place x short all within from = let is = ended_is chunks size x in ended_only {chunks = chunks} {size = size} {x = x} (record {
   within = omega (arith, from, is.within);
@@ -217,14 +238,16 @@ still_ended chunks size place x short all within from = let is = ended_is chunks
 })
 
 -- else just those before the text's end
-pub passed_all : (chunks : Chunks) (size : ℕ) (x : List ℕ) → length x ≤ size → (is_within chunks.unit chunks.delim x ≡ false) ⊎ (size ≤ length x) → passed chunks size x ≡ length x
+pub passed_all : (chunks : Chunks) (size : ℕ) (x : List ℕ) → length x ≤ size
+    → (is_within chunks.unit chunks.delim x ≡ false) ⊎ (size ≤ length x) → passed chunks size x ≡ length x
 passed_all chunks size x fits (inl none) = elim (cases_lt (length x) size) [
   | inl short ↦ passed_open chunks size x short ∙ no_line chunks.unit chunks.delim x none
   | inr full ↦ omega (arith, passed_full chunks size x full, fits, full)
 ]
 passed_all chunks size x fits (inr full) = omega (arith, passed_full chunks size x full, fits, full)
 
-pub ends_open : {told : Bool} {cutter : CutterState} {size : ℕ} {slots : List Slot} → IsAimed cutter.target.aim slots → cutter.is_within ≡ true → cutter.at < size → EndsFull told cutter size slots slots cutter None
+pub ends_open : {told : Bool} {cutter : CutterState} {size : ℕ} {slots : List Slot} → IsAimed cutter.target.aim slots
+    → cutter.is_within ≡ true → cutter.at < size → EndsFull told cutter size slots slots cutter None
 ends_open {told} {cutter} {size} {slots} ready within short = record {
   chunks = refl;
   at = refl;
@@ -234,7 +257,9 @@ ends_open {told} {cutter} {size} {slots} ready within short = record {
       ap (λ n. with_fulls n x.1) (sym e)) (sends_none ready (λ x so. so.carries));
 }
 
-pub ends_full_by : {told : Bool} {cutter next : CutterState} {size : ℕ} {old new : List Slot} {fault : Option Fault} → (cutter.is_within ≡ false) ⊎ (size ≤ cutter.at) → EndsUp told cutter size old new next fault → EndsFull told cutter size old new next fault
+pub ends_full_by : {told : Bool} {cutter next : CutterState} {size : ℕ} {old new : List Slot} {fault : Option Fault}
+    → (cutter.is_within ≡ false) ⊎ (size ≤ cutter.at) → EndsUp told cutter size old new next fault
+    → EndsFull told cutter size old new next fault
 ends_full_by {cutter = cutter} {size = size} {fault = fault} goes ends = record {
   chunks = ends.chunks;
   at = ends.at;
@@ -247,7 +272,8 @@ ends_full_by {cutter = cutter} {size = size} {fault = fault} goes ends = record 
         is = record { within = is.within; before = omega (arith, all, is.before); next = λ less. omega (arith, all, is.next less) };
       }) (λ x so. refl) (λ x so. refl) ends.sends;
 } where
-  by : (x : List ℕ × CutUp) → IsCutOff cutter size x → (cutter.is_within ≡ false) ⊎ (size ≤ cutter.at) → (is_within cutter.chunks.unit cutter.chunks.delim x.0 ≡ false) ⊎ (size ≤ length x.0)
+  by : (x : List ℕ × CutUp) → IsCutOff cutter size x → (cutter.is_within ≡ false) ⊎ (size ≤ cutter.at)
+      → (is_within cutter.chunks.unit cutter.chunks.delim x.0 ≡ false) ⊎ (size ≤ length x.0)
   by x so (inl none) = inl (sym so.within ∙ none)
   by x so (inr full) = inr (omega (arith, full, so.at))
 
@@ -257,16 +283,20 @@ more_empty : (more : ℕ) → ◌≡◌ {A = List (List ℕ)} (replicate more []
 more_empty zero = refl
 more_empty (suc more) = ap (λ rest. [] ∷ rest) (more_empty more)
 
-pub fulls_are : (more : ℕ) (cut : CutUp) → with_fulls (suc more) cut ≡ record { full = cut.full ++ cut.rest ∷ replicate more []; rest = [] }
+pub fulls_are : (more : ℕ) (cut : CutUp)
+    → with_fulls (suc more) cut ≡ record { full = cut.full ++ cut.rest ∷ replicate more []; rest = [] }
 fulls_are zero cut = refl
 fulls_are (suc more) cut = ap with_full (fulls_are more cut)
     ∙ ap (λ full. record { full = full; rest = [] }) (append_assoc cut.full (cut.rest ∷ replicate more []) ([] ∷ []) ∙ ap (λ rest. cut.full ++ cut.rest ∷ rest) (more_empty more))
 
-pub cut_of : (chunks : Chunks) (size : ℕ) (x : List ℕ) → length x ≤ size → chunks_of chunks size x ≡ chunks_within chunks size x
+pub cut_of : (chunks : Chunks) (size : ℕ) (x : List ℕ) → length x ≤ size
+    → chunks_of chunks size x ≡ chunks_within chunks size x
 cut_of chunks size x within = ap (chunks_within chunks size) (take_all size x within)
 
-pub grown : (chunks : Chunks) (size : ℕ) (x y : List ℕ) → 0 < chunks.count → length (x ++ y) ≤ size → before_chunk chunks size (ended chunks size x + 1) (x ++ y) ≡ x ++ y
-    → with_fulls (ended chunks size (x ++ y) - ended chunks size x) (with_rest y (chunks_within chunks size x)) ≡ chunks_within chunks size (x ++ y)
+pub grown : (chunks : Chunks) (size : ℕ) (x y : List ℕ) → 0 < chunks.count → length (x ++ y) ≤ size
+    → before_chunk chunks size (ended chunks size x + 1) (x ++ y) ≡ x ++ y
+    → with_fulls (ended chunks size (x ++ y) - ended chunks size x) (with_rest y (chunks_within chunks size x))
+    ≡ chunks_within chunks size (x ++ y)
 grown chunks size x y some within all = elim (cases_lt (ended chunks size x) (ended chunks size (x ++ y))) [
   | inr same ↦
       let e : ended chunks size (x ++ y) ≡ ended chunks size x = omega (arith, same, ended_grows chunks size x y) in
@@ -292,7 +322,8 @@ begin_so (in_files filing elide) low high goes = part_begins filing _ _ (shares_
 begin_so (in_output chunk) low high goes = out_begins _ _ (piece_on chunk goes)
 
 -- what is there of a text begins what is there once it goes on
-pub so_grows : (on : Course) (chunks : Chunks) (size : ℕ) (x y : List ℕ) → 0 < chunks.count → length (x ++ y) ≤ size → Begins (part_on on (chunks_within chunks size x)) (part_on on (chunks_within chunks size (x ++ y)))
+pub so_grows : (on : Course) (chunks : Chunks) (size : ℕ) (x y : List ℕ) → 0 < chunks.count → length (x ++ y) ≤ size
+    → Begins (part_on on (chunks_within chunks size x)) (part_on on (chunks_within chunks size (x ++ y)))
 so_grows on chunks size x y some within = rw (← cut_of chunks size x (omega (arith, within, length-append x y)), ← cut_of chunks size (x ++ y) within) (begin_so on _ _ (chunks_go_on chunks size x y some))
 
 -- what is known of a text of which so much was cut off, where more comes than its size is long
@@ -301,16 +332,19 @@ pub record Place (cutter : CutterState) (size : ℕ) (x : List ℕ) : Type 0 whe
   pub some : 0 < cutter.chunks.count
   pub is : ended cutter.chunks size x ≡ cutter.target.place
   pub less : cutter.target.place < cutter.chunks.count
-  pub early : open_from cutter.chunks.unit cutter.chunks.delim x < chunk_start cutter.chunks.count size (cutter.target.place + 1)
+  pub early : open_from cutter.chunks.unit cutter.chunks.delim x < chunk_start cutter.chunks.count size
+      (cutter.target.place + 1)
 
 pub some_of : (on : Course) (count : ℕ) → can_cut on count ≡ true → 0 < count
 some_of (in_files filing elide) count can = ltb-true _ _ can
 some_of (in_output chunk) count can = omega (arith, ltb-true _ _ can)
 
-pub placed_at : {cutter : CutterState} {size : ℕ} {x : List ℕ} → IsCut cutter size x → ended cutter.chunks size x ≡ cutter.target.place
+pub placed_at : {cutter : CutterState} {size : ℕ} {x : List ℕ} → IsCut cutter size x
+    → ended cutter.chunks size x ≡ cutter.target.place
 placed_at {cutter} {size} {x} is = sym (length-map-range_with_len (chunk_at cutter.chunks size x) 0 (ended cutter.chunks size x)) ∙ is.cut.carries.placed
 
-pub place_of : {cutter : CutterState} {size : ℕ} {x : List ℕ} (y : List ℕ) → IsCut cutter size x → 0 < length y → length (x ++ y) ≤ size → Place cutter size x
+pub place_of : {cutter : CutterState} {size : ℕ} {x : List ℕ} (y : List ℕ) → IsCut cutter size x → 0 < length y
+    → length (x ++ y) ≤ size → Place cutter size x
 place_of {cutter} {size} {x} y is some within = let chunks = cutter.chunks in
     let short : length x < size = omega (arith, some, within, length-append x y) in
     let count : 0 < chunks.count = some_of (course cutter) chunks.count is.cut.can in
@@ -330,19 +364,24 @@ place_of {cutter} {size} {x} y is some within = let chunks = cutter.chunks in
 abbrev pub end_so : CutterState → ℕ → ℕ
 end_so cutter size = chunk_start cutter.chunks.count size (min (cutter.target.place + 1) cutter.chunks.count)
 
-end_here : {cutter : CutterState} {size : ℕ} {x : List ℕ} → Place cutter size x → end_so cutter size ≡ chunk_start cutter.chunks.count size (cutter.target.place + 1)
+end_here : {cutter : CutterState} {size : ℕ} {x : List ℕ} → Place cutter size x
+    → end_so cutter size ≡ chunk_start cutter.chunks.count size (cutter.target.place + 1)
 end_here {cutter} {size} at = let e : min (cutter.target.place + 1) cutter.chunks.count ≡ cutter.target.place + 1 = omega (arith, at.less) in ap (chunk_start cutter.chunks.count size) e
 
 -- all of it stands before that
 all_before : {cutter : CutterState} {size : ℕ} {x : List ℕ} (text : List ℕ) → IsCut cutter size x → Place cutter size x
-    → before_chunk cutter.chunks size (ended cutter.chunks size x + 1) (x ++ cut_to cutter (end_so cutter size) text) ≡ x ++ cut_to cutter (end_so cutter size) text
+    → before_chunk cutter.chunks size (ended cutter.chunks size x + 1) (x ++ cut_to cutter (end_so cutter size) text)
+    ≡ x ++ cut_to cutter (end_so cutter size) text
 all_before {cutter} {size} {x} text is at = let chunks = cutter.chunks in let place = cutter.target.place in
     let here : HaveEnded chunks size x place = subst (HaveEnded chunks size x) at.is (ended_is chunks size x) in
     rw (at.is, end_here at, is.cut.at) (piece_all chunks size x text at.short here at.less)
 
 -- it goes to the chunk that was begun
-changes_cut : {told : Bool} {cutter : CutterState} {next : TargetState} {size : ℕ} (y : List ℕ) {old new : List Slot} (fault : Option Fault) → Changes told cutter.target (with_rest y) old new next fault
-    → Sends told cutter.target (λ x. IsCut cutter size x × Place cutter size x) (chunks_within cutter.chunks size) (λ x. with_rest y (chunks_within cutter.chunks size x)) old new next fault
+changes_cut : {told : Bool} {cutter : CutterState} {next : TargetState} {size : ℕ} (y : List ℕ) {old new : List Slot}
+    (fault : Option Fault) → Changes told cutter.target (with_rest y) old new next fault
+    → Sends told cutter.target (λ x. IsCut cutter size x
+    × Place cutter size x) (chunks_within cutter.chunks size)
+    (λ x. with_rest y (chunks_within cutter.chunks size x)) old new next fault
 changes_cut {cutter = cutter} {size = size} y fault changes = sends_as (chunks_within cutter.chunks size) fault
     (λ x so. (so.0.cut.carries, name_of (course cutter) cutter.chunks.count cutter.target.place so.0.cut.all so.1.less)) (λ x so. refl) (λ x so. refl) changes
 
@@ -359,9 +398,14 @@ abbrev pub CutsOn : CutterState → ℕ → List ℕ → List ℕ → Type 0
 CutsOn cutter size y x = IsCut cutter size x × Place cutter size x × (length (x ++ y) ≤ size)
     × (before_chunk cutter.chunks size (ended cutter.chunks size x + 1) (x ++ y) ≡ x ++ y)
 
-ends_cut : {told : Bool} {cutter mid : CutterState} {next : TargetState} {size : ℕ} {y : List ℕ} {old new : List Slot} (fault : Option Fault) → Cutting cutter mid y
-    → Sends told mid.target (IsCutOff mid size) (λ x. x.1) (λ x. with_fulls (ended mid.chunks size x.0 - mid.target.place) x.1) old new next fault
-    → Sends told mid.target (λ x. CutsOn cutter size y x × Carries mid.target (with_rest y (chunks_within cutter.chunks size x))) (λ x. with_rest y (chunks_within cutter.chunks size x)) (λ x. chunks_within cutter.chunks size (x ++ y)) old new next fault
+ends_cut : {told : Bool} {cutter mid : CutterState} {next : TargetState} {size : ℕ} {y : List ℕ} {old new : List Slot}
+    (fault : Option Fault) → Cutting cutter mid y
+    → Sends told mid.target (IsCutOff mid size) (λ x. x.1)
+    (λ x. with_fulls (ended mid.chunks size x.0 - mid.target.place) x.1) old new next fault
+    → Sends told mid.target (λ x. CutsOn cutter size y x
+    × Carries mid.target (with_rest y (chunks_within cutter.chunks size x)))
+    (λ x. with_rest y (chunks_within cutter.chunks size x))
+    (λ x. chunks_within cutter.chunks size (x ++ y)) old new next fault
 ends_cut {cutter = cutter} {mid} {size = size} {y} fault is ends = sends_as (λ x. (x ++ y, with_rest y (chunks_within cutter.chunks size x))) fault
     (λ x so. let (here, place, within, all) = so.0 in record {
       carries = so.1;
@@ -375,12 +419,18 @@ ends_cut {cutter = cutter} {mid} {size = size} {y} fault is ends = sends_as (λ 
     (λ x so. let (here, place, within, all) = so.0 in
     rw (is.chunks, is.place, ← place.is) (grown cutter.chunks size x y place.some within all)) ends
 
-pub both_cut : {told : Bool} {cutter mid : CutterState} {next : TargetState} {size : ℕ} {y : List ℕ} {old wet new : List Slot} (fault : Option Fault) → Cutting cutter mid y → Changes told cutter.target (with_rest y) old wet mid.target None
-    → Sends told mid.target (IsCutOff mid size) (λ x. x.1) (λ x. with_fulls (ended mid.chunks size x.0 - mid.target.place) x.1) wet new next fault
-    → Sends told cutter.target (CutsOn cutter size y) (chunks_within cutter.chunks size) (λ x. chunks_within cutter.chunks size (x ++ y)) old new next fault
+pub both_cut : {told : Bool} {cutter mid : CutterState} {next : TargetState} {size : ℕ} {y : List ℕ}
+    {old wet new : List Slot} (fault : Option Fault) → Cutting cutter mid y
+    → Changes told cutter.target (with_rest y) old wet mid.target None
+    → Sends told mid.target (IsCutOff mid size) (λ x. x.1)
+    (λ x. with_fulls (ended mid.chunks size x.0 - mid.target.place) x.1) wet new next fault
+    → Sends told cutter.target (CutsOn cutter size y) (chunks_within cutter.chunks size)
+    (λ x. chunks_within cutter.chunks size (x ++ y)) old new next fault
 both_cut {y = y} fault is changes ends = sends_then (sends_as (λ x. x) None (λ x so. (so.0, so.1)) (λ x so. refl) (λ x so. refl) (changes_cut y None changes)) (λ x so has. (so, has)) (ends_cut fault is ends)
 
-pub has_cut : {cutter next : CutterState} {x : List ℕ} (y : List ℕ) {from to : CutUp} → next.chunks ≡ cutter.chunks → course next ≡ course cutter → next.at ≡ cutter.at + length y → next.is_within ≡ is_within cutter.chunks.unit cutter.chunks.delim y → 0 < length y
+pub has_cut : {cutter next : CutterState} {x : List ℕ} (y : List ℕ) {from to : CutUp} → next.chunks ≡ cutter.chunks
+    → course next ≡ course cutter → next.at ≡ cutter.at + length y
+    → next.is_within ≡ is_within cutter.chunks.unit cutter.chunks.delim y → 0 < length y
     → HasCut cutter x from → Carries next.target to → HasCut next (x ++ y) to
 has_cut {cutter} {x = x} y chunks stays at within some has carries = record {
   can = rw (stays, chunks) has.can;
@@ -390,7 +440,9 @@ has_cut {cutter} {x = x} y chunks stays at within some has carries = record {
   carries = carries;
 }
 
-pub cuts_ok : {told : Bool} {cutter mid next : CutterState} {size : ℕ} (text : List ℕ) {y : List ℕ} {old wet new : List Slot} → y ≡ cut_to cutter (end_so cutter size) text → Cutting cutter mid y → Changes told cutter.target (with_rest y) old wet mid.target None
+pub cuts_ok : {told : Bool} {cutter mid next : CutterState} {size : ℕ} (text : List ℕ) {y : List ℕ}
+    {old wet new : List Slot} → y ≡ cut_to cutter (end_so cutter size) text → Cutting cutter mid y
+    → Changes told cutter.target (with_rest y) old wet mid.target None
     → EndsFull told mid size wet new next None → Cuts told cutter size y old new next None
 cuts_ok {told} {cutter} {mid} {next} {size} text {y} {old} {new = new} is step changes ends =
     let sends = both_cut None step changes ends.sends in
@@ -406,23 +458,29 @@ cuts_ok {told} {cutter} {mid} {next} {size} text {y} {old} {new = new} is step c
     }
 
 -- a fault came on the way
-begun_rest : (cutter : CutterState) (end : ℕ) (text : List ℕ) {y : List ℕ} → y ≡ cut_to cutter end text → (rest : List ℕ) × (text ≡ y ++ rest)
+begun_rest : (cutter : CutterState) (end : ℕ) (text : List ℕ) {y : List ℕ} → y ≡ cut_to cutter end text
+    → (rest : List ℕ) × (text ≡ y ++ rest)
 begun_rest cutter end text is = rw is (begun_begins cutter.chunks.unit cutter.chunks.delim _ text)
 
 fulls_follow : (on : Course) (cut : CutUp) (n : ℕ) → Begins (part_on on cut) (part_on on (with_fulls n cut))
 fulls_follow on cut n = let e : 0 + n ≡ n = omega arith in rw e at (fulls_begin on cut 0 n)
 
-module _ {cutter : CutterState} {size : ℕ} (text : List ℕ) {y : List ℕ} (is_cut : y ≡ cut_to cutter (end_so cutter size) text) (some : 0 < length text) where
+module _ {cutter : CutterState} {size : ℕ} (text : List ℕ) {y : List ℕ}
+    (is_cut : y ≡ cut_to cutter (end_so cutter size) text) (some : 0 < length text) where
   so_more : (x : List ℕ) → IsCut cutter size x × (length (x ++ text) ≤ size) → CutsOn cutter size y x
   so_more x (is, within) = let (rest, both) = begun_rest cutter (end_so cutter size) text is_cut in let place = place_of text is some within in
       (is, place, omega (arith, within, length-append x text, length-append x y, ap length both, length-append y rest), rw is_cut (all_before text is place))
 
-  to_all : (on : Course) (x : List ℕ) → CutsOn cutter size y x → length (x ++ text) ≤ size → Begins (part_on on (chunks_within cutter.chunks size (x ++ y))) (part_on on (chunks_within cutter.chunks size (x ++ text)))
+  to_all : (on : Course) (x : List ℕ) → CutsOn cutter size y x → length (x ++ text) ≤ size
+      → Begins (part_on on (chunks_within cutter.chunks size (x ++ y)))
+      (part_on on (chunks_within cutter.chunks size (x ++ text)))
   to_all on x (is, place, within, all) fits = let (rest, both) = begun_rest cutter (end_so cutter size) text is_cut in
       let e : (x ++ y) ++ rest ≡ x ++ text = append_assoc x y rest ∙ ap (λ more. x ++ more) (sym both) in
       rw e at (so_grows on cutter.chunks size (x ++ y) rest place.some (omega (arith, ap length e, fits)))
 
-  pub cuts_none : {told : Bool} {next : CutterState} {old new : List Slot} {why : Fault} → next.chunks ≡ cutter.chunks → next.at ≤ cutter.at + length text → Changes told cutter.target (with_rest y) old new next.target (Some why) → Cuts told cutter size text old new next (Some why)
+  pub cuts_none : {told : Bool} {next : CutterState} {old new : List Slot} {why : Fault} → next.chunks ≡ cutter.chunks
+      → next.at ≤ cutter.at + length text → Changes told cutter.target (with_rest y) old new next.target (Some why)
+      → Cuts told cutter size text old new next (Some why)
   cuts_none {why = why} chunks bound stopped = record {
     chunks = chunks;
     bound = bound;
@@ -432,7 +490,9 @@ module _ {cutter : CutterState} {size : ℕ} (text : List ℕ) {y : List ℕ} (i
     stands = tt;
   }
 
-  pub cuts_some : {told : Bool} {mid next : CutterState} {old wet new : List Slot} {why : Fault} → Cutting cutter mid y → Changes told cutter.target (with_rest y) old wet mid.target None → EndsFull told mid size wet new next (Some why) → Cuts told cutter size text old new next (Some why)
+  pub cuts_some : {told : Bool} {mid next : CutterState} {old wet new : List Slot} {why : Fault} → Cutting cutter mid y
+      → Changes told cutter.target (with_rest y) old wet mid.target None
+      → EndsFull told mid size wet new next (Some why) → Cuts told cutter size text old new next (Some why)
   cuts_some {why = why} step changes ends = record {
     chunks = ends.chunks ∙ step.chunks;
     bound = let (rest, both) = begun_rest cutter (end_so cutter size) text is_cut in omega (arith, ends.at, step.at, ap length both, length-append y rest);
@@ -442,12 +502,15 @@ module _ {cutter : CutterState} {size : ℕ} (text : List ℕ) {y : List ℕ} (i
 
 -- one byte less doesn't complete what is written
 
-not_yet : (chunks : Chunks) (size place : ℕ) (aim : AimState) (z : List ℕ) → length z < size → open_from chunks.unit chunks.delim z < chunk_start chunks.count size (place + 1) → is_past_at aim place ≡ false
+not_yet : (chunks : Chunks) (size place : ℕ) (aim : AimState) (z : List ℕ) → length z < size
+    → open_from chunks.unit chunks.delim z < chunk_start chunks.count size (place + 1) → is_past_at aim place ≡ false
     → (work_on (course_of aim) chunks (Some size)).is_complete z ≡ false
 not_yet chunks size place (to_files writer elide) z short early past = le-ltb _ _ (omega (arith, short))
 not_yet chunks size place (to_output chunk) z short early past = lt-leb _ _ (omega (arith, early, passed_open chunks size z short, start_grows chunks.count size (place + 1) (chunk + 1) (omega (arith, ltb-false _ _ past))))
 
-pub needed_in : {cutter : CutterState} {size : ℕ} {x : List ℕ} (text : List ℕ) (n : ℕ) → is_past_on cutter.target ≡ false → 0 < n → n ≤ length text → take n text ≡ cut_to cutter (end_so cutter size) text → IsCut cutter size x → length (x ++ text) ≤ size
+pub needed_in : {cutter : CutterState} {size : ℕ} {x : List ℕ} (text : List ℕ) (n : ℕ)
+    → is_past_on cutter.target ≡ false → 0 < n → n ≤ length text → take n text ≡ cut_to cutter (end_so cutter size) text
+    → IsCut cutter size x → length (x ++ text) ≤ size
     → IsOpen cutter size (x ++ take (n - 1) text)
 needed_in {cutter} {size} {x} text n going some few is has within = let chunks = cutter.chunks in
     let place = place_of text has (omega (arith, some, few)) within in
@@ -461,7 +524,8 @@ needed_in {cutter} {size} {x} text n going some few is has within = let chunks =
     (rw place.is at (begins_early chunks.unit chunks.delim _ z last all (omega (arith, one)))) going
 
 -- where a stretch was written
-pub cutting : {told : Bool} {cutter mid : CutterState} {end n : ℕ} (text : List ℕ) {old new : List Slot} → WritesTo told cutter end text old new mid (Ok n) → Cutting cutter mid (take n text)
+pub cutting : {told : Bool} {cutter mid : CutterState} {end n : ℕ} (text : List ℕ) {old new : List Slot}
+    → WritesTo told cutter end text old new mid (Ok n) → Cutting cutter mid (take n text)
 cutting {n = n} text writes = record {
   some = omega (arith, writes.count.0, writes.count.1, length-take n text);
   chunks = writes.chunks;
@@ -473,7 +537,8 @@ cutting {n = n} text writes = record {
 
 -- Stretch after stretch
 
-pub cuts_nothing : {told : Bool} {cutter : CutterState} {size : ℕ} {slots : List Slot} → IsAimed cutter.target.aim slots → Cuts told cutter size [] slots slots cutter None
+pub cuts_nothing : {told : Bool} {cutter : CutterState} {size : ℕ} {slots : List Slot} → IsAimed cutter.target.aim slots
+    → Cuts told cutter size [] slots slots cutter None
 cuts_nothing {told} {cutter} {size} {slots} ready = record {
   chunks = refl;
   bound = omega arith;
@@ -481,7 +546,9 @@ cuts_nothing {told} {cutter} {size} {slots} ready = record {
   stands = λ x is within. rw (append-nil x) is;
 }
 
-pub cuts_again : {told : Bool} {cutter mid next : CutterState} {size : ℕ} (first more : List ℕ) {old wet new : List Slot} (fault : Option Fault) → Cuts told cutter size first old wet mid None → Cuts told mid size more wet new next fault
+pub cuts_again : {told : Bool} {cutter mid next : CutterState} {size : ℕ} (first more : List ℕ)
+    {old wet new : List Slot} (fault : Option Fault) → Cuts told cutter size first old wet mid None
+    → Cuts told mid size more wet new next fault
     → Cuts told cutter size (first ++ more) old new next fault
 cuts_again {told} {cutter} {mid} {next} {size} first more {wet = wet} {new} fault one other = record {
   chunks = other.chunks ∙ one.chunks;
@@ -497,7 +564,9 @@ cuts_again {told} {cutter} {mid} {next} {size} first more {wet = wet} {new} faul
   low x within = omega (arith, within, length-append x (first ++ more), length-append first more, length-append x first)
 
 -- a fault came on the way to more
-pub cuts_wider : {told : Bool} {cutter next : CutterState} {size : ℕ} (first more : List ℕ) {old new : List Slot} {why : Fault} → Cuts told cutter size first old new next (Some why) → Cuts told cutter size (first ++ more) old new next (Some why)
+pub cuts_wider : {told : Bool} {cutter next : CutterState} {size : ℕ} (first more : List ℕ) {old new : List Slot}
+    {why : Fault} → Cuts told cutter size first old new next (Some why)
+    → Cuts told cutter size (first ++ more) old new next (Some why)
 cuts_wider {cutter = cutter} {size = size} first more {why = why} cuts = record {
   chunks = cuts.chunks;
   bound = omega (arith, cuts.bound, length-append first more);
@@ -507,7 +576,8 @@ cuts_wider {cutter = cutter} {size = size} first more {why = why} cuts = record 
 }
 
 -- what was cut off of a text, and what is left of it
-pub record CutsAway (told : Bool) (cutter : CutterState) (size : ℕ) (text left : List ℕ) (old slots : List Slot) (now : CutterState) : Type 0 where
+pub record CutsAway (told : Bool) (cutter : CutterState) (size : ℕ) (text left : List ℕ) (old slots : List Slot)
+    (now : CutterState) : Type 0 where
   pub done : List ℕ
   pub both : text ≡ done ++ left
   pub cuts : Cuts told cutter size done old slots now None
@@ -516,11 +586,14 @@ pub record CutsAway (told : Bool) (cutter : CutterState) (size : ℕ) (text left
   pub needed : (done ≡ []) ⊎ ((x : List ℕ) → IsCut cutter size x → length (x ++ text) ≤ size
       → IsNeeded (said_work cutter size).is_complete 1 (x ++ done))
 
-pub away_none : {told : Bool} {cutter : CutterState} {size : ℕ} {text : List ℕ} {slots : List Slot} → IsAimed cutter.target.aim slots → CutsAway told cutter size text text slots slots cutter
+pub away_none : {told : Bool} {cutter : CutterState} {size : ℕ} {text : List ℕ} {slots : List Slot}
+    → IsAimed cutter.target.aim slots → CutsAway told cutter size text text slots slots cutter
 away_none {text = text} ready = record { done = []; both = refl; cuts = cuts_nothing ready; at = omega arith; start = inl (refl, refl); needed = inl refl }
 
-module _ {told : Bool} {cutter now : CutterState} {size : ℕ} {text left : List ℕ} {old slots : List Slot} (so_far : CutsAway told cutter size text left old slots now) where
-  pub away_more : {next : CutterState} {rest : List ℕ} {n : ℕ} {new : List Slot} → (0 < n) × (n ≤ length left) × (next.at ≡ now.at + n) × Cuts told now size (take n left) slots new next None
+module _ {told : Bool} {cutter now : CutterState} {size : ℕ} {text left : List ℕ} {old slots : List Slot}
+    (so_far : CutsAway told cutter size text left old slots now) where
+  pub away_more : {next : CutterState} {rest : List ℕ} {n : ℕ} {new : List Slot}
+      → (0 < n) × (n ≤ length left) × (next.at ≡ now.at + n) × Cuts told now size (take n left) slots new next None
       × (is_past_on now.target ≡ false → (x : List ℕ) → IsCut now size x → length (x ++ left) ≤ size → IsOpen now size (x ++ take (n - 1) left)) → is_past_on now.target ≡ false → rest ≡ drop n left → CutsAway told cutter size text rest old new next
   away_more {next} {rest} {n} (some, within, at, step, going) not_past is = record {
     done = so_far.done ++ take n left;
@@ -545,10 +618,12 @@ module _ {told : Bool} {cutter now : CutterState} {size : ℕ} {text left : List
         ));
   }
 
-  pub away_stops : {next : CutterState} {new : List Slot} {why : Fault} → Cuts told now size left slots new next (Some why) → Cuts told cutter size text old new next (Some why)
+  pub away_stops : {next : CutterState} {new : List Slot} {why : Fault}
+      → Cuts told now size left slots new next (Some why) → Cuts told cutter size text old new next (Some why)
   away_stops {why = why} stops = rw so_far.both (cuts_again so_far.done left (Some why) so_far.cuts stops)
 
-  pub away_so : (length left ≡ 0) ⊎ (is_past_on now.target ≡ true) → CutsAs told cutter size text old slots now (length left)
+  pub away_so : (length left ≡ 0) ⊎ (is_past_on now.target ≡ true)
+      → CutsAs told cutter size text old slots now (length left)
   away_so ends = let e : take (length text - length left) text ≡ so_far.done = let n : length text - length left ≡ length so_far.done = omega (arith, ap length so_far.both, length-append so_far.done left) in
       ap (λ n. take n text) n ∙ ap (take (length so_far.done)) so_far.both ∙ take_at so_far.done left (length so_far.done) refl in record {
         few = omega (arith, ap length so_far.both, length-append so_far.done left);

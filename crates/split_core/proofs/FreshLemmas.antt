@@ -73,9 +73,11 @@ settled_none (in_output chunk) chunks said can long =
     ap (piece_at chunk) (none_decided chunks (max chunk 1) said (some_of (in_output chunk) _ can) long) ∙ no_piece chunk
 
 -- there was no memory for what waits, and nothing was written
-pub lacks_memory : (told : Bool) (output : Output) (high : Part) (slots : List Slot) {T : Type 0} (result : Result T Fault) (fault : Fault) → fault ≡ Memory
+pub lacks_memory : (told : Bool) (output : Output) (high : Part) (slots : List Slot) {T : Type 0}
+    (result : Result T Fault) (fault : Fault) → fault ≡ Memory
     → IsErrAnd result (λ given. given ≡ fault)
-    → IfErr result (λ fault. (before : List Slot) → OutputsAt told before nothing slots → StoppedBetween output told before nothing high fault slots)
+    → IfErr result (λ fault. (before : List Slot) → OutputsAt told before nothing slots
+    → StoppedBetween output told before nothing high fault slots)
 lacks_memory told output high slots result fault is handed = result_is
     (λ result. IfErr result (λ fault. (before : List Slot) → OutputsAt told before nothing slots → StoppedBetween output told before nothing high fault slots))
     result fault handed (λ before outputs. rw is (stopped_here output told before nothing high Memory slots slots outputs (nothing_begins_part high) refl tt tt))

@@ -41,9 +41,12 @@ use Rattle.split_core.specs.laws.ChunkWorkLaws.{length-kept}
 -- The files
 
 -- names run out for what is begun alone, and a draft that ends late has none there
-pub files_go : {told : Bool} {writer next : WriterState} {change : Draft → Draft} {old new : List Slot} {fault : Option Fault}
-    → ((manner : Manner) (draft : Draft) → Writes manner writer draft → manner.has_name (length (change draft).ended) ≡ false
-    → made_of (change draft).opening (change draft).bytes ≡ (change draft).bytes ∷ [] → manner.has_name (length draft.ended) ≡ false)
+pub files_go : {told : Bool} {writer next : WriterState} {change : Draft → Draft} {old new : List Slot}
+    {fault : Option Fault}
+    → ((manner : Manner) (draft : Draft) → Writes manner writer draft
+    → manner.has_name (length (change draft).ended) ≡ false
+    → made_of (change draft).opening (change draft).bytes ≡ (change draft).bytes ∷ []
+    → manner.has_name (length draft.ended) ≡ false)
     → Goes told writer change old new next fault → Files told writer change old new next fault
 files_go {fault = fault} named goes = record {
   leaves = goes.leaves;
@@ -53,7 +56,8 @@ files_go {fault = fault} named goes = record {
 }
 
 -- the same change in other words
-pub files_as : {told : Bool} {writer next : WriterState} {change other : Draft → Draft} {old new : List Slot} {fault : Option Fault}
+pub files_as : {told : Bool} {writer next : WriterState} {change other : Draft → Draft} {old new : List Slot}
+    {fault : Option Fault}
     → ((draft : Draft) → IsCurrent writer.tells draft.opening draft.bytes writer.current → change draft ≡ other draft)
     → Files told writer change old new next fault → Files told writer other old new next fault
 files_as {next = next} {fault = fault} same files = record {
@@ -63,9 +67,12 @@ files_as {next = next} {fault = fault} same files = record {
   writes = where_well fault files.writes (λ later manner draft writes. subst (Writes manner next) (same draft writes.current) (later manner draft writes));
 }
 
-pub files_again : {told : Bool} {one two three : WriterState} {first second : Draft → Draft} (both : Draft → Draft) {old mid new : List Slot} {fault : Option Fault} → ((draft : Draft) → second (first draft) ≡ both draft)
+pub files_again : {told : Bool} {one two three : WriterState} {first second : Draft → Draft} (both : Draft → Draft)
+    {old mid new : List Slot} {fault : Option Fault} → ((draft : Draft) → second (first draft) ≡ both draft)
     → ((manner : Manner) (draft : Draft) → Begins (draft_part manner draft) (draft_part manner (first draft)))
-    → IfSome fault (λ why. why ≡ Verdict Suffixes → (manner : Manner) (draft : Draft) → Writes manner two draft → ⊥) → Files told one first old mid two None → Files told two second mid new three fault → Files told one both old new three fault
+    → IfSome fault (λ why. why ≡ Verdict Suffixes → (manner : Manner) (draft : Draft) → Writes manner two draft → ⊥)
+    → Files told one first old mid two None → Files told two second mid new three fault
+    → Files told one both old new three fault
 files_again {told} {three = three} {first} {second} both {new = new} {fault} is begins never before after = record {
   leaves = leaves_again before.leaves after.leaves;
   reaches = λ manner draft writes. reaches_again (begins manner draft) (before.reaches manner draft writes) (reaches_as refl (ap (draft_part manner) (sym (is draft))) (after.reaches manner (first draft) (before.writes manner draft writes)));
@@ -73,7 +80,9 @@ files_again {told} {three = three} {first} {second} both {new = new} {fault} is 
   writes = where_well fault after.writes (λ more manner draft writes. subst (Writes manner three) (is draft) (more manner (first draft) (before.writes manner draft writes)));
 }
 
-pub files_wider : {told : Bool} {writer next : WriterState} {low : Draft → Draft} (high : Draft → Draft) {old new : List Slot} {fault : Fault} → ((manner : Manner) (draft : Draft) → Begins (draft_part manner (low draft)) (draft_part manner (high draft)))
+pub files_wider : {told : Bool} {writer next : WriterState} {low : Draft → Draft} (high : Draft → Draft)
+    {old new : List Slot} {fault : Fault}
+    → ((manner : Manner) (draft : Draft) → Begins (draft_part manner (low draft)) (draft_part manner (high draft)))
     → Files told writer low old new next (Some fault) → Files told writer high old new next (Some fault)
 files_wider high begins stopped = record {
   leaves = stopped.leaves;
@@ -83,13 +92,15 @@ files_wider high begins stopped = record {
 }
 
 -- where no file is open, what is begun has none
-pub none_made : (tells : Tells) (opening : Opening) (bytes : List ℕ) (current : Current) → is_file current ≡ false → IsCurrent tells opening bytes current → made_of opening bytes ≡ []
+pub none_made : (tells : Tells) (opening : Opening) (bytes : List ℕ) (current : Current) → is_file current ≡ false
+    → IsCurrent tells opening bytes current → made_of opening bytes ≡ []
 none_made tells opening bytes Skipped none now = rw now refl
 none_made tells opening bytes Due none now = rw (now.0, now.1) refl
 none_made tells opening bytes (File slot size) none now = absurd (cc)
 none_made tells opening bytes Unopened none now = absurd now
 
-pub emptied : {told : Bool} {writer next : WriterState} (elide : Bool) {old new : List Slot} {fault : Option Fault} → elide ≡ false → is_file writer.current ≡ false
+pub emptied : {told : Bool} {writer next : WriterState} (elide : Bool) {old new : List Slot} {fault : Option Fault}
+    → elide ≡ false → is_file writer.current ≡ false
     → Goes told writer (with_next AtOnce) old new next fault → Files told writer (empties_by elide) old new next fault
 emptied {writer = writer} elide kept none goes = rw kept (files_as
     (λ draft now. let is = none_made writer.tells draft.opening draft.bytes writer.current none now in sym (ap (λ made. begun_by made draft) is))
@@ -99,52 +110,64 @@ emptied {writer = writer} elide kept none goes = rw kept (files_as
 late_after : (elide : Bool) (draft : Draft) → with_next Late (empties_by elide draft) ≡ ends_by elide draft
 late_after true draft = refl
 late_after false draft = by (made_of draft.opening draft.bytes) refl where
-  by : (made : List (List ℕ)) → made_of draft.opening draft.bytes ≡ made → with_next Late (begun_by made draft) ≡ record { ended = draft.ended ++ or_empty made; opening = Late; bytes = [] }
+  by : (made : List (List ℕ)) → made_of draft.opening draft.bytes ≡ made
+      → with_next Late (begun_by made draft)
+      ≡ record { ended = draft.ended ++ or_empty made; opening = Late; bytes = [] }
   by [] is = ap (λ made. record { ended = (draft.ended ++ made) ++ [] ∷ []; opening = Late; bytes = [] }) is
       ∙ ap (λ ended. record { ended = ended ++ [] ∷ []; opening = Late; bytes = [] }) (append-nil draft.ended)
   by (file ∷ files) is = ap (λ made. record { ended = draft.ended ++ made; opening = Late; bytes = [] }) is
 
-empties_begin : (elide : Bool) (manner : Manner) (draft : Draft) → Begins (draft_part manner draft) (draft_part manner (empties_by elide draft))
+empties_begin : (elide : Bool) (manner : Manner) (draft : Draft)
+    → Begins (draft_part manner draft) (draft_part manner (empties_by elide draft))
 empties_begin true manner draft = part_begins_itself _
 empties_begin false manner draft = by (made_of draft.opening draft.bytes) where
   by : (made : List (List ℕ)) → Begins (draft_part manner draft) (draft_part manner (begun_by made draft))
   by [] = next_begins manner AtOnce draft
   by (file ∷ files) = part_begins_itself _
 
-pub file_ends : {told : Bool} {writer mid next : WriterState} (elide : Bool) {old between new : List Slot} {fault : Option Fault} → Files told writer (empties_by elide) old between mid None
+pub file_ends : {told : Bool} {writer mid next : WriterState} (elide : Bool) {old between new : List Slot}
+    {fault : Option Fault} → Files told writer (empties_by elide) old between mid None
     → Goes told mid (with_next Late) between new next fault → Files told writer (ends_by elide) old new next fault
 file_ends elide {fault = fault} emptied goes = files_again (ends_by elide) (late_after elide) (λ manner draft. empties_begin elide manner draft)
     (where_short fault goes.short (λ ran manner draft writes. let none : [] ≡ [] ∷ [] = (ran manner draft writes).begun in cc)) emptied
     (files_go (λ manner draft writes nameless none. absurd (cc)) goes)
 
-pub file_stops : {told : Bool} {writer next : WriterState} (elide : Bool) {old new : List Slot} {fault : Fault} → Files told writer (empties_by elide) old new next (Some fault) → Files told writer (ends_by elide) old new next (Some fault)
+pub file_stops : {told : Bool} {writer next : WriterState} (elide : Bool) {old new : List Slot} {fault : Fault}
+    → Files told writer (empties_by elide) old new next (Some fault)
+    → Files told writer (ends_by elide) old new next (Some fault)
 file_stops elide stopped = files_wider (ends_by elide) (λ manner draft. subst (λ high. Begins (draft_part manner (empties_by elide draft)) (draft_part manner high)) (late_after elide draft) (next_begins manner Late (empties_by elide draft))) stopped
 
 -- Where chunks go
 
-filing_same : (writer next : WriterState) {old new : List Slot} {fault : Option Fault} → Leaves writer next old new fault → filing_by next ≡ filing_by writer
+filing_same : (writer next : WriterState) {old new : List Slot} {fault : Option Fault}
+    → Leaves writer next old new fault → filing_by next ≡ filing_by writer
 filing_same writer next leaves = cc (leaves.naming, leaves.tells)
 
-at_aim : (output : Output) (told : Bool) (next : WriterState) (elide : Bool) (before : List Slot) (low : Part) {mid high : Part} (new : List Slot) (fault : Option Fault) → mid ≡ high
-    → IsThere output told (At told next before mid new) before low mid new fault → IsThere output told (AtAim told (to_files next elide) before high new) before low high new fault
+at_aim : (output : Output) (told : Bool) (next : WriterState) (elide : Bool) (before : List Slot) (low : Part)
+    {mid high : Part} (new : List Slot) (fault : Option Fault) → mid ≡ high
+    → IsThere output told (At told next before mid new) before low mid new fault
+    → IsThere output told (AtAim told (to_files next elide) before high new) before low high new fault
 at_aim output told next elide before low new None is at = record { owns = at.owns; outputs = rw is at at.outputs }
 at_aim output told next elide before low new (Some why) is stops = rw is at stops
 
-slots_as : {manner other : Manner} (old new : List Slot) (fault : Option Fault) → other ≡ manner → KeepsOrBreaks other old new fault → KeepsOrBreaks manner old new fault
+slots_as : {manner other : Manner} (old new : List Slot) (fault : Option Fault) → other ≡ manner
+    → KeepsOrBreaks other old new fault → KeepsOrBreaks manner old new fault
 slots_as old new fault same slots = rw same at slots
 
 of_files : (filing : Filing) (elide : Bool) (fault : Option Fault) → IfSome fault (IsOf (in_files filing elide))
 of_files filing elide None = tt
 of_files filing elide (Some why) = tt
 
-pub brings_files : {told : Bool} {writer next : WriterState} {elide : Bool} {So : CutUp → Type 0} {dchange : Draft → Draft} {high : CutUp → Part} {old new : List Slot} (fault : Option Fault)
+pub brings_files : {told : Bool} {writer next : WriterState} {elide : Bool} {So : CutUp → Type 0}
+    {dchange : Draft → Draft} {high : CutUp → Part} {old new : List Slot} (fault : Option Fault)
     → IsReady writer old × TellsNoSizes writer.tells
     → ((cut : CutUp) → draft_part (manner_of (filing_by writer)) (dchange (draft_by elide cut)) ≡ high cut)
     → ((manner : Manner) (draft : Draft) → Begins (draft_part manner draft) (draft_part manner (dchange draft)))
     → ((cut : CutUp) → So cut → Writes (manner_of (filing_by writer)) writer (draft_by elide cut))
     → IfSome fault (λ why. why ≡ Verdict Suffixes → (cut : CutUp) → So cut → ⊥)
     → Files told writer dchange old new next fault
-    → Brings told (in_files (filing_by writer) elide) (to_files writer elide) (to_files next elide) So (part_on (in_files (filing_by writer) elide)) high old new fault
+    → Brings told (in_files (filing_by writer) elide) (to_files writer elide) (to_files next elide) So
+    (part_on (in_files (filing_by writer) elide)) high old new fault
 brings_files {told} {writer} {next} {elide} {dchange = dchange} {high} {old} {new} fault ready is begins so_writes named files = record {
   stays = ap (λ filing. in_files filing elide) (filing_same writer next files.leaves);
   owns = files.leaves.owns.owns;
@@ -158,9 +181,11 @@ brings_files {told} {writer} {next} {elide} {dchange = dchange} {high} {old} {ne
       ((files.reaches (manner_of (filing_by writer)) (draft_by elide cut) (so_writes cut has)).there before (record { owns = at.owns; outputs = at.outputs }));
 }
 
-pub has_names : {told : Bool} {writer next : WriterState} (elide : Bool) (place : ℕ) {dchange : Draft → Draft} {old new : List Slot} (fault : Option Fault)
+pub has_names : {told : Bool} {writer next : WriterState} (elide : Bool) (place : ℕ) {dchange : Draft → Draft}
+    {old new : List Slot} (fault : Option Fault)
     → Files told writer dchange old new next fault
-    → IfSome fault (λ why. why ≡ Verdict Suffixes → (cut : CutUp) → GoesOn (record { place = place; aim = to_files writer elide }) cut → ⊥)
+    → IfSome fault (λ why. why ≡ Verdict Suffixes → (cut : CutUp)
+    → GoesOn (record { place = place; aim = to_files writer elide }) cut → ⊥)
 has_names {writer = writer} elide place fault files = where_short fault files.named (λ none cut has.
     let less : length (kept elide cut.full) ≤ place = omega (arith, length-kept elide cut.full, has.0.placed) in
     let here : has_name writer.names.naming (length (kept elide cut.full)) ≡ true = named_before writer.names.naming _ place has.1 less in
@@ -169,9 +194,11 @@ has_names {writer = writer} elide place fault files = where_short fault files.na
 
 -- more bytes
 
-pub files_put : {told : Bool} {writer next : WriterState} {elide : Bool} {place : ℕ} (bytes : List ℕ) {old new : List Slot} (fault : Option Fault)
+pub files_put : {told : Bool} {writer next : WriterState} {elide : Bool} {place : ℕ} (bytes : List ℕ)
+    {old new : List Slot} (fault : Option Fault)
     → IsReady writer old × TellsNoSizes writer.tells → Goes told writer (with_bytes bytes) old new next fault
-    → Changes told (record { place = place; aim = to_files writer elide }) (with_rest bytes) old new (record { place = place; aim = to_files next elide }) fault
+    → Changes told (record { place = place; aim = to_files writer elide }) (with_rest bytes) old new
+    (record { place = place; aim = to_files next elide }) fault
 files_put {writer = writer} {next} {elide} {place} bytes fault ready goes = let files = files_go (λ manner draft writes nameless begun. nameless) goes in record {
   brings = brings_files fault ready (λ cut. refl) (λ manner draft. bytes_begin manner bytes draft) (λ cut so. so.0.has) (has_names elide place fault files) files;
   carries = where_well fault goes.writes (λ later cut has. record {
@@ -192,13 +219,16 @@ ends_full false cut = ap (λ more. record { ended = cut.full ++ more; opening = 
   one [] = refl
   one (byte ∷ rest) = refl
 
-pub ends_begin : (elide : Bool) (manner : Manner) (draft : Draft) → Begins (draft_part manner draft) (draft_part manner (ends_by elide draft))
+pub ends_begin : (elide : Bool) (manner : Manner) (draft : Draft)
+    → Begins (draft_part manner draft) (draft_part manner (ends_by elide draft))
 ends_begin elide manner draft = subst (λ high. Begins (draft_part manner draft) (draft_part manner high)) (late_after elide draft)
     (part_trans _ _ _ (empties_begin elide manner draft) (next_begins manner Late (empties_by elide draft)))
 
-pub files_next : {told : Bool} {writer next : WriterState} {elide : Bool} {place : ℕ} {old new : List Slot} (fault : Option Fault)
+pub files_next : {told : Bool} {writer next : WriterState} {elide : Bool} {place : ℕ} {old new : List Slot}
+    (fault : Option Fault)
     → IsReady writer old × TellsNoSizes writer.tells → Files told writer (ends_by elide) old new next fault
-    → Changes told (record { place = place; aim = to_files writer elide }) with_full old new (record { place = place + 1; aim = to_files next elide }) fault
+    → Changes told (record { place = place; aim = to_files writer elide }) with_full old new
+    (record { place = place + 1; aim = to_files next elide }) fault
 files_next {writer = writer} {next} {elide} {place} fault ready files = record {
   brings = brings_files fault ready (λ cut. ap (draft_part (manner_of (filing_by writer))) (ends_full elide cut)) (λ manner draft. ends_begin elide manner draft) (λ cut so. so.0.has) (has_names elide place fault files) files;
   carries = where_well fault files.writes (λ later cut has. record {
@@ -209,37 +239,48 @@ files_next {writer = writer} {next} {elide} {place} fault ready files = record {
 
 -- all end
 
-pub whole_draft : (filing : Filing) (elide : Bool) (cut : CutUp) → draft_part (manner_of filing) (with_next Never (draft_by elide cut)) ≡ whole_on (in_files filing elide) cut
+pub whole_draft : (filing : Filing) (elide : Bool) (cut : CutUp)
+    → draft_part (manner_of filing) (with_next Never (draft_by elide cut)) ≡ whole_on (in_files filing elide) cut
 whole_draft filing elide cut = ap (part_of (manner_of filing)) (append-nil (map (share Closed) (files_by elide cut)))
 
-pub files_end : {told : Bool} {writer next : WriterState} {elide : Bool} {place : ℕ} {old new : List Slot} (result : Result (Unit {0}) Fault)
-    → IsReady writer old × TellsNoSizes writer.tells → IfErr result IsWrite → Goes told writer (with_next Never) old new next (fault_in result)
-    → Brings told (in_files (filing_by writer) elide) (to_files writer elide) (to_files next elide) (Carries (record { place = place; aim = to_files writer elide })) (part_on (in_files (filing_by writer) elide)) (whole_on (in_files (filing_by writer) elide)) old new (fault_in result)
+pub files_end : {told : Bool} {writer next : WriterState} {elide : Bool} {place : ℕ} {old new : List Slot}
+    (result : Result (Unit {0}) Fault)
+    → IsReady writer old × TellsNoSizes writer.tells → IfErr result IsWrite
+    → Goes told writer (with_next Never) old new next (fault_in result)
+    → Brings told (in_files (filing_by writer) elide) (to_files writer elide) (to_files next elide)
+    (Carries (record { place = place; aim = to_files writer elide })) (part_on (in_files (filing_by writer) elide))
+    (whole_on (in_files (filing_by writer) elide)) old new (fault_in result)
 files_end {writer = writer} {elide = elide} result ready broke goes = brings_files (fault_in result) ready (whole_draft (filing_by writer) elide) (λ manner draft. next_begins manner Never draft)
     (λ cut has. has.has) (unnamed _ result broke) (files_go (λ manner draft writes nameless begun. absurd (cc)) goes) where
-      unnamed : (P : Type 0) (result : Result (Unit {0}) Fault) → IfErr result IsWrite → IfSome (fault_in result) (λ why. why ≡ Verdict Suffixes → P)
+      unnamed : (P : Type 0) (result : Result (Unit {0}) Fault) → IfErr result IsWrite
+          → IfSome (fault_in result) (λ why. why ≡ Verdict Suffixes → P)
       unnamed P (Ok done) broke = tt
       unnamed P (Err why) broke = λ is. absurd (let e : Write broke.0 ≡ Verdict Suffixes = sym broke.1 ∙ is in cc)
 
 -- To standard output
 
-piece_here : (full : List (List ℕ)) (rest : List ℕ) {place : ℕ} → length full ≡ place → get_or (full ++ rest ∷ []) place [] ≡ rest
+piece_here : (full : List (List ℕ)) (rest : List ℕ) {place : ℕ} → length full ≡ place
+    → get_or (full ++ rest ∷ []) place [] ≡ rest
 piece_here full rest is = rw (← is) (get_or-append_seam full rest [] [])
 
-piece_apart : (full : List (List ℕ)) (one other : List ℕ) (chunk : ℕ) → (length full ≡ chunk → ⊥) → get_or (full ++ one ∷ []) chunk [] ≡ get_or (full ++ other ∷ []) chunk []
+piece_apart : (full : List (List ℕ)) (one other : List ℕ) (chunk : ℕ) → (length full ≡ chunk → ⊥)
+    → get_or (full ++ one ∷ []) chunk [] ≡ get_or (full ++ other ∷ []) chunk []
 piece_apart [] one other zero differs = absurd (differs refl)
 piece_apart [] one other (suc chunk) differs = refl
 piece_apart (first ∷ full) one other zero differs = refl
 piece_apart (first ∷ full) one other (suc chunk) differs = piece_apart full one other chunk (λ is. differs (omega (arith, is)))
 
-piece_other : (full : List (List ℕ)) (one other : List ℕ) (chunk : ℕ) {place : ℕ} → length full ≡ place → eqb chunk place ≡ false → get_or (full ++ one ∷ []) chunk [] ≡ get_or (full ++ other ∷ []) chunk []
+piece_other : (full : List (List ℕ)) (one other : List ℕ) (chunk : ℕ) {place : ℕ} → length full ≡ place
+    → eqb chunk place ≡ false → get_or (full ++ one ∷ []) chunk [] ≡ get_or (full ++ other ∷ []) chunk []
 piece_other full one other chunk {place} is differs = piece_apart full one other chunk (λ here. false≢true (sym differs ∙ eq-eqb chunk place (sym here ∙ is)))
 
 -- it gets more bytes if its chunk was begun
 piece_more : (chunk place : ℕ) (bytes : List ℕ) (cut : CutUp) → length cut.full ≡ place
-    → get_or (pieces_in cut) chunk [] ++ cond (eqb chunk place) bytes [] ≡ get_or (pieces_in (with_rest bytes cut)) chunk []
+    → get_or (pieces_in cut) chunk [] ++ cond (eqb chunk place) bytes []
+    ≡ get_or (pieces_in (with_rest bytes cut)) chunk []
 piece_more chunk place bytes cut is = by (eqb chunk place) refl where
-  by : (here : Bool) → eqb chunk place ≡ here → get_or (pieces_in cut) chunk [] ++ cond here bytes [] ≡ get_or (pieces_in (with_rest bytes cut)) chunk []
+  by : (here : Bool) → eqb chunk place ≡ here
+      → get_or (pieces_in cut) chunk [] ++ cond here bytes [] ≡ get_or (pieces_in (with_rest bytes cut)) chunk []
   by true here = let e : chunk ≡ place = eqb-true chunk place here in
       rw e (ap (λ those. those ++ bytes) (piece_here cut.full cut.rest is) ∙ sym (piece_here cut.full (cut.rest ++ bytes) is))
   by false here = append-nil _ ∙ piece_other cut.full cut.rest (cut.rest ++ bytes) chunk is here
@@ -249,7 +290,8 @@ none_files [] begins = refl
 none_files (file ∷ files) begins = absurd begins
 
 -- it broke among these bytes
-out_stops : (told : Bool) (before : List Slot) (had more : List ℕ) {high : List ℕ} (n : ℕ) {old new : List Slot} → had ++ more ≡ high → OutputsAt told before (only_out had) old → BrokeAfter told old new 0 more n
+out_stops : (told : Bool) (before : List Slot) (had more : List ℕ) {high : List ℕ} (n : ℕ) {old new : List Slot}
+    → had ++ more ≡ high → OutputsAt told before (only_out had) old → BrokeAfter told old new 0 more n
     → StoppedInTurn gets_bytes told before (only_out had) (only_out high) (Write 0) new
 out_stops told before had more {high} n {old} {new} is at broke = let stops = out_cut told before (only_out had) old new more n at broke in rw (← is) (record {
   part = stops.part;
@@ -264,22 +306,30 @@ out_stops told before had more {high} n {old} {new} is at broke = let stops = ou
   from = inl refl;
 })
 
-out_there : (told : Bool) (chunk : ℕ) (before : List Slot) (had more : List ℕ) {high : List ℕ} (old new : List Slot) (fault : Option Fault) → had ++ more ≡ high → OutputsAt told before (only_out had) old → Wrote told 0 more old new fault
-    → IsThere gets_bytes told (AtAim told (to_output chunk) before (only_out high) new) before (only_out had) (only_out high) new fault
+out_there : (told : Bool) (chunk : ℕ) (before : List Slot) (had more : List ℕ) {high : List ℕ} (old new : List Slot)
+    (fault : Option Fault) → had ++ more ≡ high → OutputsAt told before (only_out had) old
+    → Wrote told 0 more old new fault
+    → IsThere gets_bytes told (AtAim told (to_output chunk) before (only_out high) new) before (only_out had)
+    (only_out high) new fault
 out_there told chunk before had more old new None is at wrote = record { owns = tt; outputs = rw is at (out_more told before (only_out had) old new more at wrote) }
 out_there told chunk before had more old new (Some _) is at (short.broke n cut) = out_stops told before had more n is at cut
 
-out_slots : (told : Bool) (chunk : ℕ) (more : List ℕ) (old new : List Slot) (fault : Option Fault) → IsTrue (is_writable old 0) → Wrote told 0 more old new fault
-    → KeepsOrBreaks (manner_on (in_output chunk)) old new fault × IfSome fault (IsOf (in_output chunk)) × IfNone fault (IsTrue (is_writable new 0))
+out_slots : (told : Bool) (chunk : ℕ) (more : List ℕ) (old new : List Slot) (fault : Option Fault)
+    → IsTrue (is_writable old 0) → Wrote told 0 more old new fault
+    → KeepsOrBreaks (manner_on (in_output chunk)) old new fault × IfSome fault (IsOf (in_output chunk))
+    × IfNone fault (IsTrue (is_writable new 0))
 out_slots told chunk more old new None can wrote = (keeps_write 0 _ old new wrote, tt, rw (wrote, writable-written old 0 0 (told_of told more)) can)
 out_slots told chunk more old new (Some _) can (short.broke n cut) = ((λ none. refl, write_rose told 0 more n old new can cut), refl, tt)
 
-never_named : (P : Type 0) (chunk : ℕ) (fault : Option Fault) → IfSome fault (IsOf (in_output chunk)) → IfSome fault (λ why. why ≡ Verdict Suffixes → P)
+never_named : (P : Type 0) (chunk : ℕ) (fault : Option Fault) → IfSome fault (IsOf (in_output chunk))
+    → IfSome fault (λ why. why ≡ Verdict Suffixes → P)
 never_named P chunk None of = tt
 never_named P chunk (Some why) of = λ is. absurd (let e : Write 0 ≡ Verdict Suffixes = sym of ∙ is in cc)
 
-pub output_put : {told : Bool} {chunk place : ℕ} (bytes : List ℕ) {old new : List Slot} (fault : Option Fault) → IsTrue (is_writable old 0) → Wrote told 0 (cond (eqb chunk place) bytes []) old new fault
-    → Changes told (record { place = place; aim = to_output chunk }) (with_rest bytes) old new (record { place = place; aim = to_output chunk }) fault
+pub output_put : {told : Bool} {chunk place : ℕ} (bytes : List ℕ) {old new : List Slot} (fault : Option Fault)
+    → IsTrue (is_writable old 0) → Wrote told 0 (cond (eqb chunk place) bytes []) old new fault
+    → Changes told (record { place = place; aim = to_output chunk }) (with_rest bytes) old new
+    (record { place = place; aim = to_output chunk }) fault
 output_put {told} {chunk} {place} bytes {old} {new} fault can wrote = let more = cond (eqb chunk place) bytes [] in let so = out_slots told chunk more old new fault can wrote in record {
   brings = record {
     stays = refl;
@@ -302,7 +352,8 @@ piece_full [] (suc chunk) = refl
 piece_full (one ∷ full) zero = refl
 piece_full (one ∷ full) (suc chunk) = piece_full full chunk
 
-pub brings_none : {told : Bool} {chunk : ℕ} {So : CutUp → Type 0} {high : CutUp → Part} {slots : List Slot} → IsTrue (is_writable slots 0) → ((cut : CutUp) → piece_at chunk cut ≡ high cut)
+pub brings_none : {told : Bool} {chunk : ℕ} {So : CutUp → Type 0} {high : CutUp → Part} {slots : List Slot}
+    → IsTrue (is_writable slots 0) → ((cut : CutUp) → piece_at chunk cut ≡ high cut)
     → Brings told (in_output chunk) (to_output chunk) (to_output chunk) So (piece_at chunk) high slots slots None
 brings_none {told} {chunk} {high = high} {slots} can is = record {
   stays = refl;
@@ -317,7 +368,8 @@ brings_none {told} {chunk} {high = high} {slots} can is = record {
 }
 
 pub output_next : {told : Bool} {chunk place : ℕ} {slots : List Slot} → IsTrue (is_writable slots 0)
-    → Changes told (record { place = place; aim = to_output chunk }) with_full slots slots (record { place = place + 1; aim = to_output chunk }) None
+    → Changes told (record { place = place; aim = to_output chunk }) with_full slots slots
+    (record { place = place + 1; aim = to_output chunk }) None
 output_next {chunk = chunk} can = record {
   brings = brings_none can (λ cut. ap only_out (sym (piece_full (pieces_in cut) chunk)));
   carries = λ cut has. record { placed = length-append cut.full (cut.rest ∷ []) ∙ ap (λ n. n + 1) has.0.placed; has = tt };
@@ -325,12 +377,15 @@ output_next {chunk = chunk} can = record {
 
 -- One after another
 
-slots_again : (on : Course) (old mid new : List Slot) (fault : Option Fault) → KeepsOrBreaks (manner_on on) old mid None → KeepsOrBreaks (manner_on on) mid new fault → KeepsOrBreaks (manner_on on) old new fault
+slots_again : (on : Course) (old mid new : List Slot) (fault : Option Fault) → KeepsOrBreaks (manner_on on) old mid None
+    → KeepsOrBreaks (manner_on on) mid new fault → KeepsOrBreaks (manner_on on) old new fault
 slots_again on old mid new None first second = keeps_again old mid new first second
 slots_again on old mid new (Some why) first second = breaks_later {manner = manner_on on} old mid new why refl first second
 
-pub brings_then : {X : Type 0} {told : Bool} {on : Course} {one two three : AimState} {So Later : X → Type 0} {low middle high : X → Part} {old mid new : List Slot} {fault : Option Fault}
-    → Brings told on one two So low middle old mid None → ((x : X) → So x → Later x) → Brings told on two three Later middle high mid new fault → Brings told on one three So low high old new fault
+pub brings_then : {X : Type 0} {told : Bool} {on : Course} {one two three : AimState} {So Later : X → Type 0}
+    {low middle high : X → Part} {old mid new : List Slot} {fault : Option Fault}
+    → Brings told on one two So low middle old mid None → ((x : X) → So x → Later x)
+    → Brings told on two three Later middle high mid new fault → Brings told on one three So low high old new fault
 brings_then {told = told} {on} {high = high} {old} {mid} {new} {fault} first later second = record {
   stays = second.stays;
   owns = λ place owns. second.owns place (first.owns place owns);
@@ -344,8 +399,10 @@ brings_then {told = told} {on} {high = high} {old} {mid} {new} {fault} first lat
 }
 
 -- it was stopped on its way to more
-pub brings_wider : {X : Type 0} {told : Bool} {on : Course} {aim next : AimState} {So : X → Type 0} {low middle high : X → Part} {old new : List Slot} {why : Fault}
-    → ((x : X) → So x → Begins (middle x) (high x)) → Brings told on aim next So low middle old new (Some why) → Brings told on aim next So low high old new (Some why)
+pub brings_wider : {X : Type 0} {told : Bool} {on : Course} {aim next : AimState} {So : X → Type 0}
+    {low middle high : X → Part} {old new : List Slot} {why : Fault}
+    → ((x : X) → So x → Begins (middle x) (high x)) → Brings told on aim next So low middle old new (Some why)
+    → Brings told on aim next So low high old new (Some why)
 brings_wider {told = told} {on} {low = low} {middle} {high} {new = new} {why} wider brings = record {
   stays = brings.stays;
   owns = brings.owns;
@@ -359,8 +416,11 @@ brings_wider {told = told} {on} {low = low} {middle} {high} {new = new} {why} wi
 }
 
 -- in other words
-pub brings_as : {X Y : Type 0} {told : Bool} {on : Course} {aim next : AimState} {So : X → Type 0} {Also : Y → Type 0} {low high : X → Part} {low' high' : Y → Part} (f : Y → X) {old new : List Slot} (fault : Option Fault)
-    → ((y : Y) → Also y → So (f y)) → ((y : Y) → Also y → low (f y) ≡ low' y) → ((y : Y) → Also y → high (f y) ≡ high' y) → Brings told on aim next So low high old new fault → Brings told on aim next Also low' high' old new fault
+pub brings_as : {X Y : Type 0} {told : Bool} {on : Course} {aim next : AimState} {So : X → Type 0} {Also : Y → Type 0}
+    {low high : X → Part} {low' high' : Y → Part} (f : Y → X) {old new : List Slot} (fault : Option Fault)
+    → ((y : Y) → Also y → So (f y)) → ((y : Y) → Also y → low (f y) ≡ low' y)
+    → ((y : Y) → Also y → high (f y) ≡ high' y) → Brings told on aim next So low high old new fault
+    → Brings told on aim next Also low' high' old new fault
 brings_as {told = told} {on} {aim} {next} {low = low} {high} {low'} {high'} f {old} {new} fault so low_is high_is brings = record {
   stays = brings.stays;
   owns = brings.owns;
@@ -374,26 +434,35 @@ brings_as {told = told} {on} {aim} {next} {low = low} {high} {low'} {high'} f {o
       (brings.reaches (f y) (so y also) before (subst (λ part. AtAim told aim before part old) (sym (low_is y also)) at)));
 }
 
-pub sends_as : {X Y : Type 0} {told : Bool} {target next : TargetState} {So : X → Type 0} {Also : Y → Type 0} {from to : X → CutUp} {from' to' : Y → CutUp} (f : Y → X) {old new : List Slot} (fault : Option Fault)
-    → ((y : Y) → Also y → So (f y)) → ((y : Y) → Also y → from (f y) ≡ from' y) → ((y : Y) → Also y → to (f y) ≡ to' y) → Sends told target So from to old new next fault → Sends told target Also from' to' old new next fault
+pub sends_as : {X Y : Type 0} {told : Bool} {target next : TargetState} {So : X → Type 0} {Also : Y → Type 0}
+    {from to : X → CutUp} {from' to' : Y → CutUp} (f : Y → X) {old new : List Slot} (fault : Option Fault)
+    → ((y : Y) → Also y → So (f y)) → ((y : Y) → Also y → from (f y) ≡ from' y) → ((y : Y) → Also y → to (f y) ≡ to' y)
+    → Sends told target So from to old new next fault → Sends told target Also from' to' old new next fault
 sends_as {target = target} {next} f fault so from_is to_is sends = let on = course_of target.aim in record {
   brings = brings_as f fault so (λ y also. ap (part_on on) (from_is y also)) (λ y also. ap (part_on on) (to_is y also)) sends.brings;
   carries = where_well fault sends.carries (λ has y also. subst (Carries next) (to_is y also) (has (f y) (so y also)));
 }
 
-pub sends_then : {X : Type 0} {told : Bool} {one two three : TargetState} {So Later : X → Type 0} {low middle high : X → CutUp} {old mid new : List Slot} {fault : Option Fault} → Sends told one So low middle old mid two None
-    → ((x : X) → So x → Carries two (middle x) → Later x) → Sends told two Later middle high mid new three fault → Sends told one So low high old new three fault
+pub sends_then : {X : Type 0} {told : Bool} {one two three : TargetState} {So Later : X → Type 0}
+    {low middle high : X → CutUp} {old mid new : List Slot} {fault : Option Fault}
+    → Sends told one So low middle old mid two None
+    → ((x : X) → So x → Carries two (middle x) → Later x) → Sends told two Later middle high mid new three fault
+    → Sends told one So low high old new three fault
 sends_then {told = told} {two = two} {three} {Later = Later} {middle = middle} {high} {mid = mid} {new} {fault} first later second = record {
   brings = brings_then first.brings (λ x so. later x so (first.carries x so))
       (rw first.brings.stays at second.brings);
   carries = where_well fault second.carries (λ has x so. has x (later x so (first.carries x so)));
 }
 
-pub sends_wider : {X : Type 0} {told : Bool} {target next : TargetState} {So : X → Type 0} {low middle high : X → CutUp} {old new : List Slot} {why : Fault}
-    → ((x : X) → So x → Begins (part_on (course_of target.aim) (middle x)) (part_on (course_of target.aim) (high x))) → Sends told target So low middle old new next (Some why) → Sends told target So low high old new next (Some why)
+pub sends_wider : {X : Type 0} {told : Bool} {target next : TargetState} {So : X → Type 0} {low middle high : X → CutUp}
+    {old new : List Slot} {why : Fault}
+    → ((x : X) → So x → Begins (part_on (course_of target.aim) (middle x)) (part_on (course_of target.aim) (high x)))
+    → Sends told target So low middle old new next (Some why) → Sends told target So low high old new next (Some why)
 sends_wider wider sends = record { brings = brings_wider wider sends.brings; carries = tt }
 
-pub sends_none : {X : Type 0} {told : Bool} {target : TargetState} {So : X → Type 0} {from : X → CutUp} {slots : List Slot} → IsAimed target.aim slots → ((x : X) → So x → Carries target (from x)) → Sends told target So from from slots slots target None
+pub sends_none : {X : Type 0} {told : Bool} {target : TargetState} {So : X → Type 0} {from : X → CutUp}
+    {slots : List Slot} → IsAimed target.aim slots → ((x : X) → So x → Carries target (from x))
+    → Sends told target So from from slots slots target None
 sends_none ready has = record {
   brings = record {
     stays = refl;

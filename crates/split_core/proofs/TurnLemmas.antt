@@ -41,12 +41,14 @@ wrote_so told old new (Err why) same (short.broke n broke) =
 
 -- What a piece leaves
 
-same_work : (old new : TurnState) → new.delim ≡ old.delim → new.count ≡ old.count → new.place ≡ old.place → work new ≡ work old
+same_work : (old new : TurnState) → new.delim ≡ old.delim → new.count ≡ old.count → new.place ≡ old.place
+    → work new ≡ work old
 same_work old new delim count place = cc
 
 -- what is written once it came in
 went_out : {turn : TurnState} {x : List ℕ} (piece : List ℕ) → Holds turn x
-    → record ((work turn).settled x) { out = ((work turn).settled x).out ++ due turn piece } ≡ (work turn).settled (x ++ piece)
+    → record ((work turn).settled x) { out = ((work turn).settled x).out ++ due turn piece }
+    ≡ (work turn).settled (x ++ piece)
 went_out {turn} {x} piece holds =
     grind (arith, common_steps, dealt_append, dealt_same, mod-mod)
 
@@ -54,7 +56,8 @@ takes_in : {old new : TurnState} {piece : List ℕ} {told : Bool} {before after 
     → Picks told old piece before after new (Ok tt) → TakesIn ways.Holds piece (way.Turn old) (way.Turn new)
 takes_in {old} {new} {piece} picks x holds = grind (arith, common_steps, mod-add-mod, delimiters-append)
 
-unjudged : {told : Bool} {bytes : List ℕ} {old new : List Slot} {why : Fault} → StopsShort told bytes old new why → is_verdict why ≡ false
+unjudged : {told : Bool} {bytes : List ℕ} {old new : List Slot} {why : Fault} → StopsShort told bytes old new why
+    → is_verdict why ≡ false
 unjudged (stop.no_room same) = refl
 unjudged (stop.broke n broke) = refl
 
@@ -65,14 +68,17 @@ between told {before} part {bytes} {old} {new} at (stop.no_room same) =
     stopped_here gets_bytes told before part _ Memory old new at (record { out = begins_more part.out bytes; files = files_begin_themselves part.files }) same tt tt
 between told {before} part {bytes} {old} {new} at (stop.broke n broke) = out_cut told before part old new bytes n at broke
 
-met : (Ends : Verdict → Type 0) {told : Bool} {bytes : List ℕ} {old new : List Slot} {why : Fault} → IsTrue (is_writable old 0)
+met : (Ends : Verdict → Type 0) {told : Bool} {bytes : List ℕ} {old new : List Slot} {why : Fault}
+    → IsTrue (is_writable old 0)
     → StopsShort told bytes old new why → IsMet (on_output true) (on_output true).feeding (true ≡ true) Ends old new why
 met Ends can (stop.no_room same) = (refl, refl)
 met Ends {told} {bytes} {old} {new} can (stop.broke n broke) = ((λ is. refl), (λ is. refl), write_rose told 0 bytes n old new can broke)
 
-pub passes_by : (told : Bool) (old new : TurnState) (piece : List ℕ) (before after : List Slot) (result : Result (Unit {0}) Fault)
+pub passes_by : (told : Bool) (old new : TurnState) (piece : List ℕ) (before after : List Slot)
+    (result : Result (Unit {0}) Fault)
     → IsTrue (is_writable before 0) → Picks told old piece before after new result
-    → engine.Passes ways.terms told piece (way.Turn old) (way.Turn new) before after (engine.IsMetWith ways.terms piece (way.Turn old)) result
+    → engine.Passes ways.terms told piece (way.Turn old) (way.Turn new) before after
+    (engine.IsMetWith ways.terms piece (way.Turn old)) result
 passes_by told old new piece before after (Ok u) can picks = record {
   same = same_work old new picks.delim picks.count picks.place;
   size = omega arith;
@@ -99,7 +105,8 @@ passes_by told old new piece before after (Err why) can picks = record {
 
 -- At the end nothing is left to be written.
 pub finishes_by : (told : Bool) (turn : TurnState) (slots : List Slot) → IsTrue (is_writable slots 0)
-    → engine.Finishes ways.terms told (way.Turn turn) (way.Turn turn) slots slots (engine.IsMetThere ways.terms (way.Turn turn)) (Ok tt)
+    → engine.Finishes ways.terms told (way.Turn turn) (way.Turn turn) slots slots
+    (engine.IsMetThere ways.terms (way.Turn turn)) (Ok tt)
 finishes_by told turn slots can = record {
   same = refl;
   size = omega arith;

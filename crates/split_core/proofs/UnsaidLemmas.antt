@@ -36,15 +36,18 @@ use Rattle.std.proofs.Math.Seq.{drop-nil}
 
 -- What is settled is written, stretch after stretch
 
-pub record Settling (told : Bool) (cutter : CutterState) (waiting : List ℕ) (end : ℕ) (old slots : List Slot) (now : CutterState) (left : List ℕ) : Type 0 where
+pub record Settling (told : Bool) (cutter : CutterState) (waiting : List ℕ) (end : ℕ) (old slots : List Slot)
+    (now : CutterState) (left : List ℕ) : Type 0 where
   pub chunks : now.chunks ≡ cutter.chunks
   pub done : List ℕ
   pub both : waiting ≡ done ++ left
   pub at : now.at ≡ cutter.at + length done
-  pub sends : Sends told cutter.target (BeginsBefore cutter end) (λ z. uncut z) (λ z. uncut (z ++ done)) old slots now.target None
+  pub sends : Sends told cutter.target (BeginsBefore cutter end) (λ z. uncut z)
+      (λ z. uncut (z ++ done)) old slots now.target None
   pub stands : (z : List ℕ) → BeginsBefore cutter end z → BeginsBefore now end (z ++ done)
 
-pub settles_none : {told : Bool} {cutter : CutterState} {waiting : List ℕ} {end : ℕ} {slots : List Slot} → IsAimed cutter.target.aim slots → Settling told cutter waiting end slots slots cutter waiting
+pub settles_none : {told : Bool} {cutter : CutterState} {waiting : List ℕ} {end : ℕ} {slots : List Slot}
+    → IsAimed cutter.target.aim slots → Settling told cutter waiting end slots slots cutter waiting
 settles_none {told} {cutter} {waiting} {end} {slots} ready = record {
   chunks = refl;
   done = [];
@@ -55,31 +58,40 @@ settles_none {told} {cutter} {waiting} {end} {slots} ready = record {
 }
 
 -- what comes goes on with what was cut off
-goes_on_so : (cutter : CutterState) (end : ℕ) (w : List ℕ) → BeginsBefore cutter end w → true ≡ (nat_lt cutter.at end || cutter.is_within) → open_from cutter.chunks.unit cutter.chunks.delim w < end
+goes_on_so : (cutter : CutterState) (end : ℕ) (w : List ℕ) → BeginsBefore cutter end w
+    → true ≡ (nat_lt cutter.at end || cutter.is_within) → open_from cutter.chunks.unit cutter.chunks.delim w < end
 goes_on_so cutter end w (has, all) short = elim (or_cases (nat_lt cutter.at end) cutter.is_within (sym short)) [
   | inl before ↦ omega (arith, ltb-true _ _ before, has.at, open_within cutter.chunks.unit cutter.chunks.delim w)
   | inr within ↦ open_early cutter.chunks.unit cutter.chunks.delim end w all (sym has.within ∙ within)
 ]
 
-writes_on : (cutter : CutterState) (end : ℕ) (w front : List ℕ) → BeginsBefore cutter end w → true ≡ (nat_lt cutter.at end || cutter.is_within)
+writes_on : (cutter : CutterState) (end : ℕ) (w front : List ℕ) → BeginsBefore cutter end w
+    → true ≡ (nat_lt cutter.at end || cutter.is_within)
     → begun_before cutter.chunks.unit cutter.chunks.delim end (w ++ front) ≡ w ++ cut_to cutter end front
 writes_on cutter end w front so short = begun_on cutter.chunks.unit cutter.chunks.delim end w front (goes_on_so cutter end w so short)
     ∙ ap (λ at. w ++ begun_before cutter.chunks.unit cutter.chunks.delim (max (end - at) 1) front) (sym so.0.at)
 
-still_before : (cutter : CutterState) (end : ℕ) (w front : List ℕ) → BeginsBefore cutter end w → true ≡ (nat_lt cutter.at end || cutter.is_within)
-    → begun_before cutter.chunks.unit cutter.chunks.delim end (w ++ cut_to cutter end front) ≡ w ++ cut_to cutter end front
+still_before : (cutter : CutterState) (end : ℕ) (w front : List ℕ) → BeginsBefore cutter end w
+    → true ≡ (nat_lt cutter.at end || cutter.is_within)
+    → begun_before cutter.chunks.unit cutter.chunks.delim end (w ++ cut_to cutter end front)
+    ≡ w ++ cut_to cutter end front
 still_before cutter end w front so short = let is = writes_on cutter end w front so short in let unit = cutter.chunks.unit in let delim = cutter.chunks.delim in
     ap (begun_before unit delim end) (sym is) ∙ begun_again unit delim end (w ++ front) ∙ is
 
-module _ {told : Bool} {cutter now : CutterState} {waiting left : List ℕ} {end : ℕ} {old slots : List Slot} (so_far : Settling told cutter waiting end old slots now left) (front rest : List ℕ) (is : left ≡ front ++ rest)
+module _ {told : Bool} {cutter now : CutterState} {waiting left : List ℕ} {end : ℕ} {old slots : List Slot}
+    (so_far : Settling told cutter waiting end old slots now left) (front rest : List ℕ) (is : left ≡ front ++ rest)
     (short : true ≡ (nat_lt now.at end || now.is_within)) where
-  on_more : {next : TargetState} {new : List Slot} (fault : Option Fault) → Changes told now.target (with_rest (cut_to now end front)) slots new next fault
-      → Sends told cutter.target (BeginsBefore cutter end) (λ z. uncut z) (λ z. uncut ((z ++ so_far.done) ++ cut_to now end front)) old new next fault
+  on_more : {next : TargetState} {new : List Slot} (fault : Option Fault)
+      → Changes told now.target (with_rest (cut_to now end front)) slots new next fault
+      → Sends told cutter.target (BeginsBefore cutter end) (λ z. uncut z)
+      (λ z. uncut ((z ++ so_far.done) ++ cut_to now end front)) old new next fault
   on_more fault changes = sends_then so_far.sends (λ z so has. (so, has))
       (sends_as {Also = λ z. BeginsBefore cutter end z × Carries now.target (uncut (z ++ so_far.done))} (λ z. uncut (z ++ so_far.done)) fault (λ z so. let here = (so_far.stands z so.0).0 in
       (so.1, name_of (course now) now.chunks.count now.target.place here.all (omega (arith, so.1.placed, some_of (course now) now.chunks.count here.can)))) (λ z so. refl) (λ z so. refl) changes)
 
-  pub settles_more : {next : CutterState} {after : List ℕ} {new : List Slot} {n : ℕ} → WritesTo told now end front slots new next (Ok n) → after ≡ drop n left → Settling told cutter waiting end old new next after
+  pub settles_more : {next : CutterState} {after : List ℕ} {new : List Slot} {n : ℕ}
+      → WritesTo told now end front slots new next (Ok n) → after ≡ drop n left
+      → Settling told cutter waiting end old new next after
   settles_more {next} {after} {new} {n} writes waits = let y = cut_to now end front in let step = cutting front writes in record {
     chunks = writes.chunks ∙ so_far.chunks;
     done = so_far.done ++ y;
@@ -93,7 +105,9 @@ module _ {told : Bool} {cutter now : CutterState} {waiting left : List ℕ} {end
     );
   }
 
-  pub settles_not : {next : CutterState} {after : List ℕ} {new : List Slot} {why : Fault} → WritesTo told now end front slots new next (Err why) → after ≡ left → Settles told cutter waiting end old new next after (Some why)
+  pub settles_not : {next : CutterState} {after : List ℕ} {new : List Slot} {why : Fault}
+      → WritesTo told now end front slots new next (Err why) → after ≡ left
+      → Settles told cutter waiting end old new next after (Some why)
   settles_not {next} {after} {new} {why} writes waits = record {
     chunks = writes.chunks ∙ so_far.chunks;
     bound = omega (arith, writes.kept, so_far.at, ap length waits, ap length so_far.both, length-append so_far.done left);
@@ -110,11 +124,14 @@ module _ {told : Bool} {cutter now : CutterState} {waiting left : List ℕ} {end
 
 -- as far as it goes
 
-module _ {told : Bool} {cutter now : CutterState} {waiting left : List ℕ} {end : ℕ} {old slots : List Slot} (so_far : Settling told cutter waiting end old slots now left) where
+module _ {told : Bool} {cutter now : CutterState} {waiting left : List ℕ} {end : ℕ} {old slots : List Slot}
+    (so_far : Settling told cutter waiting end old slots now left) where
   whole_so : (z : List ℕ) → z ++ waiting ≡ (z ++ so_far.done) ++ left
   whole_so z = ap (λ more. z ++ more) so_far.both ∙ sym (append_assoc z so_far.done left)
 
-  same_so : (z : List ℕ) → BeginsBefore cutter end z → (length left ≡ 0) ⊎ (false ≡ (nat_lt now.at end || now.is_within)) → all_before cutter waiting end z ≡ z ++ so_far.done
+  same_so : (z : List ℕ) → BeginsBefore cutter end z
+      → (length left ≡ 0) ⊎ (false ≡ (nat_lt now.at end || now.is_within))
+      → all_before cutter waiting end z ≡ z ++ so_far.done
   same_so z so ends = let (has, all) = so_far.stands z so in let w = z ++ so_far.done in let unit = cutter.chunks.unit in let delim = cutter.chunks.delim in
       let here : begun_before unit delim end w ≡ w = ap (λ (chunks : Chunks). begun_before chunks.unit chunks.delim end w) (sym so_far.chunks) ∙ all in elim ends [
         | inl none ↦ ap (begun_before unit delim end) (whole_so z ∙ ap (λ rest. w ++ rest) (nil_from_length left none) ∙ append-nil w) ∙ here
@@ -123,7 +140,8 @@ module _ {told : Bool} {cutter now : CutterState} {waiting left : List ℕ} {end
             ap (begun_before unit delim end) (whole_so z) ∙ begun_stays unit delim end w left (omega (arith, open_at, has.at, ltb-false _ _ before)) ∙ here)
       ]
 
-  pub settles_so : (length left ≡ 0) ⊎ (false ≡ (nat_lt now.at end || now.is_within)) → Settles told cutter waiting end old slots now left None
+  pub settles_so : (length left ≡ 0) ⊎ (false ≡ (nat_lt now.at end || now.is_within))
+      → Settles told cutter waiting end old slots now left None
   settles_so ends = record {
     chunks = so_far.chunks;
     bound = omega (arith, so_far.at, ap length so_far.both, length-append so_far.done left);
@@ -133,17 +151,22 @@ module _ {told : Bool} {cutter now : CutterState} {waiting left : List ℕ} {end
 
 -- Where the input ended, all that waits is cut
 
-pub record Resting (told : Bool) (cutter : CutterState) (waiting : List ℕ) (size : ℕ) (old slots : List Slot) (now : CutterState) (left : List ℕ) : Type 0 where
+pub record Resting (told : Bool) (cutter : CutterState) (waiting : List ℕ) (size : ℕ) (old slots : List Slot)
+    (now : CutterState) (left : List ℕ) : Type 0 where
   pub done : List ℕ
   pub both : waiting ≡ done ++ left
   pub at : now.at ≡ cutter.at + length done
   pub cuts : Cuts told cutter size done old slots now None
 
-pub rests_none : {told : Bool} {cutter : CutterState} {waiting : List ℕ} {size : ℕ} {slots : List Slot} → IsAimed cutter.target.aim slots → Resting told cutter waiting size slots slots cutter waiting
+pub rests_none : {told : Bool} {cutter : CutterState} {waiting : List ℕ} {size : ℕ} {slots : List Slot}
+    → IsAimed cutter.target.aim slots → Resting told cutter waiting size slots slots cutter waiting
 rests_none ready = record { done = []; both = refl; at = omega arith; cuts = cuts_nothing ready }
 
-module _ {told : Bool} {cutter now : CutterState} {waiting left : List ℕ} {size : ℕ} {old slots : List Slot} (so_far : Resting told cutter waiting size old slots now left) where
-  pub rests_more : {next : CutterState} {after : List ℕ} {new : List Slot} {n : ℕ} (front rest : List ℕ) → left ≡ front ++ rest → Steps told now size front slots new next (Ok n) → after ≡ drop n left → Resting told cutter waiting size old new next after
+module _ {told : Bool} {cutter now : CutterState} {waiting left : List ℕ} {size : ℕ} {old slots : List Slot}
+    (so_far : Resting told cutter waiting size old slots now left) where
+  pub rests_more : {next : CutterState} {after : List ℕ} {new : List Slot} {n : ℕ} (front rest : List ℕ)
+      → left ≡ front ++ rest → Steps told now size front slots new next (Ok n) → after ≡ drop n left
+      → Resting told cutter waiting size old new next after
   rests_more {next} {after} {n = n} front rest is (some, few, at, step, going) waits = record {
     done = so_far.done ++ take n front;
     both = so_far.both ∙ ap (λ those. so_far.done ++ those) (is ∙ ap (λ front. front ++ rest) (sym (take-append-drop n front)) ∙ append_assoc (take n front) (drop n front) rest
@@ -152,7 +175,9 @@ module _ {told : Bool} {cutter now : CutterState} {waiting left : List ℕ} {siz
     cuts = cuts_again so_far.done (take n front) None so_far.cuts step;
   }
 
-  pub rests_not : {next : CutterState} {after : List ℕ} {new : List Slot} {why : Fault} (front rest : List ℕ) → left ≡ front ++ rest → Cuts told now size front slots new next (Some why) → length after ≡ 0 → CutsHeld told cutter waiting size old new next after (Some why)
+  pub rests_not : {next : CutterState} {after : List ℕ} {new : List Slot} {why : Fault} (front rest : List ℕ)
+      → left ≡ front ++ rest → Cuts told now size front slots new next (Some why) → length after ≡ 0
+      → CutsHeld told cutter waiting size old new next after (Some why)
   rests_not {why = why} front rest is stops none = record {
     bound = omega (arith, none, stops.bound, so_far.at, ap length so_far.both, length-append so_far.done left, ap length is, length-append front rest);
     cuts = rw (so_far.both, is) (cuts_again so_far.done (front ++ rest) (Some why) so_far.cuts (cuts_wider front rest stops));
@@ -166,13 +191,16 @@ module _ {told : Bool} {cutter now : CutterState} {waiting left : List ℕ} {siz
 
 -- A piece
 
-begun_later : (unit : Counted) (delim : ℕ) {place other : ℕ} (x : List ℕ) → place ≤ other → begun_before unit delim place x ≡ x → begun_before unit delim other x ≡ x
+begun_later : (unit : Counted) (delim : ℕ) {place other : ℕ} (x : List ℕ) → place ≤ other
+    → begun_before unit delim place x ≡ x → begun_before unit delim other x ≡ x
 begun_later unit delim {place} {other} x within all = same (begun_monotone unit delim x within) (begun_begins unit delim other x) where
-  same : IsBeginning (begun_before unit delim place x) (begun_before unit delim other x) → IsBeginning (begun_before unit delim other x) x → begun_before unit delim other x ≡ x
+  same : IsBeginning (begun_before unit delim place x) (begun_before unit delim other x)
+      → IsBeginning (begun_before unit delim other x) x → begun_before unit delim other x ≡ x
   same (more, is) (rest, both) = let none : length rest ≡ 0 = omega (arith, ap length is, length-append (begun_before unit delim place x) more, ap length all, ap length both, length-append (begun_before unit delim other x) rest) in
       sym (both ∙ ap (λ rest. begun_before unit delim other x ++ rest) (nil_from_length rest none) ∙ append-nil (begun_before unit delim other x))
 
-decided_is : (on : Course) (chunks : Chunks) (x : List ℕ) → (work_on on chunks None).settled x ≡ part_on on (decided chunks (first_on on) None x)
+decided_is : (on : Course) (chunks : Chunks) (x : List ℕ)
+    → (work_on on chunks None).settled x ≡ part_on on (decided chunks (first_on on) None x)
 decided_is (in_files filing elide) chunks x = refl
 decided_is (in_output chunk) chunks x = refl
 
@@ -186,7 +214,8 @@ is_unsaid {chunker} {x} said holds = subst (λ said. HoldsBy said chunker x) sai
 unsaid_is : {chunker : ChunkerState} {x : List ℕ} → chunker.said ≡ None → IsUnsaid chunker x → Holds chunker x
 unsaid_is {chunker} {x} said is = subst (λ said. HoldsBy said chunker x) (sym said) is
 
-made_none : (chunker : ChunkerState) → chunker.said ≡ None → work_on (course chunker.cutter) chunker.cutter.chunks None ≡ made chunker
+made_none : (chunker : ChunkerState) → chunker.said ≡ None
+    → work_on (course chunker.cutter) chunker.cutter.chunks None ≡ made chunker
 made_none chunker said = ap (work_on (course chunker.cutter) chunker.cutter.chunks) (sym said)
 
 -- what was cut off, of what came in
@@ -197,7 +226,10 @@ module _ {chunker : ChunkerState} {x : List ℕ} (has : IsUnsaid chunker x) wher
   all_came : cut_front chunker x ++ chunker.waiting ≡ x
   all_came = ap (λ rest. cut_front chunker x ++ rest) has.waits ∙ begin_then_rest (cut_front chunker x) x (begun_begins chunker.cutter.chunks.unit chunker.cutter.chunks.delim _ x)
 
-  front_before : (more : List ℕ) → BeginsBefore chunker.cutter (chunk_start chunker.cutter.chunks.count (length (x ++ more)) (first_on (course chunker.cutter))) (cut_front chunker x)
+  front_before : (more : List ℕ)
+      → BeginsBefore chunker.cutter
+      (chunk_start chunker.cutter.chunks.count (length (x ++ more)) (first_on (course chunker.cutter)))
+      (cut_front chunker x)
   front_before more = let chunks = chunker.cutter.chunks in let first = first_on (course chunker.cutter) in (
     has.cut,
     begun_later chunks.unit chunks.delim (cut_front chunker x) (start_by_size chunks.count (length x) (length (x ++ more)) first (some_of (course chunker.cutter) chunks.count has.cut.can) (first_fits (course chunker.cutter) chunks.count has.cut.can) (omega (arith, length-append x more)))
@@ -207,17 +239,27 @@ module _ {chunker : ChunkerState} {x : List ℕ} (has : IsUnsaid chunker x) wher
   came_more : (piece : List ℕ) → cut_front chunker x ++ (chunker.waiting ++ piece) ≡ x ++ piece
   came_more piece = sym (append_assoc (cut_front chunker x) chunker.waiting piece) ∙ ap (λ x. x ++ piece) all_came
 
-module _ (chunker : ChunkerState) (piece : List ℕ) {end : ℕ} (ends : end ≡ chunk_start chunker.cutter.chunks.count (chunker.cutter.at + length (chunker.waiting ++ piece)) (first_on (course chunker.cutter))) where
-  end_is : {x : List ℕ} → IsUnsaid chunker x → end ≡ chunk_start chunker.cutter.chunks.count (length (x ++ piece)) (first_on (course chunker.cutter))
+module _ (chunker : ChunkerState) (piece : List ℕ) {end : ℕ}
+    (ends : end ≡ chunk_start chunker.cutter.chunks.count (chunker.cutter.at + length (chunker.waiting ++ piece))
+    (first_on (course chunker.cutter))) where
+  end_is : {x : List ℕ} → IsUnsaid chunker x
+      → end ≡ chunk_start chunker.cutter.chunks.count (length (x ++ piece)) (first_on (course chunker.cutter))
   end_is {x} has = let n : chunker.cutter.at + length (chunker.waiting ++ piece) ≡ length (x ++ piece) = omega (arith, has.cut.at, length-append (cut_front chunker x) (chunker.waiting ++ piece), ap length (came_more has piece)) in
       ends ∙ ap (λ n. chunk_start chunker.cutter.chunks.count n (first_on (course chunker.cutter))) n
 
-  to_is : {x : List ℕ} → IsUnsaid chunker x → all_before chunker.cutter (chunker.waiting ++ piece) end (cut_front chunker x) ≡ cut_front chunker (x ++ piece)
+  to_is : {x : List ℕ} → IsUnsaid chunker x
+      → all_before chunker.cutter (chunker.waiting ++ piece) end (cut_front chunker x) ≡ cut_front chunker (x ++ piece)
   to_is {x} has = ap (begun_before chunker.cutter.chunks.unit chunker.cutter.chunks.delim end) (came_more has piece) ∙ ap (λ end. begun_before chunker.cutter.chunks.unit chunker.cutter.chunks.delim end (x ++ piece)) (end_is has)
 
-module _ {told : Bool} {chunker next : ChunkerState} {piece : List ℕ} {end : ℕ} {old new : List Slot} (said : chunker.said ≡ None) (same : next.said ≡ chunker.said) (can : can_cut (course chunker.cutter) chunker.cutter.chunks.count ≡ true)
-    (spare : next.spare ≡ chunker.spare) (ends : end ≡ chunk_start chunker.cutter.chunks.count (chunker.cutter.at + length (chunker.waiting ++ piece)) (first_on (course chunker.cutter))) where
-  pub passes_unsaid : (fault : Option Fault) → Settles told chunker.cutter (chunker.waiting ++ piece) end old new next.cutter next.waiting fault → Passes told chunker piece old new next fault
+module _ {told : Bool} {chunker next : ChunkerState} {piece : List ℕ} {end : ℕ} {old new : List Slot}
+    (said : chunker.said ≡ None) (same : next.said ≡ chunker.said)
+    (can : can_cut (course chunker.cutter) chunker.cutter.chunks.count ≡ true)
+    (spare : next.spare ≡ chunker.spare)
+    (ends : end ≡ chunk_start chunker.cutter.chunks.count (chunker.cutter.at + length (chunker.waiting ++ piece))
+    (first_on (course chunker.cutter))) where
+  pub passes_unsaid : (fault : Option Fault)
+      → Settles told chunker.cutter (chunker.waiting ++ piece) end old new next.cutter next.waiting fault
+      → Passes told chunker piece old new next fault
   passes_unsaid fault settles = record {
     same = record { can = can; said = same; chunks = settles.chunks };
     bound = omega (arith, settles.bound, spare, length-append chunker.waiting piece);
@@ -236,19 +278,23 @@ module _ {told : Bool} {chunker next : ChunkerState} {piece : List ℕ} {end : �
         }));
   }
 
-pub passes_as : {told : Bool} {chunker next : ChunkerState} {piece : List ℕ} {old new : List Slot} (result : Result (Unit {0}) Fault) → Passes told chunker piece old new next (fault_in result) → PassesAs told chunker piece old new next result
+pub passes_as : {told : Bool} {chunker next : ChunkerState} {piece : List ℕ} {old new : List Slot}
+    (result : Result (Unit {0}) Fault) → Passes told chunker piece old new next (fault_in result)
+    → PassesAs told chunker piece old new next result
 passes_as (Ok done) passes = passes
 passes_as (Err why) passes = inl passes
 
 -- The end
 
-begun_some : (unit : Counted) (delim place : ℕ) (x : List ℕ) → 0 < place → 0 < length x → 0 < length (begun_before unit delim place x)
+begun_some : (unit : Counted) (delim place : ℕ) (x : List ℕ) → 0 < place → 0 < length x
+    → 0 < length (begun_before unit delim place x)
 begun_some Bytes delim place x some has = omega (arith, length-take place x, some, has)
 begun_some Lines delim place [] some has = absurd (omega (arith, has))
 begun_some Lines delim place (byte ∷ x) some has = rw (begun_first delim byte place x some) (omega arith)
 
 -- what is settled ends within a line only where nothing waits
-none_waits : (unit : Counted) (delim place : ℕ) (z waiting : List ℕ) → begun_before unit delim place (z ++ waiting) ≡ z → is_within unit delim z ≡ true → length waiting ≡ 0
+none_waits : (unit : Counted) (delim place : ℕ) (z waiting : List ℕ) → begun_before unit delim place (z ++ waiting) ≡ z
+    → is_within unit delim z ≡ true → length waiting ≡ 0
 none_waits unit delim place z waiting is within = elim (cases_lt 0 (length waiting)) [
   | inr none ↦ omega (arith, none)
   | inl some ↦ (let early = open_early unit delim place z (ap (begun_before unit delim place) (sym is) ∙ begun_again unit delim place (z ++ waiting) ∙ is) within in
@@ -288,7 +334,8 @@ all_empty chunks count = by chunks.count refl count where
       ∙ sym (cut_all chunks 0 [] (omega (arith, is)) (omega arith))
 
 -- the first chunk of a text is what stands before the second
-first_cut : (chunks : Chunks) (size : ℕ) (z : List ℕ) → 0 < chunks.count → length z ≤ size → before_chunk chunks size 1 z ≡ z → with_fulls (ended chunks size z) (uncut z) ≡ chunks_within chunks size z
+first_cut : (chunks : Chunks) (size : ℕ) (z : List ℕ) → 0 < chunks.count → length z ≤ size
+    → before_chunk chunks size 1 z ≡ z → with_fulls (ended chunks size z) (uncut z) ≡ chunks_within chunks size z
 first_cut chunks size z count fits all = by (cases_lt 0 size) where
   by : (0 < size) ⊎ (size ≤ 0) → with_fulls (ended chunks size z) (uncut z) ≡ chunks_within chunks size z
   by (inl some) = let none = none_ended chunks size count some in
@@ -301,18 +348,22 @@ first_cut chunks size z count fits all = by (cases_lt 0 size) where
 
 -- what is written of it is the same, also where one chunk alone goes out
 
-fulls_past : (chunk : ℕ) (n : ℕ) (cut : CutUp) → get_or (pieces_in (with_fulls n cut)) chunk [] ≡ get_or (pieces_in cut) chunk []
+fulls_past : (chunk : ℕ) (n : ℕ) (cut : CutUp)
+    → get_or (pieces_in (with_fulls n cut)) chunk [] ≡ get_or (pieces_in cut) chunk []
 fulls_past chunk zero cut = refl
 fulls_past chunk (suc n) cut = piece_full (pieces_in (with_fulls n cut)) chunk ∙ fulls_past chunk n cut
 
-pub past_pieces : (chunks : Chunks) (size chunk : ℕ) (z : List ℕ) → before_chunk chunks size chunk z ≡ z → get_or (pieces_in (chunks_within chunks size z)) chunk [] ≡ []
+pub past_pieces : (chunks : Chunks) (size chunk : ℕ) (z : List ℕ) → before_chunk chunks size chunk z ≡ z
+    → get_or (pieces_in (chunks_within chunks size z)) chunk [] ≡ []
 past_pieces chunks size chunk z all = let f = chunk_at chunks size z in let n = ended chunks size z in
     ap (λ pieces. get_or pieces chunk []) (sym (map-range_with_len_more f 0 n n (omega arith))) ∙ by (cases_lt chunk (n + 1)) where
-      by : (chunk < ended chunks size z + 1) ⊎ (ended chunks size z + 1 ≤ chunk) → get_or (map (chunk_at chunks size z) (range_with_len 0 (ended chunks size z + 1))) chunk [] ≡ []
+      by : (chunk < ended chunks size z + 1) ⊎ (ended chunks size z + 1 ≤ chunk)
+          → get_or (map (chunk_at chunks size z) (range_with_len 0 (ended chunks size z + 1))) chunk [] ≡ []
       by (inl within) = get_or-map-range_with_len (chunk_at chunks size z) 0 (ended chunks size z + 1) chunk chunk [] within (omega arith) ∙ chunk_none chunks size z chunk all
       by (inr past) = get_or_past (map (chunk_at chunks size z) (range_with_len 0 (ended chunks size z + 1))) chunk [] (omega (arith, past, length-map-range_with_len (chunk_at chunks size z) 0 (ended chunks size z + 1)))
 
-part_same : (on : Course) (chunks : Chunks) (size : ℕ) (z : List ℕ) → 0 < chunks.count → length z ≤ size → before_chunk chunks size (first_on on) z ≡ z
+part_same : (on : Course) (chunks : Chunks) (size : ℕ) (z : List ℕ) → 0 < chunks.count → length z ≤ size
+    → before_chunk chunks size (first_on on) z ≡ z
     → part_on on (with_fulls (ended chunks size z) (uncut z)) ≡ part_on on (chunks_within chunks size z)
 part_same (in_files filing elide) chunks size z count fits all = ap (part_on (in_files filing elide)) (first_cut chunks size z count fits all)
 part_same (in_output zero) chunks size z count fits all = ap (part_on (in_output zero)) (first_cut chunks size z count fits all)
@@ -323,8 +374,10 @@ fulls_long : (n : ℕ) (cut : CutUp) → length (with_fulls n cut).full ≡ leng
 fulls_long zero cut = omega arith
 fulls_long (suc n) cut = omega (arith, length-append (with_fulls n cut).full ((with_fulls n cut).rest ∷ []), fulls_long n cut)
 
-carries_same : (chunks : Chunks) (size : ℕ) (z : List ℕ) (place : ℕ) (aim : AimState) → 0 < chunks.count → length z ≤ size → before_chunk chunks size (first_on (course_of aim)) z ≡ z
-    → Carries (record { place = place; aim = aim }) (with_fulls (ended chunks size z) (uncut z)) → Carries (record { place = place; aim = aim }) (chunks_within chunks size z)
+carries_same : (chunks : Chunks) (size : ℕ) (z : List ℕ) (place : ℕ) (aim : AimState) → 0 < chunks.count
+    → length z ≤ size → before_chunk chunks size (first_on (course_of aim)) z ≡ z
+    → Carries (record { place = place; aim = aim }) (with_fulls (ended chunks size z) (uncut z))
+    → Carries (record { place = place; aim = aim }) (chunks_within chunks size z)
 carries_same chunks size z place (to_files writer elide) count fits all carries = subst (Carries (record { place = place; aim = to_files writer elide })) (first_cut chunks size z count fits all) carries
 carries_same chunks size z place (to_output chunk) count fits all carries = record {
   placed = omega (arith, length-map-range_with_len (chunk_at chunks size z) 0 (ended chunks size z), fulls_long (ended chunks size z) (uncut z), carries.placed);
@@ -337,11 +390,13 @@ whole_begins : (on : Course) (cut : CutUp) → Begins (part_on on cut) (whole_on
 whole_begins (in_files filing elide) cut = subst (Begins (draft_part (manner_of filing) (draft_by elide cut))) (whole_draft filing elide cut) (next_begins (manner_of filing) Never (draft_by elide cut))
 whole_begins (in_output chunk) cut = part_begins_itself _
 
-settled_cut : {cutter : CutterState} {waiting : List ℕ} {size : ℕ} {z : List ℕ} → IsSettled cutter waiting size z → before_chunk cutter.chunks size (first_on (course cutter)) z ≡ z
+settled_cut : {cutter : CutterState} {waiting : List ℕ} {size : ℕ} {z : List ℕ} → IsSettled cutter waiting size z
+    → before_chunk cutter.chunks size (first_on (course cutter)) z ≡ z
 settled_cut {cutter} {waiting} {size} {z} so = let at = chunk_start cutter.chunks.count size (first_on (course cutter)) in
     ap (begun_before cutter.chunks.unit cutter.chunks.delim at) (sym so.is) ∙ begun_again cutter.chunks.unit cutter.chunks.delim at (z ++ waiting) ∙ so.is
 
-cut_off_so : {cutter : CutterState} {waiting : List ℕ} {size : ℕ} {z : List ℕ} → IsSettled cutter waiting size z → IsCutOff cutter size (z, uncut z)
+cut_off_so : {cutter : CutterState} {waiting : List ℕ} {size : ℕ} {z : List ℕ} → IsSettled cutter waiting size z
+    → IsCutOff cutter size (z, uncut z)
 cut_off_so {cutter} {waiting} {size} {z} so = record {
   carries = so.cut.carries;
   all = so.cut.all;
@@ -352,30 +407,38 @@ cut_off_so {cutter} {waiting} {size} {z} so = record {
   from = omega (arith, so.cut.carries.placed);
 }
 
-some_so : {cutter : CutterState} {waiting : List ℕ} {size : ℕ} {z : List ℕ} → IsSettled cutter waiting size z → 0 < cutter.chunks.count
+some_so : {cutter : CutterState} {waiting : List ℕ} {size : ℕ} {z : List ℕ} → IsSettled cutter waiting size z
+    → 0 < cutter.chunks.count
 some_so {cutter} so = some_of (course cutter) cutter.chunks.count so.cut.can
 
-to_whole : {cutter : CutterState} {waiting : List ℕ} {size : ℕ} (z : List ℕ) → IsSettled cutter waiting size z → Begins (part_on (course cutter) (chunks_within cutter.chunks size z)) (whole_on (course cutter) (chunks_within cutter.chunks size (z ++ waiting)))
+to_whole : {cutter : CutterState} {waiting : List ℕ} {size : ℕ} (z : List ℕ) → IsSettled cutter waiting size z
+    → Begins (part_on (course cutter) (chunks_within cutter.chunks size z))
+    (whole_on (course cutter) (chunks_within cutter.chunks size (z ++ waiting)))
 to_whole {cutter} {waiting} {size} z so = part_trans _ _ _ (so_grows (course cutter) cutter.chunks size z waiting (some_so so) (omega (arith, so.all, length-append z waiting))) (whole_begins (course cutter) (chunks_within cutter.chunks size (z ++ waiting)))
 
 module _ {told : Bool} {cutter mid : CutterState} {waiting : List ℕ} {size : ℕ} {old wet : List Slot} where
   ends_first : (fault : Option Fault) → EndsFull told cutter size old wet mid fault
-      → Sends told cutter.target (IsSettled cutter waiting size) (λ z. uncut z) (λ z. with_fulls (ended cutter.chunks size z) (uncut z)) old wet mid.target fault
+      → Sends told cutter.target (IsSettled cutter waiting size) (λ z. uncut z)
+      (λ z. with_fulls (ended cutter.chunks size z) (uncut z)) old wet mid.target fault
   ends_first fault ends = sends_as (λ z. (z, uncut z)) fault (λ z so. cut_off_so so) (λ z so. refl) (λ z so.
       let e : ended cutter.chunks size z - cutter.target.place ≡ ended cutter.chunks size z = omega (arith, so.cut.carries.placed) in ap (λ n. with_fulls n (uncut z)) e) ends.sends
 
   brings_first : (fault : Option Fault) → EndsFull told cutter size old wet mid fault
-      → Brings told (course cutter) cutter.target.aim mid.target.aim (IsSettled cutter waiting size) (λ z. part_on (course cutter) (uncut z)) (λ z. part_on (course cutter) (chunks_within cutter.chunks size z)) old wet fault
+      → Brings told (course cutter) cutter.target.aim mid.target.aim (IsSettled cutter waiting size)
+      (λ z. part_on (course cutter) (uncut z))
+      (λ z. part_on (course cutter) (chunks_within cutter.chunks size z)) old wet fault
   brings_first fault ends = brings_as (λ z. z) fault (λ z so. so) (λ z so. refl) (λ z so. part_same (course cutter) cutter.chunks size z (some_so so) (omega (arith, so.all)) (settled_cut so)) (ends_first fault ends).brings
 
-  pub held_not_ended : {why : Fault} → EndsFull told cutter size old wet mid (Some why) → EndsHeld told cutter waiting size old wet mid waiting (Some why)
+  pub held_not_ended : {why : Fault} → EndsFull told cutter size old wet mid (Some why)
+      → EndsHeld told cutter waiting size old wet mid waiting (Some why)
   held_not_ended {why} ends = record {
     chunks = ends.chunks;
     bound = omega (arith, ends.at);
     brings = brings_wider (λ z so. to_whole z so) (brings_first (Some why) ends);
   }
 
-  mid_cut : (ends : EndsFull told cutter size old wet mid None) (z : List ℕ) → IsSettled cutter waiting size z → IsCut mid size z × (length (z ++ waiting) ≤ size)
+  mid_cut : (ends : EndsFull told cutter size old wet mid None) (z : List ℕ) → IsSettled cutter waiting size z
+      → IsCut mid size z × (length (z ++ waiting) ≤ size)
   mid_cut ends z so = let sends = ends_first None ends in let stays = sends.brings.stays in (
     record {
       cut = record {
@@ -390,22 +453,31 @@ module _ {told : Bool} {cutter mid : CutterState} {waiting : List ℕ} {size : �
     omega (arith, so.all, length-append z waiting),
   )
 
-  brings_rest : {next : AimState} {new : List Slot} (fault : Option Fault) (ends : EndsFull told cutter size old wet mid None)
-      → Brings told (course mid) mid.target.aim next (λ z. IsCut mid size z × (length (z ++ waiting) ≤ size)) (part_so mid size) (λ z. part_so mid size (z ++ waiting)) wet new fault
-      → Brings told (course cutter) cutter.target.aim next (IsSettled cutter waiting size) (λ z. part_on (course cutter) (uncut z)) (λ z. part_on (course cutter) (chunks_within cutter.chunks size (z ++ waiting))) old new fault
+  brings_rest : {next : AimState} {new : List Slot} (fault : Option Fault)
+      (ends : EndsFull told cutter size old wet mid None)
+      → Brings told (course mid) mid.target.aim next (λ z. IsCut mid size z
+      × (length (z ++ waiting) ≤ size)) (part_so mid size) (λ z. part_so mid size (z ++ waiting)) wet new fault
+      → Brings told (course cutter) cutter.target.aim next (IsSettled cutter waiting size)
+      (λ z. part_on (course cutter) (uncut z))
+      (λ z. part_on (course cutter) (chunks_within cutter.chunks size (z ++ waiting))) old new fault
   brings_rest {next} {new} fault ends brings = let stays = (ends_first None ends).brings.stays in
       brings_then (brings_first None ends) (λ z so. so) (brings_as (λ z. z) fault (mid_cut ends) (λ z so. ap (λ chunks. part_on (course cutter) (chunks_within chunks size z)) ends.chunks) (λ z so. ap (λ chunks. part_on (course cutter) (chunks_within chunks size (z ++ waiting))) ends.chunks)
       (rw (← stays) brings))
 
-  pub held_not_cut : {next : CutterState} {left : List ℕ} {new : List Slot} {why : Fault} → EndsFull told cutter size old wet mid None → CutsHeld told mid waiting size wet new next left (Some why) → EndsHeld told cutter waiting size old new next left (Some why)
+  pub held_not_cut : {next : CutterState} {left : List ℕ} {new : List Slot} {why : Fault}
+      → EndsFull told cutter size old wet mid None → CutsHeld told mid waiting size wet new next left (Some why)
+      → EndsHeld told cutter waiting size old new next left (Some why)
   held_not_cut {why = why} ends cuts = record {
     chunks = cuts.cuts.chunks ∙ ends.chunks;
     bound = omega (arith, cuts.bound, ends.at);
     brings = brings_wider (λ z so. whole_begins (course cutter) (chunks_within cutter.chunks size (z ++ waiting))) (brings_rest (Some why) ends cuts.cuts.brings);
   }
 
-  pub held_ends : {later : CutterState} {next : CutterState} {left : List ℕ} {between new : List Slot} (fault : Option Fault) → EndsFull told cutter size old wet mid None → CutsHeld told mid waiting size wet between later left None
-      → TargetEnds told later.target between new next.target fault → next.chunks ≡ later.chunks → next.at ≡ later.at → EndsHeld told cutter waiting size old new next left fault
+  pub held_ends : {later : CutterState} {next : CutterState} {left : List ℕ} {between new : List Slot}
+      (fault : Option Fault) → EndsFull told cutter size old wet mid None
+      → CutsHeld told mid waiting size wet between later left None
+      → TargetEnds told later.target between new next.target fault → next.chunks ≡ later.chunks → next.at ≡ later.at
+      → EndsHeld told cutter waiting size old new next left fault
   held_ends {later} {next} {left} {between} {new} fault ends cuts last chunks at = let first = brings_rest None ends cuts.cuts.brings in record {
     chunks = chunks ∙ cuts.cuts.chunks ∙ ends.chunks;
     bound = omega (arith, at, cuts.bound, ends.at);
@@ -416,7 +488,8 @@ module _ {told : Bool} {cutter mid : CutterState} {waiting : List ℕ} {size : �
 
 -- as the stage ends
 
-whole_none : (on : Course) (chunks : Chunks) (x : List ℕ) → (work_on on chunks None).whole x ≡ whole_on on (chunks_of chunks (length x) x)
+whole_none : (on : Course) (chunks : Chunks) (x : List ℕ)
+    → (work_on on chunks None).whole x ≡ whole_on on (chunks_of chunks (length x) x)
 whole_none (in_files filing elide) chunks x = refl
 whole_none (in_output chunk) chunks x = refl
 
@@ -424,8 +497,12 @@ well_none : (on : Course) (chunks : Chunks) (x : List ℕ) → (work_on on chunk
 well_none (in_files filing elide) chunks x = refl
 well_none (in_output chunk) chunks x = refl
 
-pub ends_unsaid : {told : Bool} {chunker next : ChunkerState} {size : ℕ} {old new : List Slot} (fault : Option Fault) → chunker.said ≡ None → next.said ≡ chunker.said → next.spare ≡ chunker.spare → can_cut (course chunker.cutter) chunker.cutter.chunks.count ≡ true
-    → size ≡ chunker.cutter.at + length chunker.waiting → EndsHeld told chunker.cutter chunker.waiting size old new next.cutter next.waiting fault → StageEnds told chunker old new next fault
+pub ends_unsaid : {told : Bool} {chunker next : ChunkerState} {size : ℕ} {old new : List Slot} (fault : Option Fault)
+    → chunker.said ≡ None → next.said ≡ chunker.said → next.spare ≡ chunker.spare
+    → can_cut (course chunker.cutter) chunker.cutter.chunks.count ≡ true
+    → size ≡ chunker.cutter.at + length chunker.waiting
+    → EndsHeld told chunker.cutter chunker.waiting size old new next.cutter next.waiting fault
+    → StageEnds told chunker old new next fault
 ends_unsaid {chunker = chunker} {size = size} fault said same spare can size_is ends = record {
   same = record { can = can; said = same; chunks = ends.chunks };
   bound = omega (arith, ends.bound, spare);
@@ -443,6 +520,7 @@ ends_unsaid {chunker = chunker} {size = size} fault said same spare can size_is 
   long : (x : List ℕ) → IsUnsaid chunker x → size ≡ length x
   long x has = omega (arith, size_is, has.cut.at, length-append (cut_front chunker x) chunker.waiting, ap length (all_came has))
 
-pub ends_as : {told : Bool} {chunker next : ChunkerState} {old new : List Slot} (result : Result (Unit {0}) Fault) → StageEnds told chunker old new next (fault_in result) → EndsAs told chunker old new next result
+pub ends_as : {told : Bool} {chunker next : ChunkerState} {old new : List Slot} (result : Result (Unit {0}) Fault)
+    → StageEnds told chunker old new next (fault_in result) → EndsAs told chunker old new next result
 ends_as (Ok done) ends = ends
 ends_as (Err why) ends = inl ends

@@ -42,25 +42,29 @@ complete_is state x some holds = complete_by state.said state x some holds
     ∙ ap (λ (those : Work). those.is_complete x) (sym (works_so state (holds_can state.said state x holds)))
 
 -- where the input doesn't say its length, the output is never complete
-unsaid_by : (said : Option ℕ) → is_some said ≡ false → (on : Course) (chunks : Chunks) (x : List ℕ) → (work_on on chunks said).is_complete x ≡ false
+unsaid_by : (said : Option ℕ) → is_some said ≡ false → (on : Course) (chunks : Chunks) (x : List ℕ)
+    → (work_on on chunks said).is_complete x ≡ false
 unsaid_by None none on chunks x = unsaid_open on chunks x
 unsaid_by (Some size) none on chunks x = absurd (false≢true (sym none))
 
-pub unsaid_goes_on : (state : ChunkerState) (x z : List ℕ) → is_some state.said ≡ false → Holds state x → (work state).is_complete z ≡ false
+pub unsaid_goes_on : (state : ChunkerState) (x z : List ℕ) → is_some state.said ≡ false → Holds state x
+    → (work state).is_complete z ≡ false
 unsaid_goes_on state x z none holds = ap (λ (those : Work). those.is_complete z) (works_so state (holds_can state.said state x holds))
     ∙ unsaid_by state.said none (course state.cutter) state.cutter.chunks z
 
 -- How much is wanted
 
 -- a text that has all of a chunk reaches its end
-reaches : (chunks : Chunks) (size chunk : ℕ) (x : List ℕ) → has_ended chunks size x chunk ≡ true → chunk_start chunks.count size (chunk + 1) ≤ length x
+reaches : (chunks : Chunks) (size chunk : ℕ) (x : List ℕ) → has_ended chunks size x chunk ≡ true
+    → chunk_start chunks.count size (chunk + 1) ≤ length x
 reaches chunks size chunk x has = elim (cases_lt (length x) size) [
   | inl short ↦ omega (arith, leb-true _ _ has, passed_open chunks size x short, open_within chunks.unit chunks.delim x)
   | inr full ↦ omega (arith, leb-true _ _ has, passed_full chunks size x full, full)
 ]
 
 few_missing : (chunk : ℕ) (chunks : Chunks) (size : ℕ) (x piece : List ℕ) (n : ℕ) → nat_lt chunk chunks.count ≡ true
-    → length piece ≤ max (chunk_start chunks.count size (chunk + 1) - length x) 1 → has_ended chunks size x chunk ≡ false
+    → length piece ≤ max (chunk_start chunks.count size (chunk + 1) - length x) 1
+    → has_ended chunks size x chunk ≡ false
     → IsSpare (chunk_work chunk chunks (Some size)) (x ++ piece) n → n ≡ 0
 few_missing chunk chunks size x piece n can few going spare = elim spare.enough [
   | inl none ↦ omega (arith, ap length none, spare.long)
@@ -83,7 +87,8 @@ few_missing chunk chunks size x piece n can few going spare = elim spare.enough 
   long = ap length spare.joined
 
 -- while it goes on, all that came in was cut off
-all_cut : (state : ChunkerState) (size : ℕ) (x : List ℕ) → state.said ≡ Some size → (work state).is_complete x ≡ false → Holds state x
+all_cut : (state : ChunkerState) (size : ℕ) (x : List ℕ) → state.said ≡ Some size → (work state).is_complete x ≡ false
+    → Holds state x
     → state.cutter.at ≡ length x
 all_cut state size x said going holds = let has : IsSaid state size x = is_said said holds in elim has.spare.enough [
   | inl none ↦ omega (arith, has.cut.at, ap length none, ap length has.spare.joined ∙ length-append has.spare.used has.spare.rest)
@@ -94,7 +99,8 @@ pub made_by : (state : ChunkerState) (on : Course) (x : List ℕ) → Holds stat
     → work state ≡ work_on on state.cutter.chunks state.said
 made_by state on x holds is = works_so state (holds_can state.said state x holds) ∙ ap (λ on. work_on on state.cutter.chunks state.said) is
 
-pub few_of_chunk : (state : ChunkerState) (size chunk most : ℕ) → state.said ≡ Some size → course state.cutter ≡ in_output chunk
+pub few_of_chunk : (state : ChunkerState) (size chunk most : ℕ) → state.said ≡ Some size
+    → course state.cutter ≡ in_output chunk
     → most ≡ max (chunk_start state.cutter.chunks.count size (chunk + 1) - state.cutter.at) 1
     → MayGet (as_if ways.terms) (way.Chunks state) most
 few_of_chunk state size chunk most said on is x piece after n holds going within same later spare =

@@ -12,19 +12,24 @@ use Rattle.ports_core.proofs.AgreedLemmas.{agreed_now, nothing_waits}
 use Rattle.tee_core.specs.Copy.{copy_in, tee_work, spots_each, tee_spots}
 use Rattle.tee_core.specs.Run.{all_copied}
 
-copies_begin : (mode : Mode) (names : List (List ℕ)) (x y : List ℕ) → FilesBegin (map (copy_in mode Open x) names) (map (copy_in mode Closed (x ++ y)) names)
+copies_begin : (mode : Mode) (names : List (List ℕ)) (x y : List ℕ)
+    → FilesBegin (map (copy_in mode Open x) names) (map (copy_in mode Closed (x ++ y)) names)
 copies_begin mode [] x y = tt
 copies_begin mode (name ∷ names) x y = (refl, refl, refl, inl refl, (y, refl), copies_begin mode names x y)
 
-same_bytes : (mode : Mode) (one other : State) (names : List (List ℕ)) (x : List ℕ) → map (λ (file : File). file.bytes) (map (copy_in mode one x) names) ≡ map (λ (file : File). file.bytes) (map (copy_in mode other x) names)
+same_bytes : (mode : Mode) (one other : State) (names : List (List ℕ)) (x : List ℕ)
+    → map (λ (file : File). file.bytes) (map (copy_in mode one x) names)
+    ≡ map (λ (file : File). file.bytes) (map (copy_in mode other x) names)
 same_bytes mode one other [] x = refl
 same_bytes mode one other (name ∷ names) x = ap (λ files. x ∷ files) (same_bytes mode one other names x)
 
-pub tee_agreed : (mode : Mode) (names : List (List ℕ)) (x : List ℕ) → IsAgreed (tee_work mode names) x ((tee_work mode names).settled x)
+pub tee_agreed : (mode : Mode) (names : List (List ℕ)) (x : List ℕ)
+    → IsAgreed (tee_work mode names) x ((tee_work mode names).settled x)
 tee_agreed mode names x = agreed_now (tee_work mode names) x (λ y. record { out = (y, refl); files = copies_begin mode names x y }) (ap (λ files. x ∷ files) (same_bytes mode Closed Open names x))
 
 -- a byte that came in goes to all outputs, whatever comes
-goes_there : (names : List (List ℕ)) (x y : List ℕ) (i : ℕ) → i < length x → tee_spots names (x ++ y) i ≡ spot 0 i ∷ spots_each 1 names i
+goes_there : (names : List (List ℕ)) (x y : List ℕ) (i : ℕ) → i < length x
+    → tee_spots names (x ++ y) i ≡ spot 0 i ∷ spots_each 1 names i
 goes_there names x y i less = grind (arith, common_steps)
 
 pub tee_undecided : (names : List (List ℕ)) (x : List ℕ) → IsUndecided (tee_spots names) x []
@@ -32,36 +37,45 @@ tee_undecided names x = nothing_waits (λ i less y z. goes_there names x y i les
 
 -- spots are right
 
-each_goes : (place : ℕ) (names : List (List ℕ)) {i : ℕ} (at : Spot) → GoesTo at (spots_each place names i) → (at.offset ≡ i) × (place ≤ at.place) × (at.place < place + length names)
+each_goes : (place : ℕ) (names : List (List ℕ)) {i : ℕ} (at : Spot) → GoesTo at (spots_each place names i)
+    → (at.offset ≡ i) × (place ≤ at.place) × (at.place < place + length names)
 each_goes place [] at goes = absurd goes
 each_goes place (name ∷ names) at (inl is) = (ap (λ those. those.offset) is, (omega (arith, ap (λ those. those.place) is)), (omega (arith, ap (λ those. those.place) is)))
 each_goes place (name ∷ names) at (inr goes) = (let rest = each_goes (place + 1) names at goes in (rest.0, (omega (arith, rest.1)), (omega (arith, rest.2))))
 
-tee_goes : (names : List (List ℕ)) (x : List ℕ) {i : ℕ} (at : Spot) → GoesTo at (tee_spots names x i) → (at.offset ≡ i) × (at.place < 1 + length names)
+tee_goes : (names : List (List ℕ)) (x : List ℕ) {i : ℕ} (at : Spot) → GoesTo at (tee_spots names x i)
+    → (at.offset ≡ i) × (at.place < 1 + length names)
 tee_goes names x {i} at goes =
     cond_both (nat_lt i (length x)) (spots_each 0 ([] ∷ names) i) [] (λ those. GoesTo at those → (at.offset ≡ i) × (at.place < 1 + length names))
     (λ is goes. let each = each_goes 0 ([] ∷ names) at goes in (each.0, omega (arith, each.2))) (λ is goes. absurd goes) goes
 
-file_has : (mode : Mode) (names : List (List ℕ)) {x : List ℕ} (place : ℕ) → place < length names → get_or (map (λ (file : File). file.bytes) (map (copy_in mode Closed x) names)) place [] ≡ x
+file_has : (mode : Mode) (names : List (List ℕ)) {x : List ℕ} (place : ℕ) → place < length names
+    → get_or (map (λ (file : File). file.bytes) (map (copy_in mode Closed x) names)) place [] ≡ x
 file_has mode [] place less = absurd (omega (arith, less))
 file_has mode (name ∷ names) zero less = refl
 file_has mode (name ∷ names) (suc place) less = file_has mode names place (omega (arith, less))
 
-output_has : (mode : Mode) (names : List (List ℕ)) {x : List ℕ} (place : ℕ) → place < 1 + length names → output_at ((tee_work mode names).whole x) place ≡ x
+output_has : (mode : Mode) (names : List (List ℕ)) {x : List ℕ} (place : ℕ) → place < 1 + length names
+    → output_at ((tee_work mode names).whole x) place ≡ x
 output_has mode names zero less = refl
 output_has mode names (suc place) less = file_has mode names place (omega (arith, less))
 
-no_output : (mode : Mode) (names : List (List ℕ)) (x : List ℕ) (place offset : ℕ) → offset < length (get_or (map (λ (file : File). file.bytes) (map (copy_in mode Closed x) names)) place []) → place < length names
+no_output : (mode : Mode) (names : List (List ℕ)) (x : List ℕ) (place offset : ℕ)
+    → offset < length (get_or (map (λ (file : File). file.bytes) (map (copy_in mode Closed x) names)) place [])
+    → place < length names
 no_output mode [] x place offset less = absurd (omega (arith, less))
 no_output mode (name ∷ names) x zero offset less = omega arith
 no_output mode (name ∷ names) x (suc place) offset less = (omega (arith, no_output mode names x place offset less))
 
-goes_to_each : (from : ℕ) (names : List (List ℕ)) (i k : ℕ) → k < length names → GoesTo (spot (from + k) i) (spots_each from names i)
+goes_to_each : (from : ℕ) (names : List (List ℕ)) (i k : ℕ) → k < length names
+    → GoesTo (spot (from + k) i) (spots_each from names i)
 goes_to_each from [] i k less = absurd (omega (arith, less))
 goes_to_each from (name ∷ names) i zero less = inl (ap (λ place. spot place i) (let e : from + 0 ≡ from = omega arith in e))
 goes_to_each from (name ∷ names) i (suc k) less = inr (rw (let e : from + 1 + k ≡ from + suc k = omega arith in e) at (goes_to_each (from + 1) names i k (omega (arith, less))))
 
-tee_filled : (mode : Mode) (names : List (List ℕ)) (x : List ℕ) (place offset : ℕ) → offset < length (output_at ((tee_work mode names).whole x) place) → (i : ℕ) × (i < length x) × GoesTo (spot place offset) (tee_spots names x i)
+tee_filled : (mode : Mode) (names : List (List ℕ)) (x : List ℕ) (place offset : ℕ)
+    → offset < length (output_at ((tee_work mode names).whole x) place)
+    → (i : ℕ) × (i < length x) × GoesTo (spot place offset) (tee_spots names x i)
 tee_filled mode names x zero offset less = (offset, less, rw (lt-ltb offset (length x) less) (inl refl))
 tee_filled mode names x (suc place) offset less =
     let there = no_output mode names x place offset less in
@@ -82,9 +96,11 @@ tee_placed mode names = record {
 -- the outputs of a run in which nothing breaks
 
 copied_files : (told : Bool) (mode : Mode) (names : List (List ℕ)) (x : List ℕ)
-    → map file_of (map (λ name. closes (adds (told_of told x) (opened name mode))) names) ≡ map (told_file told) (map (copy_in mode Closed x) names)
+    → map file_of (map (λ name. closes (adds (told_of told x) (opened name mode))) names)
+    ≡ map (told_file told) (map (copy_in mode Closed x) names)
 copied_files told mode [] x = refl
 copied_files told mode (name ∷ names) x = ap (λ files. copy_in mode Closed (told_of told x) name ∷ files) (copied_files told mode names x)
 
-pub copied_whole : (told : Bool) (mode : Mode) (names : List (List ℕ)) (x : List ℕ) → OutputsAt told streams ((tee_work mode names).whole x) (all_copied told mode names x)
+pub copied_whole : (told : Bool) (mode : Mode) (names : List (List ℕ)) (x : List ℕ)
+    → OutputsAt told streams ((tee_work mode names).whole x) (all_copied told mode names x)
 copied_whole told mode names x = grind (arith, common_steps, copied_files)

@@ -27,9 +27,12 @@ open_within (slot ∷ slots) (suc place) opened = omega (arith, open_within slot
 abbrev pub StayBroken : List Slot → List Slot → Type 0
 StayBroken old new = (place : ℕ) → (slot_at old place).is_broken ≡ true → (slot_at new place).is_broken ≡ true
 
-pub stay_broken : {Change : Slot → Slot → Type 0} {IsOne : ℕ → Type 0} {old new : List Slot} → ((before after : Slot) → Change before after → before.is_broken ≡ true → after.is_broken ≡ true) → ((place : ℕ) → IsOne place ⊎ (IsOne place → ⊥)) → ChangesEach Change IsOne old new → StayBroken old new
+pub stay_broken : {Change : Slot → Slot → Type 0} {IsOne : ℕ → Type 0} {old new : List Slot}
+    → ((before after : Slot) → Change before after → before.is_broken ≡ true → after.is_broken ≡ true)
+    → ((place : ℕ) → IsOne place ⊎ (IsOne place → ⊥)) → ChangesEach Change IsOne old new → StayBroken old new
 stay_broken {Change} {IsOne} {old} {new} stays decides changes = λ place broken. by place (decides place) broken where
-  by : (place : ℕ) → IsOne place ⊎ (IsOne place → ⊥) → (slot_at old place).is_broken ≡ true → (slot_at new place).is_broken ≡ true
+  by : (place : ℕ) → IsOne place ⊎ (IsOne place → ⊥) → (slot_at old place).is_broken ≡ true
+      → (slot_at new place).is_broken ≡ true
   by place (inl is) broken = stays (slot_at old place) (slot_at new place) (changes.each place is) broken
   by place (inr differs) broken = ap (λ (slot : Slot). slot.is_broken) (changes.others place differs) ∙ broken
 
@@ -49,26 +52,32 @@ pub newly_none : (slots : List Slot) → newly_broken slots slots ≡ 0
 newly_none [] = refl
 newly_none (slot ∷ slots) = same_flag slot.is_broken (newly_none slots)
 
-pub newly_one : (place : ℕ) (change : Slot → Slot) (old : List Slot) {flag : Bool} → place < length old → (slot_at old place).is_broken ≡ false → (change (slot_at old place)).is_broken ≡ flag → newly_broken old (changed_at place change old) ≡ (if flag then 1 else 0)
+pub newly_one : (place : ℕ) (change : Slot → Slot) (old : List Slot) {flag : Bool} → place < length old
+    → (slot_at old place).is_broken ≡ false → (change (slot_at old place)).is_broken ≡ flag
+    → newly_broken old (changed_at place change old) ≡ (if flag then 1 else 0)
 newly_one place change [] within sound is = absurd (omega arith)
 newly_one zero change (slot ∷ slots) {flag} within sound is = grind (arith, nat_tests, sound, is, newly_none slots)
 newly_one (suc place) change (slot ∷ slots) within sound is = same_flag slot.is_broken (newly_one place change slots (omega arith) sound is)
 
-in_two : {a b c : Bool} → (a ≡ true → b ≡ true) → (b ≡ true → c ≡ true) → (if not a && c then 1 else 0) ≡ (if not a && b then 1 else 0) + (if not b && c then 1 else 0)
+in_two : {a b c : Bool} → (a ≡ true → b ≡ true) → (b ≡ true → c ≡ true)
+    → (if not a && c then 1 else 0) ≡ (if not a && b then 1 else 0) + (if not b && c then 1 else 0)
 in_two ab bc = grind (arith, nat_tests, ab, bc)
 
 -- one stretch after another
-pub newly_in_two : (old mid new : List Slot) → length mid ≡ length old → length new ≡ length mid → StayBroken old mid → StayBroken mid new → newly_broken old new ≡ newly_broken old mid + newly_broken mid new
+pub newly_in_two : (old mid new : List Slot) → length mid ≡ length old → length new ≡ length mid → StayBroken old mid
+    → StayBroken mid new → newly_broken old new ≡ newly_broken old mid + newly_broken mid new
 newly_in_two [] [] [] count_mid count_new first second = refl
 newly_in_two (o ∷ olds) (m ∷ mids) (n ∷ news) count_mid count_new first second =
     omega (arith, in_two (first 0) (second 0), newly_in_two olds mids news (omega (arith, count_mid)) (omega (arith, count_new)) (λ place broken. first (suc place) broken) (λ place broken. second (suc place) broken))
 newly_in_two old mid new count_mid count_new first second = absurd (omega (arith, count_new, count_mid))
 
-pub turned_none : {Change : Slot → Slot → Type 0} {IsOne : ℕ → Type 0} {slots : List Slot} → ((place : ℕ) → IsOne place → ⊥) → Turns Change IsOne slots slots 0
+pub turned_none : {Change : Slot → Slot → Type 0} {IsOne : ℕ → Type 0} {slots : List Slot}
+    → ((place : ℕ) → IsOne place → ⊥) → Turns Change IsOne slots slots 0
 turned_none {slots} none =
     record { changes = record { count = refl; each = λ place is. absurd (none place is); others = λ place differs. refl }; broke_are = sym (newly_none slots) }
 
-pub turned_same : {Change : Slot → Slot → Type 0} (place : ℕ) {slots : List Slot} → Change (slot_at slots place) (slot_at slots place) → Turns Change (λ other. other ≡ place) slots slots 0
+pub turned_same : {Change : Slot → Slot → Type 0} (place : ℕ) {slots : List Slot}
+    → Change (slot_at slots place) (slot_at slots place) → Turns Change (λ other. other ≡ place) slots slots 0
 turned_same {Change} place {slots} changes = record {
   changes = record {
     count = refl;
@@ -78,7 +87,10 @@ turned_same {Change} place {slots} changes = record {
   broke_are = sym (newly_none slots);
 }
 
-pub turned_one : {Change : Slot → Slot → Type 0} (place : ℕ) (change : Slot → Slot) {flag : Bool} {old new : List Slot} → place < length old → (slot_at old place).is_broken ≡ false → (change (slot_at old place)).is_broken ≡ flag → Change (slot_at old place) (change (slot_at old place)) → new ≡ changed_at place change old → Turns Change (λ other. other ≡ place) old new (if flag then 1 else 0)
+pub turned_one : {Change : Slot → Slot → Type 0} (place : ℕ) (change : Slot → Slot) {flag : Bool} {old new : List Slot}
+    → place < length old → (slot_at old place).is_broken ≡ false → (change (slot_at old place)).is_broken ≡ flag
+    → Change (slot_at old place) (change (slot_at old place)) → new ≡ changed_at place change old
+    → Turns Change (λ other. other ≡ place) old new (if flag then 1 else 0)
 turned_one {Change} place change {old} {new} within sound breaks changes is = record {
   changes = record {
     count = ap length is ∙ length-changed_at place change old;
@@ -88,9 +100,13 @@ turned_one {Change} place change {old} {new} within sound breaks changes is = re
   broke_are = sym (ap (newly_broken old) is ∙ newly_one place change old within sound breaks);
 }
 
-pub turned_both : {Change : Slot → Slot → Type 0} {IsOne IsOther IsEither : ℕ → Type 0} {old mid new : List Slot} (broke more : ℕ) → ((before after : Slot) → Change before after → before.is_broken ≡ true → after.is_broken ≡ true) → ((place : ℕ) → IsOne place ⊎ (IsOne place → ⊥)) → ((place : ℕ) → IsOther place ⊎ (IsOther place → ⊥))
-    → ((place : ℕ) → IsOne place → IsOther place → ⊥) → ((place : ℕ) → IsOne place ⊎ IsOther place → IsEither place) → ((place : ℕ) → IsEither place → IsOne place ⊎ IsOther place)
-    → Turns Change IsOne old mid broke → Turns Change IsOther mid new more → Turns Change IsEither old new (broke + more)
+pub turned_both : {Change : Slot → Slot → Type 0} {IsOne IsOther IsEither : ℕ → Type 0} {old mid new : List Slot}
+    (broke more : ℕ) → ((before after : Slot) → Change before after → before.is_broken ≡ true → after.is_broken ≡ true)
+    → ((place : ℕ) → IsOne place ⊎ (IsOne place → ⊥)) → ((place : ℕ) → IsOther place ⊎ (IsOther place → ⊥))
+    → ((place : ℕ) → IsOne place → IsOther place → ⊥) → ((place : ℕ) → IsOne place ⊎ IsOther place → IsEither place)
+    → ((place : ℕ) → IsEither place → IsOne place ⊎ IsOther place)
+    → Turns Change IsOne old mid broke → Turns Change IsOther mid new more
+    → Turns Change IsEither old new (broke + more)
 turned_both {Change} {IsOne} {IsOther} {old} {mid} {new} broke more stays first_is second_is apart to from first second = record {
   changes = record {
     count = second.changes.count ∙ first.changes.count;
@@ -113,17 +129,22 @@ pub record InTurn (Change : Slot → Slot → Type 0) (first n : ℕ) (old now :
 pub none_in_turn : {Change : Slot → Slot → Type 0} {first : ℕ} {slots : List Slot} → InTurn Change first 0 slots slots 0
 none_in_turn = record { turned = turned_none (λ place is. omega (arith, is.0, is.1)); few = omega arith }
 
-pub next_in_turn : {Change : Slot → Slot → Type 0} (first n broke more : ℕ) (old now new : List Slot) → ((before after : Slot) → Change before after → before.is_broken ≡ true → after.is_broken ≡ true) → InTurn Change first n old now broke → Turns Change (λ place. place ≡ first + n) now new more → more ≤ 1 → InTurn Change first (n + 1) old new (broke + more)
+pub next_in_turn : {Change : Slot → Slot → Type 0} (first n broke more : ℕ) (old now new : List Slot)
+    → ((before after : Slot) → Change before after → before.is_broken ≡ true → after.is_broken ≡ true)
+    → InTurn Change first n old now broke → Turns Change (λ place. place ≡ first + n) now new more → more ≤ 1
+    → InTurn Change first (n + 1) old new (broke + more)
 next_in_turn first n broke more old now new stays so_far turned one = record {
   turned = turned_both broke more stays (is_between first (first + n)) (λ place. cases_eq place (first + n))
       (λ place is other. omega (arith, is.1, other)) to from so_far.turned turned;
   few = omega (arith, so_far.few);
 } where
-  to : (place : ℕ) → ((first ≤ place) × (place < first + n)) ⊎ (place ≡ first + n) → (first ≤ place) × (place < first + (n + 1))
+  to : (place : ℕ) → ((first ≤ place) × (place < first + n)) ⊎ (place ≡ first + n)
+      → (first ≤ place) × (place < first + (n + 1))
   to place (inl is) = (is.0, omega (arith, is.1))
   to place (inr is) = (omega (arith, is), omega (arith, is))
 
-  from : (place : ℕ) → (first ≤ place) × (place < first + (n + 1)) → ((first ≤ place) × (place < first + n)) ⊎ (place ≡ first + n)
+  from : (place : ℕ) → (first ≤ place) × (place < first + (n + 1))
+      → ((first ≤ place) × (place < first + n)) ⊎ (place ≡ first + n)
   from place is = elim (cases_lt place (first + n)) [
     | inl within ↦ inl (is.0, within)
     | inr past ↦ inr (omega (arith, past, is.1))
@@ -131,7 +152,8 @@ next_in_turn first n broke more old now new stays so_far turned one = record {
 
 -- one output
 
-pub gets_more : (told : Bool) {x y : List ℕ} {old mid new : Slot} → Gets told x old mid → Gets told y mid new → Gets told (x ++ y) old new
+pub gets_more : (told : Bool) {x y : List ℕ} {old mid new : Slot} → Gets told x old mid → Gets told y mid new
+    → Gets told (x ++ y) old new
 gets_more told {x} {y} {old} (gets_all sound) (gets_all again) = rw (adds_both told x y old) (gets_all sound)
 gets_more told {x} {y} {old} (gets_all sound) (breaks_off again n within) =
     rw (← (ap (λ bytes. breaks (adds (told_of told bytes) old)) (take-append-add x y n) ∙ sym (ap breaks (adds_both told x (take n y) old))))
@@ -146,7 +168,8 @@ gets_more told (gets_none broken) (gets_all again) = absurd (false≢true (sym a
 gets_more told (gets_none broken) (breaks_off again m less) = absurd (false≢true (sym again ∙ broken))
 gets_more told (gets_none broken) (gets_none again) = gets_none broken
 
-pub still_broken : (told : Bool) {bytes : List ℕ} (old new : Slot) → Gets told bytes old new → old.is_broken ≡ true → new.is_broken ≡ true
+pub still_broken : (told : Bool) {bytes : List ℕ} (old new : Slot) → Gets told bytes old new → old.is_broken ≡ true
+    → new.is_broken ≡ true
 still_broken told old _ (gets_all sound) broken = broken
 still_broken told old _ (breaks_off sound n within) broken = refl
 still_broken told old _ (gets_none was) broken = broken
@@ -162,45 +185,62 @@ still_usable told (breaks_off sound n within) usable = λ sound. absurd (false�
 still_usable told (gets_none was) usable = usable
 
 -- an output that is sound after it got all
-pub sound_gets : (told : Bool) {bytes : List ℕ} {old new : Slot} → Gets told bytes old new → new.is_broken ≡ false → new ≡ adds (told_of told bytes) old
+pub sound_gets : (told : Bool) {bytes : List ℕ} {old new : Slot} → Gets told bytes old new → new.is_broken ≡ false
+    → new ≡ adds (told_of told bytes) old
 sound_gets told (gets_all sound) still = refl
 sound_gets told (breaks_off sound n within) still = absurd (false≢true (sym still))
 sound_gets told (gets_none broken) still = absurd (false≢true (sym still ∙ broken))
 
 -- the outputs of a tee
 
-pub all_get_more : {IsOne : ℕ → Type 0} (told : Bool) {x y : List ℕ} {old mid new : List Slot} → ChangesEach (Gets told x) IsOne old mid → ChangesEach (Gets told y) IsOne mid new → ChangesEach (Gets told (x ++ y)) IsOne old new
+pub all_get_more : {IsOne : ℕ → Type 0} (told : Bool) {x y : List ℕ} {old mid new : List Slot}
+    → ChangesEach (Gets told x) IsOne old mid → ChangesEach (Gets told y) IsOne mid new
+    → ChangesEach (Gets told (x ++ y)) IsOne old new
 all_get_more told first second = grind (arith, common_steps, gets_more)
 
-pub all_still_usable : {IsOne : ℕ → Type 0} (told : Bool) {bytes : List ℕ} {old new : List Slot} → ChangesEach (Gets told bytes) IsOne old new → ((place : ℕ) → IsOne place → IsUsable (slot_at old place)) → (place : ℕ) → IsOne place → IsUsable (slot_at new place)
+pub all_still_usable : {IsOne : ℕ → Type 0} (told : Bool) {bytes : List ℕ} {old new : List Slot}
+    → ChangesEach (Gets told bytes) IsOne old new → ((place : ℕ) → IsOne place → IsUsable (slot_at old place))
+    → (place : ℕ) → IsOne place → IsUsable (slot_at new place)
 all_still_usable told gets usable place is = still_usable told (gets.each place is) (usable place is)
 
 -- one output's turn
 
-pub left_out : (told : Bool) {piece : List ℕ} {place : ℕ} {slots : List Slot} → (slot_at slots place).is_broken ≡ true → Turns (Gets told piece) (λ other. other ≡ place) slots slots 0
+pub left_out : (told : Bool) {piece : List ℕ} {place : ℕ} {slots : List Slot} → (slot_at slots place).is_broken ≡ true
+    → Turns (Gets told piece) (λ other. other ≡ place) slots slots 0
 left_out told {place} broken = turned_same place (gets_none broken)
 
-pub written_whole : (told : Bool) {piece : List ℕ} {place : ℕ} {old new : List Slot} → IsUsable (slot_at old place) → (slot_at old place).is_broken ≡ false → new ≡ with_written place (told_of told piece) old → Turns (Gets told piece) (λ other. other ≡ place) old new 0
+pub written_whole : (told : Bool) {piece : List ℕ} {place : ℕ} {old new : List Slot} → IsUsable (slot_at old place)
+    → (slot_at old place).is_broken ≡ false → new ≡ with_written place (told_of told piece) old
+    → Turns (Gets told piece) (λ other. other ≡ place) old new 0
 written_whole told {piece} {place} {old} usable sound is =
     turned_one place (adds (told_of told piece)) (open_within old place (usable sound)) sound sound (gets_all sound) is
 
-pub written_short : (told : Bool) {piece : List ℕ} {place n : ℕ} {old new : List Slot} → IsUsable (slot_at old place) → (slot_at old place).is_broken ≡ false → BrokeAfter told old new place piece n → Turns (Gets told piece) (λ other. other ≡ place) old new 1
+pub written_short : (told : Bool) {piece : List ℕ} {place n : ℕ} {old new : List Slot} → IsUsable (slot_at old place)
+    → (slot_at old place).is_broken ≡ false → BrokeAfter told old new place piece n
+    → Turns (Gets told piece) (λ other. other ≡ place) old new 1
 written_short told {piece} {place} {n} {old} usable sound broke =
     turned_one place (λ slot. breaks (adds (told_of told (take n piece)) slot)) (open_within old place (usable sound)) sound refl (breaks_off sound n broke.within)
     (broke.slots ∙ changed_at-again place (adds (told_of told (take n piece))) breaks old)
 
-pub not_closed : {place : ℕ} {slots : List Slot} → (slot_at slots place).is_broken ≡ true → Turns Closes (λ other. other ≡ place) slots slots 0
+pub not_closed : {place : ℕ} {slots : List Slot} → (slot_at slots place).is_broken ≡ true
+    → Turns Closes (λ other. other ≡ place) slots slots 0
 not_closed {place} broken = turned_same place (was_broken broken)
 
-pub closed_whole : {place : ℕ} {old new : List Slot} → IsUsable (slot_at old place) → (slot_at old place).is_broken ≡ false → new ≡ changed_at place closes old → Turns Closes (λ other. other ≡ place) old new 0
+pub closed_whole : {place : ℕ} {old new : List Slot} → IsUsable (slot_at old place)
+    → (slot_at old place).is_broken ≡ false → new ≡ changed_at place closes old
+    → Turns Closes (λ other. other ≡ place) old new 0
 closed_whole {place} {old} usable sound is = turned_one place closes (open_within old place (usable sound)) sound sound (is_closed sound) is
 
-pub closed_short : {place : ℕ} {old new : List Slot} → IsUsable (slot_at old place) → (slot_at old place).is_broken ≡ false → new ≡ with_broken place (changed_at place closes old) → Turns Closes (λ other. other ≡ place) old new 1
+pub closed_short : {place : ℕ} {old new : List Slot} → IsUsable (slot_at old place)
+    → (slot_at old place).is_broken ≡ false → new ≡ with_broken place (changed_at place closes old)
+    → Turns Closes (λ other. other ≡ place) old new 1
 closed_short {place} {old} usable sound is =
     turned_one place (λ slot. breaks (closes slot)) (open_within old place (usable sound)) sound refl (fails_to_close sound) (is ∙ changed_at-again place closes breaks old)
 
 -- standard output, and then the files
-pub fed : (told : Bool) {piece : List ℕ} (tee : TeeState) (broke more : ℕ) {old mid new : List Slot} → (0 < tee.count → 2 ≤ tee.first) → Turns (Gets told piece) (λ place. place ≡ 0) old mid broke → Turns (Gets told piece) (IsFile tee) mid new more → Turns (Gets told piece) (IsOutput tee) old new (broke + more)
+pub fed : (told : Bool) {piece : List ℕ} (tee : TeeState) (broke more : ℕ) {old mid new : List Slot}
+    → (0 < tee.count → 2 ≤ tee.first) → Turns (Gets told piece) (λ place. place ≡ 0) old mid broke
+    → Turns (Gets told piece) (IsFile tee) mid new more → Turns (Gets told piece) (IsOutput tee) old new (broke + more)
 fed told tee broke more streams first second =
     turned_both broke more (still_broken told) (λ place. cases_eq place 0) (is_between tee.first (tee.first + tee.count))
     (λ place is file. omega (arith, is, file.0, streams (omega (arith, file.0, file.1)))) (λ place is. is) (λ place is. is) first second

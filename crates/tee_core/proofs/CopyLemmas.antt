@@ -61,7 +61,8 @@ tells_same on_broken Gone = refl
 abbrev said_one : OnBroken → Fault → List ℕ → Standing → Standing → List Message
 said_one on_broken fault name was now = if tells on_broken was now then message_of fault name ∷ [] else []
 
-none_said : (on_broken : OnBroken) (fault : Fault) (names : List (List ℕ)) (known : List Standing) → said_since on_broken fault names known known ≡ []
+none_said : (on_broken : OnBroken) (fault : Fault) (names : List (List ℕ)) (known : List Standing)
+    → said_since on_broken fault names known known ≡ []
 none_said on_broken fault [] known = refl
 none_said on_broken fault (name ∷ names) [] = refl
 none_said on_broken fault (name ∷ names) (was ∷ known) = rw (tells_same on_broken was) (none_said on_broken fault names known)
@@ -72,26 +73,35 @@ SeenTo zero known broken nows = nows ≡ known
 SeenTo (suc n) (was ∷ known) (is_broken ∷ broken) (now ∷ nows) = Sees was is_broken now × SeenTo n known broken nows
 SeenTo (suc n) known broken nows = ⊥
 
-seen_next : (n : ℕ) (known : List Standing) (broken : List Bool) (nows : List Standing) {now : Standing} → n < length known → length broken ≡ length known → SeenTo n known broken nows → Sees (get_or known n Sound) (get_or broken n false) now → SeenTo (suc n) known broken (set nows n now)
+seen_next : (n : ℕ) (known : List Standing) (broken : List Bool) (nows : List Standing) {now : Standing}
+    → n < length known → length broken ≡ length known → SeenTo n known broken nows
+    → Sees (get_or known n Sound) (get_or broken n false) now → SeenTo (suc n) known broken (set nows n now)
 seen_next zero (was ∷ known) (is_broken ∷ broken) nows within many so_far sees = rw so_far (sees, refl)
 seen_next (suc n) (was ∷ known) (is_broken ∷ broken) (now ∷ nows) within many so_far sees = (so_far.0, seen_next n known broken nows (omega arith) (omega (arith, many)) so_far.1 sees)
 seen_next (suc n) (was ∷ known) (is_broken ∷ broken) [] within many so_far sees = absurd so_far
 seen_next n known broken nows within many so_far sees = absurd (omega (arith, many))
 
-get_next : (n : ℕ) (known : List Standing) (broken : List Bool) (nows : List Standing) (other : Standing) → n < length known → length broken ≡ length known → SeenTo n known broken nows → get_or nows n other ≡ get_or known n Sound
+get_next : (n : ℕ) (known : List Standing) (broken : List Bool) (nows : List Standing) (other : Standing)
+    → n < length known → length broken ≡ length known → SeenTo n known broken nows
+    → get_or nows n other ≡ get_or known n Sound
 get_next zero (was ∷ known) (is_broken ∷ broken) nows other within many so_far = rw so_far refl
 get_next (suc n) (was ∷ known) (is_broken ∷ broken) (now ∷ nows) other within many so_far = get_next n known broken nows other (omega arith) (omega (arith, many)) so_far.1
 get_next (suc n) (was ∷ known) (is_broken ∷ broken) [] other within many so_far = absurd so_far
 get_next n known broken nows other within many so_far = absurd (omega (arith, many))
 
-pub seen_all : (known : List Standing) (broken : List Bool) (nows : List Standing) → length broken ≡ length known → SeenTo (length known) known broken nows → SeesAll known broken nows
+pub seen_all : (known : List Standing) (broken : List Bool) (nows : List Standing) → length broken ≡ length known
+    → SeenTo (length known) known broken nows → SeesAll known broken nows
 seen_all [] [] nows many so_far = rw so_far tt
 seen_all (was ∷ known) (is_broken ∷ broken) (now ∷ nows) many so_far = (so_far.0, seen_all known broken nows (omega (arith, many)) so_far.1)
 seen_all (was ∷ known) (is_broken ∷ broken) [] many so_far = absurd so_far
 seen_all known broken nows many so_far = absurd (omega (arith, many))
 
-said_next : (on_broken : OnBroken) (fault : Fault) (names : List (List ℕ)) (known : List Standing) (broken : List Bool) (nows : List Standing) (n : ℕ) (now : Standing) → n < length names → length known ≡ length names → length broken ≡ length names → SeenTo n known broken nows
-    → said_since on_broken fault names known (set nows n now) ≡ said_since on_broken fault names known nows ++ said_one on_broken fault (get_or names n []) (get_or known n Sound) now
+said_next : (on_broken : OnBroken) (fault : Fault) (names : List (List ℕ)) (known : List Standing) (broken : List Bool)
+    (nows : List Standing) (n : ℕ) (now : Standing) → n < length names → length known ≡ length names
+    → length broken ≡ length names → SeenTo n known broken nows
+    → said_since on_broken fault names known (set nows n now)
+    ≡ said_since on_broken fault names known nows
+    ++ said_one on_broken fault (get_or names n []) (get_or known n Sound) now
 said_next on_broken fault (name ∷ names) (was ∷ known) (is_broken ∷ broken) nows zero now within known_many many so_far =
     rw (so_far, tells_same on_broken was, none_said on_broken fault names known) refl
 said_next on_broken fault (name ∷ names) (was ∷ known) (is_broken ∷ broken) (first ∷ nows) (suc n) now within known_many many so_far =
@@ -101,7 +111,8 @@ said_next on_broken fault names known broken nows n now within known_many many s
 
 -- where outputs stand
 
-broken_at : (output error : Slot) (files : List Slot) (n : ℕ) → (slot_at (output ∷ error ∷ files) (output_slot n)).is_broken ≡ get_or (broken_of (output ∷ error ∷ files)) n false
+broken_at : (output error : Slot) (files : List Slot) (n : ℕ)
+    → (slot_at (output ∷ error ∷ files) (output_slot n)).is_broken ≡ get_or (broken_of (output ∷ error ∷ files)) n false
 broken_at output error files zero = refl
 broken_at output error files (suc n) = sym (get_or-map (λ (file : Slot). file.is_broken) files n no_slot)
 
@@ -110,38 +121,56 @@ count_broken {count} has = ap (λ those. length (broken_of those)) has.are ∙ (
 
 -- standard error alone is written
 
-pub says_too : (told : Bool) (calling : Calling) (messages : List Message) (message : Message) {count : ℕ} {old : List Slot} (now new : List Slot) {why : Reason} → HasStreams old count → SaysTo told calling messages old now → SaysOn told (tee_called calling) why message now new → SaysTo told calling (messages ++ message ∷ []) old new
+pub says_too : (told : Bool) (calling : Calling) (messages : List Message) (message : Message) {count : ℕ}
+    {old : List Slot} (now new : List Slot) {why : Reason} → HasStreams old count → SaysTo told calling messages old now
+    → SaysOn told (tee_called calling) why message now new → SaysTo told calling (messages ++ message ∷ []) old new
 says_too told calling messages message now new {why} has so_far says =
     let first = rw has.are at so_far in let said = says has.output first.0 has.files first.2 in
     rw has.are (said.0, says_more told (tee_called calling) messages message has.error first.0 said.0 first.1 (why, said.1), said.2)
 
-broken_still : (told : Bool) (calling : Calling) (messages : List Message) (output error : Slot) (files now : List Slot) (n : ℕ) → SaysTo told calling messages (output ∷ error ∷ files) now → (slot_at now (output_slot n)).is_broken ≡ get_or (broken_of (output ∷ error ∷ files)) n false
+broken_still : (told : Bool) (calling : Calling) (messages : List Message) (output error : Slot) (files now : List Slot)
+    (n : ℕ) → SaysTo told calling messages (output ∷ error ∷ files) now
+    → (slot_at now (output_slot n)).is_broken ≡ get_or (broken_of (output ∷ error ∷ files)) n false
 broken_still told calling messages output error files now n said = ap (λ those. (slot_at those (output_slot n)).is_broken) said.2 ∙ broken_at output said.0 files n
 
 -- the message for the fault that ended the reading
-pub input_told : (told : Bool) (calling : Calling) {fault : Option Fault} {one : Fault} {count : ℕ} {old new : List Slot} {why : Reason} → fault ≡ Some one → HasStreams old count → SaysOn told (tee_called calling) why (message_of one (codes "standard input")) old new → SaysTo told calling (said_of_input fault) old new
+pub input_told : (told : Bool) (calling : Calling) {fault : Option Fault} {one : Fault} {count : ℕ}
+    {old new : List Slot} {why : Reason} → fault ≡ Some one → HasStreams old count
+    → SaysOn told (tee_called calling) why (message_of one (codes "standard input")) old new
+    → SaysTo told calling (said_of_input fault) old new
 input_told told calling {why = why} is has says = rw (is, has.are) (let said = says has.output has.error has.files has.are in (said.0, (said.0, (why, said.1), refl), said.2))
 
 -- how far the loop over the outputs has come
-pub record Telling (told : Bool) (calling : Calling) (on_broken : OnBroken) (fault : Fault) (names : List (List ℕ)) (known_before : List Standing) (n : ℕ) (old now : List Slot) (known : List Standing) : Type 0 where
+pub record Telling (told : Bool) (calling : Calling) (on_broken : OnBroken) (fault : Fault) (names : List (List ℕ))
+    (known_before : List Standing) (n : ℕ) (old now : List Slot) (known : List Standing) : Type 0 where
   pub said : SaysTo told calling (said_since on_broken fault names known_before known) old now
   pub seen : SeenTo n known_before (broken_of old) known
 
-pub tells_none : (told : Bool) (calling : Calling) (on_broken : OnBroken) (fault : Fault) (names : List (List ℕ)) (known : List Standing) {count : ℕ} {slots : List Slot} → HasStreams slots count → Telling told calling on_broken fault names known 0 slots slots known
+pub tells_none : (told : Bool) (calling : Calling) (on_broken : OnBroken) (fault : Fault) (names : List (List ℕ))
+    (known : List Standing) {count : ℕ} {slots : List Slot} → HasStreams slots count
+    → Telling told calling on_broken fault names known 0 slots slots known
 tells_none told calling on_broken fault names known has = record {
   said = rw (none_said on_broken fault names known, has.are) (has.error, refl, refl);
   seen = refl;
 }
 
-pub error_open : (told : Bool) {calling : Calling} {on_broken : OnBroken} {fault : Fault} {names : List (List ℕ)} {before known : List Standing} {n count : ℕ} {old now : List Slot} → HasStreams old count → Telling told calling on_broken fault names before n old now known → is_open (slot_at now 1).state ≡ true
+pub error_open : (told : Bool) {calling : Calling} {on_broken : OnBroken} {fault : Fault} {names : List (List ℕ)}
+    {before known : List Standing} {n count : ℕ} {old now : List Slot} → HasStreams old count
+    → Telling told calling on_broken fault names before n old now known → is_open (slot_at now 1).state ≡ true
 error_open told {calling} {on_broken} {fault} {names} {before} {known} {now = now} has so_far =
     let messages = said_since on_broken fault names before known in
     let said : SaysTo told calling messages (has.output ∷ has.error ∷ has.files) now = rw has.are at so_far.said in
     ap (λ those. is_open (slot_at those 1).state) said.2 ∙ ap is_open (all_said_state told (tee_called calling) messages has.error said.0 said.1) ∙ has.opened
 
-pub tells_next : (told : Bool) {calling : Calling} {on_broken : OnBroken} {fault : Fault} {names : List (List ℕ)} {before known : List Standing} (other : Standing) {n count : ℕ} {old now new : List Slot} {name : List ℕ} {standing : Standing} → HasStreams old count → length names ≡ count + 1 → length before ≡ count + 1 → n < length before
-    → Telling told calling on_broken fault names before n old now known → name ≡ get_or names n [] → Sees (get_or known n other) (slot_at now (output_slot n)).is_broken standing
-    → (tells on_broken (get_or known n other) standing ≡ true → (why : Reason) × SaysOn told (tee_called calling) why (message_of fault name) now new) → (tells on_broken (get_or known n other) standing ≡ false → new ≡ now)
+pub tells_next : (told : Bool) {calling : Calling} {on_broken : OnBroken} {fault : Fault} {names : List (List ℕ)}
+    {before known : List Standing} (other : Standing) {n count : ℕ} {old now new : List Slot} {name : List ℕ}
+    {standing : Standing} → HasStreams old count → length names ≡ count + 1 → length before ≡ count + 1
+    → n < length before
+    → Telling told calling on_broken fault names before n old now known → name ≡ get_or names n []
+    → Sees (get_or known n other) (slot_at now (output_slot n)).is_broken standing
+    → (tells on_broken (get_or known n other) standing ≡ true
+    → (why : Reason) × SaysOn told (tee_called calling) why (message_of fault name) now new)
+    → (tells on_broken (get_or known n other) standing ≡ false → new ≡ now)
     → Telling told calling on_broken fault names before (n + 1) old new (set known n standing)
 tells_next told {calling} {on_broken} {fault} {names} {before} {known} other {n} {count} {old} {now} {new} {name} {standing} has names_many many within so_far named sees says quiet =
     rw (← (let e : suc n ≡ n + 1 = omega arith in e)) (record {
@@ -162,20 +191,26 @@ tells_next told {calling} {on_broken} {fault} {names} {before} {known} other {n}
       was : get_or known n other ≡ get_or before n Sound
       was = get_next n before (broken_of old) known other within (broken_are ∙ sym many) so_far.seen
 
-      step : said_since on_broken fault names before (set known n standing) ≡ messages ++ (if tells on_broken (get_or known n other) standing then message_of fault name ∷ [] else [])
+      step : said_since on_broken fault names before (set known n standing)
+          ≡ messages ++ (if tells on_broken (get_or known n other) standing then message_of fault name ∷ [] else [])
       step = cc (said_next on_broken fault names before (broken_of old) known n standing (omega (arith, names_many, within, many)) (many ∙ sym names_many) (broken_are ∙ sym names_many) so_far.seen, named, was)
 
-pub told_all : (told : Bool) {calling : Calling} {on_broken : OnBroken} {fault : Fault} {names : List (List ℕ)} {before known : List Standing} {n count : ℕ} {old now : List Slot} → HasStreams old count → length before ≡ count + 1 → n ≡ length before → Telling told calling on_broken fault names before n old now known → SeesAll before (broken_of old) known
+pub told_all : (told : Bool) {calling : Calling} {on_broken : OnBroken} {fault : Fault} {names : List (List ℕ)}
+    {before known : List Standing} {n count : ℕ} {old now : List Slot} → HasStreams old count
+    → length before ≡ count + 1 → n ≡ length before → Telling told calling on_broken fault names before n old now known
+    → SeesAll before (broken_of old) known
 told_all told {before} {known} {old = old} has many all so_far = seen_all before (broken_of old) known (count_broken has ∙ sym many) (rw all at so_far.seen)
 
-pub count_names : (names : List (Bor (List ℕ))) → length (output_names (map (λ name. name.now) names)) ≡ length names + 1
+pub count_names : (names : List (Bor (List ℕ)))
+    → length (output_names (map (λ name. name.now) names)) ≡ length names + 1
 count_names names = grind (arith, common_steps)
 
 -- What a call added to what broke when, where the output stands so now: it is said where that wasn't known, and what broke
 -- in the calls before stays.
 pub record Marks (call : ℕ) (before after : Option Break) (now : Standing) : Type 0 where
   pub said : (on_broken : OnBroken) → tells_in on_broken call after ≡ tells on_broken (standing_of before) now
-  pub older : (on_broken : OnBroken) (other : ℕ) → other < call → tells_in on_broken other after ≡ tells_in on_broken other before
+  pub older : (on_broken : OnBroken) (other : ℕ) → other < call
+      → tells_in on_broken other after ≡ tells_in on_broken other before
   pub sooner : (other : ℕ) → other ≤ call → standing_before other after ≡ standing_before other before
   pub then_is : standing_before call after ≡ standing_of before
   pub now_is : standing_before (suc call) after ≡ now
@@ -187,7 +222,8 @@ marked_none {call} {now} sound = rw (sound_is now sound) (record { said = λ on_
 abbrev pub break_now : ℕ → Standing → Break
 break_now call now = record { call = call; is_gone = gone_is now }
 
-not_in : (on_broken : OnBroken) (call : ℕ) (broke : Break) → (broke.call ≡ call → ⊥) → tells_in on_broken call (Some broke) ≡ false
+not_in : (on_broken : OnBroken) (call : ℕ) (broke : Break) → (broke.call ≡ call → ⊥)
+    → tells_in on_broken call (Some broke) ≡ false
 not_in on_broken call broke differs = grind (arith, nat_tests, differs)
 
 pub marked_now : {call : ℕ} {now : Standing} → is_lost now ≡ true → Marks call None (Some (break_now call now)) now
@@ -200,7 +236,9 @@ marked_now {call} {now} lost = let is = lost_is now lost in record {
   stands = is;
 }
 
-marked_before : {call : ℕ} {now : Standing} (broke : Break) → broke.call < call → is_lost now ≡ true → (is_lost (lost_as broke.is_gone) ≡ true → is_lost now ≡ true → now ≡ lost_as broke.is_gone) → Marks call (Some broke) (Some broke) now
+marked_before : {call : ℕ} {now : Standing} (broke : Break) → broke.call < call → is_lost now ≡ true
+    → (is_lost (lost_as broke.is_gone) ≡ true → is_lost now ≡ true → now ≡ lost_as broke.is_gone)
+    → Marks call (Some broke) (Some broke) now
 marked_before {call} {now} broke less lost kept = let known = is_lost-lost_as broke.is_gone in let is = kept known lost in record {
   said = λ on_broken. not_in on_broken call broke (λ same. omega (arith, same, less)) ∙ sym (tells_known on_broken (lost_as broke.is_gone) now known);
   older = λ on_broken other sooner. refl;
@@ -212,38 +250,50 @@ marked_before {call} {now} broke less lost kept = let known = is_lost-lost_as br
 
 pub data AllMark (call : ℕ) : List (Option Break) → List (Option Break) → List Standing → Type 0 where
   none_marked : AllMark call [] [] []
-  all_marked : (before after : Option Break) (now : Standing) (befores afters : List (Option Break)) (nows : List Standing) → Marks call before after now → AllMark call befores afters nows → AllMark call (before ∷ befores) (after ∷ afters) (now ∷ nows)
+  all_marked : (before after : Option Break) (now : Standing) (befores afters : List (Option Break))
+      (nows : List Standing) → Marks call before after now → AllMark call befores afters nows
+      → AllMark call (before ∷ befores) (after ∷ afters) (now ∷ nows)
 
-pub said_marked : {call : ℕ} (on_broken : OnBroken) (names : List (List ℕ)) {befores afters : List (Option Break)} {nows : List Standing} → AllMark call befores afters nows → said_in on_broken call names afters ≡ said_since on_broken (fault_in call) names (map standing_of befores) nows
+pub said_marked : {call : ℕ} (on_broken : OnBroken) (names : List (List ℕ)) {befores afters : List (Option Break)}
+    {nows : List Standing} → AllMark call befores afters nows
+    → said_in on_broken call names afters ≡ said_since on_broken (fault_in call) names (map standing_of befores) nows
 said_marked on_broken [] marked = refl
 said_marked on_broken (name ∷ names) none_marked = refl
 said_marked {call} on_broken (name ∷ names) (all_marked before after now befores afters nows one rest) = cc (one.said on_broken, said_marked on_broken names rest)
 
-said_older : {call : ℕ} (on_broken : OnBroken) (other : ℕ) (names : List (List ℕ)) {befores afters : List (Option Break)} {nows : List Standing} → other < call → AllMark call befores afters nows → said_in on_broken other names afters ≡ said_in on_broken other names befores
+said_older : {call : ℕ} (on_broken : OnBroken) (other : ℕ) (names : List (List ℕ))
+    {befores afters : List (Option Break)} {nows : List Standing} → other < call → AllMark call befores afters nows
+    → said_in on_broken other names afters ≡ said_in on_broken other names befores
 said_older on_broken other [] less marked = refl
 said_older on_broken other (name ∷ names) less none_marked = refl
 said_older on_broken other (name ∷ names) less (all_marked before after now befores afters nows one rest) =
     cc (one.older on_broken other less, said_older on_broken other names less rest)
 
-pub all_older : {call : ℕ} (on_broken : OnBroken) (end : ℕ) (names : List (List ℕ)) {befores afters : List (Option Break)} {nows : List Standing} → end ≤ call → AllMark call befores afters nows → said_before on_broken end names afters ≡ said_before on_broken end names befores
+pub all_older : {call : ℕ} (on_broken : OnBroken) (end : ℕ) (names : List (List ℕ))
+    {befores afters : List (Option Break)} {nows : List Standing} → end ≤ call → AllMark call befores afters nows
+    → said_before on_broken end names afters ≡ said_before on_broken end names befores
 all_older on_broken zero names past marked = refl
 all_older on_broken (suc end) names {befores} {afters} past marked = cc (all_older on_broken end names (omega arith) marked, said_older on_broken end names (omega arith) marked)
 
 -- how the outputs stood before a call
 
-pub stood_sooner : {call : ℕ} (other : ℕ) {befores afters : List (Option Break)} {nows : List Standing} → other ≤ call → AllMark call befores afters nows → standings_before other afters ≡ standings_before other befores
+pub stood_sooner : {call : ℕ} (other : ℕ) {befores afters : List (Option Break)} {nows : List Standing} → other ≤ call
+    → AllMark call befores afters nows → standings_before other afters ≡ standings_before other befores
 stood_sooner other within none_marked = refl
 stood_sooner other within (all_marked before after now befores afters nows one rest) = cc (one.sooner other within, stood_sooner other within rest)
 
-pub stood_then : {call : ℕ} {befores afters : List (Option Break)} {nows : List Standing} → AllMark call befores afters nows → standings_before call afters ≡ map standing_of befores
+pub stood_then : {call : ℕ} {befores afters : List (Option Break)} {nows : List Standing}
+    → AllMark call befores afters nows → standings_before call afters ≡ map standing_of befores
 stood_then none_marked = refl
 stood_then {call} (all_marked before after now befores afters nows one rest) = cc (one.then_is, stood_then rest)
 
-pub stand_now : {call : ℕ} {befores afters : List (Option Break)} {nows : List Standing} → AllMark call befores afters nows → standings_before (suc call) afters ≡ nows
+pub stand_now : {call : ℕ} {befores afters : List (Option Break)} {nows : List Standing}
+    → AllMark call befores afters nows → standings_before (suc call) afters ≡ nows
 stand_now none_marked = refl
 stand_now {call} (all_marked before after now befores afters nows one rest) = cc (one.now_is, stand_now rest)
 
-pub stand_so : {call : ℕ} {befores afters : List (Option Break)} {nows : List Standing} → AllMark call befores afters nows → nows ≡ map standing_of afters
+pub stand_so : {call : ℕ} {befores afters : List (Option Break)} {nows : List Standing}
+    → AllMark call befores afters nows → nows ≡ map standing_of afters
 stand_so none_marked = refl
 stand_so {call} (all_marked before after now befores afters nows one rest) = cc (one.stands, stand_so rest)
 
@@ -252,24 +302,33 @@ stand_so {call} (all_marked before after now befores afters nows one rest) = cc 
 pub joined_more : (pieces : List (List ℕ)) (piece : List ℕ) → concat pieces ++ piece ≡ concat (pieces ++ piece ∷ [])
 joined_more pieces piece = sym (concat-append pieces (piece ∷ []) ∙ ap (λ bytes. concat pieces ++ bytes) (append-nil piece))
 
-whole_now : (told : Bool) (pieces : List (List ℕ)) (piece : List ℕ) (start : Slot) → adds (told_of told piece) (adds (told_of told (concat pieces)) start) ≡ adds (told_of told (concat (pieces ++ piece ∷ []))) start
+whole_now : (told : Bool) (pieces : List (List ℕ)) (piece : List ℕ) (start : Slot)
+    → adds (told_of told piece) (adds (told_of told (concat pieces)) start)
+    ≡ adds (told_of told (concat (pieces ++ piece ∷ []))) start
 whole_now told pieces piece start = grind (arith, common_steps, adds_both, joined_more)
 
-begun_now : (told : Bool) (pieces : List (List ℕ)) (piece : List ℕ) (n : ℕ) (start : Slot) → breaks (adds (told_of told (take n piece)) (adds (told_of told (concat pieces)) start)) ≡ breaks (adds (told_of told (concat pieces ++ take n piece)) start)
+begun_now : (told : Bool) (pieces : List (List ℕ)) (piece : List ℕ) (n : ℕ) (start : Slot)
+    → breaks (adds (told_of told (take n piece)) (adds (told_of told (concat pieces)) start))
+    ≡ breaks (adds (told_of told (concat pieces ++ take n piece)) start)
 begun_now told pieces piece n start = ap breaks (adds_both told (concat pieces) (take n piece) start)
 
-still_there : {pieces : List (List ℕ)} (before after : List (List ℕ)) (piece more : List ℕ) → pieces ≡ before ++ piece ∷ after → pieces ++ more ∷ [] ≡ before ++ piece ∷ (after ++ more ∷ [])
+still_there : {pieces : List (List ℕ)} (before after : List (List ℕ)) (piece more : List ℕ)
+    → pieces ≡ before ++ piece ∷ after → pieces ++ more ∷ [] ≡ before ++ piece ∷ (after ++ more ∷ [])
 still_there before after piece more is = ap (λ those. those ++ more ∷ []) is ∙ append_assoc before (piece ∷ after) (more ∷ [])
 
 -- a piece was fed in a call before those that follow
-pub call_before : {pieces : List (List ℕ)} (before after : List (List ℕ)) (piece : List ℕ) → pieces ≡ before ++ piece ∷ after → suc (length before) < suc (length pieces)
+pub call_before : {pieces : List (List ℕ)} (before after : List (List ℕ)) (piece : List ℕ)
+    → pieces ≡ before ++ piece ∷ after → suc (length before) < suc (length pieces)
 call_before before after piece is = omega (arith, length-append before (piece ∷ after), ap length is)
 
 -- an output that stands so now is so after a call, with what that adds to what broke when
 abbrev pub Marked : (Option Break → Slot → Type 0) → ℕ → Option Break → Standing → Slot → Type 0
 Marked Is call first now new = (after : Option Break) × Is after new × Marks call first after now
 
-output_more : (told : Bool) {pieces : List (List ℕ)} {piece : List ℕ} {first : Option Break} {old new : Slot} {now : Standing} → OutputLeft told pieces first old → Gets told piece old new → Sees (standing_of first) new.is_broken now → Marked (OutputLeft told (pieces ++ piece ∷ [])) (suc (length pieces)) first now new
+output_more : (told : Bool) {pieces : List (List ℕ)} {piece : List ℕ} {first : Option Break} {old new : Slot}
+    {now : Standing} → OutputLeft told pieces first old → Gets told piece old new
+    → Sees (standing_of first) new.is_broken now
+    → Marked (OutputLeft told (pieces ++ piece ∷ [])) (suc (length pieces)) first now new
 output_more told {pieces} {piece} output_whole (gets_all sound) sees = (None, rw (whole_now told pieces piece standard_output) output_whole, marked_none sees.broken)
 output_more told {pieces} {piece} {now = now} output_whole (breaks_off sound n within) sees =
     (Some (break_now (suc (length pieces)) now), rw (begun_now told pieces piece n standard_output) (output_cut pieces piece [] n refl within), marked_now sees.broken)
@@ -279,7 +338,9 @@ output_more told (output_cut before that after n is within) (breaks_off again m 
 output_more told {piece} (output_cut {is_gone} before that after n is within) (gets_none broken) sees =
     (Some (record { call = suc (length before); is_gone = is_gone }), output_cut before that (after ++ piece ∷ []) n (still_there before after that piece is) within, marked_before _ (call_before before after that is) sees.broken sees.kept)
 
-file_more : (told : Bool) {mode : Mode} {pieces : List (List ℕ)} {piece : List ℕ} {name : List ℕ} {first : Option Break} {old new : Slot} {now : Standing} → FileHas told mode pieces name first old → Gets told piece old new → Sees (standing_of first) new.is_broken now
+file_more : (told : Bool) {mode : Mode} {pieces : List (List ℕ)} {piece : List ℕ} {name : List ℕ} {first : Option Break}
+    {old new : Slot} {now : Standing} → FileHas told mode pieces name first old → Gets told piece old new
+    → Sees (standing_of first) new.is_broken now
     → Marked (FileHas told mode (pieces ++ piece ∷ []) name) (suc (length pieces)) first now new
 file_more told {mode} {pieces} {piece} {name} has_all (gets_all sound) sees = (None, rw (whole_now told pieces piece (opened name mode)) has_all, marked_none sees.broken)
 file_more told {mode} {pieces} {piece} {name} {now = now} has_all (breaks_off sound n within) sees =
@@ -299,10 +360,13 @@ abbrev pub flags : List Slot → List Bool
 flags files = map (λ (file : Slot). file.is_broken) files
 
 -- each is changed by the call
-pub files_go : {Is Then : List ℕ → Option Break → Slot → Type 0} {Change : Slot → Slot → Type 0} {call : ℕ} {names : List (List ℕ)} {broke : List (Option Break)} {olds : List Slot}
-    → ((name : List ℕ) (first : Option Break) (old new : Slot) (now : Standing) → Is name first old → Change old new → Sees (standing_of first) new.is_broken now → Marked (Then name) call first now new)
+pub files_go : {Is Then : List ℕ → Option Break → Slot → Type 0} {Change : Slot → Slot → Type 0} {call : ℕ}
+    {names : List (List ℕ)} {broke : List (Option Break)} {olds : List Slot}
+    → ((name : List ℕ) (first : Option Break) (old new : Slot) (now : Standing) → Is name first old → Change old new
+    → Sees (standing_of first) new.is_broken now → Marked (Then name) call first now new)
     → (news : List Slot) (nows : List Standing)
-    → length news ≡ length olds → ((n : ℕ) → n < length olds → Change (slot_at olds n) (slot_at news n)) → SeesAll (map standing_of broke) (flags news) nows → EachFile Is names broke olds
+    → length news ≡ length olds → ((n : ℕ) → n < length olds → Change (slot_at olds n) (slot_at news n))
+    → SeesAll (map standing_of broke) (flags news) nows → EachFile Is names broke olds
     → (after : List (Option Break)) × EachFile Then names after news × AllMark call broke after nows
 files_go go [] [] many changes sees no_file = ([], no_file, none_marked)
 files_go go [] (now ∷ nows) many changes sees no_file = absurd sees
@@ -316,35 +380,43 @@ files_go go (new ∷ news) (now ∷ nows) many changes sees (one_file name names
 
 -- the outputs of a run
 
-pub length-files : {Is : List ℕ → Option Break → Slot → Type 0} {names : List (List ℕ)} {broke : List (Option Break)} {files : List Slot} → EachFile Is names broke files → length files ≡ length names
+pub length-files : {Is : List ℕ → Option Break → Slot → Type 0} {names : List (List ℕ)} {broke : List (Option Break)}
+    {files : List Slot} → EachFile Is names broke files → length files ≡ length names
 length-files no_file = refl
 length-files (one_file name names first broke file files one rest) = ap suc (length-files rest)
 
-length-broke : {Is : List ℕ → Option Break → Slot → Type 0} {names : List (List ℕ)} {broke : List (Option Break)} {files : List Slot} → EachFile Is names broke files → length broke ≡ length names
+length-broke : {Is : List ℕ → Option Break → Slot → Type 0} {names : List (List ℕ)} {broke : List (Option Break)}
+    {files : List Slot} → EachFile Is names broke files → length broke ≡ length names
 length-broke no_file = refl
 length-broke (one_file name names first broke file files one rest) = ap suc (length-broke rest)
 
-output_usable : (told : Bool) {pieces : List (List ℕ)} {first : Option Break} {output : Slot} → OutputLeft told pieces first output → IsUsable output
+output_usable : (told : Bool) {pieces : List (List ℕ)} {first : Option Break} {output : Slot}
+    → OutputLeft told pieces first output → IsUsable output
 output_usable told output_whole = λ sound. refl
 output_usable told (output_cut before that after n is within) = λ sound. refl
 
-file_usable : (told : Bool) {mode : Mode} {pieces : List (List ℕ)} {name : List ℕ} {first : Option Break} {file : Slot} → FileHas told mode pieces name first file → IsUsable file
+file_usable : (told : Bool) {mode : Mode} {pieces : List (List ℕ)} {name : List ℕ} {first : Option Break} {file : Slot}
+    → FileHas told mode pieces name first file → IsUsable file
 file_usable told has_all = λ sound. refl
 file_usable told (has_none kept named) = λ sound. absurd (false≢true (sym sound))
 file_usable told (has_begun before that after n is within) = λ sound. refl
 
-files_usable : (told : Bool) {mode : Mode} {pieces : List (List ℕ)} {names : List (List ℕ)} {broke : List (Option Break)} {files : List Slot} (n : ℕ) → n < length files → EachFile (FileHas told mode pieces) names broke files → IsUsable (slot_at files n)
+files_usable : (told : Bool) {mode : Mode} {pieces : List (List ℕ)} {names : List (List ℕ)}
+    {broke : List (Option Break)} {files : List Slot} (n : ℕ) → n < length files
+    → EachFile (FileHas told mode pieces) names broke files → IsUsable (slot_at files n)
 files_usable told n within no_file = absurd (omega arith)
 files_usable told zero within (one_file name names first broke file files one rest) = file_usable told one
 files_usable told (suc n) within (one_file name names first broke file files one rest) = files_usable told n (omega arith) rest
 
 -- a file's place, counted from the first file
-pub file_place : {names : List (List ℕ)} {tee : TeeState} (place : ℕ) → IsTeeOf names tee → IsFile tee place → (n : ℕ) × (place ≡ suc (suc n)) × (n < length names)
+pub file_place : {names : List (List ℕ)} {tee : TeeState} (place : ℕ) → IsTeeOf names tee → IsFile tee place
+    → (n : ℕ) × (place ≡ suc (suc n)) × (n < length names)
 file_place {tee} zero is file = absurd (omega (arith, file.0, is.first (omega (arith, file.0, file.1))))
 file_place {tee} (suc zero) is file = absurd (omega (arith, file.0, is.first (omega (arith, file.0, file.1))))
 file_place {names} {tee} (suc (suc n)) is file = let first : tee.first ≡ 2 = is.first (omega (arith, file.0, file.1)) in let count : tee.count ≡ length names = is.count in (n, refl, omega (arith, file.1, first, count))
 
-pub place_file : {names : List (List ℕ)} {tee : TeeState} (n : ℕ) → IsTeeOf names tee → n < length names → IsFile tee (suc (suc n))
+pub place_file : {names : List (List ℕ)} {tee : TeeState} (n : ℕ) → IsTeeOf names tee → n < length names
+    → IsFile tee (suc (suc n))
 place_file {names} {tee} n is within = grind (arith, common_steps)
 
 pub error_no_output : {names : List (List ℕ)} {tee : TeeState} → IsTeeOf names tee → IsOutput tee 1 → ⊥
@@ -352,7 +424,9 @@ error_no_output is (inl here) = omega (arith, here)
 error_no_output is (inr file) = let there = file_place 1 is file in omega (arith, there.1)
 
 module _ (told : Bool) (calling : Calling) (mode : Mode) (on_broken : OnBroken) (names : List (List ℕ)) where
-  pub copies_ready : {pieces : List (List ℕ)} {messages : List Message} {slots : List Slot} {known : List Standing} {tee : TeeState} → IsTeeOf names tee → Copies told calling mode on_broken names pieces messages slots known → IsReady tee slots
+  pub copies_ready : {pieces : List (List ℕ)} {messages : List Message} {slots : List Slot} {known : List Standing}
+      {tee : TeeState} → IsTeeOf names tee → Copies told calling mode on_broken names pieces messages slots known
+      → IsReady tee slots
   copies_ready {tee} is copies place output = rw copies.are (by output) where
     by : IsOutput tee place → IsUsable (slot_at (copies.output ∷ copies.error ∷ copies.files) place)
     by (inl here) = rw here (output_usable told copies.output_has)
@@ -363,7 +437,8 @@ module _ (told : Bool) (calling : Calling) (mode : Mode) (on_broken : OnBroken) 
   -- the outputs after a call, before anything is said of it, where they stand so now
   pub record After (OutputIs : Option Break → Slot → Type 0) (FileIs : List ℕ → Option Break → Slot → Type 0)
       (call : ℕ) {pieces : List (List ℕ)} {messages : List Message} {old : List Slot} {known : List Standing}
-      (copies : Copies told calling mode on_broken names pieces messages old known) (mid : List Slot) (nows : List Standing) : Type 0 where
+      (copies : Copies told calling mode on_broken names pieces messages old known) (mid : List Slot)
+      (nows : List Standing) : Type 0 where
     pub output : Slot
     pub files : List Slot
     pub first : Option Break
@@ -373,14 +448,22 @@ module _ (told : Bool) (calling : Calling) (mode : Mode) (on_broken : OnBroken) 
     pub files_are : EachFile FileIs names broke files
     pub marked : AllMark call (copies.first ∷ copies.broke) (first ∷ broke) nows
 
-  pub called : {OutputIs : Option Break → Slot → Type 0} {FileIs : List ℕ → Option Break → Slot → Type 0} {Change : Slot → Slot → Type 0} {pieces : List (List ℕ)} {messages : List Message} {old mid : List Slot} {known nows : List Standing} {tee : TeeState}
-      → IsTeeOf names tee → (copies : Copies told calling mode on_broken names pieces messages old known) → (call : ℕ) → length mid ≡ length old → slot_at mid 1 ≡ slot_at old 1
-      → ((now : Standing) (output : Slot) → slot_at mid 0 ≡ output → Sees (standing_of copies.first) output.is_broken now → Marked OutputIs call copies.first now output)
+  pub called : {OutputIs : Option Break → Slot → Type 0} {FileIs : List ℕ → Option Break → Slot → Type 0}
+      {Change : Slot → Slot → Type 0} {pieces : List (List ℕ)} {messages : List Message} {old mid : List Slot}
+      {known nows : List Standing} {tee : TeeState}
+      → IsTeeOf names tee → (copies : Copies told calling mode on_broken names pieces messages old known) → (call : ℕ)
+      → length mid ≡ length old → slot_at mid 1 ≡ slot_at old 1
+      → ((now : Standing) (output : Slot) → slot_at mid 0 ≡ output
+      → Sees (standing_of copies.first) output.is_broken now → Marked OutputIs call copies.first now output)
       → ((place : ℕ) → IsFile tee place → Change (slot_at old place) (slot_at mid place))
-      → ((name : List ℕ) (first : Option Break) (old new : Slot) (now : Standing) → FileHas told mode pieces name first old → Change old new → Sees (standing_of first) new.is_broken now → Marked (FileIs name) call first now new)
+      → ((name : List ℕ) (first : Option Break) (old new : Slot) (now : Standing)
+      → FileHas told mode pieces name first old → Change old new → Sees (standing_of first) new.is_broken now
+      → Marked (FileIs name) call first now new)
       → SeesAll known (broken_of mid) nows → After OutputIs FileIs call copies mid nows
   called {OutputIs} {FileIs} {Change} {mid = mid} {nows = nows} is copies call count error one changes go sees = by mid nows refl (rw copies.known_are at sees) where
-    by : (those : List Slot) (stand : List Standing) → mid ≡ those → SeesAll (map standing_of (copies.first ∷ copies.broke)) (broken_of those) stand → After OutputIs FileIs call copies mid stand
+    by : (those : List Slot) (stand : List Standing) → mid ≡ those
+        → SeesAll (map standing_of (copies.first ∷ copies.broke)) (broken_of those) stand
+        → After OutputIs FileIs call copies mid stand
     by [] stand short see = absurd (omega (arith, ap length short, count, ap length copies.are))
     by (output ∷ []) stand short see = absurd (omega (arith, ap length short, count, ap length copies.are))
     by (output ∷ other ∷ files) [] are see = absurd see
@@ -402,10 +485,16 @@ module _ (told : Bool) (calling : Calling) (mode : Mode) (on_broken : OnBroken) 
         }
 
   -- what is on standard error once it was told
-  pub said_after : {OutputIs : Option Break → Slot → Type 0} {FileIs : List ℕ → Option Break → Slot → Type 0} {pieces : List (List ℕ)} {messages : List Message} {old mid new : List Slot} {known nows : List Standing}
-      (copies : Copies told calling mode on_broken names pieces messages old known) → (next : After OutputIs FileIs (suc (length pieces)) copies mid nows)
-      → (says : SaysTo told calling (said_since on_broken (fault_in (suc (length pieces))) (output_names names) known nows) mid new)
-      → SaysAll told (tee_called calling) ((said_before on_broken (suc (length pieces)) (output_names names) (next.first ∷ next.broke) ++ messages) ++ said_in on_broken (suc (length pieces)) (output_names names) (next.first ∷ next.broke)) standard_error says.0
+  pub said_after : {OutputIs : Option Break → Slot → Type 0} {FileIs : List ℕ → Option Break → Slot → Type 0}
+      {pieces : List (List ℕ)} {messages : List Message} {old mid new : List Slot} {known nows : List Standing}
+      (copies : Copies told calling mode on_broken names pieces messages old known)
+      → (next : After OutputIs FileIs (suc (length pieces)) copies mid nows)
+      → (says : SaysTo told calling
+      (said_since on_broken (fault_in (suc (length pieces))) (output_names names) known nows) mid new)
+      → SaysAll told (tee_called calling)
+      ((said_before on_broken (suc (length pieces)) (output_names names) (next.first ∷ next.broke) ++ messages)
+      ++ said_in on_broken (suc (length pieces)) (output_names names) (next.first ∷ next.broke)) standard_error
+      says.0
   said_after {pieces} {messages} {mid = mid} {known} copies next says =
       rw (said_marked on_broken (output_names names) next.marked, all_older on_broken (suc (length pieces)) (output_names names) (omega arith) next.marked, ← copies.known_are)
       (says_after told (tee_called calling) (said_before on_broken (suc (length pieces)) (output_names names) (copies.first ∷ copies.broke) ++ messages) _ standard_error copies.error says.0 copies.said
@@ -413,17 +502,24 @@ module _ (told : Bool) (calling : Calling) (mode : Mode) (on_broken : OnBroken) 
 
   -- a piece was fed
 
-  pub fed_next : {pieces : List (List ℕ)} {piece : List ℕ} {messages : List Message} {old mid : List Slot} {known nows : List Standing} {tee : TeeState} → IsTeeOf names tee
-      → (copies : Copies told calling mode on_broken names pieces messages old known) → ChangesEach (Gets told piece) (IsOutput tee) old mid → SeesAll known (broken_of mid) nows
-      → After (OutputLeft told (pieces ++ piece ∷ [])) (FileHas told mode (pieces ++ piece ∷ [])) (suc (length pieces)) copies mid nows
+  pub fed_next : {pieces : List (List ℕ)} {piece : List ℕ} {messages : List Message} {old mid : List Slot}
+      {known nows : List Standing} {tee : TeeState} → IsTeeOf names tee
+      → (copies : Copies told calling mode on_broken names pieces messages old known)
+      → ChangesEach (Gets told piece) (IsOutput tee) old mid → SeesAll known (broken_of mid) nows
+      → After (OutputLeft told (pieces ++ piece ∷ [])) (FileHas told mode (pieces ++ piece ∷ []))
+      (suc (length pieces)) copies mid nows
   fed_next {pieces} {piece} {mid = mid} is copies gets sees = called is copies (suc (length pieces)) gets.count (gets.others 1 (error_no_output is))
       (λ now output here see. output_more told copies.output_has (rw here at (rw (ap (λ those. slot_at those 0) copies.are) at (gets.each 0 (inl refl)))) see)
       (λ place file. gets.each place (inr file)) (λ name first old new now has got see. file_more told has got see) sees
 
   -- the message for it was said
-  pub piece_said : {pieces : List (List ℕ)} (piece : List ℕ) {old mid new : List Slot} {known nows : List Standing} → is_done on_broken known ≡ false → (copies : Copies told calling mode on_broken names pieces [] old known)
-      → After (OutputLeft told (pieces ++ piece ∷ [])) (FileHas told mode (pieces ++ piece ∷ [])) (suc (length pieces)) copies mid nows
-      → SaysTo told calling (said_since on_broken (fault_in (suc (length pieces))) (output_names names) known nows) mid new → Copies told calling mode on_broken names (pieces ++ piece ∷ []) [] new nows
+  pub piece_said : {pieces : List (List ℕ)} (piece : List ℕ) {old mid new : List Slot} {known nows : List Standing}
+      → is_done on_broken known ≡ false → (copies : Copies told calling mode on_broken names pieces [] old known)
+      → After (OutputLeft told (pieces ++ piece ∷ [])) (FileHas told mode (pieces ++ piece ∷ []))
+      (suc (length pieces)) copies mid nows
+      → SaysTo told calling
+      (said_since on_broken (fault_in (suc (length pieces))) (output_names names) known nows) mid new
+      → Copies told calling mode on_broken names (pieces ++ piece ∷ []) [] new nows
   piece_said {pieces} piece {mid = mid} {new} {known} some copies next says = record {
     output = next.output;
     error = says.0;
@@ -444,8 +540,10 @@ module _ (told : Bool) (calling : Calling) (mode : Mode) (on_broken : OnBroken) 
     one_more_call = omega (arith, length-append pieces (piece ∷ []))
 
   -- both streams are there, whatever became of the other outputs
-  pub streams_after : {pieces : List (List ℕ)} {messages : List Message} {old mid : List Slot} {known : List Standing} {output : Slot} {files : List Slot}
-      → (copies : Copies told calling mode on_broken names pieces messages old known) → mid ≡ output ∷ copies.error ∷ files → length files ≡ length names
+  pub streams_after : {pieces : List (List ℕ)} {messages : List Message} {old mid : List Slot} {known : List Standing}
+      {output : Slot} {files : List Slot}
+      → (copies : Copies told calling mode on_broken names pieces messages old known)
+      → mid ≡ output ∷ copies.error ∷ files → length files ≡ length names
       → HasStreams mid (length names)
   streams_after {output = output} {files = files} copies are many = record {
     output = output;
@@ -462,22 +560,28 @@ module _ (told : Bool) (calling : Calling) (mode : Mode) (on_broken : OnBroken) 
 
   -- so it is after a call that left standard error
   pub mid_streams : {pieces : List (List ℕ)} {messages : List Message} {old mid : List Slot} {known : List Standing}
-      → Copies told calling mode on_broken names pieces messages old known → length mid ≡ length old → slot_at mid 1 ≡ slot_at old 1 → HasStreams mid (length names)
+      → Copies told calling mode on_broken names pieces messages old known → length mid ≡ length old
+      → slot_at mid 1 ≡ slot_at old 1 → HasStreams mid (length names)
   mid_streams {mid = []} copies count error = absurd (omega (arith, count, ap length copies.are))
   mid_streams {mid = output ∷ []} copies count error = absurd (omega (arith, count, ap length copies.are))
   mid_streams {mid = output ∷ other ∷ files} copies count error =
       streams_after copies (ap (λ slot. output ∷ slot ∷ files) (error ∙ ap (λ those. slot_at those 1) copies.are)) (omega (arith, count, ap length copies.are, length-files copies.files_have))
 
-  pub known_many : {pieces : List (List ℕ)} {messages : List Message} {slots : List Slot} {known : List Standing} → Copies told calling mode on_broken names pieces messages slots known → length known ≡ length names + 1
+  pub known_many : {pieces : List (List ℕ)} {messages : List Message} {slots : List Slot} {known : List Standing}
+      → Copies told calling mode on_broken names pieces messages slots known → length known ≡ length names + 1
   known_many copies = let count = ap length copies.known_are ∙ length-map (copies.first ∷ copies.broke) standing_of in omega (arith, count, length-broke copies.files_have)
 
 -- an output that isn't closed
-output_kept : (told : Bool) {pieces : List (List ℕ)} {first : Option Break} {output : Slot} {now : Standing} → OutputLeft told pieces first output → Sees (standing_of first) output.is_broken now → Marks (suc (length pieces)) first first now
+output_kept : (told : Bool) {pieces : List (List ℕ)} {first : Option Break} {output : Slot} {now : Standing}
+    → OutputLeft told pieces first output → Sees (standing_of first) output.is_broken now
+    → Marks (suc (length pieces)) first first now
 output_kept told output_whole sees = marked_none sees.broken
 output_kept told (output_cut before that after n is within) sees = marked_before _ (call_before before after that is) sees.broken sees.kept
 
 -- a file that is
-file_ends : (told : Bool) {mode : Mode} {pieces : List (List ℕ)} {name : List ℕ} {first : Option Break} {old new : Slot} {now : Standing} → FileHas told mode pieces name first old → Closes old new → Sees (standing_of first) new.is_broken now
+file_ends : (told : Bool) {mode : Mode} {pieces : List (List ℕ)} {name : List ℕ} {first : Option Break} {old new : Slot}
+    {now : Standing} → FileHas told mode pieces name first old → Closes old new
+    → Sees (standing_of first) new.is_broken now
     → Marked (FileLeft told mode pieces name) (suc (length pieces)) first now new
 file_ends told has_all (is_closed sound) sees = (None, file_whole, marked_none sees.broken)
 file_ends told {pieces = pieces} {now = now} has_all (fails_to_close sound) sees = (Some (break_now (suc (length pieces)) now), file_unclosed, marked_now sees.broken)
@@ -492,7 +596,9 @@ file_ends told (has_begun {is_gone} before that after n is within) (was_broken b
 
 module _ (told : Bool) (calling : Calling) (mode : Mode) (on_broken : OnBroken) (names : List (List ℕ)) where
   -- a message more on standard error, while the files are open
-  pub copies_said : {pieces : List (List ℕ)} {messages : List Message} {old new : List Slot} {known : List Standing} → Copies told calling mode on_broken names pieces [] old known → SaysTo told calling messages old new → Copies told calling mode on_broken names pieces messages new known
+  pub copies_said : {pieces : List (List ℕ)} {messages : List Message} {old new : List Slot} {known : List Standing}
+      → Copies told calling mode on_broken names pieces [] old known → SaysTo told calling messages old new
+      → Copies told calling mode on_broken names pieces messages new known
   copies_said {pieces} {messages} copies says = record {
     output = copies.output;
     error = says.0;
@@ -511,17 +617,26 @@ module _ (told : Bool) (calling : Calling) (mode : Mode) (on_broken : OnBroken) 
 
   -- the files were closed
 
-  pub closed_next : {pieces : List (List ℕ)} {messages : List Message} {old mid : List Slot} {known nows : List Standing} {tee : TeeState} → IsTeeOf names tee → (copies : Copies told calling mode on_broken names pieces messages old known)
-      → ChangesEach Closes (IsFile tee) old mid → SeesAll known (broken_of mid) nows → After told calling mode on_broken names (OutputLeft told pieces) (FileLeft told mode pieces) (suc (length pieces)) copies mid nows
+  pub closed_next : {pieces : List (List ℕ)} {messages : List Message} {old mid : List Slot}
+      {known nows : List Standing} {tee : TeeState} → IsTeeOf names tee
+      → (copies : Copies told calling mode on_broken names pieces messages old known)
+      → ChangesEach Closes (IsFile tee) old mid → SeesAll known (broken_of mid) nows
+      → After told calling mode on_broken names (OutputLeft told pieces) (FileLeft told mode pieces)
+      (suc (length pieces)) copies mid nows
   closed_next {pieces} is copies closes sees =
       called told calling mode on_broken names is copies (suc (length pieces)) closes.count (closes.others 1 (λ file. error_no_output is (inr file)))
       (λ now output here see. let same = sym here ∙ closes.others 0 (λ file. let there = file_place 0 is file in omega (arith, there.1)) ∙ ap (λ those. slot_at those 0) copies.are in
       let left : OutputLeft told pieces copies.first output = rw same copies.output_has in (copies.first, left, output_kept told left see))
       closes.each (λ name first old new now has ends see. file_ends told has ends see) sees
 
-  pub closing_said : {pieces : List (List ℕ)} {fault : Option Fault} {old mid new : List Slot} {known nows : List Standing} (copies : Copies told calling mode on_broken names pieces (said_of_input fault) old known)
-      → After told calling mode on_broken names (OutputLeft told pieces) (FileLeft told mode pieces) (suc (length pieces)) copies mid nows
-      → SaysTo told calling (said_since on_broken (fault_in (suc (length pieces))) (output_names names) known nows) mid new → HasCopied told calling mode on_broken names pieces fault known new nows
+  pub closing_said : {pieces : List (List ℕ)} {fault : Option Fault} {old mid new : List Slot}
+      {known nows : List Standing}
+      (copies : Copies told calling mode on_broken names pieces (said_of_input fault) old known)
+      → After told calling mode on_broken names (OutputLeft told pieces) (FileLeft told mode pieces)
+      (suc (length pieces)) copies mid nows
+      → SaysTo told calling
+      (said_since on_broken (fault_in (suc (length pieces))) (output_names names) known nows) mid new
+      → HasCopied told calling mode on_broken names pieces fault known new nows
   closing_said {pieces} copies next says = record {
     output = next.output;
     error = says.0;

@@ -37,29 +37,37 @@ abbrev SeenWhole : Bool → Content → List ℕ → Bool → Source → Type 0
 SeenWhole told there x breaks source = (content : Content) × (told ≡ true → content ≡ there) × (content.bytes ≡ x) × (content.breaks_off ≡ breaks) × LeavesOf told source []
     × CameFrom told content source
 
-whole : (told : Bool) (there : Content) (x : List ℕ) (breaks : Bool) (source : Source) → (told ≡ true → (there.bytes ≡ x) × (there.breaks_off ≡ breaks) × (source.left.bytes ≡ []))
-    → ((content : Content) → (told ≡ false → content.breaks_off ≡ breaks) → CameFrom told content source) → SeenWhole told there x breaks source
+whole : (told : Bool) (there : Content) (x : List ℕ) (breaks : Bool) (source : Source)
+    → (told ≡ true → (there.bytes ≡ x) × (there.breaks_off ≡ breaks) × (source.left.bytes ≡ []))
+    → ((content : Content) → (told ≡ false → content.breaks_off ≡ breaks) → CameFrom told content source)
+    → SeenWhole told there x breaks source
 whole true there x breaks source has came = let had = has refl in (there, (λ t. refl), had.0, had.1, (λ t. had.2), came there (λ off. absurd (false≢true (sym off))))
 whole false there x breaks source has came = (record { bytes = x; breaks_off = breaks; shown = None }, (λ t. absurd (false≢true t)), refl, refl, (λ t. absurd (false≢true t)), came _ (λ off. refl))
 
 -- the read failed
-pub seen_broken : (told : Bool) (there : Content) (x : List ℕ) (size : ℕ) (sources new : List Source) → (told ≡ true → HasRead there x 0 sources) → IsTrue (is_readable sources 0)
-    → (told ≡ true → BrokeOff (source_at sources 0).left) → new ≡ changed_at 0 (fails size) sources → SeenWhole told there x true (source_at new 0)
+pub seen_broken : (told : Bool) (there : Content) (x : List ℕ) (size : ℕ) (sources new : List Source)
+    → (told ≡ true → HasRead there x 0 sources) → IsTrue (is_readable sources 0)
+    → (told ≡ true → BrokeOff (source_at sources 0).left) → new ≡ changed_at 0 (fails size) sources
+    → SeenWhole told there x true (source_at new 0)
 seen_broken told there x size sources new read can broke failed = whole told there x true (source_at new 0)
     (λ t. let all = read_broken there x 0 sources (read t) (broke t) in
     (all.0, all.1, nothing_more _ (sym all.0 ∙ read_failed there x 0 sources new size (read t) can failed)))
     (λ content. came_broken told 0 size sources new can failed)
 
 -- the read told the end
-pub seen_ended : (told : Bool) (there : Content) (x : List ℕ) (size : ℕ) (sources new : List Source) {buffer old_buffer : List ℕ} {n : ℕ} → (told ≡ true → HasRead there x 0 sources)
-    → IsTrue (is_readable sources 0) → (told ≡ true → Gave (source_at sources 0).left old_buffer buffer n) → n ≡ 0 → 0 < length old_buffer
+pub seen_ended : (told : Bool) (there : Content) (x : List ℕ) (size : ℕ) (sources new : List Source)
+    {buffer old_buffer : List ℕ} {n : ℕ} → (told ≡ true → HasRead there x 0 sources)
+    → IsTrue (is_readable sources 0) → (told ≡ true → Gave (source_at sources 0).left old_buffer buffer n) → n ≡ 0
+    → 0 < length old_buffer
     → new ≡ changed_at 0 (gives size n) sources → SeenWhole told there x false (source_at new 0)
 seen_ended told there x size sources new {n = n} read can gave few room is = whole told there x false (source_at new 0)
     (λ t. let at_end = (gave t).ended few room in let all = read_to_end there x 0 sources (read t) at_end.0 at_end.1 in
     (all.1, all.0, nothing_more _ (sym all.1 ∙ read_none_more there x 0 sources new size n (read t) can few is))) (λ content. came_sound told new 0 (still_readable 0 sources new size n is can))
 
 -- it was read up to here
-pub seen_so_far : (told : Bool) (there : Content) (x : List ℕ) (sources : List Source) → (told ≡ true → HasRead there x 0 sources) → IsTrue (is_readable sources 0) → SeenTo told there x (source_at sources 0)
+pub seen_so_far : (told : Bool) (there : Content) (x : List ℕ) (sources : List Source)
+    → (told ≡ true → HasRead there x 0 sources) → IsTrue (is_readable sources 0)
+    → SeenTo told there x (source_at sources 0)
 seen_so_far true there x sources read can =
     (there, (source_at sources 0).left.bytes, (λ t. refl), (read refl).bytes, (λ t. refl), came_sound true sources 0 can (λ off. absurd (false≢true (sym off))))
 seen_so_far false there x sources read can = (
@@ -72,13 +80,16 @@ seen_so_far false there x sources read can = (
 )
 
 -- it gave a piece more
-pub seen_more : (told : Bool) (there : Content) (x : List ℕ) (size : ℕ) (sources new : List Source) {old_buffer buffer : List ℕ} {n : ℕ} → (told ≡ true → HasRead there x 0 sources)
-    → IsTrue (is_readable sources 0) → (told ≡ true → Gave (source_at sources 0).left old_buffer buffer n) → new ≡ changed_at 0 (gives size n) sources
+pub seen_more : (told : Bool) (there : Content) (x : List ℕ) (size : ℕ) (sources new : List Source)
+    {old_buffer buffer : List ℕ} {n : ℕ} → (told ≡ true → HasRead there x 0 sources)
+    → IsTrue (is_readable sources 0) → (told ≡ true → Gave (source_at sources 0).left old_buffer buffer n)
+    → new ≡ changed_at 0 (gives size n) sources
     → SeenTo told there (x ++ take n buffer) (source_at new 0)
 seen_more told there x size sources new {old_buffer} {buffer} {n} read can gave is =
     seen_so_far told there (x ++ take n buffer) new (λ t. read_more there x 0 sources new old_buffer buffer size n (read t) can (gave t) is) (still_readable 0 sources new size n is can)
 
-pub counted_more : (x buffer : List ℕ) {fed : ℕ} (n : ℕ) {sum : ℕ} → fed ≡ length x → n ≤ length buffer → sum ≡ fed + n → sum ≡ length (x ++ take n buffer)
+pub counted_more : (x buffer : List ℕ) {fed : ℕ} (n : ℕ) {sum : ℕ} → fed ≡ length x → n ≤ length buffer → sum ≡ fed + n
+    → sum ≡ length (x ++ take n buffer)
 counted_more x buffer n counted within is = omega (arith, counted, within, is, length-append x (take n buffer), length-take n buffer)
 
 -- the pieces
@@ -89,10 +100,12 @@ AreSized pieces = All (λ (piece : List ℕ). (0 < length piece) × (length piec
 pub none_sized : AreSized []
 none_sized k d low = absurd (omega (arith, low))
 
-pub more_sized : (pieces : List (List ℕ)) (buffer : List ℕ) {n : ℕ} → AreSized pieces → (n ≡ 0 → ⊥) → n ≤ length buffer → length buffer ≤ largest_piece → AreSized (pieces ++ take n buffer ∷ [])
+pub more_sized : (pieces : List (List ℕ)) (buffer : List ℕ) {n : ℕ} → AreSized pieces → (n ≡ 0 → ⊥) → n ≤ length buffer
+    → length buffer ≤ largest_piece → AreSized (pieces ++ take n buffer ∷ [])
 more_sized pieces buffer {n} sized some within most = grind (arith, common_steps)
 
-last_same : (before others : List (List ℕ)) (piece other : List ℕ) → before ++ piece ∷ [] ≡ others ++ other ∷ [] → piece ≡ other
+last_same : (before others : List (List ℕ)) (piece other : List ℕ) → before ++ piece ∷ [] ≡ others ++ other ∷ []
+    → piece ≡ other
 last_same [] [] piece other is = cc
 last_same [] (first ∷ others) piece other is = absurd (omega (arith, ap length is, length-append others (other ∷ [])))
 last_same (first ∷ before) [] piece other is = absurd (omega (arith, ap length is, length-append before (piece ∷ [])))
@@ -101,7 +114,9 @@ last_same (first ∷ before) (next ∷ others) piece other is = last_same before
 pub gave_none : (source : Source) → GaveLast [] source
 gave_none source before piece is = absurd (omega (arith, ap length is, length-append before (piece ∷ [])))
 
-pub gave_last : (pieces : List (List ℕ)) (size : ℕ) (sources new : List Source) {old_buffer buffer : List ℕ} {n : ℕ} → IsTrue (is_readable sources 0) → Gave (source_at sources 0).left old_buffer buffer n → new ≡ changed_at 0 (gives size n) sources → GaveLast (pieces ++ take n buffer ∷ []) (source_at new 0)
+pub gave_last : (pieces : List (List ℕ)) (size : ℕ) (sources new : List Source) {old_buffer buffer : List ℕ} {n : ℕ}
+    → IsTrue (is_readable sources 0) → Gave (source_at sources 0).left old_buffer buffer n
+    → new ≡ changed_at 0 (gives size n) sources → GaveLast (pieces ++ take n buffer ∷ []) (source_at new 0)
 gave_last pieces size sources new {n = n} can gave is before piece same =
     ap (λ (source : Source). source.last) (changed_source 0 (gives size n) sources new can is) ∙ sym (ap length gave.front) ∙ ap length (last_same pieces before _ piece same)
 
@@ -113,14 +128,25 @@ few_pieces (piece ∷ pieces) sized =
     let rest = few_pieces pieces (λ k byte within. sized (suc k) byte (omega arith)) in
     let some = (sized 0 piece (omega arith)).0 in omega (arith, rest, some, length-append piece (concat pieces))
 
-pub reads_once : {x : List ℕ} (pieces : List (List ℕ)) {was now : ℕ} → x ≡ concat pieces → AreSized pieces → length x < 2 ^ 63 → was ≡ length pieces → now ≡ counted was → now ≡ length pieces + 1
+pub reads_once : {x : List ℕ} (pieces : List (List ℕ)) {was now : ℕ} → x ≡ concat pieces → AreSized pieces
+    → length x < 2 ^ 63 → was ≡ length pieces → now ≡ counted was → now ≡ length pieces + 1
 reads_once {x} pieces {was} joined sized few so_far is = let most = few_pieces pieces sized in let all = ap length joined in grind (arith, nat_tests, most, all)
 
-pub reads_more : {x : List ℕ} (pieces : List (List ℕ)) (piece : List ℕ) {was now : ℕ} → x ≡ concat pieces → AreSized pieces → length x < 2 ^ 63 → was ≡ length pieces → now ≡ counted was → now ≡ length (pieces ++ piece ∷ [])
+pub reads_more : {x : List ℕ} (pieces : List (List ℕ)) (piece : List ℕ) {was now : ℕ} → x ≡ concat pieces
+    → AreSized pieces → length x < 2 ^ 63 → was ≡ length pieces → now ≡ counted was
+    → now ≡ length (pieces ++ piece ∷ [])
 reads_more pieces piece joined sized few so_far is = let once = reads_once pieces joined sized few so_far is in omega (arith, once, length-append pieces (piece ∷ []))
 
-pub reads_copied : {told_in : Bool} (told : Bool) {calling : Calling} {mode : Mode} {on_broken : OnBroken} {names : List (List ℕ)} {content : Content} {source : Source} {slots : List Slot} {known : List Standing} {fault : Option Fault} {came : List ℕ} {pieces : List (List ℕ)} {is_vain : Bool} → came ≡ concat pieces → is_done on_broken known ≡ is_vain → AreSized pieces → length came < 2 ^ 63
-    → (fault ≡ Some (Read 0)) ⊎ (source.is_broken ≡ false) → (fault ≡ None → is_vain ≡ false → source.ended ≡ true) → (told_in ≡ true → is_vain ≡ true → GaveLast pieces source) → source.reads ≡ length pieces + (if is_vain then 0 else 1) → IsRead content (LeavesOf told_in source) is_vain came fault → Copies told calling mode on_broken names pieces [] slots known → CopiesRead told_in told calling mode on_broken names content source slots known fault
+pub reads_copied : {told_in : Bool} (told : Bool) {calling : Calling} {mode : Mode} {on_broken : OnBroken}
+    {names : List (List ℕ)} {content : Content} {source : Source} {slots : List Slot} {known : List Standing}
+    {fault : Option Fault} {came : List ℕ} {pieces : List (List ℕ)} {is_vain : Bool} → came ≡ concat pieces
+    → is_done on_broken known ≡ is_vain → AreSized pieces → length came < 2 ^ 63
+    → (fault ≡ Some (Read 0)) ⊎ (source.is_broken ≡ false) → (fault ≡ None → is_vain ≡ false → source.ended ≡ true)
+    → (told_in ≡ true → is_vain ≡ true → GaveLast pieces source)
+    → source.reads ≡ length pieces + (if is_vain then 0 else 1)
+    → IsRead content (LeavesOf told_in source) is_vain came fault
+    → Copies told calling mode on_broken names pieces [] slots known
+    → CopiesRead told_in told calling mode on_broken names content source slots known fault
 reads_copied {told_in} told {content} {source} {known} {fault} {came} {pieces} joined vain sized few met ended last reads read copies = grind (arith, common_steps)
 
 -- why outputs stand as they do
@@ -130,10 +156,13 @@ sound_at zero place = refl
 sound_at (suc n) zero = refl
 sound_at (suc n) (suc place) = sound_at n place
 
-pub all_sound : (breaks_for : ℕ → Reason → Bool) (known : List Standing) (n : ℕ) → known ≡ replicate n Sound → EachStandsFor breaks_for known
+pub all_sound : (breaks_for : ℕ → Reason → Bool) (known : List Standing) (n : ℕ) → known ≡ replicate n Sound
+    → EachStandsFor breaks_for known
 all_sound breaks_for known n is place = subst (StandsFor (breaks_for (output_slot place))) (sym (ap (λ those. get_or those place Sound) is ∙ sound_at n place)) tt
 
-stands_one : (may : Reason → Bool) (was now : Standing) {is_broken : Bool} → StandsFor may was → Sees was is_broken now → (is_lost was ≡ false → is_lost now ≡ true → (why : Reason) × IsTrue (may why) × (now ≡ lost_for why)) → StandsFor may now
+stands_one : (may : Reason → Bool) (was now : Standing) {is_broken : Bool} → StandsFor may was → Sees was is_broken now
+    → (is_lost was ≡ false → is_lost now ≡ true → (why : Reason) × IsTrue (may why) × (now ≡ lost_for why))
+    → StandsFor may now
 stands_one may was Sound before sees broke = tt
 stands_one may Sound Broken before sees broke = broke refl refl
 stands_one may Sound Gone before sees broke = broke refl refl
@@ -142,30 +171,40 @@ stands_one may Gone Gone before sees broke = before
 stands_one may Broken Gone before sees broke = subst (StandsFor may) (sym (sees.kept refl refl)) before
 stands_one may Gone Broken before sees broke = subst (StandsFor may) (sym (sees.kept refl refl)) before
 
-each_set : (P : ℕ → Standing → Type 0) (known : List Standing) (n place : ℕ) (now : Standing) → ((at : ℕ) → P at (get_or known at Sound)) → P n now → P place (get_or (set known n now) place Sound)
+each_set : (P : ℕ → Standing → Type 0) (known : List Standing) (n place : ℕ) (now : Standing)
+    → ((at : ℕ) → P at (get_or known at Sound)) → P n now → P place (get_or (set known n now) place Sound)
 each_set P [] n place now all one = all place
 each_set P (first ∷ known) zero zero now all one = one
 each_set P (first ∷ known) zero (suc place) now all one = all (suc place)
 each_set P (first ∷ known) (suc n) zero now all one = all zero
 each_set P (first ∷ known) (suc n) (suc place) now all one = each_set (λ at. P (suc at)) known n place now (λ at. all (suc at)) one
 
-get_or-default : (known : List Standing) (n : ℕ) (one other : Standing) → n < length known → get_or known n one ≡ get_or known n other
+get_or-default : (known : List Standing) (n : ℕ) (one other : Standing) → n < length known
+    → get_or known n one ≡ get_or known n other
 get_or-default [] n one other within = absurd (omega (arith, within))
 get_or-default (first ∷ known) zero one other within = refl
 get_or-default (first ∷ known) (suc n) one other within = get_or-default known n one other (omega arith)
 
-pub stands_next : (breaks_for : ℕ → Reason → Bool) (old known : List Standing) (other : Standing) {n : ℕ} {now : Standing} {is_broken : Bool} → (EachStandsFor breaks_for old → EachStandsFor breaks_for known) → EachStandsFor breaks_for old → n < length known
-    → Sees (get_or known n other) is_broken now → (is_lost (get_or known n other) ≡ false → is_lost now ≡ true → (why : Reason) × IsTrue (breaks_for (output_slot n) why) × (now ≡ lost_for why)) → EachStandsFor breaks_for (set known n now)
+pub stands_next : (breaks_for : ℕ → Reason → Bool) (old known : List Standing) (other : Standing) {n : ℕ}
+    {now : Standing} {is_broken : Bool} → (EachStandsFor breaks_for old → EachStandsFor breaks_for known)
+    → EachStandsFor breaks_for old → n < length known
+    → Sees (get_or known n other) is_broken now
+    → (is_lost (get_or known n other) ≡ false → is_lost now ≡ true
+    → (why : Reason) × IsTrue (breaks_for (output_slot n) why) × (now ≡ lost_for why))
+    → EachStandsFor breaks_for (set known n now)
 stands_next breaks_for old known other {n} {now} step stand within sees broke place =
     each_set (λ at. StandsFor (breaks_for (output_slot at))) known n place now (step stand)
     (stands_one (breaks_for (output_slot n)) (get_or known n other) now (subst (StandsFor (breaks_for (output_slot n))) (get_or-default known n Sound other within) (step stand n)) sees broke)
 
 -- the end
 
-pub ends_copied : {told_in : Bool} (told : Bool) {breaks_for : ℕ → Reason → Bool} {calling : Calling} {mode : Mode} {on_broken : OnBroken} {names : List (List ℕ)} {content : Content} {source : Source} {pieces : List (List ℕ)}
-    {fault : Option Fault} {status : ℕ} {slots : List Slot} {before known : List Standing} → status ≡ status_for on_broken known fault → EachStandsFor breaks_for known
+pub ends_copied : {told_in : Bool} (told : Bool) {breaks_for : ℕ → Reason → Bool} {calling : Calling} {mode : Mode}
+    {on_broken : OnBroken} {names : List (List ℕ)} {content : Content} {source : Source} {pieces : List (List ℕ)}
+    {fault : Option Fault} {status : ℕ} {slots : List Slot} {before known : List Standing}
+    → status ≡ status_for on_broken known fault → EachStandsFor breaks_for known
     → ComesIn told_in content source (is_done on_broken before) pieces fault
-    → HasCopied told calling mode on_broken names pieces fault before slots known → EndsAs told_in told breaks_for calling mode on_broken names content source slots status
+    → HasCopied told calling mode on_broken names pieces fault before slots known
+    → EndsAs told_in told breaks_for calling mode on_broken names content source slots status
 ends_copied {told_in} told {on_broken = on_broken} {content} {source} {pieces} {fault} is stand read left =
     copied pieces fault left.first left.broke left.output left.error left.files (subst (λ standings. ComesIn told_in content source (is_done on_broken standings) pieces fault) (sym left.before_are) read) left.goes_on left.output_left left.files_left (rw left.known_are at stand) left.said left.are
     (is ∙ ap (λ standings. status_for on_broken standings fault) left.known_are)
@@ -177,14 +216,23 @@ abbrev pub ToldSo : Bool → Calling → Fault → List Slot → List Slot → �
 ToldSo told calling fault mid new status = (why : Reason) × TellsOn told (tee_called calling) why fault (output_named mid fault) mid new
     × (status ≡ status_after fault calling why)
 
-ends_nowhere : {told_in : Bool} (told : Bool) {breaks_for : ℕ → Reason → Bool} {calling : Calling} {mode : Mode} {on_broken : OnBroken} {names : List (List ℕ)} {content : Content} {source : Source} {mid new : List Slot} {fault : Fault} {status : ℕ} → fault ≡ Memory → mid ≡ streams → IsAsFound told_in content source → ToldSo told calling fault mid new status → EndsAs told_in told breaks_for calling mode on_broken names content source new status
+ends_nowhere : {told_in : Bool} (told : Bool) {breaks_for : ℕ → Reason → Bool} {calling : Calling} {mode : Mode}
+    {on_broken : OnBroken} {names : List (List ℕ)} {content : Content} {source : Source} {mid new : List Slot}
+    {fault : Fault} {status : ℕ} → fault ≡ Memory → mid ≡ streams → IsAsFound told_in content source
+    → ToldSo told calling fault mid new status
+    → EndsAs told_in told breaks_for calling mode on_broken names content source new status
 ends_nowhere told {calling} {mid = mid} {new} {status = status} is at unread says =
     let (why, tells, one) = subst (λ (those : Fault). ToldSo told calling those mid new status) is says in
     let said = tells standard_output standard_error [] at in
     no_room said.0 (said.0, (why, said.1), refl) unread said.2 one
 
-pub ends_at_once : {told_in : Bool} (told : Bool) {breaks_for : ℕ → Reason → Bool} {calling : Calling} {mode : Mode} {on_broken : OnBroken} {names : List (List ℕ)} {old new_sources : List Source} {first mid new : List Slot} {fault : Fault} {status : ℕ} → fault ≡ Memory → IsFresh old → first ≡ streams → mid ≡ first → new_sources ≡ old → ToldSo told calling fault mid new status
-    → OfContent told_in (source_at old 0).left (λ content. EndsAs told_in told breaks_for calling mode on_broken names content (source_at new_sources 0) new status × CameFrom told_in content (source_at new_sources 0))
+pub ends_at_once : {told_in : Bool} (told : Bool) {breaks_for : ℕ → Reason → Bool} {calling : Calling} {mode : Mode}
+    {on_broken : OnBroken} {names : List (List ℕ)} {old new_sources : List Source} {first mid new : List Slot}
+    {fault : Fault} {status : ℕ} → fault ≡ Memory → IsFresh old → first ≡ streams → mid ≡ first → new_sources ≡ old
+    → ToldSo told calling fault mid new status
+    → OfContent told_in (source_at old 0).left
+    (λ content. EndsAs told_in told breaks_for calling mode on_broken names content (source_at new_sources 0) new status
+    × CameFrom told_in content (source_at new_sources 0))
 ends_at_once {told_in} told {breaks_for} {calling} {mode} {on_broken} {names} {old} {new_sources} {new = new} {status = status} is fresh at same sources says =
     let unread = ap (λ those. source_at those 0) (sources ∙ fresh.only) in
     of_content told_in (source_at old 0).left empty (source_at new_sources 0) (λ content. EndsAs told_in told breaks_for calling mode on_broken names content (source_at new_sources 0) new status)
@@ -194,25 +242,32 @@ ends_at_once {told_in} told {breaks_for} {calling} {mode} {on_broken} {names} {o
 
 -- nothing broke
 
-pub sound_first : {X : Type 0} (first : Option X) (rest : Bool) → (is_none first && rest) ≡ true → (first ≡ None) × (rest ≡ true)
+pub sound_first : {X : Type 0} (first : Option X) (rest : Bool) → (is_none first && rest) ≡ true
+    → (first ≡ None) × (rest ≡ true)
 sound_first None rest is = (refl, is)
 sound_first (Some x) rest is = absurd (false≢true is)
 
-pub nothing_in : (on_broken : OnBroken) (call : ℕ) (names : List (List ℕ)) (broke : List (Option Break)) → are_sound broke ≡ true → said_in on_broken call names broke ≡ []
+pub nothing_in : (on_broken : OnBroken) (call : ℕ) (names : List (List ℕ)) (broke : List (Option Break))
+    → are_sound broke ≡ true → said_in on_broken call names broke ≡ []
 nothing_in on_broken call [] broke sound = refl
 nothing_in on_broken call (name ∷ names) [] sound = refl
 nothing_in on_broken call (name ∷ names) (None ∷ broke) sound = nothing_in on_broken call names broke sound
 nothing_in on_broken call (name ∷ names) (Some other ∷ broke) sound = absurd (false≢true sound)
 
-pub nothing_before : (on_broken : OnBroken) (call : ℕ) (names : List (List ℕ)) (broke : List (Option Break)) → are_sound broke ≡ true → said_before on_broken call names broke ≡ []
+pub nothing_before : (on_broken : OnBroken) (call : ℕ) (names : List (List ℕ)) (broke : List (Option Break))
+    → are_sound broke ≡ true → said_before on_broken call names broke ≡ []
 nothing_before on_broken zero names broke sound = refl
 nothing_before on_broken (suc call) names broke sound = ap (λ texts. texts ++ said_in on_broken call names broke) (nothing_before on_broken call names broke sound) ∙ nothing_in on_broken call names broke sound
 
-pub whole_output : (told : Bool) (pieces : List (List ℕ)) (first : Option Break) (output : Slot) → first ≡ None → OutputLeft told pieces first output → output ≡ adds (told_of told (concat pieces)) standard_output
+pub whole_output : (told : Bool) (pieces : List (List ℕ)) (first : Option Break) (output : Slot) → first ≡ None
+    → OutputLeft told pieces first output → output ≡ adds (told_of told (concat pieces)) standard_output
 whole_output told pieces _ _ is output_whole = refl
 whole_output told pieces _ _ is (output_cut before that after n is_there within) = absurd (cc)
 
-pub whole_files : (told : Bool) (mode : Mode) (pieces : List (List ℕ)) (names : List (List ℕ)) (broke : List (Option Break)) (files : List Slot) → are_sound broke ≡ true → FilesLeft told mode pieces names broke files → files ≡ map (λ name. closes (adds (told_of told (concat pieces)) (opened name mode))) names
+pub whole_files : (told : Bool) (mode : Mode) (pieces : List (List ℕ)) (names : List (List ℕ))
+    (broke : List (Option Break)) (files : List Slot) → are_sound broke ≡ true
+    → FilesLeft told mode pieces names broke files
+    → files ≡ map (λ name. closes (adds (told_of told (concat pieces)) (opened name mode))) names
 whole_files told mode pieces _ _ _ sound no_file = refl
 whole_files told mode pieces _ _ _ sound (one_file name names _ broke _ files file_whole rest) = ap (λ those. closes (adds (told_of told (concat pieces)) (opened name mode)) ∷ those) (whole_files told mode pieces names broke files sound rest)
 whole_files told mode pieces _ _ _ sound (one_file name names _ broke _ files (file_unopened kept named) rest) = absurd (false≢true sound)
@@ -221,30 +276,39 @@ whole_files told mode pieces _ _ _ sound (one_file name names _ broke _ files fi
 
 -- outputs of which none is broken never broke
 
-output_sound : {told : Bool} {pieces : List (List ℕ)} {first : Option Break} {output : Slot} → output.is_broken ≡ false → OutputLeft told pieces first output → first ≡ None
+output_sound : {told : Bool} {pieces : List (List ℕ)} {first : Option Break} {output : Slot} → output.is_broken ≡ false
+    → OutputLeft told pieces first output → first ≡ None
 output_sound whole output_whole = refl
 output_sound whole (output_cut before piece after n is within) = absurd (false≢true (sym whole))
 
-file_sound : {told : Bool} {mode : Mode} {pieces : List (List ℕ)} {name : List ℕ} {first : Option Break} {file : Slot} → file.is_broken ≡ false → FileLeft told mode pieces name first file → first ≡ None
+file_sound : {told : Bool} {mode : Mode} {pieces : List (List ℕ)} {name : List ℕ} {first : Option Break} {file : Slot}
+    → file.is_broken ≡ false → FileLeft told mode pieces name first file → first ≡ None
 file_sound whole file_whole = refl
 file_sound whole (file_unopened kept named) = absurd (false≢true (sym whole))
 file_sound whole (file_cut before piece after n is within) = absurd (false≢true (sym whole))
 file_sound whole file_unclosed = absurd (false≢true (sym whole))
 
-files_sound : {told : Bool} {mode : Mode} {pieces names : List (List ℕ)} {broke : List (Option Break)} {files : List Slot} → ((place : ℕ) → (slot_at files place).is_broken ≡ false) → FilesLeft told mode pieces names broke files → are_sound broke ≡ true
+files_sound : {told : Bool} {mode : Mode} {pieces names : List (List ℕ)} {broke : List (Option Break)}
+    {files : List Slot} → ((place : ℕ) → (slot_at files place).is_broken ≡ false)
+    → FilesLeft told mode pieces names broke files → are_sound broke ≡ true
 files_sound whole no_file = refl
 files_sound whole (one_file name names first broke file files left rest) = rw (file_sound (whole 0) left) (files_sound (λ place. whole (suc place)) rest)
 
-pub all_sound_if : {told : Bool} {mode : Mode} {pieces names : List (List ℕ)} {first : Option Break} {broke : List (Option Break)} {output error : Slot} {files new : List Slot} → OutputLeft told pieces first output → FilesLeft told mode pieces names broke files → new ≡ output ∷ error ∷ files → AreSound new → are_sound (first ∷ broke) ≡ true
+pub all_sound_if : {told : Bool} {mode : Mode} {pieces names : List (List ℕ)} {first : Option Break}
+    {broke : List (Option Break)} {output error : Slot} {files new : List Slot} → OutputLeft told pieces first output
+    → FilesLeft told mode pieces names broke files → new ≡ output ∷ error ∷ files → AreSound new
+    → are_sound (first ∷ broke) ≡ true
 all_sound_if left rest is whole =
     let those = rw is at whole in rw (output_sound (those 0 (λ same. omega (arith, same))) left) (files_sound (λ place. those (suc (suc place)) (λ same. omega (arith, same))) rest)
 
 -- where it is no fault that one is gone, and none failed, nothing broke
-pub sound_if : (broke : List (Option Break)) → any_is Broken (map standing_of broke) ≡ false → any_is Gone (map standing_of broke) ≡ false → are_sound broke ≡ true
+pub sound_if : (broke : List (Option Break)) → any_is Broken (map standing_of broke) ≡ false
+    → any_is Gone (map standing_of broke) ≡ false → are_sound broke ≡ true
 sound_if [] whole left = refl
 sound_if (None ∷ broke) whole left = sound_if broke whole left
 sound_if (Some one ∷ broke) whole left = by one.is_gone whole left where
-  by : (gone : Bool) → any_is Broken (lost_as gone ∷ map standing_of broke) ≡ false → any_is Gone (lost_as gone ∷ map standing_of broke) ≡ false → false ≡ true
+  by : (gone : Bool) → any_is Broken (lost_as gone ∷ map standing_of broke) ≡ false
+      → any_is Gone (lost_as gone ∷ map standing_of broke) ≡ false → false ≡ true
   by true none left = absurd (false≢true (sym left))
   by false none left = absurd (false≢true (sym none))
 
@@ -255,37 +319,45 @@ gone_fails WarnNoPipe failed strict zero_is = false≢true (sym strict)
 gone_fails ExitNoPipe failed strict zero_is = false≢true (sym strict)
 gone_fails Signal failed strict zero_is = omega (arith, zero_is)
 
-status_zero : (on_broken : OnBroken) (broke : List (Option Break)) (fault : Option Fault) → forgives on_broken ≡ false → status_of on_broken broke fault ≡ 0 → (is_none fault ≡ true) × (are_sound broke ≡ true)
+status_zero : (on_broken : OnBroken) (broke : List (Option Break)) (fault : Option Fault) → forgives on_broken ≡ false
+    → status_of on_broken broke fault ≡ 0 → (is_none fault ≡ true) × (are_sound broke ≡ true)
 status_zero on_broken broke fault strict = by (any_is Gone (map standing_of broke)) (any_is Broken (map standing_of broke)) (is_none fault) refl refl refl where
-  by : (gone broken ended : Bool) → any_is Gone (map standing_of broke) ≡ gone → any_is Broken (map standing_of broke) ≡ broken → is_none fault ≡ ended
-      → (if gone then gone_status on_broken (not ended || broken) else if not ended || broken then 1 else 0) ≡ 0 → (ended ≡ true) × (are_sound broke ≡ true)
+  by : (gone broken ended : Bool) → any_is Gone (map standing_of broke) ≡ gone
+      → any_is Broken (map standing_of broke) ≡ broken → is_none fault ≡ ended
+      → (if gone then gone_status on_broken (not ended || broken) else if not ended || broken then 1 else 0) ≡ 0
+      → (ended ≡ true) × (are_sound broke ≡ true)
   by true broken ended is_gone is_broken is_ended zero_is = absurd (gone_fails on_broken (not ended || broken) strict zero_is)
   by false true true is_gone is_broken is_ended zero_is = absurd (omega (arith, zero_is))
   by false broken false is_gone is_broken is_ended zero_is = absurd (omega (arith, zero_is))
   by false false true is_gone is_broken is_ended zero_is = (refl, sound_if broke is_broken is_gone)
 
-read_whole : {content : Content} (Leaves : List ℕ → Type 0) {is_vain : Bool} {x : List ℕ} {fault : Option Fault} → is_vain ≡ false → is_none fault ≡ true → IsRead content Leaves is_vain x fault → content.bytes ≡ x
+read_whole : {content : Content} (Leaves : List ℕ → Type 0) {is_vain : Bool} {x : List ℕ} {fault : Option Fault}
+    → is_vain ≡ false → is_none fault ≡ true → IsRead content Leaves is_vain x fault → content.bytes ≡ x
 read_whole Leaves left sound (to_end x is ended leaves) = is
 read_whole Leaves left sound (to_break x is breaks leaves) = absurd (false≢true sound)
 read_whole Leaves left sound (to_limit x piece rest is many within leaves) = absurd (false≢true sound)
 read_whole Leaves left sound (to_broken_output x rest is leaves) = absurd (false≢true (sym left))
 
 -- where nothing broke the run goes on
-none_ends : (on_broken : OnBroken) (call : ℕ) (broke : List (Option Break)) → are_sound broke ≡ true → list_any (λ standing. ends_run standing on_broken) (standings_before call broke) ≡ false
+none_ends : (on_broken : OnBroken) (call : ℕ) (broke : List (Option Break)) → are_sound broke ≡ true
+    → list_any (λ standing. ends_run standing on_broken) (standings_before call broke) ≡ false
 none_ends on_broken call [] sound = refl
 none_ends on_broken call (None ∷ broke) sound = none_ends on_broken call broke sound
 none_ends on_broken call (Some broke ∷ rest) sound = absurd (false≢true sound)
 
-pub sound_goes_on : (on_broken : OnBroken) (call : ℕ) (first : Option Break) (broke : List (Option Break)) → are_sound (first ∷ broke) ≡ true → is_done on_broken (standings_before call (first ∷ broke)) ≡ false
+pub sound_goes_on : (on_broken : OnBroken) (call : ℕ) (first : Option Break) (broke : List (Option Break))
+    → are_sound (first ∷ broke) ≡ true → is_done on_broken (standings_before call (first ∷ broke)) ≡ false
 sound_goes_on on_broken call first broke sound = rw (none_ends on_broken call (first ∷ broke) sound, (sound_first first (are_sound broke) sound).0) refl
 
 -- where none broke, the status tells whether the reading ended well
-none_lost : (one : Standing) → is_same Sound one ≡ false → (broke : List (Option Break)) → are_sound broke ≡ true → any_is one (map standing_of broke) ≡ false
+none_lost : (one : Standing) → is_same Sound one ≡ false → (broke : List (Option Break)) → are_sound broke ≡ true
+    → any_is one (map standing_of broke) ≡ false
 none_lost one differs [] sound = refl
 none_lost one differs (None ∷ broke) sound = rw differs (none_lost one differs broke sound)
 none_lost one differs (Some other ∷ broke) sound = absurd (false≢true sound)
 
-pub sound_status : (on_broken : OnBroken) (broke : List (Option Break)) (fault : Option Fault) → are_sound broke ≡ true → status_of on_broken broke fault ≡ (if is_none fault then 0 else 1)
+pub sound_status : (on_broken : OnBroken) (broke : List (Option Break)) (fault : Option Fault) → are_sound broke ≡ true
+    → status_of on_broken broke fault ≡ (if is_none fault then 0 else 1)
 sound_status on_broken broke fault sound = rw (none_lost Gone refl broke sound, none_lost Broken refl broke sound) (by (is_none fault)) where
   by : (ended : Bool) → ◌≡◌ {A = ℕ} (if not ended || false then 1 else 0) (if ended then 0 else 1)
   by true = refl
@@ -296,14 +368,21 @@ none_faulty true is = refl
 none_faulty false is = absurd (omega (arith, is))
 
 -- a run with the status 0 met no fault, and nothing broke, where that is so of one that forgives
-pub well_of : {told : Bool} {mode : Mode} (on_broken : OnBroken) {pieces names : List (List ℕ)} (fault : Option Fault) {first : Option Break} {broke : List (Option Break)} {output error : Slot} {files new : List Slot} → OutputLeft told pieces first output → FilesLeft told mode pieces names broke files → new ≡ output ∷ error ∷ files
-    → (forgives on_broken ≡ true → AreSound new) → status_of on_broken (first ∷ broke) fault ≡ 0 → (is_none fault ≡ true) × (are_sound (first ∷ broke) ≡ true)
+pub well_of : {told : Bool} {mode : Mode} (on_broken : OnBroken) {pieces names : List (List ℕ)} (fault : Option Fault)
+    {first : Option Break} {broke : List (Option Break)} {output error : Slot} {files new : List Slot}
+    → OutputLeft told pieces first output → FilesLeft told mode pieces names broke files → new ≡ output ∷ error ∷ files
+    → (forgives on_broken ≡ true → AreSound new) → status_of on_broken (first ∷ broke) fault ≡ 0
+    → (is_none fault ≡ true) × (are_sound (first ∷ broke) ≡ true)
 well_of on_broken fault {first} {broke} left rest at sound zero_is = elim (cases_Bool (forgives on_broken)) [
   | inl forgiving ↦ let all = all_sound_if left rest at (sound forgiving) in (none_faulty (is_none fault) (sym (sound_status on_broken (first ∷ broke) fault all) ∙ zero_is), all)
   | inr strict ↦ status_zero on_broken (first ∷ broke) fault strict zero_is
 ]
 
-pub whole_if : {told_in : Bool} (told : Bool) {breaks_for : ℕ → Reason → Bool} {calling : Calling} {mode : Mode} {on_broken : OnBroken} {names : List (List ℕ)} {content : Content} {source : Source} {new : List Slot} {status : ℕ} → status ≡ 0 → (forgives on_broken ≡ true → AreSound new) → EndsAs told_in told breaks_for calling mode on_broken names content source new status → new ≡ all_copied told mode names content.bytes
+pub whole_if : {told_in : Bool} (told : Bool) {breaks_for : ℕ → Reason → Bool} {calling : Calling} {mode : Mode}
+    {on_broken : OnBroken} {names : List (List ℕ)} {content : Content} {source : Source} {new : List Slot} {status : ℕ}
+    → status ≡ 0 → (forgives on_broken ≡ true → AreSound new)
+    → EndsAs told_in told breaks_for calling mode on_broken names content source new status
+    → new ≡ all_copied told mode names content.bytes
 whole_if told zero_is sound (no_room error said left at one) = absurd (omega (arith, zero_is, one))
 whole_if told {mode = mode} {on_broken} {names} zero_is sound (copied pieces fault first broke output error files read some output_left files_left stand said at is) =
     let good = well_of on_broken fault output_left files_left at sound (sym is ∙ zero_is) in let sounds = sound_first first (are_sound broke) good.1 in
@@ -312,11 +391,16 @@ whole_if told {mode = mode} {on_broken} {names} zero_is sound (copied pieces fau
     ∙ ap (λ slot. adds (told_of told (concat pieces)) standard_output ∷ slot ∷ files) (rw silent at said)
     ∙ ap (λ those. adds (told_of told (concat pieces)) standard_output ∷ standard_error ∷ those) (whole_files told mode pieces names broke files sounds.1 files_left)
     ∙ ap (all_copied told mode names) (sym (read_whole _ (sound_goes_on on_broken (suc (length pieces)) first broke good.1) good.0 read.read)) where
-      quiet : (fault : Option Fault) (pieces : ℕ) (broke : List (Option Break)) → is_none fault ≡ true → are_sound broke ≡ true → messages_of on_broken names broke pieces fault ≡ []
+      quiet : (fault : Option Fault) (pieces : ℕ) (broke : List (Option Break)) → is_none fault ≡ true
+          → are_sound broke ≡ true → messages_of on_broken names broke pieces fault ≡ []
       quiet None pieces broke ended sound =
           ap (λ texts. (texts ++ []) ++ said_in on_broken (suc pieces) (output_names names) broke) (nothing_before on_broken (suc pieces) (output_names names) broke sound) ∙ nothing_in on_broken (suc pieces) (output_names names) broke sound
       quiet (Some fault) pieces broke ended sound = absurd (false≢true ended)
 
-pub whole_of : {told_in : Bool} (told : Bool) {breaks_for : ℕ → Reason → Bool} {calling : Calling} {mode : Mode} {on_broken : OnBroken} {names : List (List ℕ)} (there : Content) {source : Source} {new : List Slot} {status : ℕ} → told_in ≡ true → status ≡ 0 → (forgives on_broken ≡ true → AreSound new)
-    → OfContent told_in there (λ content. EndsAs told_in told breaks_for calling mode on_broken names content source new status × CameFrom told_in content source) → new ≡ all_copied told mode names there.bytes
+pub whole_of : {told_in : Bool} (told : Bool) {breaks_for : ℕ → Reason → Bool} {calling : Calling} {mode : Mode}
+    {on_broken : OnBroken} {names : List (List ℕ)} (there : Content) {source : Source} {new : List Slot} {status : ℕ}
+    → told_in ≡ true → status ≡ 0 → (forgives on_broken ≡ true → AreSound new)
+    → OfContent told_in there
+    (λ content. EndsAs told_in told breaks_for calling mode on_broken names content source new status
+    × CameFrom told_in content source) → new ≡ all_copied told mode names there.bytes
 whole_of told {mode = mode} {names = names} there tells zero_is sound (content, is, holds) = cc (whole_if told zero_is sound holds.0, is tells)

@@ -25,10 +25,12 @@ use Rattle.ports_core.specs.declared.fault.Fault.TheVariants as fault
 
 -- one file
 
-pub opened_one : {mode : Mode} {name : List ℕ} {old new : List Slot} → new ≡ old ++ opened name mode ∷ [] → OpensOne mode name old new
+pub opened_one : {mode : Mode} {name : List ℕ} {old new : List Slot} → new ≡ old ++ opened name mode ∷ []
+    → OpensOne mode name old new
 opened_one {mode} {name} is = record { slot = opened name mode; opens = is_opened; slots = is }
 
-pub in_vain : {mode : Mode} {name : List ℕ} {old new : List Slot} {slot : ℕ} → FailsToOpen old name new (fault.Open slot)
+pub in_vain : {mode : Mode} {name : List ℕ} {old new : List Slot} {slot : ℕ}
+    → FailsToOpen old name new (fault.Open slot)
     → (slot ≡ length old) × OpensOne mode name old new
 in_vain {slot} (broke _ kept is named made) = (is, record { slot = unopened kept; opens = is_unopened kept named; slots = made })
 
@@ -37,7 +39,8 @@ in_vain {slot} (broke _ kept is named made) = (is, record { slot = unopened kept
 pub opens_none : {mode : Mode} {slots : List Slot} → Opens mode [] slots slots
 opens_none {slots} = record { since = []; each = no_more; slots = sym (append-nil slots) }
 
-pub opens_next : {mode : Mode} {name : List ℕ} {names : List (List ℕ)} {old mid new : List Slot} → OpensOne mode name old mid → Opens mode names mid new → Opens mode (name ∷ names) old new
+pub opens_next : {mode : Mode} {name : List ℕ} {names : List (List ℕ)} {old mid new : List Slot}
+    → OpensOne mode name old mid → Opens mode names mid new → Opens mode (name ∷ names) old new
 opens_next {name} {names} {old} one rest = record {
   since = one.slot ∷ rest.since;
   each = one_more name names one.slot rest.since one.opens rest.each;
@@ -47,7 +50,8 @@ opens_next {name} {names} {old} one rest = record {
 pub some_none : {mode : Mode} {names : List (List ℕ)} {slots : List Slot} → OpensSome mode names slots slots
 some_none {names} = record { first = []; rest = names; names_are = refl; opens = opens_none }
 
-pub some_next : {mode : Mode} {name : List ℕ} {names : List (List ℕ)} {old mid new : List Slot} → OpensOne mode name old mid → OpensSome mode names mid new → OpensSome mode (name ∷ names) old new
+pub some_next : {mode : Mode} {name : List ℕ} {names : List (List ℕ)} {old mid new : List Slot}
+    → OpensOne mode name old mid → OpensSome mode names mid new → OpensSome mode (name ∷ names) old new
 some_next {name} one rest = record {
   first = name ∷ rest.first;
   rest = rest.rest;
@@ -55,7 +59,8 @@ some_next {name} one rest = record {
   opens = opens_next one rest.opens;
 }
 
-pub length-one : {mode : Mode} {name : List ℕ} {old new : List Slot} → OpensOne mode name old new → length new ≡ length old + 1
+pub length-one : {mode : Mode} {name : List ℕ} {old new : List Slot} → OpensOne mode name old new
+    → length new ≡ length old + 1
 length-one {old} one = ap length one.slots ∙ length-append old (one.slot ∷ [])
 
 -- how far the loop over the names has come
@@ -65,10 +70,13 @@ pub record Opening (mode : Mode) (names left : List (List ℕ)) (old now : List 
   pub counts : length now + length left ≡ length old + length names
   pub small : length now ≤ 2 ^ 64
 
-pub begins_opening : {mode : Mode} {names : List (List ℕ)} {slots : List Slot} → length slots ≤ 2 ^ 64 → Opening mode names names slots slots
+pub begins_opening : {mode : Mode} {names : List (List ℕ)} {slots : List Slot} → length slots ≤ 2 ^ 64
+    → Opening mode names names slots slots
 begins_opening small = record { whole = λ new opens. opens; some = λ new opens. opens; counts = refl; small = small }
 
-pub opens_more : {mode : Mode} {names : List (List ℕ)} {name : List ℕ} {left : List (List ℕ)} {old now new : List Slot} {slot : ℕ} → Opening mode names (name ∷ left) old now → slot ≡ length now → slot < 2 ^ 64 → OpensOne mode name now new → Opening mode names left old new
+pub opens_more : {mode : Mode} {names : List (List ℕ)} {name : List ℕ} {left : List (List ℕ)} {old now new : List Slot}
+    {slot : ℕ} → Opening mode names (name ∷ left) old now → slot ≡ length now → slot < 2 ^ 64
+    → OpensOne mode name now new → Opening mode names left old new
 opens_more {names} {left} {old} {now} so_far number small one = record {
   whole = λ last opens. so_far.whole last (opens_next one opens);
   some = λ last opens. so_far.some last (some_next one opens);
@@ -82,16 +90,20 @@ opened_usable : {mode : Mode} {name : List ℕ} {slot : Slot} → OpensAs mode n
 opened_usable is_opened = λ sound. refl
 opened_usable (is_unopened kept named) = λ sound. absurd (false≢true (sym sound))
 
-since_usable : {mode : Mode} (names : List (List ℕ)) (slots : List Slot) (place : ℕ) → OpensEach mode names slots → place < length slots → IsUsable (slot_at slots place)
+since_usable : {mode : Mode} (names : List (List ℕ)) (slots : List Slot) (place : ℕ) → OpensEach mode names slots
+    → place < length slots → IsUsable (slot_at slots place)
 since_usable [] [] place no_more within = absurd (omega arith)
 since_usable _ _ zero (one_more name names slot slots one rest) within = opened_usable one
 since_usable _ _ (suc place) (one_more name names slot slots one rest) within = since_usable names slots place rest (omega arith)
 
-pub length-since : {mode : Mode} (names : List (List ℕ)) (slots : List Slot) → OpensEach mode names slots → length slots ≡ length names
+pub length-since : {mode : Mode} (names : List (List ℕ)) (slots : List Slot) → OpensEach mode names slots
+    → length slots ≡ length names
 length-since [] [] no_more = refl
 length-since _ _ (one_more name names slot slots one rest) = ap suc (length-since names slots rest)
 
-pub ready_to_go : {mode : Mode} {names : List (List ℕ)} {old new : List Slot} (tee : TeeState) → 0 < length old → is_open (slot_at old 0).state ≡ true → Opens mode names old new → tee.count ≡ length names → (0 < tee.count → tee.first ≡ length old) → IsReady tee new
+pub ready_to_go : {mode : Mode} {names : List (List ℕ)} {old new : List Slot} (tee : TeeState) → 0 < length old
+    → is_open (slot_at old 0).state ≡ true → Opens mode names old new → tee.count ≡ length names
+    → (0 < tee.count → tee.first ≡ length old) → IsReady tee new
 ready_to_go {names} {old} {new} tee some standard opens count first place is = by is where
   by : IsOutput tee place → IsUsable (slot_at new place)
   by (inl here) = λ sound. ap (λ at. is_open (slot_at new at).state) here ∙ ap (λ those. is_open (slot_at those 0).state) opens.slots ∙ ap (λ (slot : Slot). is_open slot.state) (get_or_append_left old opens.since no_slot 0 some) ∙ standard
@@ -103,40 +115,56 @@ ready_to_go {names} {old} {new} tee some standard opens count first place is = b
 
 -- the same of names as the code has them
 
-pub none_left : {mode : Mode} (names : List (Bor (List ℕ))) {slots : List Slot} → length names < 1 → Opens mode (map (λ name. name.now) names) slots slots
+pub none_left : {mode : Mode} (names : List (Bor (List ℕ))) {slots : List Slot} → length names < 1
+    → Opens mode (map (λ name. name.now) names) slots slots
 none_left [] few = opens_none
 none_left (name ∷ names) few = absurd (omega arith)
 
-pub first_and_rest : (other : Bor (List ℕ)) (names : List (Bor (List ℕ))) → 1 ≤ length names → map (λ name. name.now) names ≡ (get_or names 0 other).now ∷ map (λ name. name.now) (take (length names - 1) (drop 1 names))
+pub first_and_rest : (other : Bor (List ℕ)) (names : List (Bor (List ℕ))) → 1 ≤ length names
+    → map (λ name. name.now) names ≡ (get_or names 0 other).now ∷ map (λ name. name.now)
+    (take (length names - 1) (drop 1 names))
 first_and_rest other [] some = absurd (omega arith)
 first_and_rest other (name ∷ names) some = grind (arith, common_steps)
 
-pub opens_more_at : {mode : Mode} {names : List (List ℕ)} (other : Bor (List ℕ)) (left : List (Bor (List ℕ))) {old now new : List Slot} {slot : ℕ} → 1 ≤ length left → Opening mode names (map (λ name. name.now) left) old now → slot ≡ length now → slot < 2 ^ 64 → OpensOne mode (get_or left 0 other).now now new
+pub opens_more_at : {mode : Mode} {names : List (List ℕ)} (other : Bor (List ℕ)) (left : List (Bor (List ℕ)))
+    {old now new : List Slot} {slot : ℕ} → 1 ≤ length left → Opening mode names (map (λ name. name.now) left) old now
+    → slot ≡ length now → slot < 2 ^ 64 → OpensOne mode (get_or left 0 other).now now new
     → Opening mode names (map (λ name. name.now) (take (length left - 1) (drop 1 left))) old new
 opens_more_at {mode} {names} other left {old} {now} some so_far number small one = opens_more (rw (first_and_rest other left some) at so_far) number small one
 
-pub opens_next_at : {mode : Mode} (other : Bor (List ℕ)) (names : List (Bor (List ℕ))) {old mid new : List Slot} → 1 ≤ length names → OpensOne mode (get_or names 0 other).now old mid → Opens mode (map (λ name. name.now) (take (length names - 1) (drop 1 names))) mid new → Opens mode (map (λ name. name.now) names) old new
+pub opens_next_at : {mode : Mode} (other : Bor (List ℕ)) (names : List (Bor (List ℕ))) {old mid new : List Slot}
+    → 1 ≤ length names → OpensOne mode (get_or names 0 other).now old mid
+    → Opens mode (map (λ name. name.now) (take (length names - 1) (drop 1 names))) mid new
+    → Opens mode (map (λ name. name.now) names) old new
 opens_next_at other names some one rest = rw (first_and_rest other names some) (opens_next one rest)
 
-pub some_next_at : {mode : Mode} (other : Bor (List ℕ)) (names : List (Bor (List ℕ))) {old mid new : List Slot} → 1 ≤ length names → OpensOne mode (get_or names 0 other).now old mid → OpensSome mode (map (λ name. name.now) (take (length names - 1) (drop 1 names))) mid new → OpensSome mode (map (λ name. name.now) names) old new
+pub some_next_at : {mode : Mode} (other : Bor (List ℕ)) (names : List (Bor (List ℕ))) {old mid new : List Slot}
+    → 1 ≤ length names → OpensOne mode (get_or names 0 other).now old mid
+    → OpensSome mode (map (λ name. name.now) (take (length names - 1) (drop 1 names))) mid new
+    → OpensSome mode (map (λ name. name.now) names) old new
 some_next_at other names some one rest = rw (first_and_rest other names some) (some_next one rest)
 
 pub some_now : {mode : Mode} {names : List (List ℕ)} {old new : List Slot} → new ≡ old → OpensSome mode names old new
 some_now is = rw is (some_none)
 
 -- the numbers of the files
-pub in_range : {mode : Mode} {names : List (List ℕ)} {old new : List Slot} → Opens mode names old new → length new ≡ length old + length names
+pub in_range : {mode : Mode} {names : List (List ℕ)} {old new : List Slot} → Opens mode names old new
+    → length new ≡ length old + length names
 in_range {names} {old} opens = grind (arith, common_steps, length-since)
 
-file_starts : (told : Bool) {mode : Mode} {name : List ℕ} {file : Slot} {now : Standing} → OpensAs mode name file → Sees Sound file.is_broken now → Marked (FileHas told mode [] name) 0 None now file
+file_starts : (told : Bool) {mode : Mode} {name : List ℕ} {file : Slot} {now : Standing} → OpensAs mode name file
+    → Sees Sound file.is_broken now → Marked (FileHas told mode [] name) 0 None now file
 file_starts told {mode} {name} is_opened sees = (None, rw (← (adds-nil told (opened name mode))) has_all, marked_none sees.broken)
 file_starts told {now = now} (is_unopened kept named) sees = (Some (break_now 0 now), has_none kept named, marked_now sees.broken)
 
 abbrev FilesStart : Bool → Mode → List (List ℕ) → List Slot → List Standing → Type 0
 FilesStart told mode names files nows =
-    (broke : List (Option Break)) × EachFile (FileHas told mode []) names broke files × AllMark 0 (replicate (length names) None) broke nows
+    (broke : List (Option Break)) × EachFile (FileHas told mode []) names broke files
+    × AllMark 0 (replicate (length names) None) broke nows
 
-files_start : (told : Bool) {mode : Mode} {names : List (List ℕ)} {files : List Slot} (nows : List Standing) → OpensEach mode names files → SeesAll (replicate (length names) Sound) (flags files) nows → FilesStart told mode names files nows
+files_start : (told : Bool) {mode : Mode} {names : List (List ℕ)} {files : List Slot} (nows : List Standing)
+    → OpensEach mode names files → SeesAll (replicate (length names) Sound) (flags files) nows
+    → FilesStart told mode names files nows
 files_start told [] no_more sees = ([], no_file, none_marked)
 files_start told (now ∷ nows) no_more sees = absurd sees
 files_start told [] (one_more name names file files one rest) sees = absurd sees
@@ -148,31 +176,42 @@ files_start told (now ∷ nows) (one_more name names file files one rest) sees =
 -- standard output, which nothing has broken, and the files
 abbrev AllStart : Bool → Mode → List (List ℕ) → List Slot → List Standing → Type 0
 AllStart told mode names files nows =
-    (broke : List (Option Break)) × EachFile (FileHas told mode []) names broke files × AllMark 0 (None ∷ replicate (length names) None) (None ∷ broke) nows
+    (broke : List (Option Break)) × EachFile (FileHas told mode []) names broke files
+    × AllMark 0 (None ∷ replicate (length names) None) (None ∷ broke) nows
 
-all_start : (told : Bool) {mode : Mode} {names : List (List ℕ)} {files : List Slot} (nows : List Standing) → OpensEach mode names files → SeesAll (Sound ∷ replicate (length names) Sound) (broken_of (standard_output ∷ standard_error ∷ files)) nows → AllStart told mode names files nows
+all_start : (told : Bool) {mode : Mode} {names : List (List ℕ)} {files : List Slot} (nows : List Standing)
+    → OpensEach mode names files
+    → SeesAll (Sound ∷ replicate (length names) Sound) (broken_of (standard_output ∷ standard_error ∷ files)) nows
+    → AllStart told mode names files nows
 all_start told [] each sees = absurd sees
 all_start told (now ∷ nows) each sees =
     let files = files_start told nows each sees.1 in (files.0, files.1, all_marked None None now _ files.0 nows (marked_none sees.0.broken) files.2)
 
-pub opened_streams : {mode : Mode} {names : List (List ℕ)} {slots : List Slot} → Opens mode names streams slots → HasStreams slots (length names)
+pub opened_streams : {mode : Mode} {names : List (List ℕ)} {slots : List Slot} → Opens mode names streams slots
+    → HasStreams slots (length names)
 opened_streams {names} opens = grind (arith, common_steps, length-since)
 
 -- nothing broke before a run
 
-none_before : (on_broken : OnBroken) (whens : List (Option Break)) → list_any (λ standing. ends_run standing on_broken) (standings_before 0 whens) ≡ false
+none_before : (on_broken : OnBroken) (whens : List (Option Break))
+    → list_any (λ standing. ends_run standing on_broken) (standings_before 0 whens) ≡ false
 none_before on_broken [] = refl
 none_before on_broken (None ∷ whens) = none_before on_broken whens
 none_before on_broken (Some lost ∷ whens) = let rest = none_before on_broken whens in grind (arith, nat_tests, rest)
 
-goes_at_first : (on_broken : OnBroken) (whens : List (Option Break)) → is_done on_broken (standings_before 0 (None ∷ whens)) ≡ false
+goes_at_first : (on_broken : OnBroken) (whens : List (Option Break))
+    → is_done on_broken (standings_before 0 (None ∷ whens)) ≡ false
 goes_at_first on_broken whens = rw (none_before on_broken whens) refl
 
 standing_none : (count : ℕ) → map standing_of (replicate count None) ≡ replicate count Sound
 standing_none zero = refl
 standing_none (suc count) = ap (λ rest. Sound ∷ rest) (standing_none count)
 
-pub starts : (told : Bool) {calling : Calling} {mode : Mode} (on_broken : OnBroken) {names : List (List ℕ)} {old new : List Slot} {known nows : List Standing} → Opens mode names streams old → known ≡ replicate (length names + 1) Sound → SaysTo told calling (said_since on_broken (fault_in 0) (output_names names) known nows) old new → SeesAll known (broken_of old) nows → Copies told calling mode on_broken names [] [] new nows
+pub starts : (told : Bool) {calling : Calling} {mode : Mode} (on_broken : OnBroken) {names : List (List ℕ)}
+    {old new : List Slot} {known nows : List Standing} → Opens mode names streams old
+    → known ≡ replicate (length names + 1) Sound
+    → SaysTo told calling (said_since on_broken (fault_in 0) (output_names names) known nows) old new
+    → SeesAll known (broken_of old) nows → Copies told calling mode on_broken names [] [] new nows
 starts told {calling} on_broken {names} {old} {new} {known} {nows} opens unknown says sees =
     let known_is : known ≡ Sound ∷ replicate (length names) Sound = unknown ∙ ap (λ n. replicate n Sound) (let e : length names + 1 ≡ suc (length names) = omega arith in e) in
     let all = all_start told nows opens.each (rw (known_is, ap broken_of opens.slots) at sees) in
@@ -193,8 +232,11 @@ starts told {calling} on_broken {names} {old} {new} {known} {nows} opens unknown
       are_known = stand_now all.2;
     }
 
-pub length-names : (names : List (Bor (List ℕ))) {known : List Standing} → known ≡ replicate (length names + 1) Sound → known ≡ replicate (length (map (λ (name : Bor (List ℕ)). name.now) names) + 1) Sound
+pub length-names : (names : List (Bor (List ℕ))) {known : List Standing} → known ≡ replicate (length names + 1) Sound
+    → known ≡ replicate (length (map (λ (name : Bor (List ℕ)). name.now) names) + 1) Sound
 length-names names is = is ∙ ap (λ n. replicate (n + 1) Sound) (sym (length-map names (λ (name : Bor (List ℕ)). name.now)))
 
-pub is_tee_of : (names : List (Bor (List ℕ))) {old : List Slot} {tee : TeeState} → old ≡ streams → tee.is_over ≡ false → tee.count ≡ length names → (0 < tee.count → tee.first ≡ length old) → IsTeeOf (map (λ (name : Bor (List ℕ)). name.now) names) tee
+pub is_tee_of : (names : List (Bor (List ℕ))) {old : List Slot} {tee : TeeState} → old ≡ streams → tee.is_over ≡ false
+    → tee.count ≡ length names → (0 < tee.count → tee.first ≡ length old)
+    → IsTeeOf (map (λ (name : Bor (List ℕ)). name.now) names) tee
 is_tee_of names is live count first = grind (arith, common_steps)

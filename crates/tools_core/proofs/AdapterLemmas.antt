@@ -54,7 +54,8 @@ after_of-nil delim Lines zero = refl
 after_of-nil delim Bytes zero = refl
 after_of-nil delim unit n = refl
 
-tail_begins : (delim : ℕ) (from_nth : Bool) (unit : Counted) (n : ℕ) → (if from_nth then only_out (tail_of delim unit true n []) else nothing) ≡ nothing
+tail_begins : (delim : ℕ) (from_nth : Bool) (unit : Counted) (n : ℕ)
+    → (if from_nth then only_out (tail_of delim unit true n []) else nothing) ≡ nothing
 tail_begins delim true unit n = ap only_out (after_of-nil delim unit (n - 1))
 tail_begins delim false unit n = refl
 
@@ -63,20 +64,25 @@ tail_begins delim false unit n = refl
 pub some_there : (slots : List Slot) → 2 ≤ length slots → 0 < length slots
 some_there slots two = omega (arith, two)
 
-pub head_begins : (delim : ℕ) {told : Bool} (unit : Counted) (but_last : Bool) (n : ℕ) {slots : List Slot} → 2 ≤ length slots → OutputsAt told slots ((head_work delim unit but_last n).settled []) slots
+pub head_begins : (delim : ℕ) {told : Bool} (unit : Counted) (but_last : Bool) (n : ℕ) {slots : List Slot}
+    → 2 ≤ length slots → OutputsAt told slots ((head_work delim unit but_last n).settled []) slots
 head_begins delim {told} unit but_last n {slots} two = rw (head_of-nil delim unit but_last n) (nothing_out told slots (some_there slots two))
 
-pub tail_starts : (delim : ℕ) {told : Bool} (unit : Counted) (from_nth : Bool) (n : ℕ) {slots : List Slot} → 2 ≤ length slots → OutputsAt told slots ((tail_work delim unit from_nth n).settled []) slots
+pub tail_starts : (delim : ℕ) {told : Bool} (unit : Counted) (from_nth : Bool) (n : ℕ) {slots : List Slot}
+    → 2 ≤ length slots → OutputsAt told slots ((tail_work delim unit from_nth n).settled []) slots
 tail_starts delim {told} unit from_nth n {slots} two = rw (tail_begins delim from_nth unit n) (nothing_out told slots (some_there slots two))
 
-pub head_shown_begins : (delim : ℕ) {told : Bool} (unit : Counted) (n : ℕ) (text : List ℕ) {slots : List Slot} → 2 ≤ length slots → OutputsAt told slots ((head_shown delim unit n text).settled []) slots
+pub head_shown_begins : (delim : ℕ) {told : Bool} (unit : Counted) (n : ℕ) (text : List ℕ) {slots : List Slot}
+    → 2 ≤ length slots → OutputsAt told slots ((head_shown delim unit n text).settled []) slots
 head_shown_begins delim unit n text two = head_begins 0 Bytes false (place_of delim unit n text) two
 
-pub tail_shown_begins : (delim : ℕ) {told : Bool} (unit : Counted) (n : ℕ) (text : List ℕ) {slots : List Slot} → 2 ≤ length slots → OutputsAt told slots ((tail_shown delim unit n text).settled []) slots
+pub tail_shown_begins : (delim : ℕ) {told : Bool} (unit : Counted) (n : ℕ) (text : List ℕ) {slots : List Slot}
+    → 2 ≤ length slots → OutputsAt told slots ((tail_shown delim unit n text).settled []) slots
 tail_shown_begins delim unit n text two = tail_starts 0 Bytes true (suc (place_of delim unit n text)) two
 
 -- an engine for which there was no memory
-pub no_memory : {told : Bool} {work : Work} {opening : Needs} {slots : List Slot} {fault : Fault} → opening.memory ≡ true → 2 ≤ length slots → fault ≡ Memory → OpensShort work opening told slots slots fault
+pub no_memory : {told : Bool} {work : Work} {opening : Needs} {slots : List Slot} {fault : Fault}
+    → opening.memory ≡ true → 2 ≤ length slots → fault ≡ Memory → OpensShort work opening told slots slots fault
 no_memory {told} {work} {slots} may two is = rw is (record {
   unjudged = refl;
   reached = slots;
@@ -92,24 +98,33 @@ verbose_is false = refl
 
 -- an engine that was opened, and left the outputs as they were
 
-pub opened_of : {S : Type 0} (terms : Terms S) {begun asked : Work} (told : Bool) (old new : List Slot) (result : Result (GuardState S) Fault) → begun ≡ asked → IfOk result (λ e. HoldsIn terms.Holds e [])
-    → IfOk result (λ e. terms.work e.stage ≡ begun) → IfOk result (λ e. e.fed < 2 ^ 63) → IfOk result (λ e. terms.Ready e.stage new)
+pub opened_of : {S : Type 0} (terms : Terms S) {begun asked : Work} (told : Bool) (old new : List Slot)
+    (result : Result (GuardState S) Fault) → begun ≡ asked → IfOk result (λ e. HoldsIn terms.Holds e [])
+    → IfOk result (λ e. terms.work e.stage ≡ begun) → IfOk result (λ e. e.fed < 2 ^ 63)
+    → IfOk result (λ e. terms.Ready e.stage new)
     → IfOk result (λ e. terms.Owns e.stage (length old) new) → OnOk result (OutputsAt told old (begun.settled []) new)
     → IfOk result (Opens terms asked told old new)
 opened_of terms told old new (Ok e) is fresh does bound ready owns at = grind (arith, common_steps)
 opened_of terms told old new (Err fault) is fresh does bound ready owns at = tt
 
 -- one that could not be opened
-pub opened_short : {E : Type 0} (told : Bool) {begun asked : Work} {opening : Needs} (old new : List Slot) (result : Result E Fault) (Why Left : Fault → Type 0)
+pub opened_short : {E : Type 0} (told : Bool) {begun asked : Work} {opening : Needs} (old new : List Slot)
+    (result : Result E Fault) (Why Left : Fault → Type 0)
     → begun ≡ asked → 2 ≤ length old → ((fault : Fault) → Why fault → Left fault
-    → (is_verdict fault ≡ false) × Stops (call_of begun opening [] nothing (begun.settled [])) new fault × Swept begun.clears (length old) new new)
-    → IfErr result (λ fault. (before : List Slot) → OutputsAt told before nothing old → StoppedBetween begun.means.output told before nothing (begun.settled []) fault new)
+    → (is_verdict fault ≡ false) × Stops (call_of begun opening [] nothing (begun.settled [])) new fault
+    × Swept begun.clears (length old) new new)
+    → IfErr result (λ fault. (before : List Slot) → OutputsAt told before nothing old
+    → StoppedBetween begun.means.output told before nothing (begun.settled []) fault new)
     → IfErr result Why → IfErr result Left → IfErr result (OpensShort asked opening told old new)
 opened_short told old new (Ok e) Why Left is two stops cut why left = tt
 opened_short told old new (Err fault) Why Left is two stops cut why left = grind (arith, common_steps, nothing_out, some_there)
 
-pub csplit_halts : (style : Style) (operands : List Operand) (old new : List Slot) (fault : Fault) → Breaks (manner_of style) old new fault
-    → (is_verdict fault ≡ false) × Stops (call_of (csplit_work style operands) (record { memory = true; files = true }) [] nothing ((csplit_work style operands).settled [])) new fault
+pub csplit_halts : (style : Style) (operands : List Operand) (old new : List Slot) (fault : Fault)
+    → Breaks (manner_of style) old new fault
+    → (is_verdict fault ≡ false)
+    × Stops
+    (call_of (csplit_work style operands) (record { memory = true; files = true }) [] nothing
+    ((csplit_work style operands).settled [])) new fault
 csplit_halts style operands old new Memory breaks = (refl, refl)
 csplit_halts style operands old new (Write slot) breaks = (refl, (breaks.0, λ none. absurd (false≢true (sym none)), breaks.1.1))
 csplit_halts style operands old new (Open slot) breaks = (refl, (refl, refl))
@@ -117,9 +132,11 @@ csplit_halts style operands old new (Verdict Suffixes) breaks = absurd (false≢
 csplit_halts style operands old new fault breaks = absurd breaks
 
 -- the work that is asked of `split`
-pub split_asked : (those asked : SplitAsked) (shown : Option (List ℕ)) {naming : Naming} {tells : Tells} (said : Option ℕ) → those ≡ asked
+pub split_asked : (those asked : SplitAsked) (shown : Option (List ℕ)) {naming : Naming} {tells : Tells}
+    (said : Option ℕ) → those ≡ asked
     → naming ≡ naming_of asked → tells ≡ tells_by those.verbose
-    → ((elide : Bool) (filing : Filing) → way_work those.way elide filing said ≡ way_work those.way elide filing (option_map length shown))
+    → ((elide : Bool) (filing : Filing)
+    → way_work those.way elide filing said ≡ way_work those.way elide filing (option_map length shown))
     → work_by those.way those.elide naming tells said ≡ (split_task Cutters asked).work shown
 split_asked those asked shown {naming} {tells} said is named told says =
     says those.elide (record { names = naming; verbose = is_verbose tells })
@@ -127,9 +144,11 @@ split_asked those asked shown {naming} {tells} said is named told says =
     (option_map length shown)) (verbose_is asked.verbose))
 
 -- why the work of `split` can't be begun
-pub split_halts : (way : Way) (elide : Bool) (names : Naming) (tells : Tells) (said : Option ℕ) (old new : List Slot) (fault : Fault)
+pub split_halts : (way : Way) (elide : Bool) (names : Naming) (tells : Tells) (said : Option ℕ) (old new : List Slot)
+    (fault : Fault)
     → CannotBegin way (is_verbose tells) old new fault
-    → (is_verdict fault ≡ false) × Stops (call_of (work_by way elide names tells said) (record { memory = true; files = true }) [] nothing
+    → (is_verdict fault ≡ false)
+    × Stops (call_of (work_by way elide names tells said) (record { memory = true; files = true }) [] nothing
     ((work_by way elide names tells said).settled [])) new fault × Swept (work_by way elide names tells said).clears (length old) new new
 split_halts (way.Cut cut) elide names tells said old new fault (inl is) = rw is (refl, refl, refl)
 split_halts (way.Cut cut) elide names tells said old new fault (inr (inl (told, is, rose))) =
@@ -148,35 +167,48 @@ pub whatever : {E : Type 0} (P : E → Type 0) (result : Result E Fault) → ((e
 whatever P (Ok e) all = all e
 whatever P (Err fault) all = tt
 
-pub no_memory_for : {E : Type 0} (told : Bool) (work : Work) (opening : Needs) (slots : List Slot) (result : Result E Fault) (P : Type 0) → (P → opening.memory ≡ true) → 2 ≤ length slots → IfErr result (λ fault. (fault ≡ Memory) × P) → IfErr result (OpensShort work opening told slots slots)
+pub no_memory_for : {E : Type 0} (told : Bool) (work : Work) (opening : Needs) (slots : List Slot)
+    (result : Result E Fault) (P : Type 0) → (P → opening.memory ≡ true) → 2 ≤ length slots
+    → IfErr result (λ fault. (fault ≡ Memory) × P) → IfErr result (OpensShort work opening told slots slots)
 no_memory_for told work opening slots (Ok e) P may two err = tt
 no_memory_for told work opening slots (Err fault) P may two err = no_memory (may err.1) two err.0
 
 -- an engine of `head` or `tail` that was opened, whatever the input shows
-pub opened_still : (told : Bool) {begun asked : Work} (old : List Slot) (result : Result (GuardState Ends) Fault) → begun ≡ asked → IfOk result (λ e. HoldsIn ends.Holds e [])
-    → IfOk result (λ e. ends.work e.stage ≡ begun) → IfOk result (λ e. e.fed < 2 ^ 63) → IsTrue (is_writable old 0) → OutputsAt told old (begun.settled []) old → IfOk result (Opens ends.terms asked told old old)
+pub opened_still : (told : Bool) {begun asked : Work} (old : List Slot) (result : Result (GuardState Ends) Fault)
+    → begun ≡ asked → IfOk result (λ e. HoldsIn ends.Holds e [])
+    → IfOk result (λ e. ends.work e.stage ≡ begun) → IfOk result (λ e. e.fed < 2 ^ 63) → IsTrue (is_writable old 0)
+    → OutputsAt told old (begun.settled []) old → IfOk result (Opens ends.terms asked told old old)
 opened_still told old (Ok e) is fresh does bound ready at = opened_of ends.terms told old old (Ok e) is fresh does bound ready tt at
 opened_still told old (Err fault) is fresh does bound ready at = tt
 
 -- the work that is asked for, by what an input shows
 
-pub head_by : (shown : Option (List ℕ)) {those asked : EndsAsked} {minus : Bool} → those ≡ asked → is_minus those.count.sign ≡ minus → head_in those.delim those.unit minus those.count.amount shown ≡ (head_task Cutters asked).work shown
+pub head_by : (shown : Option (List ℕ)) {those asked : EndsAsked} {minus : Bool} → those ≡ asked
+    → is_minus those.count.sign ≡ minus
+    → head_in those.delim those.unit minus those.count.amount shown ≡ (head_task Cutters asked).work shown
 head_by shown {those} is signed = ap (λ b. head_in those.delim those.unit b those.count.amount shown) (sym signed) ∙ ap (λ (asked : EndsAsked). (head_task Cutters asked).work shown) is
 
-pub tail_by : (shown : Option (List ℕ)) {those asked : EndsAsked} {plus : Bool} → those ≡ asked → is_plus those.count.sign ≡ plus → tail_in those.delim those.unit plus those.count.amount shown ≡ (tail_task Cutters asked).work shown
+pub tail_by : (shown : Option (List ℕ)) {those asked : EndsAsked} {plus : Bool} → those ≡ asked
+    → is_plus those.count.sign ≡ plus
+    → tail_in those.delim those.unit plus those.count.amount shown ≡ (tail_task Cutters asked).work shown
 tail_by shown {those} is signed = ap (λ b. tail_in those.delim those.unit b those.count.amount shown) (sym signed) ∙ ap (λ (asked : EndsAsked). (tail_task Cutters asked).work shown) is
 
 -- opening it may need memory, where the input shows nothing
 
-pub head_waits : {those asked : EndsAsked} → those ≡ asked → is_minus those.count.sign ≡ true → ((head_task Cutters asked).opening None).memory ≡ true
+pub head_waits : {those asked : EndsAsked} → those ≡ asked → is_minus those.count.sign ≡ true
+    → ((head_task Cutters asked).opening None).memory ≡ true
 head_waits is signed = rw (← is, signed) refl
 
-pub tail_waits : {those asked : EndsAsked} → those ≡ asked → is_plus those.count.sign ≡ false → ((tail_task Cutters asked).opening None).memory ≡ true
+pub tail_waits : {those asked : EndsAsked} → those ≡ asked → is_plus those.count.sign ≡ false
+    → ((tail_task Cutters asked).opening None).memory ≡ true
 tail_waits is signed = rw (← is, signed) refl
 
 -- the work of `split`, for a length that matters or not
 
-pub length_matters : (asked : Way) → ((chunks : Chunks) → asked ≡ way.Chunks chunks → ⊥) → ((place : ℕ) (chunks : Chunks) → asked ≡ way.Chunk place chunks → ⊥) → (one other : Option ℕ) (elide : Bool) (filing : Filing) → way_work asked elide filing one ≡ way_work asked elide filing other
+pub length_matters : (asked : Way) → ((chunks : Chunks) → asked ≡ way.Chunks chunks → ⊥)
+    → ((place : ℕ) (chunks : Chunks) → asked ≡ way.Chunk place chunks → ⊥)
+    → (one other : Option ℕ) (elide : Bool) (filing : Filing)
+    → way_work asked elide filing one ≡ way_work asked elide filing other
 length_matters (way.Cut cut) to_files to_output one other elide filing = refl
 length_matters (way.Chunks chunks) to_files to_output one other elide filing = absurd (to_files chunks refl)
 length_matters (way.Chunk place chunks) to_files to_output one other elide filing = absurd (to_output place chunks refl)

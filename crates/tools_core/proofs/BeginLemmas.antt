@@ -62,21 +62,25 @@ use Rattle.ports_core.specs.declared.slot.State.TheVariants as state
 pub empty_begins : {output other : Slot} → output.written ≡ [] → BeginsAs output other
 empty_begins {other} none = record { bytes = rw none (nothing_begins other.written); named = inr none }
 
-pub still_begins : {before after : List Slot} (place : ℕ) {other : Slot} → after ≡ before → BeginsAs (slot_at before place) other → BeginsAs (slot_at after place) other
+pub still_begins : {before after : List Slot} (place : ℕ) {other : Slot} → after ≡ before
+    → BeginsAs (slot_at before place) other → BeginsAs (slot_at after place) other
 still_begins place same begins = rw same begins
 
 -- nothing was written
-pub bare_begins : (error : Slot) {other : Slot} (place : ℕ) → (place ≡ 1 → ⊥) → BeginsAs (slot_at (streams_with error) place) other
+pub bare_begins : (error : Slot) {other : Slot} (place : ℕ) → (place ≡ 1 → ⊥)
+    → BeginsAs (slot_at (streams_with error) place) other
 bare_begins error zero differs = empty_begins refl
 bare_begins error (suc zero) differs = absurd (differs refl)
 bare_begins error (suc (suc place)) differs = empty_begins refl
 
 -- an output that keeps its name and bytes keeps what it begins, and what begins it
 
-pub kept_begins : {sweeps : Bool} {place : ℕ} {old new other : Slot} → Kept sweeps place old new → BeginsAs old other → BeginsAs new other
+pub kept_begins : {sweeps : Bool} {place : ℕ} {old new other : Slot} → Kept sweeps place old new → BeginsAs old other
+    → BeginsAs new other
 kept_begins kept begins = grind (arith, common_steps)
 
-pub begins_kept : {sweeps : Bool} {place : ℕ} {output whole other : Slot} → Kept sweeps place whole other → BeginsAs output whole → BeginsAs output other
+pub begins_kept : {sweeps : Bool} {place : ℕ} {output whole other : Slot} → Kept sweeps place whole other
+    → BeginsAs output whole → BeginsAs output other
 begins_kept kept begins = grind (arith, common_steps)
 
 -- What a fault leaves in the slots by itself: it breaks one of them, or adds one that couldn't be opened.
@@ -86,12 +90,16 @@ IsMarked (Write slot) place before new = (place ≡ slot) × (place < length bef
 IsMarked (Open slot) place before new = (place ≡ slot) × ((kept : List ℕ) × (new ≡ unopened kept))
 IsMarked fault place before new = ⊥
 
-pub unopened_at : (kept : List ℕ) (place : ℕ) (slots : List Slot) → (slot_at (slots ++ unopened kept ∷ []) place ≡ slot_at slots place) ⊎ ((place ≡ length slots) × (slot_at (slots ++ unopened kept ∷ []) place ≡ unopened kept))
+pub unopened_at : (kept : List ℕ) (place : ℕ) (slots : List Slot)
+    → (slot_at (slots ++ unopened kept ∷ []) place ≡ slot_at slots place)
+    ⊎ ((place ≡ length slots) × (slot_at (slots ++ unopened kept ∷ []) place ≡ unopened kept))
 unopened_at kept zero [] = inr (refl, refl)
 unopened_at kept (suc place) (slot ∷ slots) = elim (unopened_at kept place slots) [ inl same ↦ inl same | inr (here, is) ↦ inr (ap suc here, is) ]
 unopened_at kept place slots = inl refl
 
-pub marked_at : (IsDue : List ℕ → Type 0) (fault : Fault) (before after : List Slot) (place : ℕ) → Marks IsDue fault before after → (slot_at after place ≡ slot_at before place) ⊎ IsMarked fault place before (slot_at after place)
+pub marked_at : (IsDue : List ℕ → Type 0) (fault : Fault) (before after : List Slot) (place : ℕ)
+    → Marks IsDue fault before after → (slot_at after place ≡ slot_at before place)
+    ⊎ IsMarked fault place before (slot_at after place)
 marked_at IsDue (Write slot) before after place (within, is) = elim (cases_eq place slot) [
   | inl here ↦ let there : place < length before = omega (arith, here, within) in
       inr (here, there, ap (λ slots. slot_at slots place) is ∙ ap (λ which. slot_at (changed_at which breaks before) place) (sym here) ∙ slot_at-changed place breaks before there)
@@ -103,29 +111,36 @@ marked_at IsDue (Open slot) before after place (number, (name, kept, due, is, sl
 ]
 marked_at IsDue fault before after place marks = inl (ap (λ slots. slot_at slots place) marks)
 
-mark_begins : (fault : Fault) (place : ℕ) (before : List Slot) {new other : Slot} → IsMarked fault place before new → BeginsAs (slot_at before place) other → BeginsAs new other
+mark_begins : (fault : Fault) (place : ℕ) (before : List Slot) {new other : Slot} → IsMarked fault place before new
+    → BeginsAs (slot_at before place) other → BeginsAs new other
 mark_begins (Write slot) place before marked begins = grind (arith, common_steps)
 mark_begins (Open slot) place before marked begins = empty_begins (ap (λ (slot : Slot). slot.written) marked.1.1)
 mark_begins fault place before marked begins = absurd marked
 
 -- The outputs of a part that begins another
 
-files_at : (files others : List File) → FilesBegin files others → (place : ℕ) → BeginsAs (slot_at (map slot_of files) place) (slot_at (map slot_of others) place)
+files_at : (files others : List File) → FilesBegin files others → (place : ℕ)
+    → BeginsAs (slot_at (map slot_of files) place) (slot_at (map slot_of others) place)
 files_at [] others begins place = empty_begins refl
 files_at (file ∷ files) [] begins place = absurd begins
 files_at (file ∷ files) (other ∷ others) begins zero = grind (arith, common_steps)
 files_at (file ∷ files) (other ∷ others) begins (suc place) = files_at files others begins.5 place
 
-part_at : {low high : Part} (error : Slot) (place : ℕ) → Begins low high → (place ≡ 1 → ⊥) → BeginsAs (slot_at (outputs_of low error) place) (slot_at (slots_of high) place)
+part_at : {low high : Part} (error : Slot) (place : ℕ) → Begins low high → (place ≡ 1 → ⊥)
+    → BeginsAs (slot_at (outputs_of low error) place) (slot_at (slots_of high) place)
 part_at error zero begins differs = grind (arith, common_steps)
 part_at error (suc zero) begins differs = absurd (differs refl)
 part_at {low} {high} error (suc (suc place)) begins differs = files_at low.files high.files begins.files place
 
 -- outputs that are at it, and what came of them
-left_begins : (clears : Bool) {low high : Part} {error : Slot} {reached : List Slot} (new : List Slot) {place : ℕ} → Begins low high → (place ≡ 1 → ⊥) → OutputsAt true (streams_with error) low reached → Swept clears 2 reached new → BeginsAs (slot_at new place) (slot_at (slots_of high) place)
+left_begins : (clears : Bool) {low high : Part} {error : Slot} {reached : List Slot} (new : List Slot) {place : ℕ}
+    → Begins low high → (place ≡ 1 → ⊥) → OutputsAt true (streams_with error) low reached → Swept clears 2 reached new
+    → BeginsAs (slot_at new place) (slot_at (slots_of high) place)
 left_begins clears {error} {reached} new {place} begins differs at swept = kept_begins (swept_kept clears reached new swept place) (still_begins place (slots_at at) (part_at error place begins differs))
 
-stopped_begins : {output : Output} (clears : Bool) {high all low : Part} {error : Slot} {fault : Fault} {reached : List Slot} (new : List Slot) {place : ℕ} → Begins high all → (place ≡ 1 → ⊥) → StoppedBetween output true (streams_with error) low high fault reached → Swept clears 2 reached new
+stopped_begins : {output : Output} (clears : Bool) {high all low : Part} {error : Slot} {fault : Fault}
+    {reached : List Slot} (new : List Slot) {place : ℕ} → Begins high all → (place ≡ 1 → ⊥)
+    → StoppedBetween output true (streams_with error) low high fault reached → Swept clears 2 reached new
     → BeginsAs (slot_at new place) (slot_at (slots_of all) place)
 stopped_begins clears {high = high} {all} {fault = fault} {reached} new {place} begins differs between swept =
     let begun = left_begins false between.reached (part_trans between.part high all between.below begins) differs between.outputs refl in
@@ -149,7 +164,8 @@ pub record IsGrowing (work : Work) (content : Content) : Type 0 where
   pub settled : (x rest : List ℕ) → content.bytes ≡ x ++ rest → Begins (work.settled x) (made_of work content)
   pub closed : (x : List ℕ) → HasAll work content x → Begins (work.whole x) (made_of work content)
 
-call_begins : {work : Work} {opening : Needs} {content : Content} {call : Step} → IsGrowing work content → IsCall work opening largest_piece content call → Begins call.high (made_of work content)
+call_begins : {work : Work} {opening : Needs} {content : Content} {call : Step} → IsGrowing work content
+    → IsCall work opening largest_piece content call → Begins call.high (made_of work content)
 call_begins {content = content} grows opens = grows.settled [] content.bytes refl
 call_begins grows (feeds x piece rest is few going) = search rules
 call_begins grows (closes x has needed) = grows.closed x has
@@ -161,8 +177,11 @@ begins_more first next = rw nothing_after at (begins_after first (nothing_begins
 begins_longer : (part longer next : Part) → Begins part longer → Begins part (after_part longer next)
 begins_longer part longer next begins = part_trans part longer (after_part longer next) begins (begins_more longer next)
 
-step_begins : {task : Task} {shown : Option (List ℕ)} (is_first : Bool) (name : List ℕ) {so_far : Part} {there : Option Content} {slot : Option ℕ} {sources : List Source} {step : Step} → ((content : Content) → IsGrowing (task.work shown) content)
-    → RunStep true task shown largest_piece so_far (header_text task.with_header is_first name) slot sources there step → Begins step.high (after_part so_far (of_content task (task.work shown) is_first name there).part)
+step_begins : {task : Task} {shown : Option (List ℕ)} (is_first : Bool) (name : List ℕ) {so_far : Part}
+    {there : Option Content} {slot : Option ℕ} {sources : List Source} {step : Step}
+    → ((content : Content) → IsGrowing (task.work shown) content)
+    → RunStep true task shown largest_piece so_far (header_text task.with_header is_first name) slot sources there step
+    → Begins step.high (after_part so_far (of_content task (task.work shown) is_first name there).part)
 step_begins {task} {shown} is_first name {so_far} grows (unopened_step content place at past) = begins_more so_far (of_content task (task.work shown) is_first name content).part
 step_begins {task} {shown} is_first name {so_far} grows (unheaded content headed leaves) = begins_more so_far (of_content task (task.work shown) is_first name (Some content)).part
 step_begins {task} {shown} is_first name {so_far} grows (heading content headed leaves) = begins_after so_far (begins_more (only_out (header_text task.with_header is_first name)) (made_of (task.work shown) content))
@@ -172,7 +191,8 @@ step_begins {task} {shown} is_first name {so_far} grows (call_step content call 
 
 -- What is made of inputs is what is made of the first of them, of one, and of those after it.
 
-made_after : (task : Task) (is_first : Bool) (before : List Input) (input : Input) (after : List Input) → (of_inputs task is_first (before ++ input ∷ after)).part
+made_after : (task : Task) (is_first : Bool) (before : List Input) (input : Input) (after : List Input)
+    → (of_inputs task is_first (before ++ input ∷ after)).part
     ≡ after_part (of_inputs task is_first before).part (after_part (of_content task (task.work input.shown) (is_first && are_missing before) input.name input.content).part (of_inputs task (is_first && are_missing before && is_missing input.content) after).part)
 made_after task is_first [] input after = grind (arith, common_steps)
 made_after task is_first (first ∷ before) input after =
@@ -183,8 +203,13 @@ made_after task is_first (first ∷ before) input after =
     ap (after_part here) (made_after task now before input after) ∙ sym (after_assoc here front (back (now && are_missing before)))
     ∙ ap (λ (b : Bool). after_part (after_part here front) (back b)) (and_assoc is_first (is_missing first.content) (are_missing before))
 
-step_in_all : {task : Task} {inputs : List Input} (before : List Input) (input : Input) (after : List Input) {sources : List Source} {step : Step} → ((shown : Option (List ℕ)) (content : Content) → IsGrowing (task.work shown) content) → inputs ≡ before ++ input ∷ after
-    → RunStep true task input.shown largest_piece (made_by task before).part (header_text task.with_header (are_missing before) input.name) input.slot sources input.content step → Begins step.high (made_by task inputs).part
+step_in_all : {task : Task} {inputs : List Input} (before : List Input) (input : Input) (after : List Input)
+    {sources : List Source} {step : Step}
+    → ((shown : Option (List ℕ)) (content : Content) → IsGrowing (task.work shown) content)
+    → inputs ≡ before ++ input ∷ after
+    → RunStep true task input.shown largest_piece (made_by task before).part
+    (header_text task.with_header (are_missing before) input.name) input.slot sources input.content step
+    → Begins step.high (made_by task inputs).part
 step_in_all {task} before input after {step = step} grows are at =
     let so_far = (made_by task before).part in
     let here = (of_content task (task.work input.shown) (are_missing before) input.name input.content).part in
@@ -194,8 +219,11 @@ step_in_all {task} before input after {step = step} grows are at =
 
 -- A run over any inputs
 
-pub begins_whole : {breaks_for : ℕ → Reason → Bool} {task : Task} {inputs : List Input} {sources : List Source} {new : List Slot} {status : ℕ} {place : ℕ} → ((shown : Option (List ℕ)) (content : Content) → IsGrowing (task.work shown) content) → (place ≡ 1 → ⊥)
-    → EndsAs true true breaks_for task inputs sources new status → BeginsAs (slot_at new place) (slot_at (slots_of (made_by task inputs).part) place)
+pub begins_whole : {breaks_for : ℕ → Reason → Bool} {task : Task} {inputs : List Input} {sources : List Source}
+    {new : List Slot} {status : ℕ} {place : ℕ}
+    → ((shown : Option (List ℕ)) (content : Content) → IsGrowing (task.work shown) content) → (place ≡ 1 → ⊥)
+    → EndsAs true true breaks_for task inputs sources new status
+    → BeginsAs (slot_at new place) (slot_at (slots_of (made_by task inputs).part) place)
 begins_whole {new} grows differs (as_defined error reached says outputs swept done status_is) = left_begins _ new (part_begins_itself _) differs outputs swept
 begins_whole {task} {new} grows differs (stopped fault why before input after said error step reached are done untouched at stops between swept says is_why tells status_is) =
     stopped_begins (task.work input.shown).clears new (step_in_all before input after grows are at) differs between swept
@@ -203,7 +231,8 @@ begins_whole {place} grows differs (no_room error says slots untouched count sta
 
 -- Works grow.
 
-closed_made : {work : Work} (content : Content) → IsLawful work → (x : List ℕ) → HasAll work content x → Begins (work.whole x) (made_of work content)
+closed_made : {work : Work} (content : Content) → IsLawful work → (x : List ℕ) → HasAll work content x
+    → Begins (work.whole x) (made_of work content)
 closed_made {work} content law x (to_end ends is) = rw (ends, is) (part_begins_itself (work.whole x))
 closed_made {work} content law x (enough rest is complete) =
     let here = law.stays x [] complete in
@@ -211,7 +240,9 @@ closed_made {work} content law x (enough rest is complete) =
     let same : work.whole x ≡ work.whole (x ++ rest) = ap work.whole (sym (append-nil x)) ∙ here.whole_stays ∙ sym there.whole_stays in
     rw (is, there.still, or-true (not content.breaks_off), same) (part_begins_itself (work.whole (x ++ rest)))
 
-settled_made : (work : Work) (content : Content) → ((x y : List ℕ) → Begins (work.settled x) (work.settled (x ++ y))) → ((x : List ℕ) → Begins (work.settled x) (work.whole x)) → (x rest : List ℕ) → content.bytes ≡ x ++ rest → Begins (work.settled x) (made_of work content)
+settled_made : (work : Work) (content : Content) → ((x y : List ℕ) → Begins (work.settled x) (work.settled (x ++ y)))
+    → ((x : List ℕ) → Begins (work.settled x) (work.whole x)) → (x rest : List ℕ) → content.bytes ≡ x ++ rest
+    → Begins (work.settled x) (made_of work content)
 settled_made work content grows ends x rest is = cond_both (is_enough work content) (work.whole content.bytes) (work.settled content.bytes) (Begins (work.settled x))
     (λ enough. rw is (part_trans (work.settled x) (work.settled (x ++ rest)) (work.whole (x ++ rest)) (grows x rest) (ends (x ++ rest))))
     (λ short. rw is (grows x rest))
@@ -221,7 +252,8 @@ lawful_grows {work} law content = record { settled = settled_made work content l
 
 -- where lines are dealt, and all files have names
 
-named_up_to : (asked : SplitAsked) (count : ℕ) → first_number asked.from + count ≤ name_count asked.alphabet asked.width → are_named (naming_of asked) count ≡ true
+named_up_to : (asked : SplitAsked) (count : ℕ) → first_number asked.from + count ≤ name_count asked.alphabet asked.width
+    → are_named (naming_of asked) count ≡ true
 named_up_to asked zero all = refl
 named_up_to asked (suc last) all = cond_both asked.auto _ _ (λ numbering. has_suffix numbering last ≡ true) (λ is. refl) (λ is. lt-ltb _ _ (omega (arith, all)))
 
@@ -246,16 +278,20 @@ is_way asked can = by asked.way can.way where
   by (way.Turn place n delim) is = is.1
 
 dealt_closed : (delim n : ℕ) (elide : Bool) (filing : Filing) (content : Content) → are_named filing.names n ≡ true
-    → (x : List ℕ) → HasAll (split_work (round_plan delim n elide filing)) content x → Begins (whole_by (round_plan delim n elide filing) x) (made_of (split_work (round_plan delim n elide filing)) content)
+    → (x : List ℕ) → HasAll (split_work (round_plan delim n elide filing)) content x
+    → Begins (whole_by (round_plan delim n elide filing) x)
+    (made_of (split_work (round_plan delim n elide filing)) content)
 dealt_closed delim n elide filing content all x (to_end ends is) = rw (ends, is) (part_begins_itself _)
 dealt_closed delim n elide filing content all x (enough rest is complete) = absurd (false≢true (not_short delim filing elide n x all ∙ complete))
 
-split_grows : (cut : Cut) (elide : Bool) (filing : Filing) → HasNames cut filing.names → (content : Content) → IsGrowing (split_work (plan_by cut elide filing)) content
+split_grows : (cut : Cut) (elide : Bool) (filing : Filing) → HasNames cut filing.names → (content : Content)
+    → IsGrowing (split_work (plan_by cut elide filing)) content
 split_grows (Parts limit) elide filing all = lawful_grows (parts_lawful limit filing)
 split_grows (Round n delim) elide filing all = λ content.
     let law = round_lawful delim n elide filing in record { settled = settled_made (split_work (round_plan delim n elide filing)) content law.grows law.ends; closed = dealt_closed delim n elide filing content all }
 
-pub way_grows : (way : Way) (elide : Bool) (filing : Filing) (said : Option ℕ) → IsWay way → HasAllNames way filing.names
+pub way_grows : (way : Way) (elide : Bool) (filing : Filing) (said : Option ℕ) → IsWay way
+    → HasAllNames way filing.names
     → (content : Content) → IsGrowing (way_work way elide filing said) content
 way_grows (way.Cut cut) elide filing said is all = split_grows cut elide filing all
 way_grows (way.Chunks chunks) elide filing said is all =
@@ -276,18 +312,22 @@ abbrev pub TellsOfInput : (Message → Type 0) → Option Fault → Type 0
 TellsOfInput Line None = Unit {0}
 TellsOfInput Line (Some fault) = Line (message_of fault (codes "standard input"))
 
-call_are : (Line : Message → Type 0) (on_broken : OnBroken) (call : ℕ) (name : List ℕ) (when : Option Break) (lines : List Message) → TellsOutput Line name when → All Line lines → All Line (cond (tee.tells_in on_broken call when) (message_of (fault_in call) name ∷ lines) lines)
+call_are : (Line : Message → Type 0) (on_broken : OnBroken) (call : ℕ) (name : List ℕ) (when : Option Break)
+    (lines : List Message) → TellsOutput Line name when → All Line lines
+    → All Line (cond (tee.tells_in on_broken call when) (message_of (fault_in call) name ∷ lines) lines)
 call_are Line on_broken call name None lines tells are = are
 call_are Line on_broken call name (Some broke) lines tells are =
     cond_both (tee.tells_in on_broken call (Some broke)) (message_of (fault_in call) name ∷ lines) lines (All Line)
     (λ is. All-cons Line _ lines (rw (eqb-true broke.call call (and_parts (broke.call == call) (tee.is_told on_broken (tee.lost_as broke.is_gone)) is).0) at (tells broke refl)) are) (λ differs. are)
 
-in_call_are : (Line : Message → Type 0) (on_broken : OnBroken) (call : ℕ) (names : List (List ℕ)) (broke : List (Option Break)) → TellsOutputs Line names broke → All Line (said_in on_broken call names broke)
+in_call_are : (Line : Message → Type 0) (on_broken : OnBroken) (call : ℕ) (names : List (List ℕ))
+    (broke : List (Option Break)) → TellsOutputs Line names broke → All Line (said_in on_broken call names broke)
 in_call_are Line on_broken call (name ∷ names) (when ∷ broke) tells = call_are Line on_broken call name when (said_in on_broken call names broke) tells.0 (in_call_are Line on_broken call names broke tells.1)
 in_call_are Line on_broken call [] broke tells = All-nil Line
 in_call_are Line on_broken call (name ∷ names) [] tells = All-nil Line
 
-before_are : (Line : Message → Type 0) (on_broken : OnBroken) (call : ℕ) (names : List (List ℕ)) (broke : List (Option Break)) → TellsOutputs Line names broke → All Line (said_before on_broken call names broke)
+before_are : (Line : Message → Type 0) (on_broken : OnBroken) (call : ℕ) (names : List (List ℕ))
+    (broke : List (Option Break)) → TellsOutputs Line names broke → All Line (said_before on_broken call names broke)
 before_are Line on_broken zero names broke tells = All-nil Line
 before_are Line on_broken (suc call) names broke tells = All-append Line _ _ (before_are Line on_broken call names broke tells) (in_call_are Line on_broken call names broke tells)
 
@@ -295,7 +335,9 @@ input_are : (Line : Message → Type 0) (fault : Option Fault) → TellsOfInput 
 input_are Line None tells = All-nil Line
 input_are Line (Some fault) tells = one_line Line _ tells
 
-lines_are : (Line : Message → Type 0) (on_broken : OnBroken) (names : List (List ℕ)) (broke : List (Option Break)) (pieces : ℕ) (fault : Option Fault) → TellsOutputs Line (output_names names) broke → TellsOfInput Line fault → All Line (messages_of on_broken names broke pieces fault)
+lines_are : (Line : Message → Type 0) (on_broken : OnBroken) (names : List (List ℕ)) (broke : List (Option Break))
+    (pieces : ℕ) (fault : Option Fault) → TellsOutputs Line (output_names names) broke → TellsOfInput Line fault
+    → All Line (messages_of on_broken names broke pieces fault)
 lines_are Line on_broken names broke pieces fault tells of_input =
     All-append Line _ _ (All-append Line _ _ (before_are Line on_broken (suc pieces) (output_names names) broke tells) (input_are Line fault of_input))
     (in_call_are Line on_broken (suc pieces) (output_names names) broke tells)
@@ -307,18 +349,21 @@ abbrev Broke : ℕ → List ℕ → Slot → Option Break → Type 0
 Broke last name output None = output.is_broken ≡ false
 Broke last name output (Some broke) = (broke.call ≤ last) × IsCalled output name × ((place : ℕ) → message_of (fault_in broke.call) name ≡ message_of (failing place output.state) name) × (output.is_broken ≡ true)
 
-output_broke : {pieces : List (List ℕ)} {name : List ℕ} {when : Option Break} {output : Slot} → name ≡ standard_output.name → OutputLeft true pieces when output → Broke (suc (length pieces)) name output when
+output_broke : {pieces : List (List ℕ)} {name : List ℕ} {when : Option Break} {output : Slot}
+    → name ≡ standard_output.name → OutputLeft true pieces when output → Broke (suc (length pieces)) name output when
 output_broke named tee.output_whole = refl
 output_broke named (tee.output_cut before piece after n is few) = grind (arith, common_steps)
 
-file_broke : {mode : Mode} {pieces : List (List ℕ)} {name : List ℕ} {when : Option Break} {file : Slot} → FileLeft true mode pieces name when file → Broke (suc (length pieces)) name file when
+file_broke : {mode : Mode} {pieces : List (List ℕ)} {name : List ℕ} {when : Option Break} {file : Slot}
+    → FileLeft true mode pieces name when file → Broke (suc (length pieces)) name file when
 file_broke tee.file_whole = refl
 file_broke (tee.file_unopened kept (inl same)) = search rules
 file_broke (tee.file_unopened kept (inr lost)) = grind (arith, common_steps)
 file_broke (tee.file_cut before piece after n is few) = grind (arith, common_steps)
 file_broke tee.file_unclosed = search rules
 
-record HasSaid (on_broken : OnBroken) (names : List (List ℕ)) (broke : List (Option Break)) (last : ℕ) (output : Slot) (place : ℕ) : Type 0 where
+record HasSaid (on_broken : OnBroken) (names : List (List ℕ)) (broke : List (Option Break)) (last : ℕ) (output : Slot)
+    (place : ℕ) : Type 0 where
   pub name : List ℕ
   pub called : IsCalled output name
   pub call : ℕ
@@ -326,7 +371,8 @@ record HasSaid (on_broken : OnBroken) (names : List (List ℕ)) (broke : List (O
   pub line : HasLine (message_of (failing place output.state) name) (said_in on_broken call names broke)
 
 -- an output that broke is told, but where nothing is said of one that is gone
-told_loud : (on_broken : OnBroken) (gone : Bool) → tee.is_quiet on_broken ≡ false → tee.is_told on_broken (tee.lost_as gone) ≡ true
+told_loud : (on_broken : OnBroken) (gone : Bool) → tee.is_quiet on_broken ≡ false
+    → tee.is_told on_broken (tee.lost_as gone) ≡ true
 told_loud on_broken true loud = ap not loud
 told_loud on_broken false loud = refl
 
@@ -334,21 +380,27 @@ told_loud on_broken false loud = refl
 abbrev pub IsLoud : OnBroken → List (Option Break) → Type 0
 IsLoud on_broken broke = (tee.is_quiet on_broken ≡ false) ⊎ (tee.any_is Gone (map tee.standing_of broke) ≡ false)
 
-loud_here : (on_broken : OnBroken) (one : Break) (broke : List (Option Break)) → IsLoud on_broken (Some one ∷ broke) → tee.is_told on_broken (tee.lost_as one.is_gone) ≡ true
+loud_here : (on_broken : OnBroken) (one : Break) (broke : List (Option Break)) → IsLoud on_broken (Some one ∷ broke)
+    → tee.is_told on_broken (tee.lost_as one.is_gone) ≡ true
 loud_here on_broken one broke (inl loud) = told_loud on_broken one.is_gone loud
 loud_here on_broken one broke (inr none) = by one.is_gone none where
-  by : (gone : Bool) → (tee.is_same (tee.lost_as gone) Gone || tee.any_is Gone (map tee.standing_of broke)) ≡ false → tee.is_told on_broken (tee.lost_as gone) ≡ true
+  by : (gone : Bool) → (tee.is_same (tee.lost_as gone) Gone || tee.any_is Gone (map tee.standing_of broke)) ≡ false
+      → tee.is_told on_broken (tee.lost_as gone) ≡ true
   by true none = absurd (false≢true (sym none))
   by false none = refl
 
-loud_rest : (on_broken : OnBroken) (first : Option Break) (broke : List (Option Break)) → IsLoud on_broken (first ∷ broke) → IsLoud on_broken broke
+loud_rest : (on_broken : OnBroken) (first : Option Break) (broke : List (Option Break))
+    → IsLoud on_broken (first ∷ broke) → IsLoud on_broken broke
 loud_rest on_broken first broke (inl loud) = inl loud
 loud_rest on_broken first broke (inr none) = inr (by (tee.is_same (tee.standing_of first) Gone) none) where
-  by : (is : Bool) → (is || tee.any_is Gone (map tee.standing_of broke)) ≡ false → tee.any_is Gone (map tee.standing_of broke) ≡ false
+  by : (is : Bool) → (is || tee.any_is Gone (map tee.standing_of broke)) ≡ false
+      → tee.any_is Gone (map tee.standing_of broke) ≡ false
   by true none = absurd (false≢true (sym none))
   by false none = none
 
-said_here : {name : List ℕ} {names : List (List ℕ)} {broke : List (Option Break)} {last place : ℕ} {output : Slot} (on_broken : OnBroken) (when : Option Break) → IsLoud on_broken (when ∷ broke) → Broke last name output when → output.is_broken ≡ true → HasSaid on_broken (name ∷ names) (when ∷ broke) last output place
+said_here : {name : List ℕ} {names : List (List ℕ)} {broke : List (Option Break)} {last place : ℕ} {output : Slot}
+    (on_broken : OnBroken) (when : Option Break) → IsLoud on_broken (when ∷ broke) → Broke last name output when
+    → output.is_broken ≡ true → HasSaid on_broken (name ∷ names) (when ∷ broke) last output place
 said_here on_broken None loud sound broken = absurd (false≢true (sym sound ∙ broken))
 said_here {name} {names} {broke} {place} on_broken (Some one) loud (within, called, same, is) broken = record {
   name = name;
@@ -358,34 +410,49 @@ said_here {name} {names} {broke} {place} on_broken (Some one) loud (within, call
   line = rw (eq-eqb one.call one.call refl, loud_here on_broken one broke loud) ([], said_in on_broken one.call names broke, ap (λ line. line ∷ said_in on_broken one.call names broke) (same place));
 }
 
-said_by : (is : Bool) {line : Message} (other : Message) {lines : List Message} → HasLine line lines → HasLine line (cond is (other ∷ lines) lines)
+said_by : (is : Bool) {line : Message} (other : Message) {lines : List Message} → HasLine line lines
+    → HasLine line (cond is (other ∷ lines) lines)
 said_by true other has = has_after (other ∷ []) has
 said_by false other has = has
 
-said_past : {on_broken : OnBroken} {name : List ℕ} {names : List (List ℕ)} {first : Option Break} {broke : List (Option Break)} {last place : ℕ} {output : Slot} → HasSaid on_broken names broke last output place → HasSaid on_broken (name ∷ names) (first ∷ broke) last output place
+said_past : {on_broken : OnBroken} {name : List ℕ} {names : List (List ℕ)} {first : Option Break}
+    {broke : List (Option Break)} {last place : ℕ} {output : Slot} → HasSaid on_broken names broke last output place
+    → HasSaid on_broken (name ∷ names) (first ∷ broke) last output place
 said_past {on_broken} {name} {first} has = grind (arith, common_steps, said_by)
 
 -- the place of a file among the outputs that are there, and among those of the run
-files_said : {on_broken : OnBroken} {mode : Mode} {pieces names : List (List ℕ)} {broke : List (Option Break)} {files : List Slot} (at : ℕ) {place : ℕ} → IsLoud on_broken broke → FilesLeft true mode pieces names broke files → (slot_at files at).is_broken ≡ true
+files_said : {on_broken : OnBroken} {mode : Mode} {pieces names : List (List ℕ)} {broke : List (Option Break)}
+    {files : List Slot} (at : ℕ) {place : ℕ} → IsLoud on_broken broke → FilesLeft true mode pieces names broke files
+    → (slot_at files at).is_broken ≡ true
     → HasSaid on_broken names broke (suc (length pieces)) (slot_at files at) place
 files_said at loud tee.no_file broken = absurd (cc)
 files_said {on_broken} zero loud (tee.one_file name names when broke file files left rest) broken = said_here on_broken when loud (file_broke left) broken
 files_said {on_broken} (suc at) loud (tee.one_file name names when broke file files left rest) broken = said_past (files_said at (loud_rest on_broken when broke loud) rest broken)
 
-outputs_said : {on_broken : OnBroken} {mode : Mode} {pieces names : List (List ℕ)} {first : Option Break} {broke : List (Option Break)} {output : Slot} (error : Slot) {files : List Slot} (place : ℕ) → IsLoud on_broken (first ∷ broke) → OutputLeft true pieces first output → FilesLeft true mode pieces names broke files
-    → (place ≡ 1 → ⊥) → (slot_at (output ∷ error ∷ files) place).is_broken ≡ true → HasSaid on_broken (output_names names) (first ∷ broke) (suc (length pieces)) (slot_at (output ∷ error ∷ files) place) place
+outputs_said : {on_broken : OnBroken} {mode : Mode} {pieces names : List (List ℕ)} {first : Option Break}
+    {broke : List (Option Break)} {output : Slot} (error : Slot) {files : List Slot} (place : ℕ)
+    → IsLoud on_broken (first ∷ broke) → OutputLeft true pieces first output
+    → FilesLeft true mode pieces names broke files
+    → (place ≡ 1 → ⊥) → (slot_at (output ∷ error ∷ files) place).is_broken ≡ true
+    → HasSaid on_broken (output_names names) (first ∷ broke) (suc (length pieces))
+    (slot_at (output ∷ error ∷ files) place) place
 outputs_said {on_broken} {first = first} error zero loud left rest differs broken = said_here on_broken first loud (output_broke refl left) broken
 outputs_said error (suc zero) loud left rest differs broken = absurd (differs refl)
 outputs_said {on_broken} {first = first} {broke} error (suc (suc at)) loud left rest differs broken = said_past (files_said at (loud_rest on_broken first broke loud) rest broken)
 
-before_line : {line : Message} (on_broken : OnBroken) (last : ℕ) {call : ℕ} (names : List (List ℕ)) (broke : List (Option Break)) → call < last → HasLine line (said_in on_broken call names broke) → HasLine line (said_before on_broken last names broke)
+before_line : {line : Message} (on_broken : OnBroken) (last : ℕ) {call : ℕ} (names : List (List ℕ))
+    (broke : List (Option Break)) → call < last → HasLine line (said_in on_broken call names broke)
+    → HasLine line (said_before on_broken last names broke)
 before_line on_broken zero names broke less has = search rules
 before_line on_broken (suc last) {call} names broke less has = elim (cases_lt call last) [
   | inl before ↦ has_before (said_in on_broken last names broke) (before_line on_broken last names broke before has)
   | inr past ↦ let same : call ≡ last = omega (arith, less, past) in has_after (said_before on_broken last names broke) (rw same at has)
 ]
 
-call_line : {line : Message} (on_broken : OnBroken) (names : List (List ℕ)) (broke : List (Option Break)) {pieces call : ℕ} (fault : Option Fault) → call ≤ suc pieces → HasLine line (said_in on_broken call (output_names names) broke) → HasLine line (messages_of on_broken names broke pieces fault)
+call_line : {line : Message} (on_broken : OnBroken) (names : List (List ℕ)) (broke : List (Option Break))
+    {pieces call : ℕ} (fault : Option Fault) → call ≤ suc pieces
+    → HasLine line (said_in on_broken call (output_names names) broke)
+    → HasLine line (messages_of on_broken names broke pieces fault)
 call_line {line} on_broken names broke {pieces} {call} fault within has = elim (cases_lt call (suc pieces)) [
   | inl before ↦ has_before _ (has_before _ (before_line on_broken (suc pieces) (output_names names) broke before has))
   | inr past ↦ let same : call ≡ suc pieces = omega (arith, within, past) in has_after _ (subst (λ those. HasLine line (said_in on_broken those (output_names names) broke)) same has)
@@ -396,47 +463,68 @@ call_line {line} on_broken names broke {pieces} {call} fault within has = elim (
 abbrev LineOf : OnBroken → List (List ℕ) → List (Option Break) → (last : ℕ) → Type 0
 LineOf on_broken names broke last = (call : ℕ) × (line : Message) × (call ≤ last) × HasLine line (said_in on_broken call names broke)
 
-past_line : (on_broken : OnBroken) (name : List ℕ) (names : List (List ℕ)) (first : Option Break) (broke : List (Option Break)) {last : ℕ} → LineOf on_broken names broke last → LineOf on_broken (name ∷ names) (first ∷ broke) last
+past_line : (on_broken : OnBroken) (name : List ℕ) (names : List (List ℕ)) (first : Option Break)
+    (broke : List (Option Break)) {last : ℕ} → LineOf on_broken names broke last
+    → LineOf on_broken (name ∷ names) (first ∷ broke) last
 past_line on_broken name names first broke (call, line, within, has) = (call, line, within, said_by (tee.tells_in on_broken call first) (message_of (fault_in call) name) has)
 
-here_line : (on_broken : OnBroken) (name : List ℕ) (names : List (List ℕ)) (one : Break) (broke : List (Option Break)) {last : ℕ} → one.is_gone ≡ false → one.call ≤ last → LineOf on_broken (name ∷ names) (Some one ∷ broke) last
+here_line : (on_broken : OnBroken) (name : List ℕ) (names : List (List ℕ)) (one : Break) (broke : List (Option Break))
+    {last : ℕ} → one.is_gone ≡ false → one.call ≤ last → LineOf on_broken (name ∷ names) (Some one ∷ broke) last
 here_line on_broken name names one broke kept within = (one.call, message_of (fault_in one.call) name, within, rw (eq-eqb one.call one.call refl, kept) ([], said_in on_broken one.call names broke, refl))
 
-line_or : (on_broken : OnBroken) (name : List ℕ) (names : List (List ℕ)) (when : Option Break) (broke : List (Option Break)) {last : ℕ} (output : Slot) → Broke last name output when → (tee.any_is Broken (map tee.standing_of broke) ≡ true → LineOf on_broken names broke last)
-    → tee.any_is Broken (map tee.standing_of (when ∷ broke)) ≡ true → LineOf on_broken (name ∷ names) (when ∷ broke) last
+line_or : (on_broken : OnBroken) (name : List ℕ) (names : List (List ℕ)) (when : Option Break)
+    (broke : List (Option Break)) {last : ℕ} (output : Slot) → Broke last name output when
+    → (tee.any_is Broken (map tee.standing_of broke) ≡ true → LineOf on_broken names broke last)
+    → tee.any_is Broken (map tee.standing_of (when ∷ broke)) ≡ true
+    → LineOf on_broken (name ∷ names) (when ∷ broke) last
 line_or on_broken name names None broke output sound rest is = past_line on_broken name names None broke (rest is)
 line_or on_broken name names (Some one) broke {last} output (within, called, same, broken) rest is = by one.is_gone refl is where
-  by : (gone : Bool) → one.is_gone ≡ gone → (tee.is_same (tee.lost_as gone) Broken || tee.any_is Broken (map tee.standing_of broke)) ≡ true → LineOf on_broken (name ∷ names) (Some one ∷ broke) last
+  by : (gone : Bool) → one.is_gone ≡ gone
+      → (tee.is_same (tee.lost_as gone) Broken || tee.any_is Broken (map tee.standing_of broke)) ≡ true
+      → LineOf on_broken (name ∷ names) (Some one ∷ broke) last
   by true at is = past_line on_broken name names (Some one) broke (rest is)
   by false at is = here_line on_broken name names one broke at within
 
-files_line : (on_broken : OnBroken) {mode : Mode} {pieces names : List (List ℕ)} {broke : List (Option Break)} {files : List Slot} → FilesLeft true mode pieces names broke files → tee.any_is Broken (map tee.standing_of broke) ≡ true → LineOf on_broken names broke (suc (length pieces))
+files_line : (on_broken : OnBroken) {mode : Mode} {pieces names : List (List ℕ)} {broke : List (Option Break)}
+    {files : List Slot} → FilesLeft true mode pieces names broke files
+    → tee.any_is Broken (map tee.standing_of broke) ≡ true → LineOf on_broken names broke (suc (length pieces))
 files_line on_broken tee.no_file is = absurd (false≢true is)
 files_line on_broken (tee.one_file name names when broke file files left rest) is = line_or on_broken name names when broke file (file_broke left) (λ others. files_line on_broken rest others) is
 
-pub broken_tells : (on_broken : OnBroken) {mode : Mode} {pieces names : List (List ℕ)} {first : Option Break} {broke : List (Option Break)} {output : Slot} {files : List Slot} (fault : Option Fault) → OutputLeft true pieces first output → FilesLeft true mode pieces names broke files
-    → tee.any_is Broken (map tee.standing_of (first ∷ broke)) ≡ true → (line : Message) × HasLine line (messages_of on_broken names (first ∷ broke) (length pieces) fault)
+pub broken_tells : (on_broken : OnBroken) {mode : Mode} {pieces names : List (List ℕ)} {first : Option Break}
+    {broke : List (Option Break)} {output : Slot} {files : List Slot} (fault : Option Fault)
+    → OutputLeft true pieces first output → FilesLeft true mode pieces names broke files
+    → tee.any_is Broken (map tee.standing_of (first ∷ broke)) ≡ true
+    → (line : Message) × HasLine line (messages_of on_broken names (first ∷ broke) (length pieces) fault)
 broken_tells on_broken {names = names} {first} {broke} {output} fault left rest is =
     let (call, line, within, has) = line_or on_broken (codes "standard output") names first broke output (output_broke refl left) (λ others. files_line on_broken rest others) is in (line, call_line on_broken names (first ∷ broke) fault within has)
 
 -- the line of an output that is broken is one of those that are due
-pub tee_tells : (on_broken : OnBroken) {mode : Mode} {pieces names : List (List ℕ)} {first : Option Break} {broke : List (Option Break)} {output : Slot} (error : Slot) {files : List Slot} (fault : Option Fault) (place : ℕ) → IsLoud on_broken (first ∷ broke) → OutputLeft true pieces first output → FilesLeft true mode pieces names broke files
+pub tee_tells : (on_broken : OnBroken) {mode : Mode} {pieces names : List (List ℕ)} {first : Option Break}
+    {broke : List (Option Break)} {output : Slot} (error : Slot) {files : List Slot} (fault : Option Fault) (place : ℕ)
+    → IsLoud on_broken (first ∷ broke) → OutputLeft true pieces first output
+    → FilesLeft true mode pieces names broke files
     → (place ≡ 1 → ⊥) → (slot_at (output ∷ error ∷ files) place).is_broken ≡ true
-    → (name : List ℕ) × IsCalled (slot_at (output ∷ error ∷ files) place) name × HasLine (message_of (failing place (slot_at (output ∷ error ∷ files) place).state) name) (messages_of on_broken names (first ∷ broke) (length pieces) fault)
+    → (name : List ℕ) × IsCalled (slot_at (output ∷ error ∷ files) place) name
+    × HasLine (message_of (failing place (slot_at (output ∷ error ∷ files) place).state) name)
+    (messages_of on_broken names (first ∷ broke) (length pieces) fault)
 tee_tells on_broken {names = names} {first} {broke} error fault place loud left rest differs broken =
     let said = outputs_said error place loud left rest differs broken in
     (said.name, said.called, call_line on_broken names (first ∷ broke) fault said.within said.line)
 
 -- Each line that tells of an output that broke tells a fault that the run met.
 
-pub failing_stops : (run : Run) (asked : Settings) {name : List ℕ} {place : ℕ} (which : State) → BrokeAt run place name (failing place which) → StopsRun run asked name (failing place which)
+pub failing_stops : (run : Run) (asked : Settings) {name : List ℕ} {place : ℕ} (which : State)
+    → BrokeAt run place name (failing place which) → StopsRun run asked name (failing place which)
 failing_stops run asked state.Open broke = broke
 failing_stops run asked state.Closed broke = broke
 failing_stops run asked state.Removed broke = broke
 failing_stops run asked state.Unopened broke = broke
 
 -- an output that stands at this place of the run's
-output_tells : {run : Run} (asked : TeeAsked) (last : ℕ) (name : List ℕ) {output : Slot} (when : Option Break) (place : ℕ) → slot_at run.outputs place ≡ output → (place ≡ 1 → ⊥) → Broke last name output when → TellsOutput (TellsMet run (Tee asked)) name when
+output_tells : {run : Run} (asked : TeeAsked) (last : ℕ) (name : List ℕ) {output : Slot} (when : Option Break)
+    (place : ℕ) → slot_at run.outputs place ≡ output → (place ≡ 1 → ⊥) → Broke last name output when
+    → TellsOutput (TellsMet run (Tee asked)) name when
 output_tells {run} asked last name {output} (Some other) place is differs (within, called, same, broken) broke there =
     let met : BrokeAt run place name (failing place output.state) = rw is (differs, called, broken, refl) in
     let here : other ≡ broke = cc in
@@ -444,15 +532,23 @@ output_tells {run} asked last name {output} (Some other) place is differs (withi
 output_tells asked last name None place is differs broke call there = absurd (cc)
 
 -- files, of which each stands at its place
-files_tell : (run : Run) (asked : TeeAsked) {mode : Mode} {pieces names : List (List ℕ)} {broke : List (Option Break)} {files : List Slot} (place : ℕ → ℕ) → ((at : ℕ) → slot_at run.outputs (place at) ≡ slot_at files at) → ((at : ℕ) → place at ≡ 1 → ⊥)
+files_tell : (run : Run) (asked : TeeAsked) {mode : Mode} {pieces names : List (List ℕ)} {broke : List (Option Break)}
+    {files : List Slot} (place : ℕ → ℕ) → ((at : ℕ) → slot_at run.outputs (place at) ≡ slot_at files at)
+    → ((at : ℕ) → place at ≡ 1 → ⊥)
     → FilesLeft true mode pieces names broke files → TellsOutputs (TellsMet run (Tee asked)) names broke
 files_tell run asked place are differ tee.no_file = tt
 files_tell run asked {pieces = pieces} place are differ (tee.one_file name names when broke file files left rest) =
     (output_tells asked (suc (length pieces)) name when (place 0) (are 0) (differ 0) (file_broke left), files_tell run asked (λ at. place (suc at)) (λ at. are (suc at)) (λ at. differ (suc at)) rest)
 
 -- all lines of such a run, where that on the input is one
-pub tee_lines : {run : Run} (asked : TeeAsked) (on_broken : OnBroken) {mode : Mode} {pieces names : List (List ℕ)} {first : Option Break} {broke : List (Option Break)} {output error : Slot} {files : List Slot} (fault : Option Fault) → run.outputs ≡ output ∷ error ∷ files → OutputLeft true pieces first output → FilesLeft true mode pieces names broke files
-    → TellsOfInput (TellsMet run (Tee asked)) fault → SaysAll true (speaker_of run.calling (Tee asked)) (messages_of on_broken names (first ∷ broke) (length pieces) fault) standard_error error → SaysLines run (Tee asked) (messages_of on_broken names (first ∷ broke) (length pieces) fault)
+pub tee_lines : {run : Run} (asked : TeeAsked) (on_broken : OnBroken) {mode : Mode} {pieces names : List (List ℕ)}
+    {first : Option Break} {broke : List (Option Break)} {output error : Slot} {files : List Slot}
+    (fault : Option Fault) → run.outputs ≡ output ∷ error ∷ files → OutputLeft true pieces first output
+    → FilesLeft true mode pieces names broke files
+    → TellsOfInput (TellsMet run (Tee asked)) fault
+    → SaysAll true (speaker_of run.calling (Tee asked))
+    (messages_of on_broken names (first ∷ broke) (length pieces) fault) standard_error error
+    → SaysLines run (Tee asked) (messages_of on_broken names (first ∷ broke) (length pieces) fault)
 tee_lines {run} asked on_broken {pieces = pieces} {names} {first} {broke} {output} {error} {files} fault slots left rest of_input says = record {
   are = lines_are (TellsMet run (Tee asked)) on_broken names (first ∷ broke) (length pieces) fault (
     output_tells asked (suc (length pieces)) (codes "standard output") first 0 (ap (λ those. slot_at those 0) slots) (λ is. omega (arith, is)) (output_broke refl left),
@@ -467,19 +563,24 @@ tee_lines {run} asked on_broken {pieces = pieces} {names} {first} {broke} {outpu
 abbrev SomeBroke : List Slot → Type 0
 SomeBroke files = (at : ℕ) × ((slot_at files at).is_broken ≡ true)
 
-files_broke : {mode : Mode} {pieces names : List (List ℕ)} {broke : List (Option Break)} {files : List Slot} → FilesLeft true mode pieces names broke files → are_sound broke ≡ false → SomeBroke files
+files_broke : {mode : Mode} {pieces names : List (List ℕ)} {broke : List (Option Break)} {files : List Slot}
+    → FilesLeft true mode pieces names broke files → are_sound broke ≡ false → SomeBroke files
 files_broke tee.no_file sound = absurd (cc)
 files_broke (tee.one_file name names _ broke _ files tee.file_whole rest) sound = let (at, broken) = files_broke rest sound in (suc at, broken)
 files_broke (tee.one_file name names _ broke _ files left rest) sound = (0, refl)
 
-pub unsound_broke : {mode : Mode} {pieces names : List (List ℕ)} {first : Option Break} {broke : List (Option Break)} {output error : Slot} {files : List Slot} → OutputLeft true pieces first output → FilesLeft true mode pieces names broke files → are_sound (first ∷ broke) ≡ false
+pub unsound_broke : {mode : Mode} {pieces names : List (List ℕ)} {first : Option Break} {broke : List (Option Break)}
+    {output error : Slot} {files : List Slot} → OutputLeft true pieces first output
+    → FilesLeft true mode pieces names broke files → are_sound (first ∷ broke) ≡ false
     → (place : ℕ) × (place ≡ 1 → ⊥) × ((slot_at (output ∷ error ∷ files) place).is_broken ≡ true)
 unsound_broke tee.output_whole rest sound = let (at, broken) = files_broke rest sound in (suc (suc at), λ is. omega (arith, is), broken)
 unsound_broke (tee.output_cut before piece after n is few) rest sound = search rules
 
 -- Standard output has a beginning of a text about a tool.
 
-pub text_begins : {breaks_for : ℕ → Reason → Bool} {which : Speaker} {text : List ℕ} {new : List Slot} {status : ℕ} (place : ℕ) → (place ≡ 1 → ⊥) → TellsText true breaks_for which text new status → BeginsAs (slot_at new place) (slot_at (slots_of (text_made text).part) place)
+pub text_begins : {breaks_for : ℕ → Reason → Bool} {which : Speaker} {text : List ℕ} {new : List Slot} {status : ℕ}
+    (place : ℕ) → (place ≡ 1 → ⊥) → TellsText true breaks_for which text new status
+    → BeginsAs (slot_at new place) (slot_at (slots_of (text_made text).part) place)
 text_begins (suc zero) differs tells = absurd (differs refl)
 text_begins place differs (no_text error says slots is) = still_begins place slots (bare_begins error place differs)
 text_begins {text} zero differs (text_whole slots is) = rw slots (record { bytes = begins_itself text; named = inl refl })
@@ -490,24 +591,31 @@ text_begins (suc (suc place)) differs (text_cut n short why error is_why says sl
 -- Each output has a beginning of the input.
 
 -- all that was copied is one
-read_begins : {content : Content} (Leaves : List ℕ → Type 0) {is_vain : Bool} {x : List ℕ} {fault : Option Fault} → IsRead content Leaves is_vain x fault → IsBeginning x content.bytes
+read_begins : {content : Content} (Leaves : List ℕ → Type 0) {is_vain : Bool} {x : List ℕ} {fault : Option Fault}
+    → IsRead content Leaves is_vain x fault → IsBeginning x content.bytes
 read_begins Leaves (tee.to_end x is ends leaves) = rw is (begins_itself x)
 read_begins Leaves (tee.to_break x is breaks leaves) = rw is (begins_itself x)
 read_begins Leaves (tee.to_limit x piece rest is long short leaves) = grind (arith, common_steps)
 read_begins Leaves (tee.to_broken_output x rest is leaves) = (rest, is)
 
 -- so is what came before an output broke in a piece
-cut_begins : {pieces : List (List ℕ)} (before : List (List ℕ)) (piece : List ℕ) (after : List (List ℕ)) (n : ℕ) → pieces ≡ before ++ piece ∷ after → IsBeginning (concat before ++ take n piece) (concat pieces)
+cut_begins : {pieces : List (List ℕ)} (before : List (List ℕ)) (piece : List ℕ) (after : List (List ℕ)) (n : ℕ)
+    → pieces ≡ before ++ piece ∷ after → IsBeginning (concat before ++ take n piece) (concat pieces)
 cut_begins before piece after n is =
     begins_trans _ (concat before ++ piece) _ (take_begins_after n (concat before) piece)
     (concat after, ap concat is ∙ concat-append before (piece ∷ after) ∙ sym (append_assoc (concat before) piece (concat after)))
 
-output_begins : {pieces : List (List ℕ)} {bytes : List ℕ} {first : Option Break} {output : Slot} → IsBeginning (concat pieces) bytes → OutputLeft true pieces first output → BeginsAs output (adds bytes standard_output)
+output_begins : {pieces : List (List ℕ)} {bytes : List ℕ} {first : Option Break} {output : Slot}
+    → IsBeginning (concat pieces) bytes → OutputLeft true pieces first output
+    → BeginsAs output (adds bytes standard_output)
 output_begins all tee.output_whole = grind (arith, common_steps)
 output_begins {pieces} all (tee.output_cut before piece after n is few) = record { bytes = begins_trans _ (concat pieces) _ (cut_begins before piece after n is) all; named = inl refl }
 
-files_begin : {mode : Mode} {pieces : List (List ℕ)} {bytes : List ℕ} {names : List (List ℕ)} {broke : List (Option Break)} {files : List Slot} → IsBeginning (concat pieces) bytes → FilesLeft true mode pieces names broke files
-    → (place : ℕ) → BeginsAs (slot_at files place) (slot_at (map slot_of (map (λ name. file_of (copy mode bytes name)) names)) place)
+files_begin : {mode : Mode} {pieces : List (List ℕ)} {bytes : List ℕ} {names : List (List ℕ)}
+    {broke : List (Option Break)} {files : List Slot} → IsBeginning (concat pieces) bytes
+    → FilesLeft true mode pieces names broke files
+    → (place : ℕ)
+    → BeginsAs (slot_at files place) (slot_at (map slot_of (map (λ name. file_of (copy mode bytes name)) names)) place)
 files_begin all tee.no_file place = empty_begins refl
 files_begin all (tee.one_file name names first broke file files left rest) (suc place) = files_begin all rest place
 files_begin {pieces} all (tee.one_file name names _ broke _ files (tee.file_cut before piece after n is few) rest) zero = record { bytes = begins_trans _ (concat pieces) _ (cut_begins before piece after n is) all; named = inl refl }
@@ -515,10 +623,14 @@ files_begin all (tee.one_file name names _ broke _ files (tee.file_unopened kept
 files_begin all (tee.one_file name names first broke file files tee.file_whole rest) zero = grind (arith, common_steps)
 files_begin all (tee.one_file name names first broke file files tee.file_unclosed rest) zero = grind (arith, common_steps)
 
-pub tee_begins : {breaks_for : ℕ → Reason → Bool} {calling : Calling} {asked : TeeAsked} {content : Content} {source : Source} {new : List Slot} {status : ℕ} (place : ℕ) → (place ≡ 1 → ⊥) → tee.EndsAs true true breaks_for calling asked.mode asked.on_broken asked.names content source new status → BeginsAs (slot_at new place) (slot_at (slots_of (tee_made asked content).part) place)
+pub tee_begins : {breaks_for : ℕ → Reason → Bool} {calling : Calling} {asked : TeeAsked} {content : Content}
+    {source : Source} {new : List Slot} {status : ℕ} (place : ℕ) → (place ≡ 1 → ⊥)
+    → tee.EndsAs true true breaks_for calling asked.mode asked.on_broken asked.names content source new status
+    → BeginsAs (slot_at new place) (slot_at (slots_of (tee_made asked content).part) place)
 tee_begins place differs (tee.no_room error says unread slots failed) = still_begins place slots (bare_begins error place differs)
 tee_begins {asked} {content} place differs (tee.copied pieces fault first broke output error files comes going out_left files_left stand says slots is) = still_begins place slots (at place differs) where
-  at : (place : ℕ) → (place ≡ 1 → ⊥) → BeginsAs (slot_at (output ∷ error ∷ files) place) (slot_at (slots_of (tee_made asked content).part) place)
+  at : (place : ℕ) → (place ≡ 1 → ⊥)
+      → BeginsAs (slot_at (output ∷ error ∷ files) place) (slot_at (slots_of (tee_made asked content).part) place)
   at zero differs = output_begins (read_begins _ comes.read) out_left
   at (suc zero) differs = absurd (differs refl)
   at (suc (suc place)) differs = files_begin (read_begins _ comes.read) files_left place

@@ -93,8 +93,12 @@ sources_for work world more slot names = ((left_for work (Some world.standard)).
 abbrev AreDoneFrom : (Option (List ℕ) → Work) → World → List (List ℕ) → Type 0
 AreDoneFrom work world names = (was_read : Bool) (slot : ℕ) (more : List Source) → slot ≡ suc (length more) → AreDone true work largest_piece (inputs_from world was_read slot names) (sources_for work world more slot names)
 
-file_done : (work : Option (List ℕ) → Work) (world : World) (was_read : Bool) (slot : ℕ) (name : List ℕ) (names : List (List ℕ)) (more : List Source) → slot ≡ suc (length more) → AreDoneFrom work world names
-    → AreDone true work largest_piece (input_of world was_read slot name false ∷ inputs_from world was_read (slot + 1) names) (((left_for work (Some world.standard)).source ∷ more) ++ (left_for work (world.laid slot name)).source ∷ files_for work world (slot + 1) names)
+file_done : (work : Option (List ℕ) → Work) (world : World) (was_read : Bool) (slot : ℕ) (name : List ℕ)
+    (names : List (List ℕ)) (more : List Source) → slot ≡ suc (length more) → AreDoneFrom work world names
+    → AreDone true work largest_piece
+    (input_of world was_read slot name false ∷ inputs_from world was_read (slot + 1) names)
+    (((left_for work (Some world.standard)).source ∷ more)
+    ++ (left_for work (world.laid slot name)).source ∷ files_for work world (slot + 1) names)
 file_done work world was_read slot name names more is again =
     let first = (left_for work (Some world.standard)).source in
     let here = left_for work (world.laid slot name) in
@@ -106,8 +110,10 @@ file_done work world was_read slot name names more is again =
       subst (AreDone true work largest_piece (inputs_from world was_read (slot + 1) names)) (append_assoc (first ∷ more) (here.source ∷ []) rest) (again was_read (slot + 1) (more ++ here.source ∷ []) (omega (arith, is, next))),
     )
 
-name_done : (dash : Bool) (work : Option (List ℕ) → Work) (world : World) (was_read : Bool) (slot : ℕ) (name : List ℕ) (names : List (List ℕ)) (more : List Source) → slot ≡ suc (length more) → AreDoneFrom work world names
-    → AreDone true work largest_piece (input_of world was_read slot name dash ∷ inputs_from world (was_read || dash) (cond dash slot (slot + 1)) names)
+name_done : (dash : Bool) (work : Option (List ℕ) → Work) (world : World) (was_read : Bool) (slot : ℕ) (name : List ℕ)
+    (names : List (List ℕ)) (more : List Source) → slot ≡ suc (length more) → AreDoneFrom work world names
+    → AreDone true work largest_piece
+    (input_of world was_read slot name dash ∷ inputs_from world (was_read || dash) (cond dash slot (slot + 1)) names)
     (((left_for work (Some world.standard)).source ∷ more) ++ cond dash (files_for work world slot names) ((left_for work (world.laid slot name)).source ∷ files_for work world (slot + 1) names))
 name_done true work world true slot name names more is again = (tt, again true slot more is)
 name_done true work world false slot name names more is again = ((omega arith, (left_for work (Some world.standard)).is 0), again true slot more is)
@@ -124,7 +130,8 @@ record TookLines (speaker : Speaker) (lines : List Message) (old : Slot) : Type 
   pub error : Slot
   pub says : SaysAll true speaker lines old error
 
-took_lines : (speaker : Speaker) (lines : List Message) (old : Slot) → old.is_broken ≡ false → TookLines speaker lines old
+took_lines : (speaker : Speaker) (lines : List Message) (old : Slot) → old.is_broken ≡ false
+    → TookLines speaker lines old
 took_lines speaker [] old sound = record { error = old; says = refl }
 took_lines speaker (message ∷ lines) old sound =
     let line = line_of speaker Other message in
@@ -152,12 +159,14 @@ record Cleans (sweeps : Bool) (old : List Slot) : Type 0 where
 cleans : (sweeps : Bool) (output error : Slot) (files : List Slot) → Cleans sweeps (output ∷ error ∷ files)
 cleans false output error files = record { new = output ∷ error ∷ files; swept = refl }
 cleans true output error files = record { new = output ∷ error ∷ map gone files; swept = record { size = ap (λ n. suc (suc n)) (length-map files gone); before = before; cleared = cleared } } where
-  before : (place : ℕ) → place < 2 → slot_at (output ∷ error ∷ map gone files) place ≡ slot_at (output ∷ error ∷ files) place
+  before : (place : ℕ) → place < 2
+      → slot_at (output ∷ error ∷ map gone files) place ≡ slot_at (output ∷ error ∷ files) place
   before zero few = refl
   before (suc zero) few = refl
   before (suc (suc place)) few = absurd (omega (arith, few))
 
-  cleared : (place : ℕ) → 2 ≤ place → Cleared (slot_at (output ∷ error ∷ files) place) (slot_at (output ∷ error ∷ map gone files) place)
+  cleared : (place : ℕ) → 2 ≤ place
+      → Cleared (slot_at (output ∷ error ∷ files) place) (slot_at (output ∷ error ∷ map gone files) place)
   cleared zero past = absurd (omega (arith, past))
   cleared (suc zero) past = absurd (omega (arith, past))
   cleared (suc (suc place)) past = cleared_each files place
@@ -171,7 +180,8 @@ record EndsWell (breaks_for : ℕ → Reason → Bool) (task : Task) (world : Wo
   pub ends : EndsAs true true breaks_for task (inputs_at world names) sources new status
   pub unstopped : IsUnstopped ends
 
-ends_well : (breaks_for : ℕ → Reason → Bool) (task : Task) (world : World) (names : List (List ℕ)) → EndsWell breaks_for task world names
+ends_well : (breaks_for : ℕ → Reason → Bool) (task : Task) (world : World) (names : List (List ℕ))
+    → EndsWell breaks_for task world names
 ends_well breaks_for task world names =
     let made = made_by task (inputs_at world names) in
     let lines = took_lines task.speaker made.messages standard_error refl in
@@ -199,7 +209,9 @@ all_sound : (names : List (List ℕ)) → are_sound (unbroken names) ≡ true
 all_sound [] = refl
 all_sound (name ∷ names) = all_sound names
 
-copies_left : (mode : Mode) (pieces names : List (List ℕ)) → FilesLeft true mode pieces names (unbroken names) (map (λ name. closes (adds (concat pieces) (opened name mode))) names)
+copies_left : (mode : Mode) (pieces names : List (List ℕ))
+    → FilesLeft true mode pieces names (unbroken names)
+    (map (λ name. closes (adds (concat pieces) (opened name mode))) names)
 copies_left mode pieces [] = tee.no_file
 copies_left mode pieces (name ∷ names) = tee.one_file name names None (unbroken names) _ _ tee.file_whole (copies_left mode pieces names)
 
@@ -209,7 +221,8 @@ all_stand [] place = refl
 all_stand (name ∷ names) zero = refl
 all_stand (name ∷ names) (suc place) = all_stand names place
 
-stand_sound : (breaks_for : ℕ → Reason → Bool) (names : List (List ℕ)) → tee.EachStandsFor breaks_for (map tee.standing_of (None ∷ unbroken names))
+stand_sound : (breaks_for : ℕ → Reason → Bool) (names : List (List ℕ))
+    → tee.EachStandsFor breaks_for (map tee.standing_of (None ∷ unbroken names))
 stand_sound breaks_for names zero = tt
 stand_sound breaks_for names (suc place) = subst (tee.StandsFor (breaks_for (suc (suc place)))) (sym (all_stand names place)) tt
 
@@ -221,7 +234,9 @@ record DoesWell (breaks_for : ℕ → Reason → Bool) (calling : Calling) (aske
   pub does : DoesAsked calling true true breaks_for asked (inputs_at world (names_of asked)) sources new status
   pub unstopped : Unstopped breaks_for calling asked (inputs_at world (names_of asked)) sources new status does
 
-read_all : (bytes : List ℕ) (breaks_off : Bool) {shown : Option (List ℕ)} (Leaves : List ℕ → Type 0) → Leaves [] → IsRead (record { bytes = bytes; breaks_off = breaks_off; shown = shown }) Leaves false (concat (pieces_of bytes)) (met_by breaks_off)
+read_all : (bytes : List ℕ) (breaks_off : Bool) {shown : Option (List ℕ)} (Leaves : List ℕ → Type 0) → Leaves []
+    → IsRead (record { bytes = bytes; breaks_off = breaks_off; shown = shown }) Leaves false (concat (pieces_of bytes))
+    (met_by breaks_off)
 read_all bytes true Leaves none = tee.to_break _ (sym (pieces_are bytes)) refl none
 read_all bytes false Leaves none = tee.to_end _ (sym (pieces_are bytes)) refl none
 
@@ -229,7 +244,8 @@ met_or_sound : (breaks_off : Bool) → (met_by breaks_off ≡ Some (Read 0)) ⊎
 met_or_sound true = inl refl
 met_or_sound false = inr refl
 
-tee_well : (breaks_for : ℕ → Reason → Bool) (calling : Calling) (asked : TeeAsked) (world : World) → length world.standard.bytes < 2 ^ 63 → DoesWell breaks_for calling (Tee asked) world
+tee_well : (breaks_for : ℕ → Reason → Bool) (calling : Calling) (asked : TeeAsked) (world : World)
+    → length world.standard.bytes < 2 ^ 63 → DoesWell breaks_for calling (Tee asked) world
 tee_well breaks_for calling asked world few = record {
   sources = source ∷ [];
   new = left lines.error;
@@ -255,7 +271,8 @@ tee_well breaks_for calling asked world few = record {
   left : Slot → List Slot
   left error = adds (concat pieces) standard_output ∷ error ∷ map (λ name. closes (adds (concat pieces) (opened name asked.mode))) asked.names
 
-  ends : tee.EndsAs true true breaks_for calling asked.mode asked.on_broken asked.names content source (left lines.error) (tee.status_of asked.on_broken (None ∷ unbroken asked.names) fault)
+  ends : tee.EndsAs true true breaks_for calling asked.mode asked.on_broken asked.names content source
+      (left lines.error) (tee.status_of asked.on_broken (None ∷ unbroken asked.names) fault)
   ends = tee.copied pieces fault None (unbroken asked.names) _ lines.error _
       (record {
         read = rw (sound_goes_on asked.on_broken (suc (length pieces)) None (unbroken asked.names) (all_sound asked.names)) (read_all content.bytes content.breaks_off (LeavesOf true source) (λ told. refl));
@@ -270,11 +287,13 @@ tee_well breaks_for calling asked world few = record {
       (rw (quiet_outputs asked.on_broken asked.names (None ∷ unbroken asked.names) (length pieces) fault (all_sound asked.names)) lines.says) refl refl
 
   all : (breaks_off : Bool) → tee.status_of asked.on_broken (None ∷ unbroken asked.names) (met_by breaks_off) ≡ 0
-      → left (took_lines (tee_called calling) (said_of_input (met_by breaks_off)) standard_error refl).error ≡ tee.all_copied true asked.mode asked.names content.bytes
+      → left (took_lines (tee_called calling) (said_of_input (met_by breaks_off)) standard_error refl).error
+      ≡ tee.all_copied true asked.mode asked.names content.bytes
   all true well = absurd (let is : 1 ≡ 0 = sym (sound_status asked.on_broken (None ∷ unbroken asked.names) (Some (Read 0)) (all_sound asked.names)) ∙ well in omega (arith, is))
   all false well = ap left (took_lines (tee_called calling) (said_of_input (met_by false)) standard_error refl).says ∙ ap (λ those. adds those standard_output ∷ standard_error ∷ map (λ name. closes (adds those (opened name asked.mode))) asked.names) (pieces_are content.bytes)
 
-does_well : (run : Run) (asked : Settings) → HasOperands asked → (HasLong run asked → ⊥) → DoesWell run.breaks_for run.calling asked run.world
+does_well : (run : Run) (asked : Settings) → HasOperands asked → (HasLong run asked → ⊥)
+    → DoesWell run.breaks_for run.calling asked run.world
 does_well run (Head asked) can short = let e = ends_well run.breaks_for (head_task run.calling asked) run.world asked.names in record { sources = e.sources; new = e.new; status = e.status; does = e.ends; unstopped = e.unstopped }
 does_well run (Tail asked) can short = let e = ends_well run.breaks_for (tail_task run.calling asked.ends) run.world asked.ends.names in record { sources = e.sources; new = e.new; status = e.status; does = e.ends; unstopped = e.unstopped }
 does_well run (Split asked) can short = let e = ends_well run.breaks_for (split_task run.calling asked) run.world (asked.input ∷ []) in record { sources = e.sources; new = e.new; status = e.status; does = e.ends; unstopped = e.unstopped }
@@ -287,7 +306,8 @@ does_well run (Tee asked) can short = elim (cases_lt (length run.world.standard.
   | inr many ↦ absurd (short (standard_input run.world.standard, run.world.standard, ([], [], refl), refl, many))
 ]
 
-pub one_completes : (run : Run) (asked : Settings) → Ran run asked → HasOperands asked → (HasLong run asked → ⊥) → (well : Run) × FindAlike run well × Completes well asked
+pub one_completes : (run : Run) (asked : Settings) → Ran run asked → HasOperands asked → (HasLong run asked → ⊥)
+    → (well : Run) × FindAlike run well × Completes well asked
 one_completes run asked ran can short =
     let all = does_well run asked can short in
     (record run { inputs = all.sources; outputs = all.new; status = all.status }, all_alike _, record { read = ran.read; does = all.does; unstopped = all.unstopped })

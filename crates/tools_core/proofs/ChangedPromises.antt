@@ -41,7 +41,8 @@ made_at task name whole verdict = record {
 -- so it is of one input without a header, where files stay
 judged_made : (task : Task) (work : Work) (name : List ℕ) (content : Content) (verdict : Option Verdict)
     → content.breaks_off ≡ false → work.verdict content.bytes ≡ verdict → work.clears ≡ false → task.with_header ≡ false
-    → joined (of_content task work true name (Some content)) no_outcome ≡ made_at task name (work.whole content.bytes) verdict
+    → joined (of_content task work true name (Some content)) no_outcome
+    ≡ made_at task name (work.whole content.bytes) verdict
 judged_made task work name content None ends judged stay bare =
     rw (ends, judged, stay, bare, append-nil (work.whole content.bytes).out, append-nil (work.whole content.bytes).files) refl
 judged_made task work name content (Some verdict) ends judged stay bare =
@@ -129,5 +130,5 @@ module _ {split : Run} {asked : SplitAsked} {input : Input} {shown bytes : List 
 
     changed : has_ended chunks (length shown) bytes place ≡ false
         → LeftSo (made_at task input.name (work.whole bytes) (Some Changed))
-    changed short = left_so work (Some Changed) (way_is is) refl 
+    changed short = left_so work (Some Changed) (way_is is) refl
         (changed_alone place chunks (length shown) bytes gives.other short)

@@ -49,7 +49,8 @@ abbrev KeepsSpelling : Spelling → Type 0
 KeepsSpelling (search delimiter text offset) = eqb delimiter 47 ≡ true
 KeepsSpelling spelling = Unit {0}
 
-closed_keeps : (delimiter : ℕ) (text : List ℕ) (place : Option ℕ) → eqb delimiter 47 ≡ true → KeepsSpelling (closed_at delimiter text place)
+closed_keeps : (delimiter : ℕ) (text : List ℕ) (place : Option ℕ) → eqb delimiter 47 ≡ true
+    → KeepsSpelling (closed_at delimiter text place)
 closed_keeps delimiter text None is = tt
 closed_keeps delimiter text (Some place) is = grind (arith, common_steps)
 
@@ -84,17 +85,32 @@ abbrev KeepAims : List Spelled → Type 0
 KeepAims [] = Unit {0}
 KeepAims (spelled ∷ more) = KeepsAim spelled.aim × KeepAims more
 
-last_keeps : (index : ℕ) (aimed : Aimed) → KeepsAimed aimed → KeepAims (elim aimed as (λ _. Words) [ fails what ↦ failed what index | aims aim ↦ with_operand index aim (Count 0) no_more ]).operands
+last_keeps : (index : ℕ) (aimed : Aimed) → KeepsAimed aimed
+    → KeepAims
+    (elim aimed as
+    (λ _. Words) [ fails what ↦ failed what index | aims aim ↦ with_operand index aim (Count 0) no_more ]).operands
 last_keeps index (fails what) keeps = tt
 last_keeps index (aims aim) keeps = (keeps, tt)
 
-next_keeps : (index : ℕ) (aimed : Aimed) (says : Option Times) (past next : Aim → Words) → KeepsAimed aimed → ((aim : Aim) → KeepAims (past aim).operands) → ((aim : Aim) → KeepAims (next aim).operands)
-    → KeepAims (elim aimed as (λ _. Words) [ fails what ↦ failed what index | aims aim ↦ elim says as (λ _. Words) [ Some times ↦ with_operand index aim times (past aim) | None ↦ with_operand index aim (Count 0) (next aim) ] ]).operands
+next_keeps : (index : ℕ) (aimed : Aimed) (says : Option Times) (past next : Aim → Words) → KeepsAimed aimed
+    → ((aim : Aim) → KeepAims (past aim).operands) → ((aim : Aim) → KeepAims (next aim).operands)
+    → KeepAims
+    (elim aimed as
+    (λ _. Words) [
+      | fails what ↦ failed what index
+      | aims aim ↦ elim says as
+          (λ _. Words) [
+            | Some times ↦ with_operand index aim times (past aim)
+            | None ↦ with_operand index aim
+                (Count 0) (next aim)
+          ]
+    ]).operands
 next_keeps index (fails what) says past next keeps first second = tt
 next_keeps index (aims aim) (Some times) past next keeps first second = (keeps, first aim)
 next_keeps index (aims aim) None past next keeps first second = (keeps, second aim)
 
-words_keep : (index least : ℕ) (words : List (List ℕ)) → SkipNothing words → KeepAims (words_from index least words).operands
+words_keep : (index least : ℕ) (words : List (List ℕ)) → SkipNothing words
+    → KeepAims (words_from index least words).operands
 words_keep index least [] none = tt
 words_keep index least (word ∷ []) none = last_keeps index (aim_of least (spelling word)) (aimed_keeps least (spelling word) (word_keeps word none.0))
 words_keep index least (word ∷ next ∷ words) none =
@@ -116,7 +132,8 @@ target_keeps (line n) (Number m) keeps is = refl
 target_keeps (match is_kept text offset) (Search pattern kept moved) keeps is = is.1 ∙ keeps
 target_keeps aim target keeps is = absurd is
 
-read_keep : (spelled : List Spelled) (operands : List Operand) → KeepAims spelled → AreRead spelled operands → KeepTargets operands
+read_keep : (spelled : List Spelled) (operands : List Operand) → KeepAims spelled → AreRead spelled operands
+    → KeepTargets operands
 read_keep [] [] keep are = tt
 read_keep (spelled ∷ more) (operand ∷ operands) keep are = (target_keeps spelled.aim operand.target keep.0 are.0.target, read_keep more operands keep.1 are.1)
 read_keep spelled operands keep are = absurd are
@@ -127,11 +144,13 @@ abbrev AllKept : List Section → Type 0
 AllKept [] = Unit {0}
 AllKept (section ∷ sections) = (section.is_kept ≡ true) × AllKept sections
 
-kept_after : (more : Bool) (operand : Operand) (operands : List Operand) → KeepTargets (operand ∷ operands) → KeepTargets (operands_after more operand operands)
+kept_after : (more : Bool) (operand : Operand) (operands : List Operand) → KeepTargets (operand ∷ operands)
+    → KeepTargets (operands_after more operand operands)
 kept_after true operand operands keep = keep
 kept_after false operand operands keep = keep.1
 
-kept_then : (sections : List Section) (last : Section) → AllKept sections → last.is_kept ≡ true → AllKept (sections ++ last ∷ [])
+kept_then : (sections : List Section) (last : Section) → AllKept sections → last.is_kept ≡ true
+    → AllKept (sections ++ last ∷ [])
 kept_then [] last kept is = (is, tt)
 kept_then (section ∷ sections) last kept is = (kept.0, kept_then sections last kept.1 is)
 
@@ -139,7 +158,8 @@ record Kept (lines : List Line) (steps : List Step) (ending : Ending) : Type 0 w
   pub sections : AllKept (map (section_of lines) steps)
   pub final : is_last_kept ending ≡ true
 
-runs_keep : {suppress : Bool} {lines : List Line} {state : State} {steps : List Step} {last : State} {ending : Ending} → Runs suppress lines state steps last ending → KeepTargets state.operands → Kept lines steps ending
+runs_keep : {suppress : Bool} {lines : List Line} {state : State} {steps : List Step} {last : State} {ending : Ending}
+    → Runs suppress lines state steps last ending → KeepTargets state.operands → Kept lines steps ending
 runs_keep (is_used_up state none) keep = record { sections = tt; final = refl }
 runs_keep (misses state operand operands is none) keep = grind (arith, common_steps)
 runs_keep (is_above state operand operands matched cut is at far) keep = grind (arith, common_steps)
@@ -149,7 +169,8 @@ runs_keep (cuts state operand operands matched cut steps last ending is at from 
     let past = runs_keep rest (kept_after (has_more operand.times state.repetition) operand operands these) in
     record { sections = (these.0, past.sections); final = past.final }
 
-sections_kept : (suppress : Bool) (operands : List Operand) (lines : List Line) → KeepTargets operands → AllKept (whole_sections lines (plan suppress operands lines))
+sections_kept : (suppress : Bool) (operands : List Operand) (lines : List Line) → KeepTargets operands
+    → AllKept (whole_sections lines (plan suppress operands lines))
 sections_kept suppress operands lines keep =
     let kept = runs_keep (plan_runs suppress operands lines) keep in
     kept_then (map (section_of lines) (plan suppress operands lines).steps) _ kept.sections kept.final
@@ -165,29 +186,35 @@ all_bytes (text ∷ lines) = ap (λ rest. text ∷ rest) (all_bytes lines)
 
 -- what the files have
 
-share_bytes : (state : SlotState) (those : List (List ℕ)) → map (λ (one : Share). one.bytes) (map (share state) those) ≡ those
+share_bytes : (state : SlotState) (those : List (List ℕ))
+    → map (λ (one : Share). one.bytes) (map (share state) those) ≡ those
 share_bytes state [] = refl
 share_bytes state (bytes ∷ those) = ap (λ rest. bytes ∷ rest) (share_bytes state those)
 
-shares_have : (style : Style) (sections : List Section) → map (λ (one : Share). one.bytes) (shares_in style sections) ≡ flat_map (file_in style) sections
+shares_have : (style : Style) (sections : List Section)
+    → map (λ (one : Share). one.bytes) (shares_in style sections) ≡ flat_map (file_in style) sections
 shares_have style [] = refl
 shares_have style (section ∷ sections) =
     map-append (λ (one : Share). one.bytes) (map (share (state_in section)) (file_in style section)) (shares_in style sections)
     ∙ ap (λ front. front ++ map (λ (one : Share). one.bytes) (shares_in style sections)) (share_bytes (state_in section) (file_in style section))
     ∙ ap (λ rest. file_in style section ++ rest) (shares_have style sections)
 
-files_have : (style : Style) (place : ℕ) (shares : List Share) → map (λ (file : File). file.bytes) (files_from (manner_of style) place shares) ≡ map (λ (one : Share). one.bytes) shares
+files_have : (style : Style) (place : ℕ) (shares : List Share)
+    → map (λ (file : File). file.bytes) (files_from (manner_of style) place shares)
+    ≡ map (λ (one : Share). one.bytes) shares
 files_have style place [] = refl
 files_have style place (one ∷ shares) = ap (λ rest. one.bytes ∷ rest) (files_have style (place + 1) shares)
 
 -- a section that is kept makes no file only where it is empty
-file_joined : (elide kept : Bool) (bytes : List ℕ) → kept ≡ true → joined (made_of (cond kept (cond elide Late AtOnce) Never) bytes) ≡ bytes
+file_joined : (elide kept : Bool) (bytes : List ℕ) → kept ≡ true
+    → joined (made_of (cond kept (cond elide Late AtOnce) Never) bytes) ≡ bytes
 file_joined elide false bytes kept = absurd (false≢true kept)
 file_joined true true [] kept = refl
 file_joined true true (byte ∷ bytes) kept = append-nil (byte ∷ bytes)
 file_joined false true bytes kept = append-nil bytes
 
-files_joined : (style : Style) (sections : List Section) → AllKept sections → joined (flat_map (file_in style) sections) ≡ bytes_of (lines_in sections)
+files_joined : (style : Style) (sections : List Section) → AllKept sections
+    → joined (flat_map (file_in style) sections) ≡ bytes_of (lines_in sections)
 files_joined style [] kept = refl
 files_joined style (section ∷ sections) kept =
     joined-append (file_in style section) (flat_map (file_in style) sections)
@@ -196,7 +223,8 @@ files_joined style (section ∷ sections) kept =
 
 -- Their names
 
-numbered_from : (style : Style) (start : ℕ) (shares : List Share) → AreNamed (name_at (naming_of style)) start (files_from (manner_of style) start shares)
+numbered_from : (style : Style) (start : ℕ) (shares : List Share)
+    → AreNamed (name_at (naming_of style)) start (files_from (manner_of style) start shares)
 numbered_from style start [] k within = absurd (omega (arith, within))
 numbered_from style start (one ∷ shares) k within =
     named_step (name_at (naming_of style)) start (file_at (manner_of style) start one) (files_from (manner_of style) (start + 1) shares) [] true refl (numbered_from style (start + 1) shares) (λ k within. absurd (omega (arith, within))) k within
@@ -212,10 +240,15 @@ pub record IsCsplit (run : Run) (asked : CsplitAsked) (input : List ℕ) : Type 
   pub operands : List Operand
   pub asks : Asks asked.operands operands
   pub well : is_final (plan asked.style.suppress operands (all_lines input)).ending ≡ false
-  pub files : files_of run ≡ map slot_of (files_from (manner_of asked.style) 0 (shares_in asked.style (whole_sections (all_lines input) (plan asked.style.suppress operands (all_lines input)))))
-  pub contents : contents_of run ≡ flat_map (file_in asked.style) (whole_sections (all_lines input) (plan asked.style.suppress operands (all_lines input)))
+  pub files : files_of run ≡ map slot_of
+      (files_from (manner_of asked.style) 0
+      (shares_in asked.style
+      (whole_sections (all_lines input) (plan asked.style.suppress operands (all_lines input)))))
+  pub contents : contents_of run ≡ flat_map (file_in asked.style)
+      (whole_sections (all_lines input) (plan asked.style.suppress operands (all_lines input)))
 
-is_csplit : {run : Run} {asked : CsplitAsked} {input : List ℕ} → Does run (Csplit asked) → HasInput run input → IsCsplit run asked input
+is_csplit : {run : Run} {asked : CsplitAsked} {input : List ℕ} → Does run (Csplit asked) → HasInput run input
+    → IsCsplit run asked input
 is_csplit {run} {asked} {input} does has =
     let one = did_one does has in
     let (operands, asks, is) = one.makes in
@@ -230,7 +263,8 @@ is_csplit {run} {asked} {input} does has =
       contents = ap (map (λ (file : Slot). file.written)) files ∙ bytes_written _ ∙ files_have asked.style 0 (shares_in asked.style sections) ∙ shares_have asked.style sections;
     }
 
-pub are_numbered : (run : Run) (asked : CsplitAsked) (input : List ℕ) → Does run (Csplit asked) → HasInput run input → AreNumbered asked.style (files_of run)
+pub are_numbered : (run : Run) (asked : CsplitAsked) (input : List ℕ) → Does run (Csplit asked) → HasInput run input
+    → AreNumbered asked.style (files_of run)
 are_numbered run asked input does has =
     let split = is_csplit does has in
     let lines = all_lines input in
@@ -253,7 +287,8 @@ are_numbered run asked input does has =
           (All-append IsClosed (map (section_of lines) steps) _ (All-map IsClosed (section_of lines) steps (λ k step within bytes place. (refl, refl, refl))) (All-cons IsClosed _ [] (λ bytes place. (refl, refl, refl)) (All-nil IsClosed)))));
     })
 
-pub none_is_lost : (run : Run) (asked : CsplitAsked) (input : List ℕ) → Does run (Csplit asked) → HasInput run input → asked.style.suppress ≡ false → SkipNothing asked.operands → joined (contents_of run) ≡ input
+pub none_is_lost : (run : Run) (asked : CsplitAsked) (input : List ℕ) → Does run (Csplit asked) → HasInput run input
+    → asked.style.suppress ≡ false → SkipNothing asked.operands → joined (contents_of run) ≡ input
 none_is_lost run asked input does has whole none =
     let split = is_csplit does has in
     let lines = all_lines input in
@@ -267,12 +302,14 @@ none_is_lost run asked input does has whole none =
 -- Each line in its turn
 
 -- the lines from one to before another, and the rest
-between_rest : {first cut : ℕ} (lines : List Line) → 1 ≤ first → first ≤ cut → lines_between first cut lines ++ drop (cut - 1) lines ≡ drop (first - 1) lines
+between_rest : {first cut : ℕ} (lines : List Line) → 1 ≤ first → first ≤ cut
+    → lines_between first cut lines ++ drop (cut - 1) lines ≡ drop (first - 1) lines
 between_rest {first} {cut} lines some least =
     ap (λ those. lines_between first cut lines ++ those) (ap (λ n. drop n lines) (let e : cut - 1 ≡ first - 1 + (cut - first) = omega (arith, some, least) in e) ∙ sym (drop-drop (cut - first) (first - 1) lines))
     ∙ take-append-drop (cut - first) (drop (first - 1) lines)
 
-cut_rest : (suppress : Bool) (lines : List Line) (step : Step) → 1 ≤ step.cut → left_out suppress lines step ++ drop (line_after suppress step.cut - 1) lines ≡ drop (step.cut - 1) lines
+cut_rest : (suppress : Bool) (lines : List Line) (step : Step) → 1 ≤ step.cut
+    → left_out suppress lines step ++ drop (line_after suppress step.cut - 1) lines ≡ drop (step.cut - 1) lines
 cut_rest true lines step some = between_rest lines some (omega arith)
 cut_rest false lines step some = refl
 
@@ -280,7 +317,8 @@ past_cut : (suppress : Bool) {cut : ℕ} → 1 ≤ cut → 1 ≤ line_after supp
 past_cut true some = omega (arith, some)
 past_cut false some = some
 
-all_in_turn : {suppress : Bool} {lines : List Line} {first : State} {steps : List Step} {last : State} {ending : Ending} → Runs suppress lines first steps last ending → 1 ≤ first.current
+all_in_turn : {suppress : Bool} {lines : List Line} {first : State} {steps : List Step} {last : State} {ending : Ending}
+    → Runs suppress lines first steps last ending → 1 ≤ first.current
     → in_turn suppress lines steps (drop (last.current - 1) lines) ≡ drop (first.current - 1) lines
 all_in_turn {suppress} {lines} (cuts state operand operands matched cut steps' last' ending' is at from within rest) some =
     let low : 1 ≤ cut = omega (arith, some, from) in
@@ -290,10 +328,14 @@ all_in_turn {suppress} {lines} (cuts state operand operands matched cut steps' l
     ∙ between_rest lines some from
 all_in_turn run some = refl
 
-rest_is_all : (lines : List Line) {current : ℕ} → 1 ≤ current → lines_between current (suc (length lines)) lines ≡ drop (current - 1) lines
+rest_is_all : (lines : List Line) {current : ℕ} → 1 ≤ current
+    → lines_between current (suc (length lines)) lines ≡ drop (current - 1) lines
 rest_is_all lines {current} some = grind (arith, common_steps)
 
-none_missing : (suppress : Bool) (operands : List Operand) {lines : List Line} → is_final (plan suppress operands lines).ending ≡ false → in_turn suppress lines (plan suppress operands lines).steps (last_section lines (plan suppress operands lines)) ≡ lines
+none_missing : (suppress : Bool) (operands : List Operand) {lines : List Line}
+    → is_final (plan suppress operands lines).ending ≡ false
+    → in_turn suppress lines (plan suppress operands lines).steps (last_section lines (plan suppress operands lines))
+    ≡ lines
 none_missing suppress operands {lines} live =
     let plan' = plan suppress operands lines in
     let runs = plan_runs suppress operands lines in
@@ -301,7 +343,9 @@ none_missing suppress operands {lines} live =
     ap (in_turn suppress lines plan'.steps) (ap (λ end. lines_between plan'.last.current end lines) (ends_after_all (length lines) plan'.ending live) ∙ rest_is_all lines some)
     ∙ all_in_turn runs (omega arith)
 
-pub are_sections : (run : Run) (asked : CsplitAsked) (input : List ℕ) → Does run (Csplit asked) → HasInput run input → (operands : List Operand) × Asks asked.operands operands × AreSections asked.style operands input (contents_of run)
+pub are_sections : (run : Run) (asked : CsplitAsked) (input : List ℕ) → Does run (Csplit asked) → HasInput run input
+    → (operands : List Operand) × Asks asked.operands operands
+    × AreSections asked.style operands input (contents_of run)
 are_sections run asked input does has =
     let split = is_csplit does has in (
       split.operands,

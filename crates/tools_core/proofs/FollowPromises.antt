@@ -41,7 +41,8 @@ abbrev pub looks_from : (ℕ → Snapshot) → ℕ → ℕ → List Snapshot
 looks_from shows start zero = []
 looks_from shows start (suc n) = shows start ∷ looks_from shows (suc start) n
 
-one_more : (shows : ℕ → Snapshot) {start : ℕ} (n : ℕ) → looks_from shows start n ++ shows (start + n) ∷ [] ≡ looks_from shows start (suc n)
+one_more : (shows : ℕ → Snapshot) {start : ℕ} (n : ℕ)
+    → looks_from shows start n ++ shows (start + n) ∷ [] ≡ looks_from shows start (suc n)
 one_more shows zero = search rules
 one_more shows {start} (suc n) = ap (λ rest. shows start ∷ rest) (ap (λ k. looks_from shows (suc start) n ++ shows k ∷ []) (let e : start + suc n ≡ suc start + n = omega arith in e) ∙ one_more shows n)
 
@@ -54,10 +55,14 @@ abbrev pub versions : (ℕ → Snapshot) → ℕ → ℕ → ℕ → List Entry
 versions shows file start zero = []
 versions shows file start (suc n) = version_in (shows start) file ∷ versions shows file (suc start) n
 
-later_by : (by_name : Bool) (name : List ℕ) {file : ℕ} (snapshot : Snapshot) {led : Option ℕ} {rest : List Entry} → led ≡ Some file → version_in snapshot file ∷ (entries_led snapshot (Some file) led ++ rest) ≡ version_in snapshot file ∷ rest
+later_by : (by_name : Bool) (name : List ℕ) {file : ℕ} (snapshot : Snapshot) {led : Option ℕ} {rest : List Entry}
+    → led ≡ Some file
+    → version_in snapshot file ∷ (entries_led snapshot (Some file) led ++ rest) ≡ version_in snapshot file ∷ rest
 later_by by_name name {file} snapshot is = search rules
 
-later_are : (by_name : Bool) {name : List ℕ} (shows : ℕ → Snapshot) {file count : ℕ} (start n : ℕ) → start + n ≤ count → OnlyGrows count shows name file → entries_later by_name name (Some file) (looks_from shows start n) ≡ versions shows file start n
+later_are : (by_name : Bool) {name : List ℕ} (shows : ℕ → Snapshot) {file count : ℕ} (start n : ℕ) → start + n ≤ count
+    → OnlyGrows count shows name file
+    → entries_later by_name name (Some file) (looks_from shows start n) ≡ versions shows file start n
 later_are by_name shows start zero within grows = refl
 later_are true {name} shows {file} start (suc n) within grows =
     let leads = grows.0 start (omega (arith, within)) in
@@ -66,21 +71,26 @@ later_are true {name} shows {file} start (suc n) within grows =
     ∙ ap (λ rest. version_in (shows start) file ∷ rest) (later_are true shows (suc start) n (omega (arith, within)) grows)
 later_are false shows start (suc n) within grows = rw (later_are false shows (suc start) n (omega (arith, within)) grows)
 
-entries_are : (by_name : Bool) {name : List ℕ} (shows : ℕ → Snapshot) {file count : ℕ} (n : ℕ) → n ≤ count → OnlyGrows count shows name file → entries_of by_name name (looks_from shows 0 n) ≡ versions shows file 0 n
+entries_are : (by_name : Bool) {name : List ℕ} (shows : ℕ → Snapshot) {file count : ℕ} (n : ℕ) → n ≤ count
+    → OnlyGrows count shows name file → entries_of by_name name (looks_from shows 0 n) ≡ versions shows file 0 n
 entries_are by_name shows zero within grows = refl
 entries_are by_name shows (suc n) within grows = rw (grows.0 0 (omega (arith, within)), later_are by_name shows 1 n (omega (arith, within)) grows)
 
-versions_kept : (shows : ℕ → Snapshot) {name : List ℕ} {file count : ℕ} (start n : ℕ) → start + n ≤ count → OnlyGrows count shows name file → AreKept (versions shows file start n)
+versions_kept : (shows : ℕ → Snapshot) {name : List ℕ} {file count : ℕ} (start n : ℕ) → start + n ≤ count
+    → OnlyGrows count shows name file → AreKept (versions shows file start n)
 versions_kept shows start zero within grows = tt
 versions_kept shows start (suc zero) within grows = (tt, tt)
 versions_kept shows start (suc (suc n)) within grows = ((λ goes. grows.1 start (omega (arith, within))), versions_kept shows (suc start) (suc n) (omega (arith, within)) grows)
 
-pub kept_in : (by_name : Bool) {name : List ℕ} (shows : ℕ → Snapshot) {file count : ℕ} → OnlyGrows count shows name file → AreKept (entries_of by_name name (seen_first shows count))
+pub kept_in : (by_name : Bool) {name : List ℕ} (shows : ℕ → Snapshot) {file count : ℕ} → OnlyGrows count shows name file
+    → AreKept (entries_of by_name name (seen_first shows count))
 kept_in by_name {name} shows {count} grows = rw (ap (entries_of by_name name) (seen_are shows count) ∙ entries_are by_name shows count (omega arith) grows) (versions_kept shows 0 count (omega arith) grows)
 
 -- what they gain is what came
-holds_later : (shows : ℕ → Snapshot) {name : List ℕ} {file count : ℕ} (start n : ℕ) → start + n < count → OnlyGrows count shows name file
-    → (shows (start + n)).holds file ≡ (shows start).holds file ++ gains_later (version_in (shows start) file) (versions shows file (suc start) n)
+holds_later : (shows : ℕ → Snapshot) {name : List ℕ} {file count : ℕ} (start n : ℕ) → start + n < count
+    → OnlyGrows count shows name file
+    → (shows (start + n)).holds file ≡ (shows start).holds file
+    ++ gains_later (version_in (shows start) file) (versions shows file (suc start) n)
 holds_later shows {file} start zero within grows = ap (λ k. (shows k).holds file) (let e : start + 0 ≡ start = omega arith in e) ∙ sym (append-nil ((shows start).holds file))
 holds_later shows {file} start (suc n) within grows =
     let (piece, next) = grows.1 start (omega (arith, within)) in
@@ -89,7 +99,8 @@ holds_later shows {file} start (suc n) within grows =
     ap (λ k. (shows k).holds file) (let e : start + suc n ≡ suc start + n = omega arith in e) ∙ holds_later shows (suc start) n (omega (arith, within)) grows
     ∙ ap (λ those. those ++ later) next ∙ append_assoc front piece later ∙ ap (λ gained. front ++ (gained ++ later)) (sym (grown file front next))
 
-gains_are : (shows : ℕ → Snapshot) {name : List ℕ} {file count n : ℕ} {came : List ℕ} → n < count → OnlyGrows count shows name file → (shows n).holds file ≡ (shows 0).holds file ++ came
+gains_are : (shows : ℕ → Snapshot) {name : List ℕ} {file count n : ℕ} {came : List ℕ} → n < count
+    → OnlyGrows count shows name file → (shows n).holds file ≡ (shows 0).holds file ++ came
     → gains_later (version_in (shows 0) file) (versions shows file 1 n) ≡ came
 gains_are shows {file} {n} {came} within grows is =
     let front = (shows 0).holds file in
@@ -98,14 +109,17 @@ gains_are shows {file} {n} {came} within grows is =
     sym (drop_front front gained) ∙ ap (drop (length front)) both ∙ drop_front front came
 
 -- the text of such a name
-pub growing_text : (by_name : Bool) {name : List ℕ} (shows : ℕ → Snapshot) {file count n : ℕ} (start : List ℕ → List ℕ) (came : List ℕ) → n < count → OnlyGrows count shows name file → (shows n).holds file ≡ (shows 0).holds file ++ came
+pub growing_text : (by_name : Bool) {name : List ℕ} (shows : ℕ → Snapshot) {file count n : ℕ} (start : List ℕ → List ℕ)
+    (came : List ℕ) → n < count → OnlyGrows count shows name file → (shows n).holds file ≡ (shows 0).holds file ++ came
     → name_text start (entries_of by_name name (seen_first shows (suc n))) ≡ start ((shows 0).holds file) ++ came
 growing_text by_name shows {file} {n} start came within grows is = rw (seen_are shows (suc n), entries_are by_name shows (suc n) (omega (arith, within)) grows, text_is_gains start (versions shows file 0 (suc n)) (versions_kept shows 0 (suc n) (omega (arith, within)) grows), gains_are shows within grows is)
 
 -- its file is open after each look
-pub stays_open : (by_name : Bool) {name : List ℕ} (shows : ℕ → Snapshot) {file count : ℕ} (n : ℕ) → n < count → OnlyGrows count shows name file → open_after by_name name (looks_from shows 0 (suc n)) ≡ Some file
+pub stays_open : (by_name : Bool) {name : List ℕ} (shows : ℕ → Snapshot) {file count : ℕ} (n : ℕ) → n < count
+    → OnlyGrows count shows name file → open_after by_name name (looks_from shows 0 (suc n)) ≡ Some file
 stays_open by_name {name} shows {file} {count} n within grows = by by_name 1 n (omega (arith, within)) ((shows 0).leads name) (grows.0 0 (omega (arith, within))) where
-  by : (by_name : Bool) (start n : ℕ) → start + n ≤ count → (opened : Option ℕ) → opened ≡ Some file → open_after_later by_name name opened (looks_from shows start n) ≡ Some file
+  by : (by_name : Bool) (start n : ℕ) → start + n ≤ count → (opened : Option ℕ) → opened ≡ Some file
+      → open_after_later by_name name opened (looks_from shows start n) ≡ Some file
   by by_name start zero below opened is = is
   by true start (suc n) below opened is = by true (suc start) n (omega (arith, below)) ((shows start).leads name) (grows.0 start (omega (arith, below)))
   by false start (suc n) below opened is = by false (suc start) n (omega (arith, below)) opened is
@@ -114,8 +128,10 @@ stays_open by_name {name} shows {file} {count} n within grows = by by_name 1 n (
 
 -- A name for which no call failed got all that the look gives.
 
-fine_share : (ways : Ways) (name : List ℕ) (before : List Look) (look : Look) (dropped : Bool) (fate : Fate) → dropped ≡ false → is_some (cond dropped (no_share name) (share_by ways name before look fate)).failure ≡ false
-    → (fate ≡ sound) × (bytes_of (cond dropped (no_share name) (share_by ways name before look fate)) ≡ gain ways name before look)
+fine_share : (ways : Ways) (name : List ℕ) (before : List Look) (look : Look) (dropped : Bool) (fate : Fate)
+    → dropped ≡ false → is_some (cond dropped (no_share name) (share_by ways name before look fate)).failure ≡ false
+    → (fate ≡ sound)
+    × (bytes_of (cond dropped (no_share name) (share_by ways name before look fate)) ≡ gain ways name before look)
 fine_share ways name before look true fate kept well = absurd (cc)
 fine_share ways name before look false sound kept well =
     (refl, cond_both (is_first before && is_missing (entries_in ways name (before ++ look ∷ []))) (missing_share name) _ (λ (share : Share). is_some share.failure ≡ false → bytes_of share ≡ gain ways name before look) (λ is failed. absurd (cc)) (λ is fine. refl) well)
@@ -130,7 +146,8 @@ record WroteAll (ways : Ways) (name : List ℕ) (before looks : List Look) (text
   pub is : text ≡ gains_from ways name before looks
   pub kept : is_dropped ways.first looks ≡ false
 
-wrote_all : (ways : Ways) (name : List ℕ) (before looks : List Look) (last : Option (List ℕ)) → is_dropped ways.first before ≡ false → any_failed (shares_from ways (name ∷ []) before looks) ≡ false
+wrote_all : (ways : Ways) (name : List ℕ) (before looks : List Look) (last : Option (List ℕ))
+    → is_dropped ways.first before ≡ false → any_failed (shares_from ways (name ∷ []) before looks) ≡ false
     → WroteAll ways name before looks (text_from false last (shares_from ways (name ∷ []) before looks))
 wrote_all ways name before [] last kept well = search rules
 wrote_all ways name before (look ∷ looks) last kept well =
@@ -143,17 +160,23 @@ wrote_all ways name before (look ∷ looks) last kept well =
     }
 
 -- a file that is open could always have more, so no look is the last that can give something
-alive_by : (dropped by_name : Bool) {opened : Option ℕ} {file : ℕ} → dropped ≡ false → opened ≡ Some file → ((not dropped && (by_name || is_some opened)) || false) ≡ true
+alive_by : (dropped by_name : Bool) {opened : Option ℕ} {file : ℕ} → dropped ≡ false → opened ≡ Some file
+    → ((not dropped && (by_name || is_some opened)) || false) ≡ true
 alive_by true by_name kept is = cc
 alive_by false true kept is = refl
 alive_by false false kept is = cc
 
-opens : (by_name : Bool) {name : List ℕ} (shows : ℕ → Snapshot) {file : ℕ} (looks : List Look) → OnlyGrows (length looks) shows name file → snapshots looks ≡ seen_first shows (length looks) → 0 < length looks → open_after by_name name (snapshots looks) ≡ Some file
+opens : (by_name : Bool) {name : List ℕ} (shows : ℕ → Snapshot) {file : ℕ} (looks : List Look)
+    → OnlyGrows (length looks) shows name file → snapshots looks ≡ seen_first shows (length looks) → 0 < length looks
+    → open_after by_name name (snapshots looks) ≡ Some file
 opens by_name shows [] grows saw some = search rules
 opens by_name shows (look ∷ looks) grows saw some = cc (saw, seen_are shows (suc (length looks)), stays_open by_name shows (length looks) (omega arith) grows)
 
-all_made : (ways : Ways) {name : List ℕ} (shows : ℕ → Snapshot) {file count : ℕ} (looks : List Look) → OnlyGrows (length looks) shows name file → snapshots looks ≡ seen_first shows (length looks) → is_dropped ways.first looks ≡ false → length looks ≤ count
-    → (length looks < count → (0 < length looks) × (◌≡◌ {A = Bool} true true → is_alive ways (name ∷ []) looks ≡ false)) → length looks ≡ count
+all_made : (ways : Ways) {name : List ℕ} (shows : ℕ → Snapshot) {file count : ℕ} (looks : List Look)
+    → OnlyGrows (length looks) shows name file → snapshots looks ≡ seen_first shows (length looks)
+    → is_dropped ways.first looks ≡ false → length looks ≤ count
+    → (length looks < count → (0 < length looks) × (◌≡◌ {A = Bool} true true → is_alive ways (name ∷ []) looks ≡ false))
+    → length looks ≡ count
 all_made ways shows {count} looks grows saw kept few full = elim (cases_lt (length looks) count) [
   | inl less ↦ let why = full less in absurd
       (false≢true (sym (why.1 refl) ∙ alive_by (is_dropped ways.first looks) ways.by_name kept (opens ways.by_name shows looks grows saw why.0)))
@@ -161,18 +184,23 @@ all_made ways shows {count} looks grows saw kept few full = elim (cases_lt (leng
 ]
 
 -- the looks that were made, and what was written
-pub record WroteText (ways : Ways) (name : List ℕ) (shows : ℕ → Snapshot) (count : ℕ) (seen : List Snapshot) (new : List Slot) : Type 0 where
+pub record WroteText (ways : Ways) (name : List ℕ) (shows : ℕ → Snapshot) (count : ℕ) (seen : List Snapshot)
+    (new : List Slot) : Type 0 where
   pub looks : List Look
   pub count_is : length looks ≡ length seen
   pub seen_is : seen ≡ snapshots looks
   pub saw : snapshots looks ≡ seen_first shows (length looks)
   pub kept : is_dropped ways.first looks ≡ false
   pub few : length looks ≤ count
-  pub full : length looks < count → (0 < length looks) × (◌≡◌ {A = Bool} true true → is_alive ways (name ∷ []) looks ≡ false)
+  pub full : length looks < count → (0 < length looks)
+      × (◌≡◌ {A = Bool} true true → is_alive ways (name ∷ []) looks ≡ false)
   pub is : (slot_at new 0).written ≡ name_text ways.start (entries_of ways.by_name name seen)
 
-wrote_text : {breaks_for : ℕ → Reason → Bool} {calling : Calling} (ways : Ways) (name : List ℕ) (shows : ℕ → Snapshot) (count : ℕ) (seen : List Snapshot) (watched : List Watched) (new : List Slot) → (seen ≡ seen_first shows (length seen) → AreKept (entries_of ways.by_name name seen))
-    → FollowEndsAs true true breaks_for calling ways false (name ∷ []) count shows streams seen watched new 0 → WroteText ways name shows count seen new
+wrote_text : {breaks_for : ℕ → Reason → Bool} {calling : Calling} (ways : Ways) (name : List ℕ) (shows : ℕ → Snapshot)
+    (count : ℕ) (seen : List Snapshot) (watched : List Watched) (new : List Slot)
+    → (seen ≡ seen_first shows (length seen) → AreKept (entries_of ways.by_name name seen))
+    → FollowEndsAs true true breaks_for calling ways false (name ∷ []) count shows streams seen watched new 0
+    → WroteText ways name shows count seen new
 wrote_text ways name shows count seen watched new keeps_bytes (looked looks shares seen_is broken made few full are found leaves) =
     let ends : length looks < count → (0 < length looks) × (◌≡◌ {A = Bool} true true → is_alive ways (name ∷ []) looks ≡ false) = (λ fewer. ((full fewer).0, (full fewer).1)) in grind (arith, common_steps, unfailed, length-map, wrote_all, looks_give_text)
 wrote_text ways name shows count seen watched new keeps_bytes (stopped mid fault why stop is_why says failed) = absurd (status_some fault _ why (sym failed))
@@ -182,9 +210,13 @@ wrote_text ways name shows count seen watched new keeps_bytes (no_room why unsee
 abbrev pub paused : Run → Followed → (pause : ℕ) → ℕ → Snapshot
 paused run followed pause n = waiting (max pause 1) (showing run followed n)
 
-pub follows_text : {run : Run} {count : ℕ} {options : EndsAsked} {followed : Followed} {name : List ℕ} → (follows : Follows run count options followed) → IsBare options
-    → options.names ≡ name ∷ [] → (run.seen ≡ seen_first (paused run followed follows.read.0) (length run.seen) → AreKept (entries_of (is_name followed) name run.seen))
-    → WroteText (ways_of 0 (is_name followed) (start_of options)) name (paused run followed follows.read.0) count run.seen run.outputs
+pub follows_text : {run : Run} {count : ℕ} {options : EndsAsked} {followed : Followed} {name : List ℕ}
+    → (follows : Follows run count options followed) → IsBare options
+    → options.names ≡ name ∷ []
+    → (run.seen ≡ seen_first (paused run followed follows.read.0) (length run.seen)
+    → AreKept (entries_of (is_name followed) name run.seen))
+    → WroteText (ways_of 0 (is_name followed) (start_of options)) name
+    (paused run followed follows.read.0) count run.seen run.outputs
 follows_text {run} {count} {options} {followed} {name} follows bare named keeps_bytes =
     let ways = ways_of 0 (is_name followed) (start_of options) in
     let ends = subst (FollowingEndsAt run.calling true true run.breaks_for run.words count run.shows run.seen run.watched run.outputs run.status) follows.read.1 follows.ends in
@@ -192,9 +224,12 @@ follows_text {run} {count} {options} {followed} {name} follows bare named keeps_
     let headless = subst (λ headers. FollowEndsAs true true run.breaks_for run.calling ways headers (name ∷ []) count (paused run followed follows.read.0) streams run.seen run.watched run.outputs run.status) bare one in
     wrote_text ways name (paused run followed follows.read.0) count run.seen run.watched run.outputs keeps_bytes (subst (FollowEndsAs true true run.breaks_for run.calling ways false (name ∷ []) count (paused run followed follows.read.0) streams run.seen run.watched run.outputs) follows.well headless)
 
-pub tells_all : (run : Run) (options : EndsAsked) (followed : Followed) (name came : List ℕ) (file n : ℕ) → Follows run (n + 1) options followed → IsBare options → options.names ≡ name ∷ [] → OnlyGrows (length run.seen) (showing run followed) name file
+pub tells_all : (run : Run) (options : EndsAsked) (followed : Followed) (name came : List ℕ) (file n : ℕ)
+    → Follows run (n + 1) options followed → IsBare options → options.names ≡ name ∷ []
+    → OnlyGrows (length run.seen) (showing run followed) name file
     → (showing run followed n).holds file ≡ (showing run followed 0).holds file ++ came
-    → (slot_at run.outputs 0).written ≡ tail_of options.delim options.unit (is_plus options.count.sign) options.count.amount ((showing run followed 0).holds file) ++ came
+    → (slot_at run.outputs 0).written ≡ tail_of options.delim options.unit
+    (is_plus options.count.sign) options.count.amount ((showing run followed 0).holds file) ++ came
 tells_all run options followed name came file n follows bare named grows is =
     let ways = ways_of 0 (is_name followed) (start_of options) in
     let wrote = follows_text follows bare named (λ saw. rw saw (kept_in (is_name followed) (paused run followed follows.read.0) grows)) in
@@ -207,13 +242,18 @@ tells_all run options followed name came file n follows bare named grows is =
 
 -- A run of the program is a run of one of both kinds, by what its words ask for.
 
-ends_at : (run : Run) {looks : Option ℕ} → IsOfProgram run → looks_at (settings_of run.calling run.words) ≡ looks → ProgramEndsAt run.calling true true true run.breaks_for run.words run.world.laid (source_of run.world.standard ∷ []) run.inputs run.shows run.seen run.watched run.outputs run.status looks
+ends_at : (run : Run) {looks : Option ℕ} → IsOfProgram run → looks_at (settings_of run.calling run.words) ≡ looks
+    → ProgramEndsAt run.calling true true true run.breaks_for run.words run.world.laid
+    (source_of run.world.standard ∷ []) run.inputs run.shows run.seen run.watched run.outputs run.status looks
 ends_at run ends is = subst (ProgramEndsAt run.calling true true true run.breaks_for run.words run.world.laid (source_of run.world.standard ∷ []) run.inputs run.shows run.seen run.watched run.outputs run.status) is ends
 
-pub runs_tool : (run : Run) (asked : Settings) → IsOfProgram run → settings_of run.calling run.words ≡ Ok asked → follows asked ≡ false → Ran run asked × (run.seen ≡ []) × (run.watched ≡ [])
+pub runs_tool : (run : Run) (asked : Settings) → IsOfProgram run → settings_of run.calling run.words ≡ Ok asked
+    → follows asked ≡ false → Ran run asked × (run.seen ≡ []) × (run.watched ≡ [])
 runs_tool run asked ends read none =
     let (unseen, unwatched, ran) = ends_at run ends (ap looks_at read ∙ ap (λ is. cond is (Some (looks asked)) None) none) in (record { read = read; ends = ran }, unseen, unwatched)
 
-pub runs_following : (run : Run) (options : EndsAsked) (followed : Followed) (looks : ℕ) → IsOfProgram run → AsksToFollow run options followed looks → run.status ≡ 0 → Follows run looks options followed × (run.inputs ≡ source_of run.world.standard ∷ [])
+pub runs_following : (run : Run) (options : EndsAsked) (followed : Followed) (looks : ℕ) → IsOfProgram run
+    → AsksToFollow run options followed looks → run.status ≡ 0
+    → Follows run looks options followed × (run.inputs ≡ source_of run.world.standard ∷ [])
 runs_following run options followed looks ends read well =
     let (kept, followed_so) = ends_at run ends (ap looks_at read.1) in (record { looks = looks; read = read; ends = followed_so; well = well }, kept)

@@ -77,17 +77,20 @@ use Rattle.tools_core.specs.Tasks.{csplit_task, filing_of, head_task, is_minus, 
 abbrev pub HasLine : Message → List Message → Type 0
 HasLine line lines = (before : List Message) × (after : List Message) × (lines ≡ before ++ line ∷ after)
 
-pub has_after : {line : Message} (front : List Message) {back : List Message} → HasLine line back → HasLine line (front ++ back)
+pub has_after : {line : Message} (front : List Message) {back : List Message} → HasLine line back
+    → HasLine line (front ++ back)
 has_after {line} front (before, after, is) = (front ++ before, after, ap (λ those. front ++ those) is ∙ sym (append_assoc front before (line ∷ after)))
 
-pub has_before : {line : Message} {front : List Message} (back : List Message) → HasLine line front → HasLine line (front ++ back)
+pub has_before : {line : Message} {front : List Message} (back : List Message) → HasLine line front
+    → HasLine line (front ++ back)
 has_before {line} back (before, after, is) = (before, after ++ back, ap (λ those. those ++ back) is ∙ append_assoc before (line ∷ after) back)
 
 -- it is said, where all are
 abbrev pub SaysLine : Run → Settings → Message → Type 0
 SaysLine run asked line = (before : List Message) × (after : List Message) × SaysLines run asked (before ++ line ∷ after)
 
-pub says_line : {run : Run} {asked : Settings} {line : Message} {lines : List Message} → HasLine line lines → SaysLines run asked lines → SaysLine run asked line
+pub says_line : {run : Run} {asked : Settings} {line : Message} {lines : List Message} → HasLine line lines
+    → SaysLines run asked lines → SaysLine run asked line
 says_line (before, after, is) says = search rules
 
 pub one_line : (Line : Message → Type 0) (line : Message) → Line line → All Line (line ∷ [])
@@ -112,7 +115,8 @@ live_both front back one other = grind (arith, common_steps)
 
 -- the files of a part that begins a live one
 
-live_state : {file whole : File} → (file.state ≡ Open) ⊎ (file ≡ whole) → has_file whole.state ≡ true → has_file file.state ≡ true
+live_state : {file whole : File} → (file.state ≡ Open) ⊎ (file ≡ whole) → has_file whole.state ≡ true
+    → has_file file.state ≡ true
 live_state (inl is) has = ap has_file is
 live_state (inr same) has = grind (arith, common_steps)
 
@@ -126,17 +130,20 @@ live_begin (file ∷ files) (whole ∷ wholes) begins live =
 
 -- Files of a kind, of shares and of sections of one
 
-pub step_each : (P : File → Type 0) (file : File) (made others : List File) (has : Bool) → P file → All P made → All P others → All P (cond has (file ∷ made) others)
+pub step_each : (P : File → Type 0) (file : File) (made others : List File) (has : Bool) → P file → All P made
+    → All P others → All P (cond has (file ∷ made) others)
 step_each P file made others true is are without = search rules
 step_each P file made others false is are without = without
 
-pub named_each : (P : File → Type 0) (filing : Filing) (place : ℕ) (shares : List Share) → All (λ share. (place : ℕ) → P (file_at filing place share)) shares → All P (named filing place shares)
+pub named_each : (P : File → Type 0) (filing : Filing) (place : ℕ) (shares : List Share)
+    → All (λ share. (place : ℕ) → P (file_at filing place share)) shares → All P (named filing place shares)
 named_each P filing place [] all = All-nil P
 named_each P filing place (share ∷ shares) all =
     let Q = λ (share : Share). (place : ℕ) → P (file_at filing place share) in
     step_each P _ _ [] (has_name filing.names place) (All-head Q share shares all place) (named_each P filing (place + 1) shares (All-tail Q share shares all)) (All-nil P)
 
-pub each_made : (P : File → Type 0) (manner : Manner) (place : ℕ) (shares : List made.Share) → All (λ one. (place : ℕ) → P (made.file_at manner place one)) shares → All P (made.files_from manner place shares)
+pub each_made : (P : File → Type 0) (manner : Manner) (place : ℕ) (shares : List made.Share)
+    → All (λ one. (place : ℕ) → P (made.file_at manner place one)) shares → All P (made.files_from manner place shares)
 each_made P manner place [] all = All-nil P
 each_made P manner place (one ∷ shares) all =
     let Q = λ (one : made.Share). (place : ℕ) → P (made.file_at manner place one) in
@@ -148,22 +155,26 @@ pub record IsLiving (work : Work) : Type 0 where
   pub settled : (x : List ℕ) → AreLive (work.settled x).files
   pub whole : (x : List ℕ) → AreLive (work.whole x).files
 
-head_living : (delim : ℕ) (unit : Counted) (but_last : Bool) (n : ℕ) (shown : Option (List ℕ)) → IsLiving (head_in delim unit but_last n shown)
+head_living : (delim : ℕ) (unit : Counted) (but_last : Bool) (n : ℕ) (shown : Option (List ℕ))
+    → IsLiving (head_in delim unit but_last n shown)
 head_living delim unit true n (Some text) = grind (arith, common_steps)
 head_living delim unit true n None = grind (arith, common_steps)
 head_living delim unit false n shown = grind (arith, common_steps)
 
-head_clears : (delim : ℕ) (unit : Counted) (but_last : Bool) (n : ℕ) (shown : Option (List ℕ)) → (head_in delim unit but_last n shown).clears ≡ false
+head_clears : (delim : ℕ) (unit : Counted) (but_last : Bool) (n : ℕ) (shown : Option (List ℕ))
+    → (head_in delim unit but_last n shown).clears ≡ false
 head_clears delim unit true n (Some text) = refl
 head_clears delim unit true n None = refl
 head_clears delim unit false n shown = refl
 
-tail_living : (delim : ℕ) (unit : Counted) (from_nth : Bool) (n : ℕ) (shown : Option (List ℕ)) → IsLiving (tail_in delim unit from_nth n shown)
+tail_living : (delim : ℕ) (unit : Counted) (from_nth : Bool) (n : ℕ) (shown : Option (List ℕ))
+    → IsLiving (tail_in delim unit from_nth n shown)
 tail_living delim unit false n (Some text) = grind (arith, common_steps)
 tail_living delim unit false n None = grind (arith, common_steps)
 tail_living delim unit true n shown = grind (arith, common_steps)
 
-tail_clears : (delim : ℕ) (unit : Counted) (from_nth : Bool) (n : ℕ) (shown : Option (List ℕ)) → (tail_in delim unit from_nth n shown).clears ≡ false
+tail_clears : (delim : ℕ) (unit : Counted) (from_nth : Bool) (n : ℕ) (shown : Option (List ℕ))
+    → (tail_in delim unit from_nth n shown).clears ≡ false
 tail_clears delim unit false n (Some text) = refl
 tail_clears delim unit false n None = refl
 tail_clears delim unit true n shown = refl
@@ -214,14 +225,17 @@ section_has : (is_closed : Bool) → has_file (cond is_closed Closed Open) ≡ t
 section_has true = refl
 section_has false = refl
 
-pub each_section : (P : made.Share → Type 0) (style : Style) (sections : List Section) → All (λ section. (bytes : List ℕ) → P (made.share (state_in section) bytes)) sections → All P (shares_in style sections)
+pub each_section : (P : made.Share → Type 0) (style : Style) (sections : List Section)
+    → All (λ section. (bytes : List ℕ) → P (made.share (state_in section) bytes)) sections
+    → All P (shares_in style sections)
 each_section P style [] all = All-nil P
 each_section P style (section ∷ sections) all =
     let Q = λ (section : Section). (bytes : List ℕ) → P (made.share (state_in section) bytes) in
     All-append P (map (made.share (state_in section)) (file_in style section)) (shares_in style sections)
     (All-map P (made.share (state_in section)) (file_in style section) (λ k other within. All-head Q section sections all _)) (each_section P style sections (All-tail Q section sections all))
 
-sections_there : (style : Style) (sections : List Section) → AreLive (made.files_from (manner_of style) 0 (shares_in style sections))
+sections_there : (style : Style) (sections : List Section)
+    → AreLive (made.files_from (manner_of style) 0 (shares_in style sections))
 sections_there style sections = each_made (λ file. IsLive (slot_of file)) (manner_of style) 0 (shares_in style sections)
     (each_section (λ one. (place : ℕ) → IsLive (slot_of (made.file_at (manner_of style) place one))) style sections (λ k other within bytes place. (refl, section_has _)))
 
@@ -246,15 +260,18 @@ pub record Fits (Line : Message → Type 0) (clears : Bool) (made : Outcome) : T
   pub sweeps : made.sweeps ≡ true → (clears ≡ true) × (made.failed ≡ true)
   pub live : AreLive made.part.files
 
-pub fits_well : {Line : Message → Type 0} {clears : Bool} (part : Part) (sweeps : Bool) → sweeps ≡ false → AreLive part.files → Fits Line clears (record { part = part; messages = []; failed = false; sweeps = sweeps })
+pub fits_well : {Line : Message → Type 0} {clears : Bool} (part : Part) (sweeps : Bool) → sweeps ≡ false
+    → AreLive part.files → Fits Line clears (record { part = part; messages = []; failed = false; sweeps = sweeps })
 fits_well {Line} part sweeps none live = grind (arith, common_steps)
 
-pub fits_fault : {Line : Message → Type 0} {clears : Bool} {line : Message} (part : Part) (sweeps : Bool) → Line line → (sweeps ≡ true → clears ≡ true) → AreLive part.files
+pub fits_fault : {Line : Message → Type 0} {clears : Bool} {line : Message} (part : Part) (sweeps : Bool) → Line line
+    → (sweeps ≡ true → clears ≡ true) → AreLive part.files
     → Fits Line clears (record { part = part; messages = line ∷ []; failed = true; sweeps = sweeps })
 fits_fault {Line} {line} part sweeps tells clears live =
     record { are = one_line Line line tells; tells = λ is. (line, tells, ([], [], refl)); quiet = λ is. absurd (false≢true (sym is)); sweeps = λ is. (clears is, refl); live = live }
 
-fits_joined : {Line : Message → Type 0} {clears : Bool} (first next : Outcome) → Fits Line clears first → Fits Line clears next → Fits Line clears (joined first next)
+fits_joined : {Line : Message → Type 0} {clears : Bool} (first next : Outcome) → Fits Line clears first
+    → Fits Line clears next → Fits Line clears (joined first next)
 fits_joined {Line} first next one other = record {
   are = All-append Line _ _ one.are other.are;
   tells = λ is. elim (or_cases first.failed next.failed is) [
@@ -270,13 +287,20 @@ fits_joined {Line} first next one other = record {
 }
 
 -- the lines that tell what is wrong with an input are such ones
-pub record TellsInput (Line : Message → Type 0) (task : Task) (work : Work) (name : List ℕ) (there : Option Content) : Type 0 where
+pub record TellsInput (Line : Message → Type 0) (task : Task) (work : Work) (name : List ℕ) (there : Option Content)
+    : Type 0 where
   pub missing : there ≡ None → Line (message_of (CannotOpen 0) name)
-  pub broken_off : (content : Content) → there ≡ Some content → is_enough work content ≡ false → Line (message_of (Read 0) name)
-  pub judged : (content : Content) (verdict : Verdict) → there ≡ Some content → is_enough work content ≡ true → Judges work content.bytes verdict → Line (message_of (fault_is.Verdict verdict) (task.subject verdict name))
+  pub broken_off : (content : Content) → there ≡ Some content → is_enough work content ≡ false
+      → Line (message_of (Read 0) name)
+  pub judged : (content : Content) (verdict : Verdict) → there ≡ Some content → is_enough work content ≡ true
+      → Judges work content.bytes verdict → Line (message_of (fault_is.Verdict verdict) (task.subject verdict name))
 
-given_fits : {Line : Message → Type 0} (task : Task) (work : Work) (header name bytes : List ℕ) (enough : Bool) (verdict : Option Verdict)
-    → (enough ≡ false → Line (message_of (Read 0) name)) → ((given : Verdict) → enough ≡ true → verdict ≡ Some given → Line (message_of (fault_is.Verdict given) (task.subject given name))) → IsLiving work → Fits Line work.clears (record {
+given_fits : {Line : Message → Type 0} (task : Task) (work : Work) (header name bytes : List ℕ) (enough : Bool)
+    (verdict : Option Verdict)
+    → (enough ≡ false → Line (message_of (Read 0) name))
+    → ((given : Verdict) → enough ≡ true → verdict ≡ Some given
+    → Line (message_of (fault_is.Verdict given) (task.subject given name))) → IsLiving work
+    → Fits Line work.clears (record {
       part = after_part (only_out header) (cond enough (work.whole bytes) (work.settled bytes));
       messages = cond enough (verdict_messages task name verdict) (message_of (Read 0) name ∷ []);
       failed = cond enough (is_some verdict) true;
@@ -289,7 +313,9 @@ given_fits task work header name bytes false verdict breaks judges living = fits
 breaks_short : (work : Work) (content : Content) → is_enough work content ≡ false → content.breaks_off ≡ true
 breaks_short work content short = not-false content.breaks_off (or_parts (not content.breaks_off) (work.is_complete content.bytes) short).0
 
-content_fits : {Line : Message → Type 0} (task : Task) (work : Work) (is_first : Bool) (name : List ℕ) (there : Option Content) → TellsInput Line task work name there → IsLiving work → Fits Line work.clears (of_content task work is_first name there)
+content_fits : {Line : Message → Type 0} (task : Task) (work : Work) (is_first : Bool) (name : List ℕ)
+    (there : Option Content) → TellsInput Line task work name there → IsLiving work
+    → Fits Line work.clears (of_content task work is_first name there)
 content_fits task work is_first name None tells living = fits_fault nothing false (tells.missing refl) (λ is. absurd (false≢true is)) no_live
 content_fits task work is_first name (Some content) tells living =
     given_fits task work (header_text task.with_header is_first name) name content.bytes (is_enough work content) (work.verdict content.bytes)
@@ -306,7 +332,8 @@ pub record AreLiving (work : Option (List ℕ) → Work) (clears : Bool) : Type 
   pub each : (shown : Option (List ℕ)) → IsLiving (work shown)
   pub clears_all : (shown : Option (List ℕ)) → (work shown).clears ≡ clears
 
-pub inputs_fit : {Line : Message → Type 0} {clears : Bool} (task : Task) (is_first : Bool) (inputs : List Input) → TellsAll Line task inputs → AreLiving task.work clears → Fits Line clears (of_inputs task is_first inputs)
+pub inputs_fit : {Line : Message → Type 0} {clears : Bool} (task : Task) (is_first : Bool) (inputs : List Input)
+    → TellsAll Line task inputs → AreLiving task.work clears → Fits Line clears (of_inputs task is_first inputs)
 inputs_fit task is_first [] tells living = search rules
 inputs_fit {Line} task is_first (input ∷ inputs) tells living =
     let P = TellsAt Line task in
@@ -316,7 +343,8 @@ inputs_fit {Line} task is_first (input ∷ inputs) tells living =
 
 -- what a run found is told so
 
-pub speaker_is : (calling : Calling) (asked : Settings) (task : Task) → IsTask calling asked task → task.speaker ≡ speaker_of calling asked
+pub speaker_is : (calling : Calling) (asked : Settings) (task : Task) → IsTask calling asked task
+    → task.speaker ≡ speaker_of calling asked
 speaker_is calling (Head asked) task is = ap (λ (task : Task). task.speaker) is
 speaker_is calling (Tail asked) task is = ap (λ (task : Task). task.speaker) is
 speaker_is calling (Split asked) task is = ap (λ (task : Task). task.speaker) is
@@ -324,7 +352,8 @@ speaker_is calling (Csplit asked) task (operands, asks, is) = ap (λ (task : Tas
 speaker_is calling (Tee asked) task is = absurd is
 speaker_is calling (About which topic) task is = absurd is
 
-one_task : (calling : Calling) (asked : Settings) (one other : Task) → IsTask calling asked one → IsTask calling asked other → one ≡ other
+one_task : (calling : Calling) (asked : Settings) (one other : Task) → IsTask calling asked one
+    → IsTask calling asked other → one ≡ other
 one_task calling (Csplit asked) one other (operands, asks, is) (operands_too, asks_too, is_too) = rw (is, asks_once asked.operands operands operands_too asks asks_too, is_too)
 one_task calling (Head asked) one other is is_too = is ∙ sym is_too
 one_task calling (Tail asked) one other is is_too = is ∙ sym is_too
@@ -332,7 +361,8 @@ one_task calling (Split asked) one other is is_too = is ∙ sym is_too
 one_task calling (Tee asked) one other is is_too = absurd is
 one_task calling (About which topic) one other is is_too = absurd is
 
-found_tells : {run : Run} (asked : Settings) {task : Task} (input : Input) → IsTask run.calling asked task → IsFound run asked input → TellsAt (TellsMet run asked) task input
+found_tells : {run : Run} (asked : Settings) {task : Task} (input : Input) → IsTask run.calling asked task
+    → IsFound run asked input → TellsAt (TellsMet run asked) task input
 found_tells {run} asked {task} input of found = record {
   missing = λ none. (CannotOpen 0, input.name, inr (missing input found none), refl);
   broken_off = λ content is short. (Read 0, input.name, inr (broken_off input content found is (breaks_short (task.work input.shown) content short) (λ other of_too. rw (one_task run.calling asked other task of_too of) short)), refl);
@@ -340,7 +370,9 @@ found_tells {run} asked {task} input of found = record {
 }
 
 -- these inputs, which the run found after others and before others
-pub all_tell : (run : Run) (asked : Settings) (task : Task) (done inputs after : List Input) → IsTask run.calling asked task → inputs_at run.world (names_of asked) ≡ done ++ (inputs ++ after) → TellsAll (TellsMet run asked) task inputs
+pub all_tell : (run : Run) (asked : Settings) (task : Task) (done inputs after : List Input)
+    → IsTask run.calling asked task → inputs_at run.world (names_of asked) ≡ done ++ (inputs ++ after)
+    → TellsAll (TellsMet run asked) task inputs
 all_tell run asked task done [] after of are = All-nil (TellsAt (TellsMet run asked) task)
 all_tell run asked task done (input ∷ inputs) after of are =
     All-cons (TellsAt (TellsMet run asked) task) input inputs (found_tells asked input of (done, inputs ++ after, are))
@@ -348,12 +380,15 @@ all_tell run asked task done (input ∷ inputs) after of are =
 
 -- what each step of it does
 
-call_live : {work : Work} {opening : Needs} {most : ℕ} {content : Content} {call : Step} → IsLiving work → IsCall work opening most content call → AreLive call.high.files
+call_live : {work : Work} {opening : Needs} {most : ℕ} {content : Content} {call : Step} → IsLiving work
+    → IsCall work opening most content call → AreLive call.high.files
 call_live living opens = living.settled []
 call_live living (feeds x piece rest is few going) = search rules
 call_live living (ends_call x has needed) = living.whole x
 
-pub step_live : {told : Bool} {task : Task} {shown : Option (List ℕ)} {before : Part} {header : List ℕ} {slot : Option ℕ} {sources : List Source} {content : Option Content} {step : Step} → IsLiving (task.work shown) → AreLive before.files
+pub step_live : {told : Bool} {task : Task} {shown : Option (List ℕ)} {before : Part} {header : List ℕ}
+    {slot : Option ℕ} {sources : List Source} {content : Option Content} {step : Step} → IsLiving (task.work shown)
+    → AreLive before.files
     → RunStep told task shown largest_piece before header slot sources content step → AreLive step.high.files
 step_live living live (unopened content place at past) = live
 step_live living live (unheaded content headed leaves) = live
@@ -374,7 +409,8 @@ IsSoundAt slots place = ((slot_at slots place).is_broken ≡ false) × (place < 
 live_at : (slots : List Slot) (place : ℕ) → All IsLive slots → IsSoundAt slots place
 live_at slots place all = grind (arith, common_steps)
 
-pub outputs_live : (part : Part) (error : Slot) (place : ℕ) → AreLive part.files → (place ≡ 1 → ⊥) → IsSoundAt (outputs_of part error) place
+pub outputs_live : (part : Part) (error : Slot) (place : ℕ) → AreLive part.files → (place ≡ 1 → ⊥)
+    → IsSoundAt (outputs_of part error) place
 outputs_live part error zero live differs = (refl, λ within. refl)
 outputs_live part error (suc zero) live differs = absurd (differs refl)
 outputs_live part error (suc (suc place)) live differs =
@@ -390,7 +426,8 @@ told_again : (files : List File) → map (told_file true) files ≡ files
 told_again [] = refl
 told_again (file ∷ files) = ap (λ those. file ∷ those) (told_again files)
 
-pub slots_at : {part : Part} {error : Slot} {now : List Slot} → OutputsAt true (streams_with error) part now → now ≡ outputs_of part error
+pub slots_at : {part : Part} {error : Slot} {now : List Slot} → OutputsAt true (streams_with error) part now
+    → now ≡ outputs_of part error
 slots_at {part} at = cc (at.slots, slots_again at.since, at.files, told_again part.files)
 
 -- What becomes of an output where files are removed, or stay
@@ -416,7 +453,8 @@ pub record Kept (sweeps : Bool) (place : ℕ) (old new : Slot) : Type 0 where
   pub fails : (at : ℕ) → failing at new.state ≡ failing at old.state
   pub broke : old.is_broken ≡ false → new.is_broken ≡ true → (sweeps ≡ true) × (new.state ≡ state.Closed)
 
-kept_same : (sweeps : Bool) (place : ℕ) {old new : Slot} → remains sweeps place old ≡ old → new ≡ old → Kept sweeps place old new
+kept_same : (sweeps : Bool) (place : ℕ) {old new : Slot} → remains sweeps place old ≡ old → new ≡ old
+    → Kept sweeps place old new
 kept_same sweeps place stays same = rw same (record {
   name = refl;
   mode = refl;
@@ -448,7 +486,8 @@ cleared_kept place {old} (swept_so.stuck has) = record {
 }
 cleared_kept place {old} (swept_so.none lacks) = kept_same true (suc (suc place)) (ap (λ there. cond there (removes old) old) lacks) refl
 
-pub swept_kept : (sweeps : Bool) (old new : List Slot) → Swept sweeps 2 old new → (place : ℕ) → Kept sweeps place (slot_at old place) (slot_at new place)
+pub swept_kept : (sweeps : Bool) (old new : List Slot) → Swept sweeps 2 old new → (place : ℕ)
+    → Kept sweeps place (slot_at old place) (slot_at new place)
 swept_kept false old new swept place = kept_same false place refl (ap (λ slots. slot_at slots place) swept)
 swept_kept true old new swept (suc (suc place)) = cleared_kept place (swept.cleared (suc (suc place)) (omega arith))
 swept_kept true old new swept zero = kept_same true 0 refl (swept.before 0 (omega arith))
@@ -459,7 +498,8 @@ cleared_gone (swept_so.removed has) = inl refl
 cleared_gone (swept_so.stuck has) = inr refl
 cleared_gone (swept_so.none lacks) = inl lacks
 
-pub swept_gone : (sweeps : Bool) (old new : List Slot) → sweeps ≡ true → Swept sweeps 2 old new → (place : ℕ) → 2 ≤ place → IsGone (slot_at new place)
+pub swept_gone : (sweeps : Bool) (old new : List Slot) → sweeps ≡ true → Swept sweeps 2 old new → (place : ℕ)
+    → 2 ≤ place → IsGone (slot_at new place)
 swept_gone true old new is swept place past = cleared_gone (swept.cleared place past)
 swept_gone false old new is swept place past = absurd (false≢true is)
 
@@ -475,11 +515,13 @@ pub record IsLeft (which : Speaker) (made : Outcome) (new : List Slot) (status :
   pub swept : Swept made.sweeps 2 (outputs_of made.part error) new
   pub is : status ≡ status_of made
 
-pub left_at : {which : Speaker} {made : Outcome} {new : List Slot} {status : ℕ} → IsLeft which made new status → (place : ℕ) → (place ≡ 1 → ⊥) → Kept made.sweeps place (slot_at (slots_of made.part) place) (slot_at new place)
+pub left_at : {which : Speaker} {made : Outcome} {new : List Slot} {status : ℕ} → IsLeft which made new status
+    → (place : ℕ) → (place ≡ 1 → ⊥) → Kept made.sweeps place (slot_at (slots_of made.part) place) (slot_at new place)
 left_at {made} {new} left place differs =
     rw (beside_error (adds made.part.out standard_output) left.error standard_error _ place differs) at (swept_kept made.sweeps _ new left.swept place)
 
-pub left_says : {run : Run} {asked : Settings} {clears : Bool} {made : Outcome} → Fits (TellsMet run asked) clears made → IsLeft (speaker_of run.calling asked) made run.outputs run.status → SaysLines run asked made.messages
+pub left_says : {run : Run} {asked : Settings} {clears : Bool} {made : Outcome} → Fits (TellsMet run asked) clears made
+    → IsLeft (speaker_of run.calling asked) made run.outputs run.status → SaysLines run asked made.messages
 left_says {run} {made} fits left =
     record { are = fits.are; said = rw (swept_error made.sweeps (outputs_of made.part left.error) run.outputs (omega arith) left.swept) left.says }
 
@@ -491,7 +533,8 @@ pub record IsWhole (made : Outcome) (new : List Slot) : Type 0 where
   pub sound : made.failed ≡ false
   pub slots : new ≡ slots_of made.part
 
-pub left_whole : {Line : Message → Type 0} {which : Speaker} {clears : Bool} {made : Outcome} {new : List Slot} {status : ℕ} → Fits Line clears made → IsLeft which made new status → status ≡ 0 → IsWhole made new
+pub left_whole : {Line : Message → Type 0} {which : Speaker} {clears : Bool} {made : Outcome} {new : List Slot}
+    {status : ℕ} → Fits Line clears made → IsLeft which made new status → status ≡ 0 → IsWhole made new
 left_whole {made} fits left well =
     let sound = unfailed made.failed (sym well ∙ left.is) in
     let stay : made.sweeps ≡ false = elim (cases_Bool made.sweeps) [ inl is ↦ absurd (false≢true (sym sound ∙ (fits.sweeps is).1)) | inr is ↦ is ] in record {
@@ -518,20 +561,26 @@ tee_made asked content = record {
   sweeps = false;
 }
 
-pub copies_are : (mode : Mode) (bytes : List ℕ) (names : List (List ℕ)) → map slot_of (map (λ name. file_of (copy mode bytes name)) names) ≡ map (copy mode bytes) names
+pub copies_are : (mode : Mode) (bytes : List ℕ) (names : List (List ℕ))
+    → map slot_of (map (λ name. file_of (copy mode bytes name)) names) ≡ map (copy mode bytes) names
 copies_are mode bytes [] = refl
 copies_are mode bytes (name ∷ names) = rw (copies_are mode bytes names)
 
-tee_fits : {Line : Message → Type 0} (asked : TeeAsked) (bytes : List ℕ) (breaks_off : Bool) (shown : Option (List ℕ)) → (breaks_off ≡ true → Line (message_of (Read 0) (codes "standard input"))) → Fits Line false (tee_made asked (record { bytes = bytes; breaks_off = breaks_off; shown = shown }))
+tee_fits : {Line : Message → Type 0} (asked : TeeAsked) (bytes : List ℕ) (breaks_off : Bool) (shown : Option (List ℕ))
+    → (breaks_off ≡ true → Line (message_of (Read 0) (codes "standard input")))
+    → Fits Line false (tee_made asked (record { bytes = bytes; breaks_off = breaks_off; shown = shown }))
 tee_fits {Line} asked bytes breaks_off shown tells = by breaks_off tells where
   live : AreLive (map (λ name. file_of (copy asked.mode bytes name)) asked.names)
   live = All-map (λ (file : File). IsLive (slot_of file)) (λ name. file_of (copy asked.mode bytes name)) asked.names (λ k name within. (refl, refl))
 
-  by : (breaks_off : Bool) → (breaks_off ≡ true → Line (message_of (Read 0) (codes "standard input"))) → Fits Line false (tee_made asked (record { bytes = bytes; breaks_off = breaks_off; shown = shown }))
+  by : (breaks_off : Bool) → (breaks_off ≡ true → Line (message_of (Read 0) (codes "standard input")))
+      → Fits Line false (tee_made asked (record { bytes = bytes; breaks_off = breaks_off; shown = shown }))
   by true tells = fits_fault _ false (tells refl) (λ is. is) live
   by false tells = fits_well _ false refl live
 
-met_is : {content : Content} (Leaves : List ℕ → Type 0) {is_vain : Bool} {x : List ℕ} {fault : Option Fault} → is_vain ≡ false → x ≡ content.bytes → length x < 2 ^ 63 → IsRead content Leaves is_vain x fault → fault ≡ met_by content.breaks_off
+met_is : {content : Content} (Leaves : List ℕ → Type 0) {is_vain : Bool} {x : List ℕ} {fault : Option Fault}
+    → is_vain ≡ false → x ≡ content.bytes → length x < 2 ^ 63 → IsRead content Leaves is_vain x fault
+    → fault ≡ met_by content.breaks_off
 met_is Leaves left same few (tee.to_end x is ended leaves) = sym (ap met_by ended)
 met_is Leaves left same few (tee.to_break x is breaks leaves) = sym (ap met_by breaks)
 met_is Leaves left same few (tee.to_limit x piece rest is many within leaves) =
@@ -542,10 +591,15 @@ met_status : (breaks_off : Bool) → ◌≡◌ {A = ℕ} (cond (is_none (met_by 
 met_status true = refl
 met_status false = refl
 
-pub quiet_outputs : (on_broken : OnBroken) (names : List (List ℕ)) (broke : List (Option Break)) (pieces : ℕ) (fault : Option Fault) → are_sound broke ≡ true → messages_of on_broken names broke pieces fault ≡ said_of_input fault
+pub quiet_outputs : (on_broken : OnBroken) (names : List (List ℕ)) (broke : List (Option Break)) (pieces : ℕ)
+    (fault : Option Fault) → are_sound broke ≡ true
+    → messages_of on_broken names broke pieces fault ≡ said_of_input fault
 quiet_outputs on_broken names broke pieces fault sound = search (rules, nothing_before, nothing_in)
 
-pub tee_left : {breaks_for : ℕ → Reason → Bool} {calling : Calling} {asked : TeeAsked} {content : Content} {source : Source} {new : List Slot} {status : ℕ} (ends : tee.EndsAs true true breaks_for calling asked.mode asked.on_broken asked.names content source new status) → IsCopied ends → IsLeft (tee_called calling) (tee_made asked content) new status
+pub tee_left : {breaks_for : ℕ → Reason → Bool} {calling : Calling} {asked : TeeAsked} {content : Content}
+    {source : Source} {new : List Slot} {status : ℕ}
+    (ends : tee.EndsAs true true breaks_for calling asked.mode asked.on_broken asked.names content source new status)
+    → IsCopied ends → IsLeft (tee_called calling) (tee_made asked content) new status
 tee_left {asked} {content} (tee.copied pieces fault first broke output error files comes some left rest stand says slots is) (sound, all) =
     let sounds = sound_first first (are_sound broke) sound in
     let met = met_is _ (sound_goes_on asked.on_broken (suc (length pieces)) first broke sound) all comes.few comes.read in record {
@@ -568,7 +622,8 @@ status_some fault calling why = by_quiet (is_quiet fault calling why) where
   by_quiet true is = omega (arith, is)
   by_quiet false is = omega (arith, is)
 
-text_left : {breaks_for : ℕ → Reason → Bool} {which : Speaker} {text : List ℕ} {new : List Slot} {status : ℕ} → TellsText true breaks_for which text new status → status ≡ 0 → IsLeft which (text_made text) new status
+text_left : {breaks_for : ℕ → Reason → Bool} {which : Speaker} {text : List ℕ} {new : List Slot} {status : ℕ}
+    → TellsText true breaks_for which text new status → status ≡ 0 → IsLeft which (text_made text) new status
 text_left (text_whole slots is) well = record { error = standard_error; says = refl; swept = rw slots refl; is = is }
 text_left (text_cut n short why error is_why says slots is) well = absurd (status_some (Write 0) _ why (sym is ∙ well))
 text_left (no_text error says slots is) well = absurd (omega (arith, is, well))
@@ -584,13 +639,15 @@ Makes (Csplit asked) inputs made = (operands : List Operand) × Asks asked.opera
 Makes (Tee asked) inputs made = (content : Content) × (inputs ≡ standard_input content ∷ []) × (made ≡ tee_made asked content)
 Makes (About which topic) inputs made = made ≡ text_made (text_about which topic)
 
-pub same_content : {content other : Content} {inputs : List Input} → inputs ≡ standard_input content ∷ [] → inputs ≡ standard_input other ∷ [] → content ≡ other
+pub same_content : {content other : Content} {inputs : List Input} → inputs ≡ standard_input content ∷ []
+    → inputs ≡ standard_input other ∷ [] → content ≡ other
 same_content {content} {other} one two =
     let both : standard_input content ∷ [] ≡ standard_input other ∷ [] = sym one ∙ two in
     let first : standard_input content ≡ standard_input other = cc in
     let there : Some content ≡ Some other = ap (λ (input : Input). input.content) first in cc
 
-one_made : (asked : Settings) (inputs : List Input) {made other : Outcome} → Makes asked inputs made → Makes asked inputs other → made ≡ other
+one_made : (asked : Settings) (inputs : List Input) {made other : Outcome} → Makes asked inputs made
+    → Makes asked inputs other → made ≡ other
 one_made (Csplit asked) inputs (operands, asks, is) (operands_too, asks_too, is_too) = rw (is, asks_once asked.operands operands operands_too asks asks_too, is_too)
 one_made (Tee asked) inputs (content, only, is) (content_too, only_too, is_too) = rw (is, same_content only only_too, is_too)
 one_made asked inputs is is_too = is ∙ sym is_too
@@ -603,7 +660,8 @@ pub record LeftBy (run : Run) (asked : Settings) : Type 0 where
   pub left : IsLeft (speaker_of run.calling asked) made run.outputs run.status
 
 -- what each tool does with its inputs is so
-pub task_lives : (calling : Calling) (asked : Settings) (task : Task) → IsTask calling asked task → AreLiving task.work (removes_files asked)
+pub task_lives : (calling : Calling) (asked : Settings) (task : Task) → IsTask calling asked task
+    → AreLiving task.work (removes_files asked)
 task_lives calling (Head asked) task is = rw is (record { each = head_living asked.delim asked.unit (is_minus asked.count.sign) asked.count.amount; clears_all = head_clears asked.delim asked.unit (is_minus asked.count.sign) asked.count.amount })
 task_lives calling (Tail asked) task is = rw is (record { each = tail_living asked.ends.delim asked.ends.unit (is_plus asked.ends.count.sign) asked.ends.count.amount; clears_all = tail_clears asked.ends.delim asked.ends.unit (is_plus asked.ends.count.sign) asked.ends.count.amount })
 task_lives calling (Split asked) task is = rw is (record {
@@ -614,8 +672,10 @@ task_lives calling (Csplit asked) task (operands, asks, is) = rw is (record { ea
 task_lives calling (Tee asked) task is = absurd is
 task_lives calling (About which topic) task is = absurd is
 
-ends_left : {run : Run} {asked : Settings} {task : Task} → IsTask run.calling asked task → Makes asked (inputs_at run.world (names_of asked)) (made_by task (inputs_at run.world (names_of asked)))
-    → (ends : EndsAs true true run.breaks_for task (inputs_at run.world (names_of asked)) run.inputs run.outputs run.status) → IsUnstopped ends → LeftBy run asked
+ends_left : {run : Run} {asked : Settings} {task : Task} → IsTask run.calling asked task
+    → Makes asked (inputs_at run.world (names_of asked)) (made_by task (inputs_at run.world (names_of asked)))
+    → (ends : EndsAs true true run.breaks_for task
+    (inputs_at run.world (names_of asked)) run.inputs run.outputs run.status) → IsUnstopped ends → LeftBy run asked
 ends_left {run} {asked} {task} of makes (as_defined error reached says outputs swept done is) unstopped =
     let found = inputs_at run.world (names_of asked) in record {
       made = made_by task found;
@@ -626,15 +686,22 @@ ends_left {run} {asked} {task} of makes (as_defined error reached says outputs s
 ends_left of makes ends unstopped = absurd unstopped
 
 -- how the program was called is no part of what is made of inputs
-made_alike : (task : Task) (speaker : Speaker) (is_first : Bool) (inputs : List Input) → of_inputs task is_first inputs ≡ of_inputs (record task { speaker = speaker }) is_first inputs
+made_alike : (task : Task) (speaker : Speaker) (is_first : Bool) (inputs : List Input)
+    → of_inputs task is_first inputs ≡ of_inputs (record task { speaker = speaker }) is_first inputs
 made_alike task speaker is_first [] = refl
 made_alike task speaker is_first (input ∷ inputs) =
     ap (joined (of_input task is_first input)) (made_alike task speaker (is_first && is_missing input.content) inputs)
 
-made_so : (run : Run) (task : Task) (names : List (List ℕ)) → made_by task (inputs_at run.world names) ≡ made_by (record task { speaker = by Cutters task.speaker.tool }) (inputs_at run.world names)
+made_so : (run : Run) (task : Task) (names : List (List ℕ))
+    → made_by task (inputs_at run.world names)
+    ≡ made_by (record task { speaker = by Cutters task.speaker.tool }) (inputs_at run.world names)
 made_so run task names = made_alike task (by Cutters task.speaker.tool) true (inputs_at run.world names)
 
-does_left : (run : Run) (asked : Settings) (does : DoesAsked run.calling true true run.breaks_for asked (inputs_at run.world (names_of asked)) run.inputs run.outputs run.status) → Unstopped run.breaks_for run.calling asked (inputs_at run.world (names_of asked)) run.inputs run.outputs run.status does → LeftBy run asked
+does_left : (run : Run) (asked : Settings)
+    (does : DoesAsked run.calling true true run.breaks_for asked
+    (inputs_at run.world (names_of asked)) run.inputs run.outputs run.status)
+    → Unstopped run.breaks_for run.calling asked
+    (inputs_at run.world (names_of asked)) run.inputs run.outputs run.status does → LeftBy run asked
 does_left run (Head asked) does unstopped = ends_left {asked = Head asked} refl (made_so run (head_task run.calling asked) asked.names) does unstopped
 does_left run (Tail asked) does unstopped = ends_left {asked = Tail asked} refl (made_so run (tail_task run.calling asked.ends) asked.ends.names) does unstopped
 does_left run (Split asked) does unstopped = ends_left {asked = Split asked} refl (made_so run (split_task run.calling asked) (asked.input ∷ [])) does unstopped
@@ -657,19 +724,24 @@ not_refused : {A B C : Type 0} → A ⊎ (B × C) → A ⊎ C
 not_refused (inl did) = inl did
 not_refused (inr (same, refuses)) = inr refuses
 
-pub ran_over : {run : Run} {asked : Settings} → Ran run asked → DoesAsked run.calling true true run.breaks_for asked (inputs_at run.world (names_of asked)) run.inputs run.outputs run.status ⊎ RefusesOperands true run.words asked run.outputs run.status
+pub ran_over : {run : Run} {asked : Settings} → Ran run asked
+    → DoesAsked run.calling true true run.breaks_for asked
+    (inputs_at run.world (names_of asked)) run.inputs run.outputs run.status
+    ⊎ RefusesOperands true run.words asked run.outputs run.status
 ran_over ran =
     let (found, finds, ends) = ran.ends in
     not_refused (rw ran.read at (rw (finds.there refl) at ends))
 
 -- Two runs that were asked for the same, over the same inputs
 
-found_same : (one other : Run) {asked : Settings} → settings_of one.calling one.words ≡ Ok asked → settings_of other.calling other.words ≡ Ok asked → FindAlike one other
+found_same : (one other : Run) {asked : Settings} → settings_of one.calling one.words ≡ Ok asked
+    → settings_of other.calling other.words ≡ Ok asked → FindAlike one other
     → AllAlike (inputs_at one.world (names_of asked)) (inputs_at other.world (names_of asked))
 found_same one other read read_too same = rw (read, read_too) at same
 
 -- `tee` makes the same of inputs that give the same
-given_content : {input : Input} {content : Content} {bytes : List ℕ} → input.content ≡ Some content → GivesBytes input bytes → (content.bytes ≡ bytes) × (content.breaks_off ≡ false)
+given_content : {input : Input} {content : Content} {bytes : List ℕ} → input.content ≡ Some content
+    → GivesBytes input bytes → (content.bytes ≡ bytes) × (content.breaks_off ≡ false)
 given_content {content} is gives =
     let there : Some gives.content ≡ Some content = sym gives.is ∙ is in
     let same : gives.content ≡ content = cc in
@@ -678,7 +750,8 @@ given_content {content} is gives =
 tee_of : TeeAsked → List ℕ → Bool → Outcome
 tee_of asked bytes breaks_off = tee_made asked (record { bytes = bytes; breaks_off = breaks_off; shown = None })
 
-tee_alike : (asked : TeeAsked) (content other : Content) → AreAlike (standard_input content) (standard_input other) → tee_made asked other ≡ tee_made asked content
+tee_alike : (asked : TeeAsked) (content other : Content) → AreAlike (standard_input content) (standard_input other)
+    → tee_made asked other ≡ tee_made asked content
 unfolding tee_of
 tee_alike asked content other (are_same is) = ap (tee_made asked) (sym (same_content {inputs = standard_input content ∷ []} refl (ap (λ input. input ∷ []) is)))
 tee_alike asked content other (give_same bytes named gives gives_too) =
@@ -687,7 +760,8 @@ tee_alike asked content other (give_same bytes named gives gives_too) =
     ap (λ those. tee_of asked those other.breaks_off) (two.0 ∙ sym one.0) ∙ ap (tee_of asked content.bytes) (two.1 ∙ sym one.1)
 
 -- what is made of inputs is what is made of others that are alike
-alike_makes : (asked : Settings) (ones others : List Input) {made made_too : Outcome} → AllAlike ones others → Makes asked ones made → Makes asked others made_too → made_too ≡ made
+alike_makes : (asked : Settings) (ones others : List Input) {made made_too : Outcome} → AllAlike ones others
+    → Makes asked ones made → Makes asked others made_too → made_too ≡ made
 alike_makes (Head asked) ones others alike is is_too = is_too ∙ sym (is ∙ all_made_alike (head_task Cutters asked) (head_knows asked.delim asked.unit (is_minus asked.count.sign) asked.count.amount) true ones others alike)
 alike_makes (Tail asked) ones others alike is is_too = is_too ∙ sym (is ∙ all_made_alike (tail_task Cutters asked.ends) (tail_knows asked.ends.delim asked.ends.unit (is_plus asked.ends.count.sign) asked.ends.count.amount) true ones others alike)
 alike_makes (Split asked) ones others alike is is_too = is_too ∙ sym (is ∙ all_made_alike (split_task Cutters asked) (way_knows asked.way asked.elide (filing_of asked)) true ones others alike)
@@ -698,11 +772,15 @@ alike_makes (Tee asked) ones others alike (content, only, is) (content_too, only
 alike_makes (About which topic) ones others alike is is_too = is_too ∙ sym is
 
 -- what the one made is what the other does
-pub same_made : (one other : Run) {asked : Settings} {made made_too : Outcome} → settings_of one.calling one.words ≡ Ok asked → settings_of other.calling other.words ≡ Ok asked → FindAlike one other
-    → Makes asked (inputs_at one.world (names_of asked)) made → Makes asked (inputs_at other.world (names_of asked)) made_too → made_too ≡ made
+pub same_made : (one other : Run) {asked : Settings} {made made_too : Outcome}
+    → settings_of one.calling one.words ≡ Ok asked → settings_of other.calling other.words ≡ Ok asked
+    → FindAlike one other
+    → Makes asked (inputs_at one.world (names_of asked)) made
+    → Makes asked (inputs_at other.world (names_of asked)) made_too → made_too ≡ made
 same_made one other {asked} read read_too same makes makes_too = alike_makes asked _ _ (found_same one other read read_too same) makes makes_too
 
-pub leave_alike : (one other : Run) (asked : Settings) → Completes one asked → Completes other asked → FindAlike one other → LeaveAlike asked one other
+pub leave_alike : (one other : Run) (asked : Settings) → Completes one asked → Completes other asked
+    → FindAlike one other → LeaveAlike asked one other
 leave_alike one other asked whole whole_too same =
     let here = completes_left whole in
     let there = completes_left whole_too in

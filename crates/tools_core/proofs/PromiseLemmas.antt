@@ -42,7 +42,8 @@ completes {run} {asked} does = elim (completes_or run asked does.ran) [
   | inr (inr silent) ↦ silent_completes asked does silent
 ]
 
-pub leave_same : (one other : Run) (asked : Settings) → Does one asked → Does other asked → FindAlike one other → one.outputs ≡ other.outputs
+pub leave_same : (one other : Run) (asked : Settings) → Does one asked → Does other asked → FindAlike one other
+    → one.outputs ≡ other.outputs
 leave_same one other asked does does_too same =
     let here = completes_left (completes does) in
     let there = completes_left (completes does_too) in
@@ -55,7 +56,8 @@ pub record HasOne (run : Run) (asked : Settings) (bytes : List ℕ) : Type 0 whe
   pub gives : GivesBytes input bytes
   pub only : inputs_at run.world (names_of asked) ≡ input ∷ []
 
-lies_there : (world : World) (name : List ℕ) (dash : Bool) → (input_of world false 1 name dash).content ≡ (if dash then Some world.standard else world.laid 1 name)
+lies_there : (world : World) (name : List ℕ) (dash : Bool)
+    → (input_of world false 1 name dash).content ≡ (if dash then Some world.standard else world.laid 1 name)
 lies_there world name true = refl
 lies_there world name false = refl
 
@@ -66,7 +68,8 @@ shows_all world name true = refl
 shows_all world name false = refl
 
 -- the only input of a run
-pub one_gives : {run : Run} {bytes : List ℕ} (has : HasInput run bytes) → GivesBytes (input_of run.world false 1 has.name (is_dash has.name)) bytes
+pub one_gives : {run : Run} {bytes : List ℕ} (has : HasInput run bytes)
+    → GivesBytes (input_of run.world false 1 has.name (is_dash has.name)) bytes
 one_gives {run} {bytes} has =
     let there = lies_there run.world has.name (is_dash has.name) ∙ has.holds in record {
       content = record { bytes = bytes; breaks_off = false; shown = has.shown };
@@ -76,7 +79,8 @@ one_gives {run} {bytes} has =
       steady = subst (λ shown. IsSteady shown bytes) (sym (shows_all run.world has.name (is_dash has.name) ∙ ap shown_of there)) has.steady;
     }
 
-pub has_one : {run : Run} {asked : Settings} {bytes : List ℕ} → Ran run asked → HasInput run bytes → HasOne run asked bytes
+pub has_one : {run : Run} {asked : Settings} {bytes : List ℕ} → Ran run asked → HasInput run bytes
+    → HasOne run asked bytes
 has_one {run} ran has = record {
   input = input_of run.world false 1 has.name (is_dash has.name);
   gives = one_gives has;
@@ -92,7 +96,8 @@ pub record DidOne (run : Run) (asked : Settings) (bytes : List ℕ) : Type 0 whe
   pub sound : made.failed ≡ false
   pub slots : run.outputs ≡ slots_of made.part
 
-pub did_one : {run : Run} {asked : Settings} {bytes : List ℕ} → Does run asked → HasInput run bytes → DidOne run asked bytes
+pub did_one : {run : Run} {asked : Settings} {bytes : List ℕ} → Does run asked → HasInput run bytes
+    → DidOne run asked bytes
 did_one does has =
     let one = has_one does.ran has in
     let all = completes_left (completes does) in
@@ -104,30 +109,39 @@ pub record IsMade (task : Task) (name bytes : List ℕ) (new : List Slot) : Type
   pub unjudged : (task.work None).verdict bytes ≡ None
   pub slots : new ≡ slots_of (part_of task name bytes)
 
-made_one : (task : Task) (name bytes : List ℕ) {made : Outcome} {new : List Slot} → made ≡ joined (of_content task (task.work None) true name (Some (ending bytes))) no_outcome → made.failed ≡ false → new ≡ slots_of made.part → IsMade task name bytes new
+made_one : (task : Task) (name bytes : List ℕ) {made : Outcome} {new : List Slot}
+    → made ≡ joined (of_content task (task.work None) true name (Some (ending bytes))) no_outcome → made.failed ≡ false
+    → new ≡ slots_of made.part → IsMade task name bytes new
 made_one task name bytes is sound slots = grind (arith, common_steps)
 
-pub one_made : {run : Run} {asked : Settings} {bytes : List ℕ} (one : DidOne run asked bytes) (task : Task) → KnowsNoMore task.work → one.made ≡ made_by task (one.input ∷ []) → IsMade task one.input.name bytes run.outputs
+pub one_made : {run : Run} {asked : Settings} {bytes : List ℕ} (one : DidOne run asked bytes) (task : Task)
+    → KnowsNoMore task.work → one.made ≡ made_by task (one.input ∷ []) → IsMade task one.input.name bytes run.outputs
 one_made {bytes} one task knows is = made_one task one.input.name bytes
     (is ∙ ap (λ made. joined made no_outcome) (steady_made task knows true one.input.name bytes one.input refl one.gives)) one.sound one.slots
 
 -- What `head` and `tail` leave of one input.
 
 -- what is on standard output, where no header is written
-bare_output : (task : Task) (name input : List ℕ) (work : Work) {new : List Slot} → task.with_header ≡ false → task.work None ≡ work → new ≡ slots_of (part_of task name input) → (slot_at new 0).written ≡ (work.whole input).out
+bare_output : (task : Task) (name input : List ℕ) (work : Work) {new : List Slot} → task.with_header ≡ false
+    → task.work None ≡ work → new ≡ slots_of (part_of task name input)
+    → (slot_at new 0).written ≡ (work.whole input).out
 bare_output task name input work bare is left =
     ap (λ slots. (slot_at slots 0).written) left
     ∙ ap (λ b. header_text b true name ++ ((task.work None).whole input).out) bare
     ∙ ap (λ (work : Work). (work.whole input).out) is
 
-head_output : {run : Run} (options : EndsAsked) {sign : Sign} {n : ℕ} {input : List ℕ} → IsBare options → IsHead run options sign n → HasInput run input → output_of run ≡ head_of options.delim options.unit (is_minus sign) n input
+head_output : {run : Run} (options : EndsAsked) {sign : Sign} {n : ℕ} {input : List ℕ} → IsBare options
+    → IsHead run options sign n → HasInput run input
+    → output_of run ≡ head_of options.delim options.unit (is_minus sign) n input
 head_output options {sign} {n} {input} bare does has =
     let task = head_task Cutters (counted options sign n) in
     let one = did_one does has in
     let made = one_made one task (head_knows options.delim options.unit (is_minus sign) n) one.makes in
     bare_output task one.input.name input (head_work options.delim options.unit (is_minus sign) n) bare (head_in-None options.delim options.unit (is_minus sign) n) made.slots
 
-tail_output : {run : Run} (options : EndsAsked) {sign : Sign} {n : ℕ} {input : List ℕ} → IsBare options → IsTail run options sign n → HasInput run input → output_of run ≡ tail_of options.delim options.unit (is_plus sign) n input
+tail_output : {run : Run} (options : EndsAsked) {sign : Sign} {n : ℕ} {input : List ℕ} → IsBare options
+    → IsTail run options sign n → HasInput run input
+    → output_of run ≡ tail_of options.delim options.unit (is_plus sign) n input
 tail_output options {sign} {n} {input} bare (looks, pause, process, does) has =
     let task = tail_task Cutters (counted options sign n) in
     let one = did_one does has in
@@ -135,18 +149,23 @@ tail_output options {sign} {n} {input} bare (looks, pause, process, does) has =
     bare_output task one.input.name input (tail_work options.delim options.unit (is_plus sign) n) bare (tail_in-None options.delim options.unit (is_plus sign) n) made.slots
 
 -- lines alone have a delimiter
-tail_of-alike : (unit : Counted) (one other : ℕ) (from_nth : Bool) (n : ℕ) (x : List ℕ) → (unit ≡ Lines → one ≡ other) → tail_of one unit from_nth n x ≡ tail_of other unit from_nth n x
+tail_of-alike : (unit : Counted) (one other : ℕ) (from_nth : Bool) (n : ℕ) (x : List ℕ) → (unit ≡ Lines → one ≡ other)
+    → tail_of one unit from_nth n x ≡ tail_of other unit from_nth n x
 tail_of-alike Lines one other from_nth n x delim = ap (λ d. tail_of d Lines from_nth n x) (delim refl)
 tail_of-alike Bytes one other false n x delim = refl
 tail_of-alike Bytes one other true n x delim = refl
 
-tail_alike : {run : Run} {first rest : EndsAsked} {sign : Sign} {n : ℕ} {input : List ℕ} → CountAlike first rest → IsTail run rest sign n → HasInput run input → output_of run ≡ tail_of first.delim first.unit (is_plus sign) n input
+tail_alike : {run : Run} {first rest : EndsAsked} {sign : Sign} {n : ℕ} {input : List ℕ} → CountAlike first rest
+    → IsTail run rest sign n → HasInput run input
+    → output_of run ≡ tail_of first.delim first.unit (is_plus sign) n input
 tail_alike {first} {rest} {sign} {n} {input} alike does has =
     tail_output rest alike.bare.1 does has
     ∙ ap (λ unit. tail_of rest.delim unit (is_plus sign) n input) (sym alike.unit)
     ∙ tail_of-alike first.unit rest.delim first.delim (is_plus sign) n input (λ lines. sym (alike.delim lines))
 
-pub first_meet : (head tail : Run) (first rest : EndsAsked) (n : ℕ) (input : List ℕ) → CountAlike first rest → IsHead head first Plain n → IsTail tail rest Plus (n + 1) → HasInput head input → HasInput tail input → output_of head ++ output_of tail ≡ input
+pub first_meet : (head tail : Run) (first rest : EndsAsked) (n : ℕ) (input : List ℕ) → CountAlike first rest
+    → IsHead head first Plain n → IsTail tail rest Plus (n + 1) → HasInput head input → HasInput tail input
+    → output_of head ++ output_of tail ≡ input
 first_meet head tail first rest n input alike one other has has_too =
     ap (λ front. front ++ output_of tail) (head_output first alike.bare.0 one has)
     ∙ ap (λ back. first_of first.delim first.unit n input ++ back) (tail_alike alike other has_too ∙ ap (λ k. after_of first.delim first.unit k input) (same n))
@@ -154,7 +173,9 @@ first_meet head tail first rest n input alike one other has has_too =
       same : (k : ℕ) → k + 1 - 1 ≡ k
       same k = omega arith
 
-pub last_meet : (head tail : Run) (first rest : EndsAsked) (n : ℕ) (input : List ℕ) → CountAlike first rest → IsHead head first Minus n → IsTail tail rest Plain n → HasInput head input → HasInput tail input → output_of head ++ output_of tail ≡ input
+pub last_meet : (head tail : Run) (first rest : EndsAsked) (n : ℕ) (input : List ℕ) → CountAlike first rest
+    → IsHead head first Minus n → IsTail tail rest Plain n → HasInput head input → HasInput tail input
+    → output_of head ++ output_of tail ≡ input
 last_meet head tail first rest n input alike one other has has_too =
     rw (head_output first alike.bare.0 one has, tail_alike alike other has_too) (ends_together first.delim first.unit n input)
 
@@ -164,7 +185,8 @@ abbrev first_content : Content → List Input → Option Content
 first_content default [] = Some default
 first_content default (input ∷ inputs) = input.content
 
-copies_named : (mode : Mode) (bytes : List ℕ) (names : List (List ℕ)) → map (λ (file : Slot). file.name) (map (copy mode bytes) names) ≡ names
+copies_named : (mode : Mode) (bytes : List ℕ) (names : List (List ℕ))
+    → map (λ (file : Slot). file.name) (map (copy mode bytes) names) ≡ names
 copies_named mode bytes [] = refl
 copies_named mode bytes (name ∷ names) = ap (λ those. name ∷ those) (copies_named mode bytes names)
 
@@ -172,7 +194,8 @@ pub record IsCopied (tee : Run) (asked : TeeAsked) (input : List ℕ) : Type 0 w
   pub output : output_of tee ≡ input
   pub files : AreCopies asked.mode asked.names input (files_of tee)
 
-pub is_copied : {tee : Run} {asked : TeeAsked} {input : List ℕ} → Does tee (Tee asked) → HasInput tee input → IsCopied tee asked input
+pub is_copied : {tee : Run} {asked : TeeAsked} {input : List ℕ} → Does tee (Tee asked) → HasInput tee input
+    → IsCopied tee asked input
 is_copied {asked} {input} does has =
     let one = did_one does has in
     let (content, only, is) = one.makes in
@@ -190,7 +213,9 @@ is_copied {asked} {input} does has =
 abbrev BeginsMade : Settings → List Input → List Slot → Type 0
 BeginsMade asked inputs new = (made : Outcome) × Makes asked inputs made × ((place : ℕ) → (place ≡ 1 → ⊥) → BeginsAs (slot_at new place) (slot_at (slots_of made.part) place))
 
-begins_made : (breaks_for : ℕ → Reason → Bool) (calling : Calling) (asked : Settings) (inputs : List Input) (sources : List Source) (new : List Slot) (status : ℕ) → CanRun asked → DoesAsked calling true true breaks_for asked inputs sources new status → BeginsMade asked inputs new
+begins_made : (breaks_for : ℕ → Reason → Bool) (calling : Calling) (asked : Settings) (inputs : List Input)
+    (sources : List Source) (new : List Slot) (status : ℕ) → CanRun asked
+    → DoesAsked calling true true breaks_for asked inputs sources new status → BeginsMade asked inputs new
 begins_made breaks_for calling (Head asked) inputs sources new status can does = (_, refl, λ place differs. begins_whole (λ shown. lawful_grows (head_in_lawful _ _ _ _ shown)) differs does)
 begins_made breaks_for calling (Tail asked) inputs sources new status can does = (_, refl, λ place differs. begins_whole (λ shown. lawful_grows (tail_in_lawful _ _ _ _ shown)) differs does)
 begins_made breaks_for calling (Split asked) inputs sources new status can does = (_, refl, λ place differs. begins_whole (λ shown. way_grows asked.way asked.elide (filing_of asked) (option_map length shown) (is_way asked can) (all_have_names asked can.named)) differs does)
@@ -198,7 +223,8 @@ begins_made breaks_for calling (Csplit asked) inputs sources new status can does
 begins_made breaks_for calling (Tee asked) inputs sources new status can does = (_, (does.content, does.input, refl), λ place differs. tee_begins place differs does.ends)
 begins_made breaks_for calling (About which topic) inputs sources new status can does = (_, refl, λ place differs. text_begins place differs does)
 
-pub begins_each : (run well : Run) (asked : Settings) → Ran run asked → Completes well asked → FindAlike run well → BeginsEach run well
+pub begins_each : (run well : Run) (asked : Settings) → Ran run asked → Completes well asked → FindAlike run well
+    → BeginsEach run well
 begins_each run well asked ran whole same =
     let all = completes_left whole in
     elim (ran_over ran) [

@@ -57,11 +57,14 @@ use Rattle.operand_core.specs.declared.operand_fault.OperandFaultKind.TheVariant
 
 -- The tool that runs is the one that the words name.
 
-by_check : {A : Type 0} (which : Tool) (make : A → Settings) (checked : Result A Fault) {settings : Settings} → ((asked : A) → which ≡ tool_of (make asked)) → then_check checked (λ asked. Ok (make asked)) ≡ Ok settings → which ≡ tool_of settings
+by_check : {A : Type 0} (which : Tool) (make : A → Settings) (checked : Result A Fault) {settings : Settings}
+    → ((asked : A) → which ≡ tool_of (make asked)) → then_check checked (λ asked. Ok (make asked)) ≡ Ok settings
+    → which ≡ tool_of settings
 by_check which make (Ok asked) {settings} makes is = let same : make asked ≡ settings = cc in rw (← same) (makes asked)
 by_check which make (Err fault) makes is = absurd (cc)
 
-by_work : (calling : Calling) (which : Tool) (given : Given) {settings : Settings} → work_for calling which given ≡ Ok settings → which ≡ tool_of settings
+by_work : (calling : Calling) (which : Tool) (given : Given) {settings : Settings}
+    → work_for calling which given ≡ Ok settings → which ≡ tool_of settings
 by_work calling tool.Head given is = by_check tool.Head (λ asked. Head asked) (Ok (ends_asked given)) (λ asked. refl) is
 by_work calling tool.Tail given is = by_check tool.Tail (λ asked. Tail asked) (tail_asked given) (λ asked. refl) is
 by_work calling tool.Split given is = by_check tool.Split (λ asked. Split asked) (split_asked given) (λ asked. refl) is
@@ -69,59 +72,89 @@ by_work calling tool.Csplit given is = by_check tool.Csplit (λ asked. Csplit as
 by_work calling tool.Tee given is = by_check tool.Tee (λ asked. Tee asked) (Ok (tee_asked calling given)) (λ asked. refl) is
 by_work calling tool.Cutters given is = absurd (cc)
 
-by_about : (which : Tool) (topic : Option Topic) (work : Result Settings Fault) {settings : Settings} → (work ≡ Ok settings → which ≡ tool_of settings) → about_or which topic work ≡ Ok settings → which ≡ tool_of settings
+by_about : (which : Tool) (topic : Option Topic) (work : Result Settings Fault) {settings : Settings}
+    → (work ≡ Ok settings → which ≡ tool_of settings) → about_or which topic work ≡ Ok settings
+    → which ≡ tool_of settings
 by_about which (Some topic) work {settings} rest is = let same : About which topic ≡ settings = cc in rw (← same) refl
 by_about which None work rest is = rest is
 
-by_given : (calling : Calling) {which : Tool} (given : Result Given Fault) {settings : Settings} → then_check given (settings_for calling which) ≡ Ok settings → which ≡ tool_of settings
+by_given : (calling : Calling) {which : Tool} (given : Result Given Fault) {settings : Settings}
+    → then_check given (settings_for calling which) ≡ Ok settings → which ≡ tool_of settings
 by_given calling {which} (Ok given) {settings} is = by_about which (topic_in given.options) (work_for calling which given) (by_work calling which given) is
 by_given calling (Err fault) is = absurd (cc)
 
-by_topic : (topic : Option Topic) {settings : Settings} → program_asked topic ≡ Ok settings → (tool_of settings ≡ tool.Cutters) × CanRun settings
+by_topic : (topic : Option Topic) {settings : Settings} → program_asked topic ≡ Ok settings
+    → (tool_of settings ≡ tool.Cutters) × CanRun settings
 by_topic (Some topic) {settings} is = let same : About tool.Cutters topic ≡ settings = cc in rw (← same) (refl, tt)
 by_topic None is = absurd (cc)
 
-named : (calling : Calling) (row : Option ToolRow) (name : List ℕ) (words : List (List ℕ)) (settings : Settings) → tool_settings calling name words row ≡ Ok settings → unwrap_or (option_map (λ row. row.tool) row) tool.Cutters ≡ tool_of settings
+named : (calling : Calling) (row : Option ToolRow) (name : List ℕ) (words : List (List ℕ)) (settings : Settings)
+    → tool_settings calling name words row ≡ Ok settings
+    → unwrap_or (option_map (λ row. row.tool) row) tool.Cutters ≡ tool_of settings
 named calling (Some row) name words settings is = by_given calling (given_by calling row words) is
 named calling None name words settings is = sym (by_topic (topic_named name) is).0
 
-pub runs_as_named : (calling : Calling) (words : List (List ℕ)) {settings : Settings} → settings_of calling words ≡ Ok settings → speaker words ≡ tool_of settings
+pub runs_as_named : (calling : Calling) (words : List (List ℕ)) {settings : Settings}
+    → settings_of calling words ≡ Ok settings → speaker words ≡ tool_of settings
 runs_as_named calling [] is = absurd (cc)
 runs_as_named calling (name ∷ words) {settings} is = named calling (row_named tools name) name words settings is
 
 -- What words ask for can be done.
 
-can_given : (calling : Calling) (name : List ℕ) {row : ToolRow} (words : List (List ℕ)) {settings : Settings} (given : Result Given Fault) → Some row ≡ row_named tools name → given_by calling row words ≡ given → then_check given (settings_for calling row.tool) ≡ Ok settings → CanRun settings
+can_given : (calling : Calling) (name : List ℕ) {row : ToolRow} (words : List (List ℕ)) {settings : Settings}
+    (given : Result Given Fault) → Some row ≡ row_named tools name → given_by calling row words ≡ given
+    → then_check given (settings_for calling row.tool) ≡ Ok settings → CanRun settings
 can_given calling name words {settings} (Ok given) named read is = read-can calling name words (Ok settings) refl named read is
 can_given calling name words (Err fault) named read is = absurd (cc)
 
-can_tool : (calling : Calling) (name : List ℕ) (words : List (List ℕ)) {settings : Settings} (row : Option ToolRow) → row ≡ row_named tools name → tool_settings calling name words row ≡ Ok settings → CanRun settings
+can_tool : (calling : Calling) (name : List ℕ) (words : List (List ℕ)) {settings : Settings} (row : Option ToolRow)
+    → row ≡ row_named tools name → tool_settings calling name words row ≡ Ok settings → CanRun settings
 can_tool calling name words (Some row) named is = can_given calling name words (given_by calling row words) named refl is
 can_tool calling name words None named is = (by_topic (topic_named name) is).1
 
-pub can_run : (calling : Calling) (words : List (List ℕ)) {settings : Settings} → settings_of calling words ≡ Ok settings → CanRun settings
+pub can_run : (calling : Calling) (words : List (List ℕ)) {settings : Settings}
+    → settings_of calling words ≡ Ok settings → CanRun settings
 can_run calling [] is = absurd (cc)
 can_run calling (name ∷ words) is = can_tool calling name words (row_named tools name) refl is
 
 -- Lemmas on how a run ends, by its words.
 
 -- the names that a run reads are those of its settings
-pub ends_names : {asked : EndsAsked} {unit : Counted} {count : Count} {headers : Headers} {delim : ℕ} {items now : List (Bor (List ℕ))} → now ≡ items → record { unit = unit; count = count; headers = headers; delim = delim; names = map (λ (name : Bor (List ℕ)). name.now) items } ≡ asked
+pub ends_names : {asked : EndsAsked} {unit : Counted} {count : Count} {headers : Headers} {delim : ℕ}
+    {items now : List (Bor (List ℕ))} → now ≡ items
+    → record {
+      unit = unit;
+      count = count;
+      headers = headers;
+      delim = delim;
+      names = map (λ
+          (name : Bor (List ℕ)). name.now) items;
+    } ≡ asked
     → map (λ (name : Bor (List ℕ)). name.now) now ≡ asked.names
 ends_names same is = cc (same, is)
 
 -- `tee` over what is there
 
 -- the name that it reads finds standard input
-finds_standard : {told : Bool} {laid : ℕ → List ℕ → Option Content} (sources : List Source) {content : Content} → (told ≡ true → content ≡ (source_at sources 0).left) → Finds told (world_of laid sources) (codes "-" ∷ []) (standard_input content ∷ [])
+finds_standard : {told : Bool} {laid : ℕ → List ℕ → Option Content} (sources : List Source) {content : Content}
+    → (told ≡ true → content ≡ (source_at sources 0).left)
+    → Finds told (world_of laid sources) (codes "-" ∷ []) (standard_input content ∷ [])
 finds_standard {laid} sources {content} there = record {
   are = ((record { laid = laid; standard = content }, _, refl), refl);
   there = λ t. ap (λ (those : Content). standard_input those ∷ []) (there t);
 }
 
-pub tee_runs : {told_in told : Bool} {breaks_for : ℕ → Reason → Bool} {calling : Calling} {laid : ℕ → List ℕ → Option Content} {asked : TeeAsked} {mode : Mode} {on_broken : OnBroken} {names : List (List ℕ)} (old : List Source) {sources : List Source} {new : List Slot} {status : ℕ} → mode ≡ asked.mode → on_broken ≡ asked.on_broken → names ≡ asked.names
-    → OfContent told_in (source_at old 0).left (λ content. TeeCopies told_in told breaks_for calling mode on_broken names content (source_at sources 0) new status × CameFrom told_in content (source_at sources 0))
-    → (told_in ≡ true → status ≡ 0 → (forgives on_broken ≡ true → AreSound new) → new ≡ all_copied told mode names (source_at old 0).left.bytes) → RunsOver told_in (world_of laid old) (codes "-" ∷ []) (λ found. TeeEndsAs calling told_in told breaks_for asked found sources new status)
+pub tee_runs : {told_in told : Bool} {breaks_for : ℕ → Reason → Bool} {calling : Calling}
+    {laid : ℕ → List ℕ → Option Content} {asked : TeeAsked} {mode : Mode} {on_broken : OnBroken} {names : List (List ℕ)}
+    (old : List Source) {sources : List Source} {new : List Slot} {status : ℕ} → mode ≡ asked.mode
+    → on_broken ≡ asked.on_broken → names ≡ asked.names
+    → OfContent told_in (source_at old 0).left
+    (λ content. TeeCopies told_in told breaks_for calling mode on_broken names content (source_at sources 0) new status
+    × CameFrom told_in content (source_at sources 0))
+    → (told_in ≡ true → status ≡ 0 → (forgives on_broken ≡ true → AreSound new)
+    → new ≡ all_copied told mode names (source_at old 0).left.bytes)
+    → RunsOver told_in (world_of laid old) (codes "-" ∷ [])
+    (λ found. TeeEndsAs calling told_in told breaks_for asked found sources new status)
 tee_runs {told} {mode} {names} old mode_is broken_is names_is (content, there, (ends, came)) whole = (
   standard_input content ∷ [],
   finds_standard old there,
@@ -137,7 +170,9 @@ tee_runs {told} {mode} {names} old mode_is broken_is names_is (content, there, (
 -- words that weren't read for want of memory, where they ask for this
 
 -- an input that wasn't read, whether it tells its bytes or not
-unread_source : (told : Bool) {sources : List Source} → IsFresh sources → OfContent told (source_at sources 0).left (λ content. IsAsFound told content (source_at sources 0) × CameFrom told content (source_at sources 0))
+unread_source : (told : Bool) {sources : List Source} → IsFresh sources
+    → OfContent told (source_at sources 0).left (λ content. IsAsFound told content (source_at sources 0)
+    × CameFrom told content (source_at sources 0))
 unread_source true {sources} fresh =
     let unread = ap (λ those. source_at those 0) fresh.only in
     ((source_at sources 0).left, λ t. refl, ((fresh.standard, unread, λ t. sym (ap (λ (source : Source). source.left) unread)), record { was_open = ap (λ (source : Source). source.is_open) unread; breaks = λ off. absurd (false≢true (sym off)) }))
@@ -151,7 +186,8 @@ lacks_memory asked = (record { kind = kind.Memory; index = 0 }, no_memory 0, ref
 
 -- words that are refused, or weren't read for want of memory
 
-pub refused_memory : {told : Bool} (words : List (List ℕ)) (fault : Fault) {new : List Slot} {status : ℕ} → RefusesFor told words Memory new status → RefusesFor told words fault new status
+pub refused_memory : {told : Bool} (words : List (List ℕ)) (fault : Fault) {new : List Slot} {status : ℕ}
+    → RefusesFor told words Memory new status → RefusesFor told words fault new status
 refused_memory words fault refuses = record {
   error = refuses.error;
   says = let (why, says) = refuses.says in (why, record { said = says.said; is = inr (elim says.is [ inl is ↦ is | inr is ↦ is ]); printed = says.printed });
@@ -160,25 +196,32 @@ refused_memory words fault refuses = record {
 }
 
 -- what is said of the words is said by the tool that they ask for
-pub memory_by : {told : Bool} (calling : Calling) {which tool : Tool} {old new : Slot} → which ≡ tool → Says told (by Cutters which) (message_of Memory []) old new → Says told (by calling tool) (message_of Memory []) old new
+pub memory_by : {told : Bool} (calling : Calling) {which tool : Tool} {old new : Slot} → which ≡ tool
+    → Says told (by Cutters which) (message_of Memory []) old new
+    → Says told (by calling tool) (message_of Memory []) old new
 memory_by {told} OwnName {which} {old} {new} is (why, says) =
     let spoken : Says told (by OwnName which) (message_of Memory []) old new = (why, record { said = says.said; is = says.is; printed = says.printed }) in rw is at spoken
 memory_by Cutters is says = rw is at says
 
-says_as : {told : Bool} (calling : Calling) (words : List (List ℕ)) {settings : Settings} {new : List Slot} {status : ℕ} → settings_of calling words ≡ Ok settings → (refuses : RefusesFor told words Memory new status)
+says_as : {told : Bool} (calling : Calling) (words : List (List ℕ)) {settings : Settings} {new : List Slot} {status : ℕ}
+    → settings_of calling words ≡ Ok settings → (refuses : RefusesFor told words Memory new status)
     → SaysAll told (speaker_of calling settings) (message_of Memory [] ∷ []) standard_error refuses.error
 says_as calling words is refuses = (refuses.error, memory_by calling (runs_as_named calling words is) refuses.says, refl)
 
-module _ (calling : Calling) (told_in told : Bool) (breaks_for : ℕ → Reason → Bool) (words : List (List ℕ)) (laid : ℕ → List ℕ → Option Content) (sources : List Source) (new : List Slot) (status : ℕ) (fresh : IsFresh sources) where
+module _ (calling : Calling) (told_in told : Bool) (breaks_for : ℕ → Reason → Bool) (words : List (List ℕ))
+    (laid : ℕ → List ℕ → Option Content) (sources : List Source) (new : List Slot) (status : ℕ)
+    (fresh : IsFresh sources) where
   -- no input was touched by a run of words that mean this
   abbrev pub EndsUnread : Result Settings Fault → Type 0
   EndsUnread meant = RunsOver told_in (world_of laid sources) (names_at meant) (λ found. RunEndsAt calling told_in told breaks_for words found sources sources new status meant)
 
   -- the words ask for something whose operands can't be read
-  operands_refused : (settings : Settings) (fault : Fault) → HasBadOperands settings fault → RefusesFor told words fault new status → EndsUnread (Ok settings)
+  operands_refused : (settings : Settings) (fault : Fault) → HasBadOperands settings fault
+      → RefusesFor told words fault new status → EndsUnread (Ok settings)
   operands_refused settings fault bad refuses = let (found, finds, untouched) = none_touched fresh in (found, finds, inr (refl, (fault, bad, refuses)))
 
-  unread_for : (meant : Result Settings Fault) → settings_of calling words ≡ meant → RefusesFor told words Memory new status → EndsUnread meant
+  unread_for : (meant : Result Settings Fault) → settings_of calling words ≡ meant
+      → RefusesFor told words Memory new status → EndsUnread meant
   unread_for (Err fault) is refuses = ([], record { are = refl; there = λ t. refl }, (refl, refused_memory words fault refuses))
   unread_for (Ok (Csplit asked)) is refuses = operands_refused (Csplit asked) Memory (lacks_memory asked) refuses
   unread_for (Ok (Tee asked)) is refuses =
@@ -192,7 +235,8 @@ module _ (calling : Calling) (told_in told : Bool) (breaks_for : ℕ → Reason 
   unread_for (Ok settings) is refuses =
       let (found, finds, untouched) = none_touched fresh in (found, finds, inl (no_room refuses.error (says_as calling words is refuses) refuses.slots untouched (ap length fresh.only) refuses.failed))
 
-  pub refused_or_memory : {fault : Fault} → IsRefused HasBadOperands (settings_of calling words) fault → RefusesFor told words fault new status → EndsUnread (settings_of calling words)
+  pub refused_or_memory : {fault : Fault} → IsRefused HasBadOperands (settings_of calling words) fault
+      → RefusesFor told words fault new status → EndsUnread (settings_of calling words)
   refused_or_memory (inr (inl is)) refuses = rw is ([], record { are = refl; there = λ t. refl }, (refl, refuses))
   refused_or_memory {fault} (inr (inr (settings, is, bad))) refuses = rw is (operands_refused settings fault bad refuses)
   refused_or_memory (inl is) refuses = unread_for (settings_of calling words) refl (rw is at refuses)
@@ -200,15 +244,21 @@ module _ (calling : Calling) (told_in told : Bool) (breaks_for : ℕ → Reason 
 -- Lemmas on how a run that follows ends, by its words.
 
 -- how soon looks begin doesn't depend on what they forgive
-pub shows_by-waiting : (calling : Calling) (by_name : Bool) (milliseconds : ℕ) (shows : ℕ → Snapshot) → shows_by calling by_name (λ n. waiting milliseconds (shows n)) ≡ (λ n. waiting milliseconds (shows_by calling by_name shows n))
+pub shows_by-waiting : (calling : Calling) (by_name : Bool) (milliseconds : ℕ) (shows : ℕ → Snapshot)
+    → shows_by calling by_name (λ n. waiting milliseconds (shows n))
+    ≡ (λ n. waiting milliseconds (shows_by calling by_name shows n))
 shows_by-waiting OwnName true milliseconds shows = refl
 shows_by-waiting OwnName false milliseconds shows = refl
 shows_by-waiting Cutters by_name milliseconds shows = refl
 
-module _ (calling : Calling) (told_in told : Bool) (breaks_for : ℕ → Reason → Bool) (words : List (List ℕ)) (looks : ℕ) (shows : ℕ → Snapshot) (seen : List Snapshot) (watched : List Watched) (new : List Slot) (status : ℕ) (unseen : seen ≡ []) (unwatched : watched ≡ []) where
+module _ (calling : Calling) (told_in told : Bool) (breaks_for : ℕ → Reason → Bool) (words : List (List ℕ)) (looks : ℕ)
+    (shows : ℕ → Snapshot) (seen : List Snapshot) (watched : List Watched) (new : List Slot) (status : ℕ)
+    (unseen : seen ≡ []) (unwatched : watched ≡ []) where
   -- words that weren't read for want of memory
 
-  unread_tail : (asked : TailSettings) (followed : Option Followed) → speaker words ≡ tool.Tail → RefusesFor told words Memory new status → FollowsTail calling told_in told breaks_for words asked followed looks shows seen watched new status
+  unread_tail : (asked : TailSettings) (followed : Option Followed) → speaker words ≡ tool.Tail
+      → RefusesFor told words Memory new status
+      → FollowsTail calling told_in told breaks_for words asked followed looks shows seen watched new status
   unread_tail asked None speaks refuses = (unseen, unwatched, refused_memory words (Usage BadFollow 0) refuses)
   unread_tail asked (Some followed) speaks refuses =
       let (most, are, above) = most_made told_in asked.process (λ n. waiting (max asked.pause 1) (shows_by calling (is_name followed) shows n)) looks 0 (omega arith) (λ t. omega arith) in
@@ -219,17 +269,23 @@ module _ (calling : Calling) (told_in told : Bool) (breaks_for : ℕ → Reason 
         refuses.slots ∙ ap (changed_at 1 (λ _. refuses.error)) are,
       )) refuses.failed)
 
-  unread_files : (meant : Result Settings Fault) → settings_of calling words ≡ meant → RefusesFor told words Memory new status → FollowingEndsAt calling told_in told breaks_for words looks shows seen watched new status meant
+  unread_files : (meant : Result Settings Fault) → settings_of calling words ≡ meant
+      → RefusesFor told words Memory new status
+      → FollowingEndsAt calling told_in told breaks_for words looks shows seen watched new status meant
   unread_files (Ok (Tail asked)) is refuses = unread_tail asked asked.followed (runs_as_named calling words is) refuses
   unread_files (Ok (Csplit asked)) is refuses = inr (unseen, unwatched, (Memory, lacks_memory asked, refuses))
   unread_files (Ok asked) is refuses = inl (tt, (unseen, unwatched, refused_memory words (Usage BadFollow 0) refuses))
   unread_files (Err fault) is refuses = (unseen, unwatched, refused_memory words fault refuses)
 
-  operands_unread : (settings : Settings) (fault : Fault) → HasBadOperands settings fault → RefusesFor told words fault new status → FollowingEndsAt calling told_in told breaks_for words looks shows seen watched new status (Ok settings)
+  operands_unread : (settings : Settings) (fault : Fault) → HasBadOperands settings fault
+      → RefusesFor told words fault new status
+      → FollowingEndsAt calling told_in told breaks_for words looks shows seen watched new status (Ok settings)
   operands_unread (Csplit asked) fault bad refuses = inr (unseen, unwatched, (fault, bad, refuses))
   operands_unread asked fault bad refuses = absurd bad
 
-  pub refused_words : {fault : Fault} → IsRefused HasBadOperands (settings_of calling words) fault → RefusesFor told words fault new status → FollowingEnds calling told_in told breaks_for words looks shows seen watched new status
+  pub refused_words : {fault : Fault} → IsRefused HasBadOperands (settings_of calling words) fault
+      → RefusesFor told words fault new status
+      → FollowingEnds calling told_in told breaks_for words looks shows seen watched new status
   refused_words (inr (inl is)) refuses = rw is (unseen, unwatched, refuses)
   refused_words {fault} (inr (inr (settings, is, bad))) refuses = rw is (operands_unread settings fault bad refuses)
   refused_words (inl is) refuses = unread_files (settings_of calling words) refl (rw is at refuses)
@@ -237,9 +293,15 @@ module _ (calling : Calling) (told_in told : Bool) (breaks_for : ℕ → Reason 
 -- Which of both runs the words ask for.
 
 -- what words leave that are refused, whichever run they ask for
-pub program_refuses : (calling : Calling) (told_in told_watched : Bool) {told : Bool} (breaks_for : ℕ → Reason → Bool) (words : List (List ℕ)) (laid : ℕ → List ℕ → Option Content) {sources : List Source} (shows : ℕ → Snapshot) {seen : List Snapshot} {watched : List Watched} {fault : Fault} {new : List Slot} {status : ℕ} → IsFresh sources → seen ≡ [] → watched ≡ [] → IsRefused HasBadOperands (settings_of calling words) fault → RefusesFor told words fault new status
+pub program_refuses : (calling : Calling) (told_in told_watched : Bool) {told : Bool} (breaks_for : ℕ → Reason → Bool)
+    (words : List (List ℕ)) (laid : ℕ → List ℕ → Option Content) {sources : List Source} (shows : ℕ → Snapshot)
+    {seen : List Snapshot} {watched : List Watched} {fault : Fault} {new : List Slot} {status : ℕ} → IsFresh sources
+    → seen ≡ [] → watched ≡ [] → IsRefused HasBadOperands (settings_of calling words) fault
+    → RefusesFor told words fault new status
     → ProgramEnds calling told_in told_watched told breaks_for words laid sources sources shows seen watched new status
 program_refuses calling told_in told_watched {told} breaks_for words laid {sources} shows {seen} {watched} {new} {status} fresh unseen unwatched refused refuses = by (looks_at (settings_of calling words)) where
-  by : (asked : Option ℕ) → ProgramEndsAt calling told_in told_watched told breaks_for words laid sources sources shows seen watched new status asked
+  by : (asked : Option ℕ)
+      → ProgramEndsAt calling told_in told_watched told breaks_for words laid sources sources shows seen watched new
+      status asked
   by (Some looks) = (refl, refused_words calling told_watched told breaks_for words looks shows seen watched new status unseen unwatched refused refuses)
   by None = (unseen, unwatched, refused_or_memory calling told_in told breaks_for words laid sources new status fresh refused refuses)

@@ -32,22 +32,26 @@ pub record KnowsNoMore (work : Option (List ℕ) → Work) : Type 0 where
 
 -- where nothing is shown, they know nothing
 
-pub head_in-None : (delim : ℕ) (unit : Counted) (but_last : Bool) (n : ℕ) → head_in delim unit but_last n None ≡ head_work delim unit but_last n
+pub head_in-None : (delim : ℕ) (unit : Counted) (but_last : Bool) (n : ℕ)
+    → head_in delim unit but_last n None ≡ head_work delim unit but_last n
 head_in-None delim unit true n = refl
 head_in-None delim unit false n = refl
 
-pub tail_in-None : (delim : ℕ) (unit : Counted) (from_nth : Bool) (n : ℕ) → tail_in delim unit from_nth n None ≡ tail_work delim unit from_nth n
+pub tail_in-None : (delim : ℕ) (unit : Counted) (from_nth : Bool) (n : ℕ)
+    → tail_in delim unit from_nth n None ≡ tail_work delim unit from_nth n
 tail_in-None delim unit true n = refl
 tail_in-None delim unit false n = refl
 
 -- the works of `head` and `tail` are lawful, whatever is shown
 
-pub head_in_lawful : (delim : ℕ) (unit : Counted) (but_last : Bool) (n : ℕ) (shown : Option (List ℕ)) → IsLawful (head_in delim unit but_last n shown)
+pub head_in_lawful : (delim : ℕ) (unit : Counted) (but_last : Bool) (n : ℕ) (shown : Option (List ℕ))
+    → IsLawful (head_in delim unit but_last n shown)
 head_in_lawful delim unit true n (Some text) = head_shown_lawful delim unit n text
 head_in_lawful delim unit true n None = head_lawful delim unit true n
 head_in_lawful delim unit false n shown = head_lawful delim unit false n
 
-pub tail_in_lawful : (delim : ℕ) (unit : Counted) (from_nth : Bool) (n : ℕ) (shown : Option (List ℕ)) → IsLawful (tail_in delim unit from_nth n shown)
+pub tail_in_lawful : (delim : ℕ) (unit : Counted) (from_nth : Bool) (n : ℕ) (shown : Option (List ℕ))
+    → IsLawful (tail_in delim unit from_nth n shown)
 tail_in_lawful delim unit false n (Some text) = tail_shown_lawful delim unit n text
 tail_in_lawful delim unit false n None = tail_lawful delim unit false n
 tail_in_lawful delim unit true n shown = tail_lawful delim unit true n
@@ -72,7 +76,8 @@ tail_knows delim unit true n = record { whole = λ text. refl; verdict = λ text
 said_so : (text : List ℕ) → is_as_said (Some (length text)) text ≡ true
 said_so text = eq-eqb (length text) (length text) refl
 
-pub way_knows : (way : Way) (elide : Bool) (filing : Filing) → KnowsNoMore (λ shown. way_work way elide filing (option_map length shown))
+pub way_knows : (way : Way) (elide : Bool) (filing : Filing)
+    → KnowsNoMore (λ shown. way_work way elide filing (option_map length shown))
 way_knows (way.Cut cut) elide filing = record { whole = λ text. refl; verdict = λ text. refl; clears = λ text. refl }
 way_knows (way.Chunks chunks) elide filing = record {
   whole = λ text. refl;
@@ -102,7 +107,9 @@ of_fields task work is_first name bytes breaks_off =
     of_content task work is_first name (Some (record { bytes = bytes; breaks_off = breaks_off; shown = None }))
 
 module _ (task : Task) (knows : KnowsNoMore task.work) (is_first : Bool) (name bytes : List ℕ) where
-  shown_too : (shown : Option (List ℕ)) → IsSteady shown bytes → of_fields task (task.work shown) is_first name bytes false ≡ of_fields task (task.work None) is_first name bytes false
+  shown_too : (shown : Option (List ℕ)) → IsSteady shown bytes
+      → of_fields task (task.work shown) is_first name bytes false
+      ≡ of_fields task (task.work None) is_first name bytes false
   unfolding of_fields made_of_end
   shown_too shown (inl none) = ap (λ shown. of_fields task (task.work shown) is_first name bytes false) none
   shown_too shown (inr all) = ap (λ shown. of_fields task (task.work shown) is_first name bytes false) all
@@ -111,7 +118,8 @@ module _ (task : Task) (knows : KnowsNoMore task.work) (is_first : Bool) (name b
       ∙ ap (made_of_end task is_first name ((task.work None).whole bytes) ((task.work None).verdict bytes)) (knows.clears bytes)
 
   -- what is made of an input that gives these bytes
-  pub steady_made : (input : Input) → input.name ≡ name → GivesBytes input bytes → of_input task is_first input ≡ of_content task (task.work None) is_first name (Some (unshown bytes))
+  pub steady_made : (input : Input) → input.name ≡ name → GivesBytes input bytes
+      → of_input task is_first input ≡ of_content task (task.work None) is_first name (Some (unshown bytes))
   unfolding of_fields
   steady_made input named gives =
       ap (λ name. of_content task (task.work input.shown) is_first name input.content) named
@@ -125,13 +133,15 @@ missing_alike : (one other : Input) → AreAlike one other → is_missing one.co
 missing_alike one other (are_same is) = ap (λ (input : Input). is_missing input.content) is
 missing_alike one other (give_same bytes named gives gives_too) = ap is_missing gives.is ∙ sym (ap is_missing gives_too.is)
 
-alike_made : (task : Task) → KnowsNoMore task.work → (is_first : Bool) (one other : Input) → AreAlike one other → of_input task is_first one ≡ of_input task is_first other
+alike_made : (task : Task) → KnowsNoMore task.work → (is_first : Bool) (one other : Input) → AreAlike one other
+    → of_input task is_first one ≡ of_input task is_first other
 alike_made task knows is_first one other (are_same is) = ap (of_input task is_first) is
 alike_made task knows is_first one other (give_same bytes named gives gives_too) =
     steady_made task knows is_first other.name bytes one named gives ∙ sym (steady_made task knows is_first other.name bytes other refl gives_too)
 
 -- so what is made of alike inputs is the same
-pub all_made_alike : (task : Task) → KnowsNoMore task.work → (is_first : Bool) (ones others : List Input) → AllAlike ones others → of_inputs task is_first ones ≡ of_inputs task is_first others
+pub all_made_alike : (task : Task) → KnowsNoMore task.work → (is_first : Bool) (ones others : List Input)
+    → AllAlike ones others → of_inputs task is_first ones ≡ of_inputs task is_first others
 all_made_alike task knows is_first [] [] alike = refl
 all_made_alike task knows is_first (one ∷ ones) [] alike = absurd alike
 all_made_alike task knows is_first [] (other ∷ others) alike = absurd alike

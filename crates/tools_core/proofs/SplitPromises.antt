@@ -61,18 +61,22 @@ use Rattle.tools_core.proofs.RunLemmas.{can_run}
 use Rattle.tools_core.proofs.LeftLemmas.{named_each, slot_of, slots_of}
 use Rattle.tools_core.proofs.PromiseLemmas.{DidOne, IsMade, did_one, one_made}
 
-by_places : (names : List (List ℕ)) → ((k : ℕ) → k + 1 < length names → slice_cmp nat_cmp (text_at names k) (text_at names (suc k)) ≡ Less) → AreInOrder names
+by_places : (names : List (List ℕ))
+    → ((k : ℕ) → k + 1 < length names → slice_cmp nat_cmp (text_at names k) (text_at names (suc k)) ≡ Less)
+    → AreInOrder names
 by_places (name ∷ next ∷ names) each = (each 0 (omega arith), by_places (next ∷ names) (λ k within. each (suc k) (omega (arith, within))))
 by_places names each = tt
 
 -- texts that are named by their places
-pub order_by : (name : ℕ → List ℕ) (names : List (List ℕ)) → ((place : ℕ) → place < length names → text_at names place ≡ name place)
+pub order_by : (name : ℕ → List ℕ) (names : List (List ℕ))
+    → ((place : ℕ) → place < length names → text_at names place ≡ name place)
     → ((k : ℕ) → suc k < length names → slice_cmp nat_cmp (name k) (name (suc k)) ≡ Less) → AreInOrder names
 order_by name names named less = grind (arith, common_steps, by_places)
 
 -- those of numbers that have one count of digits
 pub formatted_in_order : (naming : Naming) (form : Form) (names : List (List ℕ)) → naming.numbering ≡ Formatted form
-    → ((place : ℕ) → place < length names → text_at names place ≡ name_at naming place) → length names ≤ ordered_count form → length names ≤ 2 ^ 64 → AreInOrder names
+    → ((place : ℕ) → place < length names → text_at names place ≡ name_at naming place)
+    → length names ≤ ordered_count form → length names ≤ 2 ^ 64 → AreInOrder names
 formatted_in_order naming form names is named few least =
     order_by (name_at naming) names named (λ k next. in_order naming k (suc k) (rw is tt) (omega arith) (rw is (lt-ltb _ _ (omega (arith, next, least)))) (rw is (lt-ltb _ _ (omega (arith, next, few)))))
 
@@ -83,11 +87,13 @@ pub not_short : (has : Bool) → cond (not has) (Some Suffixes) None ≡ None �
 not_short true well = refl
 not_short false well = absurd (cc)
 
-pub bytes_written : (files : List File) → map (λ (file : Slot). file.written) (map slot_of files) ≡ map (λ (file : File). file.bytes) files
+pub bytes_written : (files : List File)
+    → map (λ (file : Slot). file.written) (map slot_of files) ≡ map (λ (file : File). file.bytes) files
 bytes_written [] = refl
 bytes_written (file ∷ files) = ap (λ those. file.bytes ∷ those) (bytes_written files)
 
-all_named : (filing : Filing) {pieces : List (List ℕ)} → are_named filing.names (length (map (share Closed) pieces)) ≡ true
+all_named : (filing : Filing) {pieces : List (List ℕ)}
+    → are_named filing.names (length (map (share Closed) pieces)) ≡ true
     → map (λ (file : Slot). file.written) (map slot_of (named filing 0 (map (share Closed) pieces))) ≡ pieces
 all_named filing {pieces} are = rw (bytes_written (named filing 0 (map (share Closed) pieces)), bytes_named filing 0 (map (share Closed) pieces), bytes_of_shares Closed pieces, each_named filing.names pieces (ap (are_named filing.names) (sym (length-map pieces (share Closed))) ∙ are))
 
@@ -97,27 +103,32 @@ all_named filing {pieces} are = rw (bytes_written (named filing 0 (map (share Cl
 abbrev pub AreNamed : (ℕ → List ℕ) → ℕ → List File → Type 0
 AreNamed name start files = (k : ℕ) → k < length (map slot_of files) → text_at (map (λ (file : Slot). file.name) (map slot_of files)) k ≡ name (start + k)
 
-pub named_step : (name : ℕ → List ℕ) (start : ℕ) (file : File) (made others : List File) (has : Bool) → file.name ≡ name start → AreNamed name (start + 1) made
+pub named_step : (name : ℕ → List ℕ) (start : ℕ) (file : File) (made others : List File) (has : Bool)
+    → file.name ≡ name start → AreNamed name (start + 1) made
     → AreNamed name start others → AreNamed name start (cond has (file ∷ made) others)
 named_step name start file made others true is are without zero within = search rules
 named_step name start file made others true is are without (suc k) within = are k (omega (arith, within)) ∙ ap name (omega arith)
 named_step name start file made others false is are without k within = without k within
 
-have_names : (filing : Filing) (start : ℕ) (shares : List Share) → AreNamed (name_at filing.names) start (named filing start shares)
+have_names : (filing : Filing) (start : ℕ) (shares : List Share)
+    → AreNamed (name_at filing.names) start (named filing start shares)
 have_names filing start [] k within = search rules
 have_names filing start (share ∷ shares) k within = named_step (name_at filing.names) start (file_at filing start share) (named filing (start + 1) shares) []
     (has_name filing.names start) refl (have_names filing (start + 1) shares) (λ k within. absurd (omega (arith, within))) k within
 
-named_below : (names : Naming) (count : ℕ) → are_named names count ≡ true → (place : ℕ) → place < count → has_name names place ≡ true
+named_below : (names : Naming) (count : ℕ) → are_named names count ≡ true → (place : ℕ) → place < count
+    → has_name names place ≡ true
 named_below names zero are place less = search rules
 named_below names (suc last) are place less = grind (arith, common_steps)
 
-split_in_order : (asked : SplitAsked) → 0 < asked.width → (k : ℕ) → has_name (naming_of asked) (suc k) ≡ true → slice_cmp nat_cmp (name_at (naming_of asked) k) (name_at (naming_of asked) (suc k)) ≡ Less
+split_in_order : (asked : SplitAsked) → 0 < asked.width → (k : ℕ) → has_name (naming_of asked) (suc k) ≡ true
+    → slice_cmp nat_cmp (name_at (naming_of asked) k) (name_at (naming_of asked) (suc k)) ≡ Less
 split_in_order asked wide k has = in_order (naming_of asked) k (suc k) (cond_both asked.auto _ _ IsWide (λ is. wide) (λ is. tt)) (omega arith) has (cond_both asked.auto _ _ (λ numbering. IsTrue (keeps_order numbering (suc k))) (λ is. refl) (λ is. refl))
 
 -- What standard output is told of them
 
-told_lines : (verbose : Bool) (files : List File) → told_of_files (output_by verbose) files ≡ cond verbose (lines_telling (map slot_of files)) []
+told_lines : (verbose : Bool) (files : List File)
+    → told_of_files (output_by verbose) files ≡ cond verbose (lines_telling (map slot_of files)) []
 told_lines false files = refl
 told_lines true [] = refl
 told_lines true (file ∷ files) = ap (λ lines. opening_line file.name ++ lines) (told_lines true files)
@@ -198,7 +209,8 @@ record IsFiled (run : Run) (asked : SplitAsked) (pieces : List (List ℕ)) : Typ
 
 is_filed : (run : Run) (asked : SplitAsked) (pieces : List (List ℕ)) → CanSplit asked
     → are_named (naming_of asked) (length (map (share Closed) pieces)) ≡ true
-    → run.outputs ≡ slots_of (after_part (only_out []) (part_of (manner_of (filing_of asked)) (map (share Closed) pieces)))
+    → run.outputs
+    ≡ slots_of (after_part (only_out []) (part_of (manner_of (filing_of asked)) (map (share Closed) pieces)))
     → IsFiled run asked pieces
 is_filed run asked pieces can are left =
     let names = naming_of asked in
@@ -230,7 +242,8 @@ no_pieces (way.Chunk place chunks) elide x makes = refl
 no_pieces (way.Turn place n delim) elide x makes = refl
 no_pieces way elide x makes = absurd (false≢true (sym makes))
 
-pub is_split : {run : Run} {asked : SplitAsked} {input : List ℕ} → Does run (Split asked) → HasInput run input → IsSplit run asked input
+pub is_split : {run : Run} {asked : SplitAsked} {input : List ℕ} → Does run (Split asked) → HasInput run input
+    → IsSplit run asked input
 is_split {run} {asked} {input} does has = by (makes_files asked.way) refl where
   one : DidOne run (Split asked) input
   one = did_one does has
@@ -278,7 +291,9 @@ AreFew count n all = (all ≤ count * n) × (count * n < all + n)
 run_size : {X : Type 0} (n i : ℕ) (xs : List X) → length (take n (drop (i * n) xs)) ≡ min n (length xs - i * n)
 run_size n i xs = grind (arith, common_steps)
 
-run_pieces : (size : List ℕ → ℕ) {n all : ℕ} {x : List ℕ} {pieces : List (List ℕ)} → 0 < n → joined pieces ≡ x → AreFew (length pieces) n all → ((i : ℕ) → size (text_at pieces i) ≡ min n (all - i * n)) → ArePieces size n x pieces
+run_pieces : (size : List ℕ → ℕ) {n all : ℕ} {x : List ℕ} {pieces : List (List ℕ)} → 0 < n → joined pieces ≡ x
+    → AreFew (length pieces) n all → ((i : ℕ) → size (text_at pieces i) ≡ min n (all - i * n))
+    → ArePieces size n x pieces
 run_pieces size {n} {pieces} some are few each = record {
   all = are;
   some = λ i within. let here = up_to i (length pieces) n within in let one = each i in omega (arith, one, here, few.1, some);
@@ -286,11 +301,13 @@ run_pieces size {n} {pieces} some are few each = record {
   full = λ i next. let there = up_to (suc i) (length pieces) n (omega (arith, next)) in let step : suc i * n ≡ i * n + n = suc-mul i n in let one = each i in omega (arith, one, there, step, few.1);
 }
 
-pub line_pieces : (delim : ℕ) {n : ℕ} {x : List ℕ} → 0 < n → ArePieces (line_count delim) n x (parts (limit.Lines n delim) x)
+pub line_pieces : (delim : ℕ) {n : ℕ} {x : List ℕ} → 0 < n
+    → ArePieces (line_count delim) n x (parts (limit.Lines n delim) x)
 line_pieces delim {n} {x} some = run_pieces (line_count delim) some (joined_parts (limit.Lines n delim) x) (lines_count delim n x some) (λ i. ap length (part_lines delim n i x some) ∙ run_size n i (lines_of delim x))
 
 -- as many lines as there are delimiters end with one
-lines_end : (delim : ℕ) {k : ℕ} (bytes : List ℕ) (ends : Bool) → 0 < k → k ≤ delimiters delim bytes → ends_with delim (first_lines delim k bytes) ≡ ends → ends ≡ true
+lines_end : (delim : ℕ) {k : ℕ} (bytes : List ℕ) (ends : Bool) → 0 < k → k ≤ delimiters delim bytes
+    → ends_with delim (first_lines delim k bytes) ≡ ends → ends ≡ true
 lines_end delim bytes true some enough is = refl
 lines_end delim {k} bytes false some enough is =
     let all : delimiters delim (first_lines delim k bytes) ≡ k = delimiters-first_lines delim k bytes enough in
@@ -303,7 +320,8 @@ lines_end delim {k} bytes false some enough is =
 more_lines : {n : ℕ} (i : ℕ) {count : ℕ} (all : ℕ) → count * n < all + n → i + 1 < count → n < all - i * n
 more_lines {n} i {count} all few next = grind (arith, common_steps)
 
-line_part : (delim : ℕ) {n : ℕ} (i : ℕ) (x : List ℕ) → 0 < n → text_at (parts (limit.Lines n delim) x) i ≡ first_lines delim n (after_lines delim (i * n) x)
+line_part : (delim : ℕ) {n : ℕ} (i : ℕ) (x : List ℕ) → 0 < n
+    → text_at (parts (limit.Lines n delim) x) i ≡ first_lines delim n (after_lines delim (i * n) x)
 line_part delim {n} i x some = cc (joined-lines_of delim (text_at (parts (limit.Lines n delim) x) i), part_lines delim n i x some, lines_of-after_lines delim (i * n) x)
 
 pub line_ends : (delim : ℕ) {n : ℕ} (x : List ℕ) → 0 < n → AreUncut delim (parts (limit.Lines n delim) x)
@@ -322,7 +340,8 @@ byte_pieces {n} {x} some = run_pieces length some (joined_parts (limit.Bytes n) 
 ends_line : (delim : ℕ) {n : ℕ} (bytes : List ℕ) → length bytes ≡ n → EndsLine delim n (whole_lines delim bytes)
 ends_line delim bytes long = grind (arith, common_steps, cases_lt, whole_of_lines, lines_end, whole_of_none)
 
-uncut : (delim n : ℕ) (x : List ℕ) (pieces : List (List ℕ)) → AreLineByteParts delim n x pieces → (place : ℕ) → place + 1 < length pieces → EndsLine delim n (text_at pieces place)
+uncut : (delim n : ℕ) (x : List ℕ) (pieces : List (List ℕ)) → AreLineByteParts delim n x pieces → (place : ℕ)
+    → place + 1 < length pieces → EndsLine delim n (text_at pieces place)
 uncut delim n _ _ (piece.more x pieces enough past) zero next = ends_line delim (take n x) (length-take-le n x enough)
 uncut delim n _ _ (piece.more x pieces enough past) (suc place) next = uncut delim n _ pieces past place (omega (arith, next))
 uncut delim n x pieces are place next = search rules
@@ -334,7 +353,9 @@ some_line delim [] some = search rules
 some_line delim (byte ∷ text) some = grind (arith, common_steps)
 
 -- the line after the complete ones of a front, which is completed
-line_after : (delim : ℕ) (front rest : List ℕ) {k : ℕ} → k ≡ delimiters delim front → length (first_lines delim (k + 1) ((front ++ rest) ++ delim ∷ [])) ≡ length front + length (first_lines delim 1 (rest ++ delim ∷ []))
+line_after : (delim : ℕ) (front rest : List ℕ) {k : ℕ} → k ≡ delimiters delim front
+    → length (first_lines delim (k + 1) ((front ++ rest) ++ delim ∷ []))
+    ≡ length front + length (first_lines delim 1 (rest ++ delim ∷ []))
 line_after delim front rest {k} count =
     let one : k + 1 - delimiters delim front ≡ 1 = omega (arith, count) in
     ap (λ text. length (first_lines delim (k + 1) text)) (append_assoc front rest (delim ∷ []))
@@ -343,7 +364,8 @@ line_after delim front rest {k} count =
     ∙ ap (λ text. length text + length (first_lines delim (k + 1 - delimiters delim front) (rest ++ delim ∷ []))) (first_lines-short delim (k + 1) front (omega (arith, count)))
     ∙ ap (λ n. length front + length (first_lines delim n (rest ++ delim ∷ []))) one
 
-line_past : (delim : ℕ) {n : ℕ} {x : List ℕ} (part rest : List ℕ) → n ≤ length x → x ≡ part ++ rest → delimiters delim part ≡ delimiters delim (take n x) → IsFilled delim n part rest
+line_past : (delim : ℕ) {n : ℕ} {x : List ℕ} (part rest : List ℕ) → n ≤ length x → x ≡ part ++ rest
+    → delimiters delim part ≡ delimiters delim (take n x) → IsFilled delim n part rest
 line_past delim {n} {x} part rest enough is same =
     let k = delimiters delim (take n x) in
     let both : length part + length (first_lines delim 1 (rest ++ delim ∷ [])) ≡ length (take n x) + length (first_lines delim 1 (drop n x ++ delim ∷ [])) =
@@ -356,16 +378,19 @@ line_past delim {n} {x} part rest enough is same =
 whole_count : (delim : ℕ) (text : List ℕ) → delimiters delim (whole_lines delim text) ≡ delimiters delim text
 whole_count delim text = grind (arith, common_steps, cases_lt, whole_of_lines, delimiters-first_lines, whole_of_none)
 
-same_line : (delim : ℕ) (next rest : List ℕ) → 0 < delimiters delim next → first_lines delim 1 ((next ++ rest) ++ delim ∷ []) ≡ first_lines delim 1 (next ++ delim ∷ [])
+same_line : (delim : ℕ) (next rest : List ℕ) → 0 < delimiters delim next
+    → first_lines delim 1 ((next ++ rest) ++ delim ∷ []) ≡ first_lines delim 1 (next ++ delim ∷ [])
 same_line delim next rest some = rw (append_assoc next rest (delim ∷ []), first_lines-full delim 1 next (rest ++ delim ∷ []) (omega (arith, some)), first_lines-full delim 1 next (delim ∷ []) (omega (arith, some)))
 
-open_next : (delim : ℕ) {n : ℕ} (part next : List ℕ) → length next ≡ n → delimiters delim next ≡ 0 → IsFilled delim n part next
+open_next : (delim : ℕ) {n : ℕ} (part next : List ℕ) → length next ≡ n → delimiters delim next ≡ 0
+    → IsFilled delim n part next
 open_next delim part next long none =
     let line : length (first_lines delim 1 (next ++ delim ∷ [])) ≡ length next + 1 = ap length (first_lines-more delim 1 next delim (omega (arith, none))) ∙ length-append next (delim ∷ []) in
     omega (arith, line, long)
 
 -- the next piece has the next line, or n bytes of it
-filled_by : (delim : ℕ) {n : ℕ} (part rest : List ℕ) → n ≤ length rest → IsFilled delim n part rest → IsFilled delim n part (whole_lines delim (take n rest))
+filled_by : (delim : ℕ) {n : ℕ} (part rest : List ℕ) → n ≤ length rest → IsFilled delim n part rest
+    → IsFilled delim n part (whole_lines delim (take n rest))
 filled_by delim {n} part rest enough filled =
     let next = whole_lines delim (take n rest) in
     let count : delimiters delim next ≡ delimiters delim (take n rest) = whole_count delim (take n rest) in
@@ -377,12 +402,15 @@ filled_by delim {n} part rest enough filled =
           open_next delim part next (ap length (whole_of_none delim (take n rest) none) ∙ length-take-le n rest enough) (count ∙ none)
     ]
 
-first_filled : {delim n : ℕ} (part : List ℕ) {rest : List ℕ} {pieces : List (List ℕ)} → AreLineByteParts delim n rest pieces → 0 < length pieces → IsFilled delim n part rest → IsFilled delim n part (text_at pieces 0)
+first_filled : {delim n : ℕ} (part : List ℕ) {rest : List ℕ} {pieces : List (List ℕ)}
+    → AreLineByteParts delim n rest pieces → 0 < length pieces → IsFilled delim n part rest
+    → IsFilled delim n part (text_at pieces 0)
 first_filled part piece.none some filled = search rules
 first_filled part (piece.one rest has short) some filled = filled
 first_filled {delim} part (piece.more rest pieces enough past) some filled = filled_by delim part rest enough filled
 
-each_filled : {delim n : ℕ} {x : List ℕ} {pieces : List (List ℕ)} → AreLineByteParts delim n x pieces → (place : ℕ) → place + 1 < length pieces → IsFilled delim n (text_at pieces place) (text_at pieces (suc place))
+each_filled : {delim n : ℕ} {x : List ℕ} {pieces : List (List ℕ)} → AreLineByteParts delim n x pieces → (place : ℕ)
+    → place + 1 < length pieces → IsFilled delim n (text_at pieces place) (text_at pieces (suc place))
 each_filled {delim} {n} (piece.more x pieces enough past) zero next =
     let first = whole_lines delim (take n x) in
     first_filled first past (omega (arith, next)) (line_past delim first (drop (length first) x) enough (sym (first_then_after (limit.LineBytes n delim) x)) (whole_count delim (take n x)))
@@ -390,7 +418,9 @@ each_filled (piece.more x pieces enough past) (suc place) next = each_filled pas
 each_filled are place next = search rules
 
 -- a line that is open after others has room for its delimiter
-rooms : (delim n : ℕ) {x : List ℕ} {pieces : List (List ℕ)} → AreLineByteParts delim n x pieces → (place : ℕ) → place < length pieces → 0 < delimiters delim (text_at pieces place) → ends_with delim (text_at pieces place) ≡ false → length (text_at pieces place) < n
+rooms : (delim n : ℕ) {x : List ℕ} {pieces : List (List ℕ)} → AreLineByteParts delim n x pieces → (place : ℕ)
+    → place < length pieces → 0 < delimiters delim (text_at pieces place)
+    → ends_with delim (text_at pieces place) ≡ false → length (text_at pieces place) < n
 rooms delim n (piece.one x has short) zero within lines cut = short
 rooms delim n (piece.more x pieces enough past) zero within lines cut = elim (ends_line delim (take n x) (length-take-le n x enough)) [
   | inl ends ↦ absurd (false≢true (sym cut ∙ ends))
@@ -414,7 +444,8 @@ line_byte_pieces {delim} {n} {x} some =
 -- There is just one list of such pieces.
 
 -- no delimiter stands before the end of the first line
-before_end : (delim m : ℕ) (text : List ℕ) → m < length (first_lines delim 1 (text ++ delim ∷ [])) → delimiters delim (take m text) ≡ 0
+before_end : (delim m : ℕ) (text : List ℕ) → m < length (first_lines delim 1 (text ++ delim ∷ []))
+    → delimiters delim (take m text) ≡ 0
 before_end delim m text less = elim (cases_lt 0 (delimiters delim (take m text))) [
   | inr none ↦ omega (arith, none)
   | inl some ↦
@@ -425,7 +456,9 @@ before_end delim m text less = elim (cases_lt 0 (delimiters delim (take m text))
 ]
 
 -- a piece that is the whole lines of the first n bytes
-piece_before : {delim n : ℕ} (one rest : List ℕ) {pieces : List (List ℕ)} → n ≤ length (one ++ rest) → whole_lines delim (take n (one ++ rest)) ≡ one → AreLineByteParts delim n rest pieces → AreLineByteParts delim n (one ++ rest) (one ∷ pieces)
+piece_before : {delim n : ℕ} (one rest : List ℕ) {pieces : List (List ℕ)} → n ≤ length (one ++ rest)
+    → whole_lines delim (take n (one ++ rest)) ≡ one → AreLineByteParts delim n rest pieces
+    → AreLineByteParts delim n (one ++ rest) (one ∷ pieces)
 piece_before {delim} {n} one rest {pieces} enough whole past = subst (λ part. AreLineByteParts delim n (one ++ rest) (part ∷ pieces)) whole
     (piece.more (one ++ rest) pieces enough (subst (λ left. AreLineByteParts delim n left pieces) (sym (ap (λ part. drop (length part) (one ++ rest)) whole ∙ drop-append_seam one rest)) past))
 
@@ -434,12 +467,15 @@ closed_some delim [] ends = absurd (false≢true ends)
 closed_some delim (byte ∷ []) ends = grind (arith, common_steps)
 closed_some delim (byte ∷ next ∷ text) ends = grind (arith, common_steps, (closed_some delim (next ∷ text) ends))
 
-whole_closed : (delim : ℕ) (text rest : List ℕ) → ends_with delim text ≡ true → delimiters delim rest ≡ 0 → whole_lines delim (text ++ rest) ≡ text
+whole_closed : (delim : ℕ) (text rest : List ℕ) → ends_with delim text ≡ true → delimiters delim rest ≡ 0
+    → whole_lines delim (text ++ rest) ≡ text
 whole_closed delim text rest ends none =
     let count : delimiters delim (text ++ rest) ≡ delimiters delim text = delimiters-append delim text rest ∙ ap (λ n. delimiters delim text + n) none ∙ (let e : delimiters delim text + 0 ≡ delimiters delim text = omega arith in e) in
     whole_of_lines delim (text ++ rest) (omega (arith, count, closed_some delim text ends)) ∙ first_lines-whole delim text rest (delimiters delim (text ++ rest)) ends count
 
-last_piece : (delim n : ℕ) (one : List ℕ) → 0 < length one → length one ≤ n → (0 < delimiters delim one → ends_with delim one ≡ false → length one < n) → AreLineByteParts delim n (one ++ []) (one ∷ [])
+last_piece : (delim n : ℕ) (one : List ℕ) → 0 < length one → length one ≤ n
+    → (0 < delimiters delim one → ends_with delim one ≡ false → length one < n)
+    → AreLineByteParts delim n (one ++ []) (one ∷ [])
 last_piece delim n one some most room = elim (cases_lt (length one) n) [
   | inl short ↦ subst (λ x. AreLineByteParts delim n x (one ∷ [])) (sym (append-nil one)) (piece.one one some short)
   | inr full ↦ piece_before one [] (omega (arith, full, length-append one [])) (ap (whole_lines delim) (take_all n (one ++ []) (omega (arith, most, length-append one [])) ∙ append-nil one) ∙ whole (ends_with delim one) refl full) piece.none
@@ -451,7 +487,8 @@ last_piece delim n one some most room = elim (cases_lt (length one) n) [
     | inr none ↦ whole_of_none delim one (omega (arith, none))
   ]
 
-front_piece : (delim n : ℕ) (one next more : List ℕ) → length one ≤ n → EndsLine delim n one → IsFilled delim n one next → (n ≤ length (one ++ (next ++ more))) × (whole_lines delim (take n (one ++ (next ++ more))) ≡ one)
+front_piece : (delim n : ℕ) (one next more : List ℕ) → length one ≤ n → EndsLine delim n one → IsFilled delim n one next
+    → (n ≤ length (one ++ (next ++ more))) × (whole_lines delim (take n (one ++ (next ++ more))) ≡ one)
 front_piece delim n one next more most (inr (long, none)) filled = (
   omega (arith, long, length-append one (next ++ more)),
   ap (whole_lines delim) (ap (λ k. take k (one ++ (next ++ more))) (sym long) ∙ take-append_seam one (next ++ more)) ∙ whole_of_none delim one none,
@@ -466,7 +503,8 @@ front_piece delim n one next more most (inl ends) filled =
       ap (whole_lines delim) front ∙ whole_closed delim one (take m next) ends (before_end delim m next (omega (arith, filled, most))),
     )
 
-later_pieces : {delim n : ℕ} {x one : List ℕ} {pieces : List (List ℕ)} → AreLinePieces delim n x (one ∷ pieces) → AreLinePieces delim n (joined pieces) pieces
+later_pieces : {delim n : ℕ} {x one : List ℕ} {pieces : List (List ℕ)} → AreLinePieces delim n x (one ∷ pieces)
+    → AreLinePieces delim n (joined pieces) pieces
 later_pieces are = record {
   all = refl;
   some = λ place within. are.some (suc place) (omega (arith, within));
@@ -476,21 +514,24 @@ later_pieces are = record {
   room = λ place within. are.room (suc place) (omega (arith, within));
 }
 
-pieces_are_parts : (delim n : ℕ) (pieces : List (List ℕ)) {x : List ℕ} → AreLinePieces delim n x pieces → AreLineByteParts delim n (joined pieces) pieces
+pieces_are_parts : (delim n : ℕ) (pieces : List (List ℕ)) {x : List ℕ} → AreLinePieces delim n x pieces
+    → AreLineByteParts delim n (joined pieces) pieces
 pieces_are_parts delim n [] are = piece.none
 pieces_are_parts delim n (one ∷ []) are = last_piece delim n one (are.some 0 (omega arith)) (are.most 0 (omega arith)) (are.room 0 (omega arith))
 pieces_are_parts delim n (one ∷ next ∷ pieces) are =
     let front = front_piece delim n one next (joined pieces) (are.most 0 (omega arith)) (are.uncut 0 (omega arith)) (are.filled 0 (omega arith)) in
     piece_before one (next ++ joined pieces) front.0 front.1 (pieces_are_parts delim n (next ∷ pieces) (later_pieces are))
 
-pub one_line_list : (delim n : ℕ) (input : List ℕ) (some other : List (List ℕ)) → 0 < n → AreLinePieces delim n input some → AreLinePieces delim n input other → some ≡ other
+pub one_line_list : (delim n : ℕ) (input : List ℕ) (some other : List (List ℕ)) → 0 < n
+    → AreLinePieces delim n input some → AreLinePieces delim n input other → some ≡ other
 one_line_list delim n input some other positive these those =
     line_bytes_once positive (subst (λ x. AreLineByteParts delim n x some) these.all (pieces_are_parts delim n some these)) (subst (λ x. AreLineByteParts delim n x other) those.all (pieces_are_parts delim n other those))
 
 -- Lines dealt in turn
 
 -- a file that is left out has no line
-dealt_at : (delim : ℕ) {n : ℕ} (elide : Bool) (x : List ℕ) {file : ℕ} → file < n → text_at (dealt_files delim elide n x) file ≡ text_at (round_robin delim n x) file
+dealt_at : (delim : ℕ) {n : ℕ} (elide : Bool) (x : List ℕ) {file : ℕ} → file < n
+    → text_at (dealt_files delim elide n x) file ≡ text_at (round_robin delim n x) file
 dealt_at delim false x within = refl
 dealt_at delim {n} true x {file} within = grind (arith, common_steps, first_files, cases_lt, get_or-take, length-take, get_or_past, get_or-map-range_with_len, share_none)
 
@@ -499,7 +540,8 @@ all_some [] = search rules
 all_some ([] ∷ files) = all_some files
 all_some ((byte ∷ bytes) ∷ files) = All-cons (λ bytes. 0 < length bytes) (byte ∷ bytes) (filter has_bytes files) (omega arith) (all_some files)
 
-pub dealt_lines : {delim n : ℕ} {elide : Bool} {x : List ℕ} → 0 < n → AreDealt delim n elide x (dealt_files delim elide n x)
+pub dealt_lines : {delim n : ℕ} {elide : Bool} {x : List ℕ} → 0 < n
+    → AreDealt delim n elide x (dealt_files delim elide n x)
 dealt_lines {delim} {n} {elide} {x} some = record {
   lines = λ i. sym (
       ap (λ text. get_or (lines_of delim text) (i / n) []) (dealt_at delim elide x (mod_below i n some))
@@ -533,7 +575,8 @@ even_files chunks x unit place within = cond_both (nat_lt place (length x % chun
 pub whole_line_files : (chunks : Chunks) (elide : Bool) (x : List ℕ) → 0 < chunks.count → chunks.unit ≡ Lines
     → KeepLines chunks.delim x (kept elide (chunks_in chunks x))
 whole_line_files chunks elide x some unit = lines_kept elide (chunks_in chunks x) ∙ lines_in_chunks chunks x some unit where
-  lines_kept : (elide : Bool) (pieces : List (List ℕ)) → flat_map (lines_of chunks.delim) (kept elide pieces) ≡ flat_map (lines_of chunks.delim) pieces
+  lines_kept : (elide : Bool) (pieces : List (List ℕ))
+      → flat_map (lines_of chunks.delim) (kept elide pieces) ≡ flat_map (lines_of chunks.delim) pieces
   lines_kept false pieces = refl
   lines_kept true [] = refl
   lines_kept true ([] ∷ pieces) = lines_kept true pieces

@@ -53,7 +53,8 @@ use Rattle.tools_core.proofs.RunLemmas.{memory_by, runs_as_named}
 
 -- What was read of an input is a beginning of it.
 
-call_long : {work : Work} {opening : Needs} {most : ℕ} {content : Content} {call : Step} → IsCall work opening most content call → 2 ^ 63 ≤ length call.read → 2 ^ 63 ≤ length content.bytes
+call_long : {work : Work} {opening : Needs} {most : ℕ} {content : Content} {call : Step}
+    → IsCall work opening most content call → 2 ^ 63 ≤ length call.read → 2 ^ 63 ≤ length content.bytes
 call_long opens long = search rules
 call_long (feeds x piece rest is short more) long = grind (arith, common_steps)
 call_long (ends_call x (to_end ended is) needed) long = rw is long
@@ -62,7 +63,9 @@ call_long (ends_call x (enough rest is complete) needed) long = grind (arith, co
 abbrev IsLong : Option Content → Type 0
 IsLong there = (content : Content) × (there ≡ Some content) × (2 ^ 63 ≤ length content.bytes)
 
-step_long : {task : Task} {shown : Option (List ℕ)} {most : ℕ} {so_far : Part} {header : List ℕ} {slot : Option ℕ} {sources : List Source} {there : Option Content} {step : Step} → RunStep true task shown most so_far header slot sources there step → 2 ^ 63 ≤ length step.read → IsLong there
+step_long : {task : Task} {shown : Option (List ℕ)} {most : ℕ} {so_far : Part} {header : List ℕ} {slot : Option ℕ}
+    {sources : List Source} {there : Option Content} {step : Step}
+    → RunStep true task shown most so_far header slot sources there step → 2 ^ 63 ≤ length step.read → IsLong there
 step_long (call_step content call is leaves) long = (content, refl, call_long is long)
 step_long at long = search rules
 
@@ -72,26 +75,34 @@ record IsBlamed (fault : Fault) (place : ℕ) (old new : Slot) : Type 0 where
   pub is : failing place new.state ≡ fault
   pub named : (slots : List Slot) → (slot_at slots place).name ≡ output_named slots fault
 
-blamed : (fault : Fault) (place : ℕ) (before : List Slot) {new : Slot} → IsSoundAt before place → IsMarked fault place before new → IsBlamed fault place (slot_at before place) new
+blamed : (fault : Fault) (place : ℕ) (before : List Slot) {new : Slot} → IsSoundAt before place
+    → IsMarked fault place before new → IsBlamed fault place (slot_at before place) new
 blamed (Write slot) place before sound (here, there, is) = grind (arith, common_steps)
 blamed (Open slot) place before sound (here, (kept, is)) = grind (arith, common_steps)
 blamed fault place before sound marked = absurd marked
 
 -- the output at its place
-marked_here : (IsDue : List ℕ → Type 0) (slot : ℕ) (before reached : List Slot) → (slot_at reached slot).is_broken ≡ true → IsSoundAt before slot → (fault : Fault) → Marks IsDue fault before reached → IsMarked fault slot before (slot_at reached slot)
+marked_here : (IsDue : List ℕ → Type 0) (slot : ℕ) (before reached : List Slot)
+    → (slot_at reached slot).is_broken ≡ true → IsSoundAt before slot → (fault : Fault)
+    → Marks IsDue fault before reached → IsMarked fault slot before (slot_at reached slot)
 marked_here IsDue slot before reached broken sound fault marks = elim (marked_at IsDue fault before reached slot marks) [
   | inl same ↦ absurd (false≢true (sym sound.0 ∙ sym (ap (λ (output : Slot). output.is_broken) same) ∙ broken))
   | inr marked ↦ marked
 ]
 
-broke_at : (run : Run) (IsDue : List ℕ → Type 0) (clears : Bool) (slot : ℕ) (before reached : List Slot) (fault : Fault) → (slot ≡ 1 → ⊥) → (slot_at reached slot).is_broken ≡ true → IsSoundAt before slot → Marks IsDue fault before reached → Swept clears 2 reached run.outputs
+broke_at : (run : Run) (IsDue : List ℕ → Type 0) (clears : Bool) (slot : ℕ) (before reached : List Slot) (fault : Fault)
+    → (slot ≡ 1 → ⊥) → (slot_at reached slot).is_broken ≡ true → IsSoundAt before slot
+    → Marks IsDue fault before reached → Swept clears 2 reached run.outputs
     → BrokeAt run slot (slot_at run.outputs slot).name fault
 broke_at run IsDue clears slot before reached fault differs broken sound marks swept =
     let kept = swept_kept clears reached run.outputs swept slot in
     (differs, inl refl, kept.still broken, kept.fails slot ∙ (blamed fault slot before sound (marked_here IsDue slot before reached broken sound fault marks)).is)
 
-stops_run : (run : Run) (asked : Settings) (IsDue : List ℕ → Type 0) (step : Step) (clears : Bool) (place count : ℕ) (before reached : List Slot) (fault : Fault) → (2 ^ 63 ≤ length step.read → HasLong run asked) → ((slot : ℕ) → (slot ≡ 1 → ⊥) → IsSoundAt before slot) → 2 ≤ length before
-    → IsAt fault 2 place count → Stops step reached fault → Marks IsDue fault before reached → Swept clears 2 reached run.outputs → StopsRun run asked (output_named run.outputs fault) fault
+stops_run : (run : Run) (asked : Settings) (IsDue : List ℕ → Type 0) (step : Step) (clears : Bool) (place count : ℕ)
+    (before reached : List Slot) (fault : Fault) → (2 ^ 63 ≤ length step.read → HasLong run asked)
+    → ((slot : ℕ) → (slot ≡ 1 → ⊥) → IsSoundAt before slot) → 2 ≤ length before
+    → IsAt fault 2 place count → Stops step reached fault → Marks IsDue fault before reached
+    → Swept clears 2 reached run.outputs → StopsRun run asked (output_named run.outputs fault) fault
 stops_run run asked IsDue step clears place count before reached (Write slot) long sound two from stops marks swept =
     let differs : slot ≡ 1 → ⊥ = λ one. elim from [ inl is ↦ omega (arith, is, one) | inr is ↦ omega (arith, is, one) ] in broke_at run IsDue clears slot before reached (Write slot) differs stops.2 (sound slot differs) marks swept
 stops_run run asked IsDue step clears place count before reached (Open slot) long sound two from stops (number, (name, kept, due, is, slots)) swept =
@@ -118,7 +129,8 @@ record IsStop (clears : Bool) (run : Run) (asked : Settings) : Type 0 where
   pub name : List ℕ
   pub stops : StopsRun run asked name why
   pub line : Tells run asked why name
-  pub broke : (place : ℕ) → (place ≡ 1 → ⊥) → (slot_at run.outputs place).is_broken ≡ true → IsToldOf run asked place ⊎ IsStuck clears run.outputs place
+  pub broke : (place : ℕ) → (place ≡ 1 → ⊥) → (slot_at run.outputs place).is_broken ≡ true
+      → IsToldOf run asked place ⊎ IsStuck clears run.outputs place
 
 -- it stopped before anything was written
 
@@ -126,7 +138,10 @@ streams_sound : (place : ℕ) (error : Slot) → (place ≡ 1 → ⊥) → (slot
 streams_sound (suc zero) error differs = absurd (differs refl)
 streams_sound place error differs = refl
 
-stop_early : {clears : Bool} {run : Run} {asked : Settings} (fault : Fault) (name : List ℕ) {error : Slot} → StopsRun run asked name fault → SaysAll true (speaker_of run.calling asked) (message_of fault name ∷ []) standard_error error → run.outputs ≡ streams_with error → run.status ≡ 1
+stop_early : {clears : Bool} {run : Run} {asked : Settings} (fault : Fault) (name : List ℕ) {error : Slot}
+    → StopsRun run asked name fault
+    → SaysAll true (speaker_of run.calling asked) (message_of fault name ∷ []) standard_error error
+    → run.outputs ≡ streams_with error → run.status ≡ 1
     → IsStop clears run asked
 stop_early {run = run} {asked = asked} fault name {error} stops says slots is = record {
   failed = is;
@@ -140,16 +155,24 @@ stop_early {run = run} {asked = asked} fault name {error} stops says slots is = 
 
 -- Standard error stays the slot after the first.
 
-stopped_error : {output : Output} (clears : Bool) {error : Slot} {low high : Part} {fault : Fault} {reached : List Slot} (new : List Slot) → StoppedBetween output true (streams_with error) low high fault reached → Swept clears 2 reached new → slot_at new 1 ≡ error
+stopped_error : {output : Output} (clears : Bool) {error : Slot} {low high : Part} {fault : Fault} {reached : List Slot}
+    (new : List Slot) → StoppedBetween output true (streams_with error) low high fault reached
+    → Swept clears 2 reached new → slot_at new 1 ≡ error
 stopped_error clears {high = high} {fault} {reached} new between swept = grind (arith, common_steps)
 
 -- what was there before the fault is sound
-sound_before : {output : Output} {error : Slot} {low high : Part} {fault : Fault} {reached : List Slot} → AreLive high.files → (between : StoppedBetween output true (streams_with error) low high fault reached) → (place : ℕ) → (place ≡ 1 → ⊥) → IsSoundAt between.reached place
+sound_before : {output : Output} {error : Slot} {low high : Part} {fault : Fault} {reached : List Slot}
+    → AreLive high.files → (between : StoppedBetween output true (streams_with error) low high fault reached)
+    → (place : ℕ) → (place ≡ 1 → ⊥) → IsSoundAt between.reached place
 sound_before {error} {high} live between place differs =
     subst (λ slots. IsSoundAt slots place) (sym (slots_at between.outputs)) (outputs_live between.part error place (live_begin between.part.files high.files between.below.files live) differs)
 
-stopped_broke : {output : Output} {clears : Bool} {run : Run} (asked : Settings) {error : Slot} {low high : Part} {fault : Fault} {reached : List Slot} (lines : List Message) → AreLive high.files → StoppedBetween output true (streams_with error) low high fault reached → Swept clears 2 reached run.outputs
-    → SaysLines run asked (lines ++ message_of fault (output_named run.outputs fault) ∷ []) → (place : ℕ) → (place ≡ 1 → ⊥) → (slot_at run.outputs place).is_broken ≡ true → IsToldOf run asked place ⊎ IsStuck clears run.outputs place
+stopped_broke : {output : Output} {clears : Bool} {run : Run} (asked : Settings) {error : Slot} {low high : Part}
+    {fault : Fault} {reached : List Slot} (lines : List Message) → AreLive high.files
+    → StoppedBetween output true (streams_with error) low high fault reached → Swept clears 2 reached run.outputs
+    → SaysLines run asked (lines ++ message_of fault (output_named run.outputs fault) ∷ []) → (place : ℕ)
+    → (place ≡ 1 → ⊥) → (slot_at run.outputs place).is_broken ≡ true
+    → IsToldOf run asked place ⊎ IsStuck clears run.outputs place
 stopped_broke {clears} {run} asked {error} {high} {fault} {reached} lines live between swept says place differs broken =
     let new = run.outputs in
     let kept = swept_kept clears reached new swept place in
@@ -167,16 +190,20 @@ quiet_own (Write slot) Cutters why is = absurd (false≢true is)
 quiet_own fault Cutters why is = absurd (false≢true is)
 
 -- of a reader that is gone
-quiet_gone : (breaks_for : ℕ → Reason → Bool) (fault : Fault) (calling : Calling) (why : Reason) → is_quiet fault calling why ≡ true → IsWhy breaks_for fault why → (place : ℕ) × IsTrue (breaks_for place reason.Gone)
+quiet_gone : (breaks_for : ℕ → Reason → Bool) (fault : Fault) (calling : Calling) (why : Reason)
+    → is_quiet fault calling why ≡ true → IsWhy breaks_for fault why
+    → (place : ℕ) × IsTrue (breaks_for place reason.Gone)
 quiet_gone breaks_for (Write slot) OwnName reason.Gone is can = (slot, can)
 quiet_gone breaks_for (Write slot) OwnName why is can = absurd (false≢true is)
 quiet_gone breaks_for fault calling why is can = absurd (false≢true is)
 
-called_so : (run : Run) (task : Task) (asked : Settings) → IsTask run.calling asked task → task.speaker.calling ≡ OwnName → run.calling ≡ OwnName
+called_so : (run : Run) (task : Task) (asked : Settings) → IsTask run.calling asked task
+    → task.speaker.calling ≡ OwnName → run.calling ≡ OwnName
 called_so run task asked of own = ap (λ (speaker : Speaker). speaker.calling) (sym (speaker_is run.calling asked task of)) ∙ own
 
 -- a run that ended by a reader that is gone, and said nothing of it
-silent_by : (run : Run) (task : Task) (asked : Settings) → IsTask run.calling asked task → task.speaker.calling ≡ OwnName → HasGone run → run.status ≡ 141 → IsSilent run asked
+silent_by : (run : Run) (task : Task) (asked : Settings) → IsTask run.calling asked task
+    → task.speaker.calling ≡ OwnName → HasGone run → run.status ≡ 141 → IsSilent run asked
 silent_by run task (Tee asked) of own gone is = absurd of
 silent_by run task (About which topic) of own gone is = absurd of
 silent_by run task (Head asked) of own gone is = (called_so run task (Head asked) of own, gone, is)
@@ -188,7 +215,9 @@ silent_by run task (Csplit asked) of own gone is = (called_so run task (Csplit a
 abbrev Unless : Run → Settings → Type 0 → Type 0
 Unless run asked Whole = Whole ⊎ IsStop (removes_files asked) run asked ⊎ IsSilent run asked
 
-ends_or : {run : Run} {asked : Settings} {task : Task} → IsTask run.calling asked task → (ends : EndsAs true true run.breaks_for task (inputs_at run.world (names_of asked)) run.inputs run.outputs run.status) → Unless run asked (IsUnstopped ends)
+ends_or : {run : Run} {asked : Settings} {task : Task} → IsTask run.calling asked task
+    → (ends : EndsAs true true run.breaks_for task
+    (inputs_at run.world (names_of asked)) run.inputs run.outputs run.status) → Unless run asked (IsUnstopped ends)
 ends_or of (as_defined error reached says outputs swept done is) = inl tt
 ends_or {run} {asked} {task} of (stopped fault why before input after said error step reached are done untouched at stops between swept_as says is_why tells is) =
     let living = task_lives run.calling asked task of in
@@ -214,21 +243,34 @@ ends_or {run} {asked} {task} of (stopped fault why before input after said error
       Loud : Type 0
       Loud = TellsIf false true task.speaker why (message_of fault (output_named run.outputs fault)) said error → run.status ≡ 1 → IsStop (removes_files asked) run asked
 
-      by : (quiet : Bool) → quiet ≡ is_quiet fault task.speaker.calling why → TellsIf quiet true task.speaker why (message_of fault (output_named run.outputs fault)) said error → run.status ≡ cond quiet 141 1 → Loud → Unless run asked (IsUnstopped (stopped fault why before input after said error step reached are done untouched at stops between swept_as says is_why tells is))
+      by : (quiet : Bool) → quiet ≡ is_quiet fault task.speaker.calling why
+          → TellsIf quiet true task.speaker why (message_of fault (output_named run.outputs fault)) said error
+          → run.status ≡ cond quiet 141 1 → Loud
+          → Unless run asked
+          (IsUnstopped
+          (stopped fault why before input after said error step reached are done untouched at stops between swept_as
+          says is_why tells is))
       by true own same ends loud = inr (inr (silent_by run task asked of (quiet_own fault task.speaker.calling why (sym own)) (quiet_gone run.breaks_for fault task.speaker.calling why (sym own) is_why) ends))
       by false own told_so ends loud = inr (inl (loud told_so ends))
 ends_or {run} {asked} {task} of (no_room error says slots untouched count is) = inr (inl (stop_early Memory [] tt (subst (λ which. SaysAll true which (message_of Memory [] ∷ []) standard_error error) (speaker_is run.calling asked task of) says) slots is))
 
 -- `tee`
 
-read_or : {content : Content} (Leaves : List ℕ → Type 0) {is_vain : Bool} {x : List ℕ} {fault : Option Fault} → is_vain ≡ false → IsRead content Leaves is_vain x fault → (x ≡ content.bytes) ⊎ ((fault ≡ Some TooLong) × (2 ^ 63 ≤ length content.bytes))
+read_or : {content : Content} (Leaves : List ℕ → Type 0) {is_vain : Bool} {x : List ℕ} {fault : Option Fault}
+    → is_vain ≡ false → IsRead content Leaves is_vain x fault
+    → (x ≡ content.bytes) ⊎ ((fault ≡ Some TooLong) × (2 ^ 63 ≤ length content.bytes))
 read_or Leaves left (tee.to_end x is ended leaves) = inl (sym is)
 read_or Leaves left (tee.to_break x is breaks leaves) = inl (sym is)
 read_or Leaves left (tee.to_limit x piece rest is many within leaves) = let size = ap length is in let all = length-append (x ++ piece) rest in inr (refl, omega (arith, size, all, many))
 read_or Leaves left (tee.to_broken_output x rest is leaves) = absurd (false≢true (sym left))
 
-tee_stop : {run : Run} {asked : TeeAsked} (on_broken : OnBroken) {mode : Mode} {pieces names : List (List ℕ)} {first : Option Break} {broke : List (Option Break)} {output error : Slot} {files : List Slot} (fault : Option Fault) → IsLoud on_broken (first ∷ broke) → OutputLeft true pieces first output → FilesLeft true mode pieces names broke files
-    → SaysLines run (Tee asked) (messages_of on_broken names (first ∷ broke) (length pieces) fault) → run.outputs ≡ output ∷ error ∷ files → run.status ≡ 1 → (why : Fault) (name : List ℕ) → StopsRun run (Tee asked) name why → Tells run (Tee asked) why name
+tee_stop : {run : Run} {asked : TeeAsked} (on_broken : OnBroken) {mode : Mode} {pieces names : List (List ℕ)}
+    {first : Option Break} {broke : List (Option Break)} {output error : Slot} {files : List Slot}
+    (fault : Option Fault) → IsLoud on_broken (first ∷ broke) → OutputLeft true pieces first output
+    → FilesLeft true mode pieces names broke files
+    → SaysLines run (Tee asked) (messages_of on_broken names (first ∷ broke) (length pieces) fault)
+    → run.outputs ≡ output ∷ error ∷ files → run.status ≡ 1 → (why : Fault) (name : List ℕ)
+    → StopsRun run (Tee asked) name why → Tells run (Tee asked) why name
     → IsStop false run (Tee asked)
 tee_stop {run} {asked} on_broken {error = error} fault loud left rest says slots failed why name stops line = record {
   failed = failed;
@@ -241,7 +283,9 @@ tee_stop {run} {asked} on_broken {error = error} fault loud left rest says slots
 }
 
 -- what is told of the input was met
-input_tells : (run : Run) (asked : TeeAsked) {content : Content} (Leaves : List ℕ → Type 0) {is_vain : Bool} {x : List ℕ} {fault : Option Fault} → inputs_at run.world (names_of (Tee asked)) ≡ standard_input content ∷ [] → IsRead content Leaves is_vain x fault → TellsOfInput (TellsMet run (Tee asked)) fault
+input_tells : (run : Run) (asked : TeeAsked) {content : Content} (Leaves : List ℕ → Type 0) {is_vain : Bool}
+    {x : List ℕ} {fault : Option Fault} → inputs_at run.world (names_of (Tee asked)) ≡ standard_input content ∷ []
+    → IsRead content Leaves is_vain x fault → TellsOfInput (TellsMet run (Tee asked)) fault
 input_tells run asked Leaves only (tee.to_end x is ended leaves) = tt
 input_tells run asked {content} Leaves only (tee.to_break x is broke leaves) = (Read 0, codes "standard input", inr (broken_off (standard_input content) content ([], [], only) refl broke (λ task of. absurd of)), refl)
 input_tells run asked {content} Leaves only (tee.to_limit x piece rest is many within leaves) =
@@ -250,14 +294,17 @@ input_tells run asked {content} Leaves only (tee.to_limit x piece rest is many w
 input_tells run asked Leaves only (tee.to_broken_output x rest is leaves) = tt
 
 -- where nothing is kept back, the status is that of any fault
-loud_status : (on_broken : OnBroken) (broke : List (Option Break)) (fault : Option Fault) → IsLoud on_broken broke → are_sound broke ≡ false → tee.status_of on_broken broke fault ≡ 1
+loud_status : (on_broken : OnBroken) (broke : List (Option Break)) (fault : Option Fault) → IsLoud on_broken broke
+    → are_sound broke ≡ false → tee.status_of on_broken broke fault ≡ 1
 loud_status on_broken broke fault loud unsound = by (tee.any_is Gone (map tee.standing_of broke)) (tee.any_is Broken (map tee.standing_of broke)) (is_none fault) refl refl where
-  gone_one : (on_broken : OnBroken) (failed : Bool) → tee.is_quiet on_broken ≡ false → tee.gone_status on_broken failed ≡ 1
+  gone_one : (on_broken : OnBroken) (failed : Bool) → tee.is_quiet on_broken ≡ false
+      → tee.gone_status on_broken failed ≡ 1
   gone_one Warn failed loud = refl
   gone_one Exit failed loud = refl
   gone_one on_broken failed loud = absurd (false≢true (sym loud))
 
-  by : (gone broken ended : Bool) → tee.any_is Gone (map tee.standing_of broke) ≡ gone → tee.any_is Broken (map tee.standing_of broke) ≡ broken
+  by : (gone broken ended : Bool) → tee.any_is Gone (map tee.standing_of broke) ≡ gone
+      → tee.any_is Broken (map tee.standing_of broke) ≡ broken
       → cond gone (tee.gone_status on_broken (not ended || broken)) (cond (not ended || broken) 1 0) ≡ 1
   by true broken ended is_gone is_broken = elim loud [ inl loudly ↦ gone_one on_broken (not ended || broken) loudly | inr none ↦ absurd (false≢true (sym none ∙ is_gone)) ]
   by false true true is_gone is_broken = refl
@@ -265,9 +312,15 @@ loud_status on_broken broke fault loud unsound = by (tee.any_is Gone (map tee.st
   by false false false is_gone is_broken = refl
   by false false true is_gone is_broken = absurd (false≢true (sym unsound ∙ sound_if broke is_broken is_gone))
 
-tee_by : {run : Run} {asked : TeeAsked} (on_broken : OnBroken) {mode : Mode} {content : Content} (Leaves : List ℕ → Type 0) {is_vain : Bool} {pieces names : List (List ℕ)} {first : Option Break} {broke : List (Option Break)} {output error : Slot} {files : List Slot} (fault : Option Fault) (sound : Bool) → IsLoud on_broken (first ∷ broke) → are_sound (first ∷ broke) ≡ sound
-    → (2 ^ 63 ≤ length content.bytes → HasLong run (Tee asked)) → (are_sound (first ∷ broke) ≡ true → is_vain ≡ false) → IsRead content Leaves is_vain (concat pieces) fault → OutputLeft true pieces first output → FilesLeft true mode pieces names broke files
-    → SaysLines run (Tee asked) (messages_of on_broken names (first ∷ broke) (length pieces) fault) → run.outputs ≡ output ∷ error ∷ files → run.status ≡ tee.status_of on_broken (first ∷ broke) fault
+tee_by : {run : Run} {asked : TeeAsked} (on_broken : OnBroken) {mode : Mode} {content : Content}
+    (Leaves : List ℕ → Type 0) {is_vain : Bool} {pieces names : List (List ℕ)} {first : Option Break}
+    {broke : List (Option Break)} {output error : Slot} {files : List Slot} (fault : Option Fault) (sound : Bool)
+    → IsLoud on_broken (first ∷ broke) → are_sound (first ∷ broke) ≡ sound
+    → (2 ^ 63 ≤ length content.bytes → HasLong run (Tee asked)) → (are_sound (first ∷ broke) ≡ true → is_vain ≡ false)
+    → IsRead content Leaves is_vain (concat pieces) fault → OutputLeft true pieces first output
+    → FilesLeft true mode pieces names broke files
+    → SaysLines run (Tee asked) (messages_of on_broken names (first ∷ broke) (length pieces) fault)
+    → run.outputs ≡ output ∷ error ∷ files → run.status ≡ tee.status_of on_broken (first ∷ broke) fault
     → ((are_sound (first ∷ broke) ≡ true) × (concat pieces ≡ content.bytes)) ⊎ IsStop false run (Tee asked)
 tee_by {run} {asked} on_broken Leaves {first = first} {broke} {output} {error} {files} fault false loud sound long vain reads left rest says slots is =
     let (place, differs, broken) = unsound_broke left rest sound in
@@ -285,13 +338,17 @@ gone_why : (why : Reason) → Gone ≡ tee.lost_for why → why ≡ reason.Gone
 gone_why reason.Gone is = refl
 gone_why why is = absurd (cc)
 
-any_gone : (may : ℕ → Reason → Bool) (standings : List Standing) → tee.any_is Gone standings ≡ true → ((n : ℕ) → tee.StandsFor (may n) (get_or standings n Sound)) → (n : ℕ) × IsTrue (may n reason.Gone)
+any_gone : (may : ℕ → Reason → Bool) (standings : List Standing) → tee.any_is Gone standings ≡ true
+    → ((n : ℕ) → tee.StandsFor (may n) (get_or standings n Sound)) → (n : ℕ) × IsTrue (may n reason.Gone)
 any_gone may [] gone stand = absurd (false≢true gone)
 any_gone may (Gone ∷ standings) gone stand = let (why, can, is) = stand 0 in (0, subst (λ those. IsTrue (may 0 those)) (gone_why why is) can)
 any_gone may (Sound ∷ standings) gone stand = let (n, can) = any_gone (λ n. may (suc n)) standings gone (λ n. stand (suc n)) in (suc n, can)
 any_gone may (Broken ∷ standings) gone stand = let (n, can) = any_gone (λ n. may (suc n)) standings gone (λ n. stand (suc n)) in (suc n, can)
 
-tee_or : {run : Run} (asked : TeeAsked) {mode : Mode} {names : List (List ℕ)} {content : Content} {source : Source} → inputs_at run.world (names_of (Tee asked)) ≡ standard_input content ∷ [] → (ends : tee.EndsAs true true run.breaks_for run.calling mode asked.on_broken names content source run.outputs run.status)
+tee_or : {run : Run} (asked : TeeAsked) {mode : Mode} {names : List (List ℕ)} {content : Content} {source : Source}
+    → inputs_at run.world (names_of (Tee asked)) ≡ standard_input content ∷ []
+    → (ends : tee.EndsAs true true run.breaks_for run.calling mode asked.on_broken names content source run.outputs
+    run.status)
     → Unless run (Tee asked) (IsCopied ends)
 tee_or {run} asked {content = content} only (tee.copied pieces fault first broke output error files comes some left rest stand says slots is) = elim (cases_Bool (tee.is_quiet asked.on_broken)) [
   | inl quiet ↦ elim (cases_Bool (tee.any_is Gone (map tee.standing_of (first ∷ broke)))) [
@@ -300,7 +357,8 @@ tee_or {run} asked {content = content} only (tee.copied pieces fault first broke
   ]
   | inr loud ↦ loudly (inl loud)
 ] where
-  loudly : IsLoud asked.on_broken (first ∷ broke) → Unless run (Tee asked) ((are_sound (first ∷ broke) ≡ true) × (concat pieces ≡ content.bytes))
+  loudly : IsLoud asked.on_broken (first ∷ broke)
+      → Unless run (Tee asked) ((are_sound (first ∷ broke) ≡ true) × (concat pieces ≡ content.bytes))
   loudly loud = elim (tee_by asked.on_broken _ fault (are_sound (first ∷ broke)) loud refl (λ many. (standard_input content, content, ([], [], only), refl, many)) (sound_goes_on asked.on_broken (suc (length pieces)) first broke) comes.read left rest
       (tee_lines asked asked.on_broken fault slots left rest (input_tells run asked _ only comes.read) says) slots is) [
         | inl whole ↦ inl whole
@@ -310,8 +368,10 @@ tee_or asked only (tee.no_room error says unread slots is) = inr (inl (stop_earl
 
 -- a text about a tool
 
-text_stops : {run : Run} {which : Tool} {topic : Topic} (n : ℕ) {error : Slot} → Says true (by run.calling which) (message_of (Write 0) (codes "standard output")) standard_error error
-    → run.outputs ≡ breaks (adds (take n (text_about which topic)) standard_output) ∷ error ∷ [] → run.status ≡ 1 → IsStop false run (About which topic)
+text_stops : {run : Run} {which : Tool} {topic : Topic} (n : ℕ) {error : Slot}
+    → Says true (by run.calling which) (message_of (Write 0) (codes "standard output")) standard_error error
+    → run.outputs ≡ breaks (adds (take n (text_about which topic)) standard_output) ∷ error ∷ [] → run.status ≡ 1
+    → IsStop false run (About which topic)
 text_stops {run} {which} {topic} n {error} says slots is = record {
   failed = is;
   why = Write 0;
@@ -326,23 +386,33 @@ text_stops {run} {which} {topic} n {error} says slots is = record {
   line : Tells run (About which topic) (Write 0) (codes "standard output")
   line = ([], [], record { are = one_line (TellsMet run (About which topic)) (message_of (Write 0) (codes "standard output")) (Write 0, codes "standard output", inl stops, refl); said = rw slots (error, says, refl) })
 
-  broke : (place : ℕ) → (place ≡ 1 → ⊥) → (slot_at run.outputs place).is_broken ≡ true → IsToldOf run (About which topic) place ⊎ IsStuck false run.outputs place
+  broke : (place : ℕ) → (place ≡ 1 → ⊥) → (slot_at run.outputs place).is_broken ≡ true
+      → IsToldOf run (About which topic) place ⊎ IsStuck false run.outputs place
   broke zero differs broken = inl (subst (λ those. (name : List ℕ) × IsCalled (slot_at those 0) name × Tells run (About which topic) (failing 0 (slot_at those 0).state) name) (sym slots) (codes "standard output", inl refl, line))
   broke (suc zero) differs broken = absurd (differs refl)
   broke (suc (suc place)) differs broken = absurd (false≢true (rw slots at broken))
 
-about_or : {run : Run} {which : Tool} {topic : Topic} → TellsText true run.breaks_for (by run.calling which) (text_about which topic) run.outputs run.status → Unless run (About which topic) (run.status ≡ 0)
+about_or : {run : Run} {which : Tool} {topic : Topic}
+    → TellsText true run.breaks_for (by run.calling which) (text_about which topic) run.outputs run.status
+    → Unless run (About which topic) (run.status ≡ 0)
 about_or (text_whole slots is) = inl is
 about_or {run} {which} {topic} (text_cut n short why error is_why tells slots is) = ends (is_quiet (Write 0) run.calling why) refl tells is where
-  ends : (quiet : Bool) → quiet ≡ is_quiet (Write 0) run.calling why → TellsIf quiet true (by run.calling which) why (message_of (Write 0) (codes "standard output")) standard_error error → run.status ≡ cond quiet 141 1 → Unless run (About which topic) (run.status ≡ 0)
+  ends : (quiet : Bool) → quiet ≡ is_quiet (Write 0) run.calling why
+      → TellsIf quiet true (by run.calling which) why
+      (message_of (Write 0) (codes "standard output")) standard_error error → run.status ≡ cond quiet 141 1
+      → Unless run (About which topic) (run.status ≡ 0)
   ends true own same is = inr (inr (quiet_own (Write 0) run.calling why (sym own), quiet_gone run.breaks_for (Write 0) run.calling why (sym own) is_why, is))
   ends false own says is = inr (inl (text_stops n (why, says) slots is))
 about_or (no_text error says slots is) = inr (inl (stop_early Memory [] tt (error, says, refl) slots is))
 
 -- All tools
 
-does_or : {run : Run} (asked : Settings) (does : DoesAsked run.calling true true run.breaks_for asked (inputs_at run.world (names_of asked)) run.inputs run.outputs run.status)
-    → Unless run asked (Unstopped run.breaks_for run.calling asked (inputs_at run.world (names_of asked)) run.inputs run.outputs run.status does)
+does_or : {run : Run} (asked : Settings)
+    (does : DoesAsked run.calling true true run.breaks_for asked
+    (inputs_at run.world (names_of asked)) run.inputs run.outputs run.status)
+    → Unless run asked
+    (Unstopped run.breaks_for run.calling asked
+    (inputs_at run.world (names_of asked)) run.inputs run.outputs run.status does)
 does_or (Head asked) does = ends_or {asked = Head asked} refl does
 does_or (Tail asked) does = ends_or {asked = Tail asked} refl does
 does_or (Split asked) does = ends_or {asked = Split asked} refl does
@@ -352,17 +422,23 @@ does_or (About which topic) does = about_or does
 
 -- operands that are wrong
 
-bad_stops : (run : Run) (asked : Settings) (fault : Fault) → HasBadOperands asked fault → StopsRun run asked (word_of run.words fault) fault
+bad_stops : (run : Run) (asked : Settings) (fault : Fault) → HasBadOperands asked fault
+    → StopsRun run asked (word_of run.words fault) fault
 bad_stops run (Csplit asked) fault bad = grind (arith, common_steps)
 bad_stops run asked fault bad = absurd bad
 
 -- no reason stands in its line, so it is the same however the program was called
-usage_by : {old new : Slot} (calling : Calling) {which tool : Tool} (kind : UsageKind) (place : ℕ) (name : List ℕ) → which ≡ tool → Says true (by Cutters which) (message_of (Usage kind place) name) old new → Says true (by calling tool) (message_of (Usage kind place) name) old new
+usage_by : {old new : Slot} (calling : Calling) {which tool : Tool} (kind : UsageKind) (place : ℕ) (name : List ℕ)
+    → which ≡ tool → Says true (by Cutters which) (message_of (Usage kind place) name) old new
+    → Says true (by calling tool) (message_of (Usage kind place) name) old new
 usage_by {old} {new} OwnName {which} kind place name is (why, says) =
     let spoken : Says true (by OwnName which) (message_of (Usage kind place) name) old new = (why, record { said = says.said; is = says.is; printed = says.printed }) in rw is at spoken
 usage_by Cutters kind place name is says = rw is at says
 
-refused_by : {old new : Slot} (run : Run) (asked : Settings) (fault : Fault) → HasBadOperands asked fault → speaker run.words ≡ tool_of asked → Says true (refuser run.words) (message_of fault (word_of run.words fault)) old new → Says true (speaker_of run.calling asked) (message_of fault (word_of run.words fault)) old new
+refused_by : {old new : Slot} (run : Run) (asked : Settings) (fault : Fault) → HasBadOperands asked fault
+    → speaker run.words ≡ tool_of asked
+    → Says true (refuser run.words) (message_of fault (word_of run.words fault)) old new
+    → Says true (speaker_of run.calling asked) (message_of fault (word_of run.words fault)) old new
 refused_by run asked Memory bad is says = memory_by run.calling is says
 refused_by run asked (Usage kind place) bad is says = usage_by run.calling kind place (word_of run.words (Usage kind place)) is says
 refused_by run (Csplit asked) fault bad is says = grind (arith, common_steps)
@@ -380,7 +456,9 @@ ran_so {run} {asked} ran = elim (ran_over ran) [
 
 -- a `tee` that met no fault has copied all, where nothing is said of what is gone
 
-whole_copied : (run : Run) (asked : TeeAsked) {content : Content} {source : Source} (ends : tee.EndsAs true true run.breaks_for run.calling asked.mode asked.on_broken asked.names content source run.outputs run.status)
+whole_copied : (run : Run) (asked : TeeAsked) {content : Content} {source : Source}
+    (ends : tee.EndsAs true true run.breaks_for run.calling asked.mode asked.on_broken asked.names content source
+    run.outputs run.status)
     → run.status ≡ 0 → (tee.forgives asked.on_broken ≡ true → tee.AreSound run.outputs) → IsCopied ends
 whole_copied run asked (tee.copied pieces fault first broke output error files comes some left rest stand says slots is) well sound =
     let good = well_of asked.on_broken fault left rest slots sound (sym is ∙ well) in (
@@ -403,7 +481,8 @@ silent_completes (Split asked) does silent = absurd (omega (arith, does.well, si
 silent_completes (Csplit asked) does silent = absurd (omega (arith, does.well, silent.2))
 silent_completes (About which topic) does silent = absurd (omega (arith, does.well, silent.2))
 
-pub completes_or : (run : Run) (asked : Settings) → Ran run asked → Completes run asked ⊎ IsStopped run asked ⊎ IsSilent run asked
+pub completes_or : (run : Run) (asked : Settings) → Ran run asked
+    → Completes run asked ⊎ IsStopped run asked ⊎ IsSilent run asked
 completes_or run asked ran = grind (arith, common_steps, ran_so)
 
 has_failed : (failed : Bool) {status : ℕ} → status ≡ cond failed 1 0 → status ≡ 1 → failed ≡ true
@@ -411,22 +490,27 @@ has_failed true is one = refl
 has_failed false is one = cc
 
 -- one of the lines tells a fault that the run met
-told_one : {run : Run} {asked : Settings} {line : Message} {lines : List Message} → SaysLines run asked lines → HasLine line lines → SaysWhy run asked
+told_one : {run : Run} {asked : Settings} {line : Message} {lines : List Message} → SaysLines run asked lines
+    → HasLine line lines → SaysWhy run asked
 told_one {run} {asked} {line} {lines} says (before, after, is) =
     let has : HasLine line lines = (before, after, is) in
     let (fault, name, met, same) = subst (TellsMet run asked) (ap (λ those. get_or those (length before) line) is ∙ get_or-append_seam before line after line) (says.are (length before) line (omega (arith, ap length is, length-append before (line ∷ after)))) in
     (fault, name, met, says_line (rw same at has) says)
 
 -- a `tee` that keeps back what is gone tells what else failed
-quiet_line : (on_broken : OnBroken) {mode : Mode} {pieces names : List (List ℕ)} {first : Option Break} {broke : List (Option Break)} {output : Slot} {files : List Slot} (fault : Option Fault) → OutputLeft true pieces first output → FilesLeft true mode pieces names broke files
-    → tee.is_quiet on_broken ≡ true → tee.status_of on_broken (first ∷ broke) fault ≡ 1 → (line : Message) × HasLine line (messages_of on_broken names (first ∷ broke) (length pieces) fault)
+quiet_line : (on_broken : OnBroken) {mode : Mode} {pieces names : List (List ℕ)} {first : Option Break}
+    {broke : List (Option Break)} {output : Slot} {files : List Slot} (fault : Option Fault)
+    → OutputLeft true pieces first output → FilesLeft true mode pieces names broke files
+    → tee.is_quiet on_broken ≡ true → tee.status_of on_broken (first ∷ broke) fault ≡ 1
+    → (line : Message) × HasLine line (messages_of on_broken names (first ∷ broke) (length pieces) fault)
 quiet_line on_broken {pieces = pieces} {names} {first} {broke} (Some fault) left rest quiet one =
     (message_of fault (codes "standard input"), has_before (said_in on_broken (suc (length pieces)) (output_names names) (first ∷ broke)) (has_after (said_before on_broken (suc (length pieces)) (output_names names) (first ∷ broke)) ([], [], refl)))
 quiet_line on_broken {names = names} {first} {broke} None left rest quiet one = elim (cases_Bool (tee.any_is Broken (map tee.standing_of (first ∷ broke)))) [
   | inl broken ↦ broken_tells on_broken None left rest broken
   | inr unbroken ↦ absurd (by on_broken (tee.any_is Gone (map tee.standing_of (first ∷ broke))) quiet (subst (λ some. cond (tee.any_is Gone (map tee.standing_of (first ∷ broke))) (tee.gone_status on_broken some) (cond some 1 0) ≡ 1) unbroken one))
 ] where
-  by : (on_broken : OnBroken) (gone : Bool) → tee.is_quiet on_broken ≡ true → cond gone (tee.gone_status on_broken false) 0 ≡ 1 → ⊥
+  by : (on_broken : OnBroken) (gone : Bool) → tee.is_quiet on_broken ≡ true
+      → cond gone (tee.gone_status on_broken false) 0 ≡ 1 → ⊥
   by on_broken false quiet one = omega (arith, one)
   by Warn true quiet one = false≢true quiet
   by Exit true quiet one = false≢true quiet
@@ -434,8 +518,10 @@ quiet_line on_broken {names = names} {first} {broke} None left rest quiet one = 
   by ExitNoPipe true quiet one = omega (arith, one)
   by Signal true quiet one = omega (arith, one)
 
-tee_why : (run : Run) (asked : TeeAsked) {mode : Mode} {names : List (List ℕ)} {content : Content} {source : Source} → inputs_at run.world (names_of (Tee asked)) ≡ standard_input content ∷ [] → tee.is_quiet asked.on_broken ≡ true
-    → tee.EndsAs true true run.breaks_for run.calling mode asked.on_broken names content source run.outputs run.status → run.status ≡ 1 → SaysWhy run (Tee asked)
+tee_why : (run : Run) (asked : TeeAsked) {mode : Mode} {names : List (List ℕ)} {content : Content} {source : Source}
+    → inputs_at run.world (names_of (Tee asked)) ≡ standard_input content ∷ [] → tee.is_quiet asked.on_broken ≡ true
+    → tee.EndsAs true true run.breaks_for run.calling mode asked.on_broken names content source run.outputs run.status
+    → run.status ≡ 1 → SaysWhy run (Tee asked)
 tee_why run asked only quiet (tee.copied pieces fault first broke output error files comes some left rest stand says slots is) one =
     let (line, has) = quiet_line asked.on_broken fault left rest quiet (sym is ∙ one) in told_one (tee_lines asked asked.on_broken fault slots left rest (input_tells run asked _ only comes.read) says) has
 tee_why run asked only quiet (tee.no_room error says unread slots is) one =
@@ -462,17 +548,20 @@ says_why run asked ran one = elim (ran_so ran) [
 ]
 
 -- where no fault stopped the run, only files that were to be removed are broken
-left_broke : (run : Run) (asked : Settings) {place : ℕ} → LeftBy run asked → (place ≡ 1 → ⊥) → (slot_at run.outputs place).is_broken ≡ true → (run.status ≡ 1) × IsStuck (removes_files asked) run.outputs place
+left_broke : (run : Run) (asked : Settings) {place : ℕ} → LeftBy run asked → (place ≡ 1 → ⊥)
+    → (slot_at run.outputs place).is_broken ≡ true → (run.status ≡ 1) × IsStuck (removes_files asked) run.outputs place
 left_broke run asked {place} all differs broken =
     let (sweeps, closed) = (left_at all.left place differs).broke (outputs_live all.made.part standard_error place all.fits.live differs).0 broken in
     let (clears, failed) = all.fits.sweeps sweeps in
     (all.left.is ∙ ap (λ flag. cond flag 1 0) failed, (clears, closed, swept_gone all.made.sweeps _ _ sweeps all.left.swept))
 
-why_broken : {run : Run} {asked : Settings} {place : ℕ} → IsToldOf run asked place ⊎ IsStuck (removes_files asked) run.outputs place → WhyBroken run asked place
+why_broken : {run : Run} {asked : Settings} {place : ℕ}
+    → IsToldOf run asked place ⊎ IsStuck (removes_files asked) run.outputs place → WhyBroken run asked place
 why_broken (inl (name, called, line)) = named name called line
 why_broken (inr (removes, closed, gone)) = search rules
 
-pub is_broken : (run : Run) (asked : Settings) (place : ℕ) → Ran run asked → (place ≡ 1 → ⊥) → (slot_at run.outputs place).is_broken ≡ true → ((run.status ≡ 1) × WhyBroken run asked place) ⊎ IsSilent run asked
+pub is_broken : (run : Run) (asked : Settings) (place : ℕ) → Ran run asked → (place ≡ 1 → ⊥)
+    → (slot_at run.outputs place).is_broken ≡ true → ((run.status ≡ 1) × WhyBroken run asked place) ⊎ IsSilent run asked
 is_broken run asked place ran differs broken = elim (ran_so ran) [
   | inl whole ↦ let (failed, stuck) = left_broke run asked (completes_left whole) differs broken in inl (failed, why_broken (inr stuck))
   | inr (inl stop) ↦ inl (stop.failed, why_broken (stop.broke place differs broken))

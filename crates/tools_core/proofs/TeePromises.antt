@@ -35,22 +35,27 @@ abbrev some_end : OnBroken → ℕ → List (Option Break) → Bool
 some_end on_broken call broke = list_any (λ standing. ends_run standing on_broken) (standings_before call broke)
 
 -- one that ends it in the last call, and no sooner
-ends_now : (on_broken : OnBroken) (call at : ℕ) (gone : Bool) → Ends on_broken call (Some (record { call = at; is_gone = gone })) ≡ false → ends_run (lost_as gone) on_broken ≡ true → nat_lt at call ≡ false
+ends_now : (on_broken : OnBroken) (call at : ℕ) (gone : Bool)
+    → Ends on_broken call (Some (record { call = at; is_gone = gone })) ≡ false
+    → ends_run (lost_as gone) on_broken ≡ true → nat_lt at call ≡ false
 ends_now on_broken call at gone late ends = by (nat_lt at call) late where
   by : (sooner : Bool) → ends_run (cond sooner (lost_as gone) Sound) on_broken ≡ false → sooner ≡ false
   by true late = absurd (false≢true (sym late ∙ ends))
   by false late = refl
 
 -- one that ended it does so as it stands in the end
-ends_still : (on_broken : OnBroken) (call : ℕ) (when : Option Break) → Ends on_broken call when ≡ true → ends_run (standing_of when) on_broken ≡ true
+ends_still : (on_broken : OnBroken) (call : ℕ) (when : Option Break) → Ends on_broken call when ≡ true
+    → ends_run (standing_of when) on_broken ≡ true
 ends_still on_broken call None ends = absurd (false≢true ends)
 ends_still on_broken call (Some one) ends = by (nat_lt one.call call) ends where
-  by : (sooner : Bool) → ends_run (cond sooner (lost_as one.is_gone) Sound) on_broken ≡ true → ends_run (lost_as one.is_gone) on_broken ≡ true
+  by : (sooner : Bool) → ends_run (cond sooner (lost_as one.is_gone) Sound) on_broken ≡ true
+      → ends_run (lost_as one.is_gone) on_broken ≡ true
   by true ends = ends
   by false ends = absurd (false≢true ends)
 
 -- one that could not be opened ended it before any later call
-first_ends : (on_broken : OnBroken) (call : ℕ) (gone : Bool) → ends_run (lost_as gone) on_broken ≡ true → Ends on_broken (suc call) (Some (record { call = 0; is_gone = gone })) ≡ true
+first_ends : (on_broken : OnBroken) (call : ℕ) (gone : Bool) → ends_run (lost_as gone) on_broken ≡ true
+    → Ends on_broken (suc call) (Some (record { call = 0; is_gone = gone })) ≡ true
 first_ends on_broken call gone ends = by (nat_lt 0 (suc call)) (lt-ltb 0 (suc call) (omega arith)) where
   by : (sooner : Bool) → sooner ≡ true → ends_run (cond sooner (lost_as gone) Sound) on_broken ≡ true
   by true is = ends
@@ -65,7 +70,8 @@ never_sound true is = cc
 never_sound false is = cc
 
 -- one that is sound in the end was so before
-sound_before : (call : ℕ) (when : Option Break) → standing_of when ≡ Sound → is_same (standing_before call when) Sound ≡ true
+sound_before : (call : ℕ) (when : Option Break) → standing_of when ≡ Sound
+    → is_same (standing_before call when) Sound ≡ true
 sound_before call None is = refl
 sound_before call (Some one) is = absurd (never_sound one.is_gone is)
 
@@ -90,12 +96,15 @@ all_are [] = refl
 all_are (piece ∷ []) = append-nil piece
 all_are (piece ∷ next ∷ pieces) = ap (λ rest. piece ++ rest) (all_are (next ∷ pieces)) ∙ sym (append_assoc piece (front_of (next ∷ pieces)) (last_of (next ∷ pieces)))
 
-front_is : (before : List (List ℕ)) (piece : List ℕ) → (front_of (before ++ piece ∷ []) ≡ concat before) × (last_of (before ++ piece ∷ []) ≡ piece)
+front_is : (before : List (List ℕ)) (piece : List ℕ)
+    → (front_of (before ++ piece ∷ []) ≡ concat before) × (last_of (before ++ piece ∷ []) ≡ piece)
 front_is [] piece = (refl, refl)
 front_is (first ∷ []) piece = (refl, refl)
 front_is (first ∷ next ∷ before) piece = let (front, last) = front_is (next ∷ before) piece in (ap (λ rest. first ++ rest) front, last)
 
-last_small : (pieces : List (List ℕ)) → All (λ (piece : List ℕ). (0 < length piece) × (length piece ≤ largest_piece)) pieces → length (last_of pieces) ≤ largest_piece
+last_small : (pieces : List (List ℕ))
+    → All (λ (piece : List ℕ). (0 < length piece) × (length piece ≤ largest_piece)) pieces
+    → length (last_of pieces) ≤ largest_piece
 last_small [] sizes = omega arith
 last_small (piece ∷ []) sizes = (sizes 0 piece (omega arith)).1
 last_small (piece ∷ next ∷ pieces) sizes = last_small (next ∷ pieces) (λ k byte within. sizes (suc k) byte (omega arith))
@@ -111,7 +120,8 @@ module _ (run : Run) (on_broken : OnBroken) (pieces : List (List ℕ)) where
   abbrev NoneRead : Bool → Type 0
   NoneRead ends = ends ≡ true → pieces ≡ [] → (source_at run.inputs 0).reads ≡ 0
 
-  has_whole : (standing : Standing) (output : Slot) → output.is_broken ≡ not (is_same Sound standing) → (output.state ≡ Unopened → ⊥) → output.written ≡ concat pieces → IsUpTo standing output
+  has_whole : (standing : Standing) (output : Slot) → output.is_broken ≡ not (is_same Sound standing)
+      → (output.state ≡ Unopened → ⊥) → output.written ≡ concat pieces → IsUpTo standing output
   has_whole standing output broken opened is = let all = is ∙ all_are pieces in record {
     broken = broken;
     no_more = rw all (begins_itself _);
@@ -120,8 +130,11 @@ module _ (run : Run) (on_broken : OnBroken) (pieces : List (List ℕ)) where
     unopened = λ ends unopened. absurd (opened unopened);
   }
 
-  has_cut : (before : List (List ℕ)) (piece : List ℕ) (after : List (List ℕ)) (n : ℕ) (gone : Bool) (output : Slot) → pieces ≡ before ++ piece ∷ after → Ends on_broken (length pieces) (Some (record { call = suc (length before); is_gone = gone })) ≡ false
-      → output.written ≡ concat before ++ take n piece → output.is_broken ≡ true → (output.state ≡ Unopened → ⊥) → IsUpTo (lost_as gone) output
+  has_cut : (before : List (List ℕ)) (piece : List ℕ) (after : List (List ℕ)) (n : ℕ) (gone : Bool) (output : Slot)
+      → pieces ≡ before ++ piece ∷ after
+      → Ends on_broken (length pieces) (Some (record { call = suc (length before); is_gone = gone })) ≡ false
+      → output.written ≡ concat before ++ take n piece → output.is_broken ≡ true → (output.state ≡ Unopened → ⊥)
+      → IsUpTo (lost_as gone) output
   has_cut before piece after n gone output is late has broken opened = record {
     broken = broken ∙ lost_gone gone;
     no_more = rw has (begins_trans _ _ _ (take_begins_after n (concat before) piece) (rw (sym (all_are pieces) ∙ ap concat is ∙ concat-append before (piece ∷ after) ∙ sym (append_assoc (concat before) piece (concat after))) (begins_more _ _)));
@@ -129,15 +142,19 @@ module _ (run : Run) (on_broken : OnBroken) (pieces : List (List ℕ)) where
     some = λ ends. last_one after is (ends_now on_broken (length pieces) (suc (length before)) gone late ends);
     unopened = λ ends unopened. absurd (opened unopened);
   } where
-    last_one : (after : List (List ℕ)) → pieces ≡ before ++ piece ∷ after → nat_lt (suc (length before)) (length pieces) ≡ false → IsBeginning (front_of pieces) output.written
+    last_one : (after : List (List ℕ)) → pieces ≡ before ++ piece ∷ after
+        → nat_lt (suc (length before)) (length pieces) ≡ false → IsBeginning (front_of pieces) output.written
     last_one [] is late = (take n piece, has ∙ ap (λ front. front ++ take n piece) (sym (ap front_of is ∙ (front_is before piece).0)))
     last_one (next ∷ after) is late = let size = ap length is ∙ length-append before (piece ∷ next ∷ after) in absurd (grind (arith, nat_tests, size, late))
 
-  output_up_to : {when : Option Break} {output : Slot} → Ends on_broken (length pieces) when ≡ false → OutputLeft true pieces when output → IsUpTo (standing_of when) output
+  output_up_to : {when : Option Break} {output : Slot} → Ends on_broken (length pieces) when ≡ false
+      → OutputLeft true pieces when output → IsUpTo (standing_of when) output
   output_up_to late tee.output_whole = has_whole Sound _ refl (λ is. cc) refl
   output_up_to late (tee.output_cut {is_gone = gone} before piece after n is few) = has_cut before piece after n gone _ is late refl refl (λ is. cc)
 
-  file_up_to : {mode : Mode} {name : List ℕ} {when : Option Break} {file : Slot} → Ends on_broken (length pieces) when ≡ false → NoneRead (Ends on_broken (suc (length pieces)) when) → FileLeft true mode pieces name when file → IsUpTo (standing_of when) file
+  file_up_to : {mode : Mode} {name : List ℕ} {when : Option Break} {file : Slot}
+      → Ends on_broken (length pieces) when ≡ false → NoneRead (Ends on_broken (suc (length pieces)) when)
+      → FileLeft true mode pieces name when file → IsUpTo (standing_of when) file
   file_up_to late none tee.file_whole = has_whole Sound _ refl (λ is. cc) refl
   file_up_to late none (tee.file_unopened {is_gone = gone} kept named) = record {
     broken = lost_gone gone;
@@ -154,7 +171,9 @@ module _ (run : Run) (on_broken : OnBroken) (pieces : List (List ℕ)) where
   file_up_to late none (tee.file_cut {is_gone = gone} before piece after n is few) = has_cut before piece after n gone _ is late refl refl (λ is. cc)
   file_up_to late none (tee.file_unclosed {is_gone = gone}) = has_whole (lost_as gone) _ (lost_gone gone) (λ is. cc) refl
 
-  files_up_to : {mode : Mode} {names : List (List ℕ)} {broke : List (Option Break)} {files : List Slot} (place : ℕ) → some_end on_broken (length pieces) broke ≡ false → NoneRead (some_end on_broken (suc (length pieces)) broke) → FilesLeft true mode pieces names broke files → place < length files
+  files_up_to : {mode : Mode} {names : List (List ℕ)} {broke : List (Option Break)} {files : List Slot} (place : ℕ)
+      → some_end on_broken (length pieces) broke ≡ false → NoneRead (some_end on_broken (suc (length pieces)) broke)
+      → FilesLeft true mode pieces names broke files → place < length files
       → IsUpTo (get_or (map standing_of broke) place Sound) (slot_at files place)
   files_up_to place late none tee.no_file within = absurd (omega arith)
   files_up_to zero late none (tee.one_file name names when broke file files left rest) within =
@@ -164,7 +183,8 @@ module _ (run : Run) (on_broken : OnBroken) (pieces : List (List ℕ)) where
 
 -- what was read, and what is left
 
-read_up_to : {content : Content} (source : Source) {is_vain : Bool} {x : List ℕ} {fault : Option Fault} → length content.bytes < 2 ^ 63 → IsRead content (LeavesOf true source) is_vain x fault
+read_up_to : {content : Content} (source : Source) {is_vain : Bool} {x : List ℕ} {fault : Option Fault}
+    → length content.bytes < 2 ^ 63 → IsRead content (LeavesOf true source) is_vain x fault
     → (rest : List ℕ) × (content.bytes ≡ x ++ rest) × (source.left.bytes ≡ rest) × ((rest ≡ []) ⊎ (is_vain ≡ true))
 read_up_to source few (tee.to_end x is ended leaves) = ([], is ∙ sym (append-nil x), leaves refl, inl refl)
 read_up_to source few (tee.to_break x is breaks leaves) = ([], is ∙ sym (append-nil x), leaves refl, inl refl)
@@ -173,7 +193,9 @@ read_up_to source few (tee.to_broken_output x rest is leaves) = (rest, is, leave
 
 -- which output ended it
 
-files_end : {mode : Mode} {pieces names : List (List ℕ)} {broke : List (Option Break)} {files : List Slot} (on_broken : OnBroken) (call : ℕ) → some_end on_broken call broke ≡ true → FilesLeft true mode pieces names broke files
+files_end : {mode : Mode} {pieces names : List (List ℕ)} {broke : List (Option Break)} {files : List Slot}
+    (on_broken : OnBroken) (call : ℕ) → some_end on_broken call broke ≡ true
+    → FilesLeft true mode pieces names broke files
     → (place : ℕ) × (place < length files) × (ends_run (get_or (map standing_of broke) place Sound) on_broken ≡ true)
 files_end on_broken call some tee.no_file = absurd (false≢true some)
 files_end on_broken call some (tee.one_file name names when broke file files left rest) = elim (either (Ends on_broken call when) (some_end on_broken call broke) some) [
@@ -182,7 +204,9 @@ files_end on_broken call some (tee.one_file name names when broke file files lef
 ]
 
 -- where none is left no file is sound
-files_lost : {mode : Mode} {pieces names : List (List ℕ)} {broke : List (Option Break)} {files : List Slot} (call place : ℕ) → any_is Sound (standings_before call broke) ≡ false → FilesLeft true mode pieces names broke files → place < length files → get_or (map standing_of broke) place Sound ≡ Sound → ⊥
+files_lost : {mode : Mode} {pieces names : List (List ℕ)} {broke : List (Option Break)} {files : List Slot}
+    (call place : ℕ) → any_is Sound (standings_before call broke) ≡ false → FilesLeft true mode pieces names broke files
+    → place < length files → get_or (map standing_of broke) place Sound ≡ Sound → ⊥
 files_lost call place none tee.no_file within sound = omega (arith, within)
 files_lost call zero none (tee.one_file name names when broke file files left rest) within sound =
     false≢true (sym (or_parts (is_same (standing_before call when) Sound) (any_is Sound (standings_before call broke)) none).0 ∙ sound_before call when sound)
@@ -195,19 +219,27 @@ stand_at first broke zero = standing_of first
 stand_at first broke (suc zero) = Sound
 stand_at first broke (suc (suc place)) = get_or (map standing_of broke) place Sound
 
-none_sound : {mode : Mode} {pieces names : List (List ℕ)} {broke : List (Option Break)} {files : List Slot} (call : ℕ) (first : Option Break) → any_is Sound (standings_before call (first ∷ broke)) ≡ false → FilesLeft true mode pieces names broke files
+none_sound : {mode : Mode} {pieces names : List (List ℕ)} {broke : List (Option Break)} {files : List Slot} (call : ℕ)
+    (first : Option Break) → any_is Sound (standings_before call (first ∷ broke)) ≡ false
+    → FilesLeft true mode pieces names broke files
     → (place : ℕ) → (place ≡ 1 → ⊥) → place < suc (suc (length files)) → stand_at first broke place ≡ Sound → ⊥
 none_sound {broke = broke} call first none rest zero differs within sound = false≢true (sym (or_parts (is_same (standing_before call first) Sound) (any_is Sound (standings_before call broke)) none).0 ∙ sound_before call first sound)
 none_sound call first none rest (suc zero) differs within sound = differs refl
 none_sound {broke = broke} call first none rest (suc (suc place)) differs within sound = files_lost call place (or_parts (is_same (standing_before call first) Sound) (any_is Sound (standings_before call broke)) none).1 rest (omega arith) sound
 
 -- where an output ended the run before a piece came, no read was made
-none_read : {pieces : List (List ℕ)} {reads : ℕ} (on_broken : OnBroken) (first : Option Break) (broke : List (Option Break)) → reads ≡ length pieces + (if is_done on_broken (standings_before (suc (length pieces)) (first ∷ broke)) then 0 else 1)
+none_read : {pieces : List (List ℕ)} {reads : ℕ} (on_broken : OnBroken) (first : Option Break)
+    (broke : List (Option Break))
+    → reads
+    ≡ length pieces + (if is_done on_broken (standings_before (suc (length pieces)) (first ∷ broke)) then 0 else 1)
     → some_end on_broken (suc (length pieces)) (first ∷ broke) ≡ true → pieces ≡ [] → reads ≡ 0
 none_read {pieces} on_broken first broke is ends none =
     is ∙ ap (λ ends. length pieces + cond (ends || not (any_is Sound (standings_before (suc (length pieces)) (first ∷ broke)))) 0 1) ends ∙ ap (λ (those : List (List ℕ)). length those + 0) none
 
-ends_with_break : (run : Run) (asked : TeeAsked) {mode : Mode} {names : List (List ℕ)} → length run.world.standard.bytes < 2 ^ 63 → tee.EndsAs true true run.breaks_for run.calling mode asked.on_broken names run.world.standard (source_at run.inputs 0) run.outputs run.status → EndsWithBreak run asked
+ends_with_break : (run : Run) (asked : TeeAsked) {mode : Mode} {names : List (List ℕ)}
+    → length run.world.standard.bytes < 2 ^ 63
+    → tee.EndsAs true true run.breaks_for run.calling mode asked.on_broken names run.world.standard
+    (source_at run.inputs 0) run.outputs run.status → EndsWithBreak run asked
 ends_with_break run asked few (tee.copied pieces fault first broke output error files comes goes left rest stand says slots is) =
     let (more, bytes, unread, over) = read_up_to (source_at run.inputs 0) few comes.read in
     let (early, later) = or_parts (Ends asked.on_broken (length pieces) first) (some_end asked.on_broken (length pieces) broke) (or_parts (some_end asked.on_broken (length pieces) (first ∷ broke)) _ goes).0 in record {
@@ -229,13 +261,16 @@ ends_with_break run asked few (tee.copied pieces fault first broke output error 
       stands_at (suc zero) differs = absurd (differs refl)
       stands_at (suc (suc place)) differs = stand (suc place)
 
-      at : Ends asked.on_broken (length pieces) first ≡ false → some_end asked.on_broken (length pieces) broke ≡ false → (place : ℕ) → (place ≡ 1 → ⊥) → place < length (output ∷ error ∷ files)
-          → HasUpTo run asked.on_broken (front_of pieces) (last_of pieces) (stand_at first broke place) (slot_at (output ∷ error ∷ files) place)
+      at : Ends asked.on_broken (length pieces) first ≡ false → some_end asked.on_broken (length pieces) broke ≡ false
+          → (place : ℕ) → (place ≡ 1 → ⊥) → place < length (output ∷ error ∷ files)
+          → HasUpTo run asked.on_broken (front_of pieces) (last_of pieces) (stand_at first broke place)
+          (slot_at (output ∷ error ∷ files) place)
       at early later zero differs within = output_up_to run asked.on_broken pieces early left
       at early later (suc zero) differs within = absurd (differs refl)
       at early later (suc (suc place)) differs within = files_up_to run asked.on_broken pieces place later (λ ends. none_read asked.on_broken first broke comes.reads (rw ends (or-true _))) rest (omega arith)
 
-      ended : is_done asked.on_broken (standings_before (suc (length pieces)) (first ∷ broke)) ≡ true → OneIs run (stand_at first broke) (λ standing. ends_run standing asked.on_broken ≡ true)
+      ended : is_done asked.on_broken (standings_before (suc (length pieces)) (first ∷ broke)) ≡ true
+          → OneIs run (stand_at first broke) (λ standing. ends_run standing asked.on_broken ≡ true)
           ⊎ (OneIs run (stand_at first broke) (λ standing. standing ≡ Sound) → ⊥) ⊎ (((source_at run.inputs 0).reads ≡ 0) × Tells run (Tee asked) Memory [])
       ended vain = elim (either (some_end asked.on_broken (suc (length pieces)) (first ∷ broke)) _ vain) [
         | inl one ↦ inl (elim (either (Ends asked.on_broken (suc (length pieces)) first) _ one) [
@@ -255,12 +290,14 @@ ends_with_break run asked few (tee.no_room error says (there, unread, same) slot
   outputs = λ place differs within. (tt, subst (λ outputs. HasUpTo run asked.on_broken [] [] Sound (slot_at outputs place)) (sym slots) (at place differs (rw slots at within)));
   ended = inr (inr (inr (ap (λ (source : Source). source.reads) unread, ([], [], record { are = one_line (TellsMet run (Tee asked)) (message_of Memory []) (Memory, [], inl tt, refl); said = rw slots says }))));
 } where
-  at : (place : ℕ) → (place ≡ 1 → ⊥) → place < 2 → HasUpTo run asked.on_broken [] [] Sound (slot_at (streams_with error) place)
+  at : (place : ℕ) → (place ≡ 1 → ⊥) → place < 2
+      → HasUpTo run asked.on_broken [] [] Sound (slot_at (streams_with error) place)
   at zero differs within = has_whole run asked.on_broken [] Sound _ refl (λ is. cc) refl
   at (suc zero) differs within = absurd (differs refl)
   at (suc (suc place)) differs within = absurd (omega arith)
 
-pub tee_stops : (run : Run) (asked : TeeAsked) → Ran run (Tee asked) → length run.world.standard.bytes < 2 ^ 63 → EndsWithBreak run asked
+pub tee_stops : (run : Run) (asked : TeeAsked) → Ran run (Tee asked) → length run.world.standard.bytes < 2 ^ 63
+    → EndsWithBreak run asked
 tee_stops run asked ran few = elim (ran_over ran) [
   | inl does ↦ ends_with_break run asked few (rw (← (same_content refl does.input)) at does.ends)
   | inr (fault, bad, refuses) ↦ absurd bad

@@ -8,31 +8,42 @@ use Rattle.watch_core.specs.Watched.{Watched, Reopens, watched_at, is_watchable,
 use Rattle.watch_core.specs.DirWatchState.{DirWatchState, seen}
 use Rattle.watch_core.proofs.NameLemmas.{name_changes, names_within}
 
-pub one_changes : {watch : DirWatchState} {names : List Watched} {forgives : Bool} {within : ℕ} (turns place : ℕ) (change : Watched → Watched) {item new : Watched} → record { turns = turns; watched = names; forgives = forgives; within = within } ≡ watch → IsTrue (is_watchable watch.watched place)
+pub one_changes : {watch : DirWatchState} {names : List Watched} {forgives : Bool} {within : ℕ} (turns place : ℕ)
+    (change : Watched → Watched) {item new : Watched}
+    → record { turns = turns; watched = names; forgives = forgives; within = within } ≡ watch
+    → IsTrue (is_watchable watch.watched place)
     → item ≡ get_or names place item → new ≡ change item → set names place new ≡ changed_at place change watch.watched
 one_changes {watch} {names} turns place change {item} {new} is can at changed =
     let those : names ≡ watch.watched = ap (λ (all : DirWatchState). all.watched) is in
     name_changes names watch.watched place change item new those (names_within names watch.watched place those can) at changed
 
 -- any call may have found anything
-pub finds_any : (forgives : Bool) (within n : ℕ) (name : List ℕ) (finding : Finding) → Found (latest (replicate n (files_by forgives within))) name finding
+pub finds_any : (forgives : Bool) (within n : ℕ) (name : List ℕ) (finding : Finding)
+    → Found (latest (replicate n (files_by forgives within))) name finding
 finds_any forgives within zero name finding = refl
 finds_any false within (suc zero) name finding = refl
 finds_any true within (suc zero) name finding = refl
 finds_any forgives within (suc (suc n)) name finding = finds_any forgives within (suc n) name finding
 
 -- and any may have failed, where that isn't forgiven
-pub breaks_any : {forgives : Bool} (within n : ℕ) → forgives ≡ false → (latest (replicate n (files_by forgives within))).breaks ≡ true
+pub breaks_any : {forgives : Bool} (within n : ℕ) → forgives ≡ false
+    → (latest (replicate n (files_by forgives within))).breaks ≡ true
 breaks_any within zero is = refl
 breaks_any within (suc zero) is = rw is refl
 breaks_any within (suc (suc n)) is = breaks_any within (suc n) is
 
-pub may_break : {watch : DirWatchState} {names : List Watched} {turns : ℕ} {forgives : Bool} {within : ℕ} → record { turns = turns; watched = names; forgives = forgives; within = within } ≡ watch → forgives ≡ false → (latest (seen watch)).breaks ≡ true
+pub may_break : {watch : DirWatchState} {names : List Watched} {turns : ℕ} {forgives : Bool} {within : ℕ}
+    → record { turns = turns; watched = names; forgives = forgives; within = within } ≡ watch → forgives ≡ false
+    → (latest (seen watch)).breaks ≡ true
 may_break {turns} is unforgiven = subst (λ (those : DirWatchState). (latest (seen those)).breaks ≡ true) is (breaks_any _ turns unforgiven)
 
 -- what was opened is not told
-pub opened_some : {watch : DirWatchState} {snapshot : Snapshot} {names : List Watched} {forgives : Bool} {within : ℕ} (turns : ℕ) {place : ℕ} {item new : Watched} {is_there : Bool} → record { turns = turns; watched = names; forgives = forgives; within = within } ≡ watch → IsTrue (is_watchable watch.watched place)
-    → item ≡ get_or names place item → new ≡ opens new.opened item → is_some new.opened ≡ is_there → Found snapshot (watched_at watch.watched place).name (opens_as new.opened)
+pub opened_some : {watch : DirWatchState} {snapshot : Snapshot} {names : List Watched} {forgives : Bool} {within : ℕ}
+    (turns : ℕ) {place : ℕ} {item new : Watched} {is_there : Bool}
+    → record { turns = turns; watched = names; forgives = forgives; within = within } ≡ watch
+    → IsTrue (is_watchable watch.watched place)
+    → item ≡ get_or names place item → new ≡ opens new.opened item → is_some new.opened ≡ is_there
+    → Found snapshot (watched_at watch.watched place).name (opens_as new.opened)
     → Reopens false snapshot watch.watched (set names place new) place is_there
 opened_some {names} turns {place} {new} is can at changed found finding = record {
   file = new.opened;

@@ -16,19 +16,24 @@ second : (a b : Bool) → IsTrue (a && b) → IsTrue b
 second true b both = both
 second false b both = absurd (false≢true both)
 
-pub readable_watchable : (names : List Watched) (place : ℕ) → IsTrue (is_readable names place) → IsTrue (is_watchable names place)
+pub readable_watchable : (names : List Watched) (place : ℕ) → IsTrue (is_readable names place)
+    → IsTrue (is_watchable names place)
 readable_watchable names place can = second (is_some (watched_at names place).opened) (is_watchable names place) can
 
-pub name_there : (names : List Watched) (place : ℕ) (name : Watched) → place < length names → name ≡ get_or names place name → name ≡ watched_at names place
+pub name_there : (names : List Watched) (place : ℕ) (name : Watched) → place < length names
+    → name ≡ get_or names place name → name ≡ watched_at names place
 name_there [] place name within is = absurd (omega arith)
 name_there (first ∷ names) zero name within is = is
 name_there (first ∷ names) (suc place) name within is = name_there names place name (omega arith) is
 
-pub name_changes : (names now : List Watched) (place : ℕ) (change : Watched → Watched) (name new : Watched) → names ≡ now → place < length names → name ≡ get_or names place name → new ≡ change name → set names place new ≡ changed_at place change now
+pub name_changes : (names now : List Watched) (place : ℕ) (change : Watched → Watched) (name new : Watched)
+    → names ≡ now → place < length names → name ≡ get_or names place name → new ≡ change name
+    → set names place new ≡ changed_at place change now
 name_changes names now place change name new is within at changed =
     ap (set names place) changed ∙ set-changed names place change name within at ∙ ap (changed_at place change) is
 
-pub names_within : (names now : List Watched) (place : ℕ) → names ≡ now → IsTrue (is_watchable now place) → place < length names
+pub names_within : (names now : List Watched) (place : ℕ) → names ≡ now → IsTrue (is_watchable now place)
+    → place < length names
 names_within names now place is can = watchable_within names place (subst (λ those. is_watchable those place ≡ true) (sym is) can)
 
 -- the last of some looks and one more
@@ -38,7 +43,9 @@ latest-last (one ∷ []) snapshot = refl
 latest-last (one ∷ two ∷ snapshots) snapshot = latest-last (two ∷ snapshots) snapshot
 
 -- as a name broke while this file was open
-pub broke_so : (names : List Watched) (place : ℕ) (how : Option ℕ → Broken) {file : Option ℕ} → file ≡ (watched_at names place).opened → changed_at place (breaks (λ other. how file)) names ≡ changed_at place (breaks how) names
+pub broke_so : (names : List Watched) (place : ℕ) (how : Option ℕ → Broken) {file : Option ℕ}
+    → file ≡ (watched_at names place).opened
+    → changed_at place (breaks (λ other. how file)) names ≡ changed_at place (breaks how) names
 broke_so [] place how is = refl
 broke_so (name ∷ names) zero how is = ap (λ file. breaks (λ other. how file) name ∷ names) is
 broke_so (name ∷ names) (suc place) how is = ap (λ rest. name ∷ rest) (broke_so names place how is)

@@ -5,14 +5,20 @@ use Rattle.ports_core.specs.Slot.{changed_at}
 use Rattle.watch_core.specs.Edits.{append, Bar, Link, World, led_to, with_file, edited, seen_in}
 
 -- no name leads elsewhere
-changed_leads : (world : World) (file : Option ℕ) (change : List ℕ → List ℕ) → (with_file file change world).links ≡ world.links
+changed_leads : (world : World) (file : Option ℕ) (change : List ℕ → List ℕ)
+    → (with_file file change world).links ≡ world.links
 changed_leads world None change = refl
 changed_leads world (Some file) change = refl
 
-pub append_leads : (world : World) (name bytes other : List ℕ) → (seen_in (edited (append name bytes) world)).leads other ≡ (seen_in world).leads other
+pub append_leads : (world : World) (name bytes other : List ℕ)
+    → (seen_in (edited (append name bytes) world)).leads other ≡ (seen_in world).leads other
 append_leads world name bytes other = ap (λ links. led_to links other) (changed_leads world (led_to world.links name) (λ held. held ++ bytes))
 
-grown_at : (files : List (List ℕ)) (place file : ℕ) (bytes : List ℕ) → (slice_index_or (changed_at place (λ held. held ++ bytes) files) file [] ≡ slice_index_or files file []) ⊎ ((place ≡ file) × (slice_index_or (changed_at place (λ held. held ++ bytes) files) file [] ≡ slice_index_or files file [] ++ bytes))
+grown_at : (files : List (List ℕ)) (place file : ℕ) (bytes : List ℕ)
+    → (slice_index_or (changed_at place (λ held. held ++ bytes) files) file [] ≡ slice_index_or files file [])
+    ⊎ ((place ≡ file)
+    × (slice_index_or (changed_at place (λ held. held ++ bytes) files) file []
+    ≡ slice_index_or files file [] ++ bytes))
 grown_at [] place file bytes = inl refl
 grown_at (held ∷ files) zero zero bytes = inr (refl, refl)
 grown_at (held ∷ files) zero (suc file) bytes = inl refl
@@ -23,9 +29,15 @@ grown_at (held ∷ files) (suc place) (suc file) bytes = elim (grown_at files pl
 ]
 
 -- an append with_file no file but the one that the name leads to, and that one grows
-pub append_grows : (world : World) (name bytes : List ℕ) (file : ℕ) → ((seen_in (edited (append name bytes) world)).holds file ≡ (seen_in world).holds file) ⊎ ((led_to world.links name ≡ Some file) × ((seen_in (edited (append name bytes) world)).holds file ≡ (seen_in world).holds file ++ bytes))
+pub append_grows : (world : World) (name bytes : List ℕ) (file : ℕ)
+    → ((seen_in (edited (append name bytes) world)).holds file ≡ (seen_in world).holds file)
+    ⊎ ((led_to world.links name ≡ Some file)
+    × ((seen_in (edited (append name bytes) world)).holds file ≡ (seen_in world).holds file ++ bytes))
 append_grows world name bytes file = by (led_to world.links name) refl where
-  by : (led : Option ℕ) → led_to world.links name ≡ led → ((seen_in (with_file led (λ held. held ++ bytes) world)).holds file ≡ (seen_in world).holds file) ⊎ ((led ≡ Some file) × ((seen_in (with_file led (λ held. held ++ bytes) world)).holds file ≡ (seen_in world).holds file ++ bytes))
+  by : (led : Option ℕ) → led_to world.links name ≡ led
+      → ((seen_in (with_file led (λ held. held ++ bytes) world)).holds file ≡ (seen_in world).holds file)
+      ⊎ ((led ≡ Some file)
+      × ((seen_in (with_file led (λ held. held ++ bytes) world)).holds file ≡ (seen_in world).holds file ++ bytes))
   by None is = inl refl
   by (Some place) is = elim (grown_at world.files place file bytes) [
     | inl same ↦ inl same
@@ -33,17 +45,21 @@ append_grows world name bytes file = by (led_to world.links name) refl where
   ]
 
 -- nothing is changed where there is no such file
-changed_nowhere : {X : Type 0} (xs : List X) (place : ℕ) (change : X → X) → length xs ≤ place → changed_at place change xs ≡ xs
+changed_nowhere : {X : Type 0} (xs : List X) (place : ℕ) (change : X → X) → length xs ≤ place
+    → changed_at place change xs ≡ xs
 changed_nowhere [] place change beyond = refl
 changed_nowhere (x ∷ xs) zero change beyond = absurd (omega arith)
 changed_nowhere (x ∷ xs) (suc place) change beyond = ap (λ rest. x ∷ rest) (changed_nowhere xs place change (omega arith))
 
-pub file_stays : (world : World) (led : Option ℕ) (file : ℕ) (change : List ℕ → List ℕ) → led ≡ Some file → length world.files ≤ file → world ≡ with_file led change world
+pub file_stays : (world : World) (led : Option ℕ) (file : ℕ) (change : List ℕ → List ℕ) → led ≡ Some file
+    → length world.files ≤ file → world ≡ with_file led change world
 file_stays world led file change is beyond = rw is (ap (λ files. record world { files = files }) (sym (changed_nowhere world.files file change beyond)))
 
 -- a file is replaced by its change
-pub file_changed : (world : World) (links : List Link) (files : List (List ℕ)) (ended : List ℕ) (bars : List Bar) (led : Option ℕ) (file : ℕ) (change : List ℕ → List ℕ) (held new : List ℕ)
-    → record { links = links; files = files; ended = ended; bars = bars } ≡ world → led ≡ Some file → file < length files → held ≡ get_or files file held → new ≡ change held
+pub file_changed : (world : World) (links : List Link) (files : List (List ℕ)) (ended : List ℕ) (bars : List Bar)
+    (led : Option ℕ) (file : ℕ) (change : List ℕ → List ℕ) (held new : List ℕ)
+    → record { links = links; files = files; ended = ended; bars = bars } ≡ world → led ≡ Some file
+    → file < length files → held ≡ get_or files file held → new ≡ change held
     → record { links = links; files = set files file new; ended = ended; bars = bars } ≡ with_file led change world
 file_changed world links files ended bars led file change held new is leads within there changed =
     ap (λ those. record { links = links; files = those; ended = ended; bars = bars }) (ap (set files file) changed ∙ set-changed files file change held within there)

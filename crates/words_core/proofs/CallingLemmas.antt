@@ -27,12 +27,14 @@ abbrev pub begin : List OptionRow → Letters → List (List ℕ) → Bool
 begin rows letters ((byte ∷ text) ∷ words) = byte == 43 && is_start OwnName rows letters text
 begin rows letters words = false
 
-same_first : (rows : List OptionRow) (kind : Kind) (letters : Letters) (place byte : ℕ) (text : List ℕ) → (byte == 43 && is_start OwnName rows letters text) ≡ false
+same_first : (rows : List OptionRow) (kind : Kind) (letters : Letters) (place byte : ℕ) (text : List ℕ)
+    → (byte == 43 && is_start OwnName rows letters text) ≡ false
     → foremost OwnName rows kind letters place (byte ∷ text) ≡ foremost Cutters rows kind letters place (byte ∷ text)
 unfolding foremost
 same_first rows kind letters place byte text other = rw (other, and-false (byte == 43)) refl
 
-pub same_words : (rows : List OptionRow) (kind : Kind) (letters : Letters) (words : List (List ℕ)) → begin rows letters words ≡ false
+pub same_words : (rows : List OptionRow) (kind : Kind) (letters : Letters) (words : List (List ℕ))
+    → begin rows letters words ≡ false
     → spelled rows words 1 (First OwnName kind letters) ≡ spelled rows words 1 (First Cutters kind letters)
 unfolding foremost
 same_words rows kind letters [] other = refl
@@ -49,13 +51,15 @@ begins_head rows [] = refl
 begins_head rows ([] ∷ words) = refl
 begins_head rows ((byte ∷ text) ∷ words) = and-false (byte == 43)
 
-pub same_unknown : (name : List ℕ) (words : List (List ℕ)) (row : Option ToolRow) → option_map (λ row. row.tool) row ≡ None
+pub same_unknown : (name : List ℕ) (words : List (List ℕ)) (row : Option ToolRow)
+    → option_map (λ row. row.tool) row ≡ None
     → tool_settings OwnName name words row ≡ tool_settings Cutters name words row
 same_unknown name words None none = refl
 same_unknown name words (Some row) none = absurd (cc)
 
 -- a word of a `+` is a name
-pub plus_is_name : (rows : List OptionRow) (place : ℕ) (text : List ℕ) → mixed rows place (43 ∷ text) ≡ reading (one_operand (43 ∷ text) place)
+pub plus_is_name : (rows : List OptionRow) (place : ℕ) (text : List ℕ)
+    → mixed rows place (43 ∷ text) ≡ reading (one_operand (43 ∷ text) place)
 plus_is_name rows place [] = refl
 plus_is_name rows place (byte ∷ text) = refl
 
@@ -65,30 +69,37 @@ abbrev pub with_broken : OnBroken → TeeAsked → TeeAsked
 with_broken on_broken asked = record asked { on_broken = on_broken }
 
 with_one : (on_broken : OnBroken) (asked : TeeAsked) (choice : Choice)
-    → tee_by (with_broken on_broken asked) choice ≡ (if says_on_broken choice then tee_by asked choice else with_broken on_broken (tee_by asked choice))
+    → tee_by (with_broken on_broken asked) choice
+    ≡ (if says_on_broken choice then tee_by asked choice else with_broken on_broken (tee_by asked choice))
 with_one on_broken asked (choice.OnBroken said) = refl
 with_one on_broken asked choice = refl
 
 said_or : (test more : Bool) (on_broken : OnBroken) (next : TeeAsked) (options : List Chosen)
-    → asked_by tee_by (with_broken on_broken next) options ≡ (if more then asked_by tee_by next options else with_broken on_broken (asked_by tee_by next options))
-    → asked_by tee_by (if test then next else with_broken on_broken next) options ≡ (if test || more then asked_by tee_by next options else with_broken on_broken (asked_by tee_by next options))
+    → asked_by tee_by (with_broken on_broken next) options
+    ≡ (if more then asked_by tee_by next options else with_broken on_broken (asked_by tee_by next options))
+    → asked_by tee_by (if test then next else with_broken on_broken next) options
+    ≡ (if test || more then asked_by tee_by next options else with_broken on_broken (asked_by tee_by next options))
 said_or true more on_broken next options rest = refl
 said_or false more on_broken next options rest = rest
 
 with_all : (on_broken : OnBroken) (asked : TeeAsked) (options : List Chosen)
-    → asked_by tee_by (with_broken on_broken asked) options ≡ (if has says_on_broken options then asked_by tee_by asked options else with_broken on_broken (asked_by tee_by asked options))
+    → asked_by tee_by (with_broken on_broken asked) options
+    ≡ (if has says_on_broken options then asked_by tee_by asked options else with_broken on_broken
+    (asked_by tee_by asked options))
 with_all on_broken asked [] = refl
 with_all on_broken asked (option ∷ options) =
     ap (λ next. asked_by tee_by next options) (with_one on_broken asked option.choice)
     ∙ said_or (says_on_broken option.choice) (has says_on_broken options) on_broken (tee_by asked option.choice) options (with_all on_broken (tee_by asked option.choice) options)
 
-pub left_open : (given : Given) → has says_on_broken given.options ≡ false → tee_asked OwnName given ≡ with_broken Signal (tee_asked Cutters given)
+pub left_open : (given : Given) → has says_on_broken given.options ≡ false
+    → tee_asked OwnName given ≡ with_broken Signal (tee_asked Cutters given)
 left_open given none = rw (with_all Signal (fresh Cutters (texts_of given.operands)) given.options, none) refl
 
 said : (given : Given) → has says_on_broken given.options ≡ true → tee_asked OwnName given ≡ tee_asked Cutters given
 said given is = rw (with_all Signal (fresh Cutters (texts_of given.operands)) given.options, is) refl
 
-pub same_tee : (meant : Result Given Fault) → say_nothing meant ≡ false → then_check meant (settings_for OwnName tool.Tee) ≡ then_check meant (settings_for Cutters tool.Tee)
+pub same_tee : (meant : Result Given Fault) → say_nothing meant ≡ false
+    → then_check meant (settings_for OwnName tool.Tee) ≡ then_check meant (settings_for Cutters tool.Tee)
 same_tee (Ok given) is = rw (said given (says_so (has says_on_broken given.options) is)) refl where
   says_so : (test : Bool) → not test ≡ false → test ≡ true
   says_so true is = refl

@@ -31,19 +31,22 @@ abbrev pub Sets : {A C : Type 0} → (A → Choice → A) → (A → C) → (Cho
 Sets {A} by part test = (asked other : A) (choice : Choice) → part (by asked choice) ≡ (if test choice then part (by other choice) else part asked)
 
 module _ {A C : Type 0} (by : A → Choice → A) (part : A → C) (test : Choice → Bool) (sets : Sets by part test) where
-  pub kept : (asked : A) (options : List Chosen) → has test options ≡ false → part (asked_by by asked options) ≡ part asked
+  pub kept : (asked : A) (options : List Chosen) → has test options ≡ false
+      → part (asked_by by asked options) ≡ part asked
   kept asked [] none = refl
   kept asked (option ∷ options) none =
       let both = or_parts (test option.choice) (has test options) none in
       let next : A = by asked option.choice in
       kept next options both.1 ∙ sets asked asked option.choice ∙ ap (λ test. if test then part next else part asked) both.0
 
-  pub decided : (asked other : A) (before after : List Chosen) (option : Chosen) → test option.choice ≡ true → has test after ≡ false
+  pub decided : (asked other : A) (before after : List Chosen) (option : Chosen) → test option.choice ≡ true
+      → has test after ≡ false
       → part (asked_by by asked (before ++ option ∷ after)) ≡ part (by other option.choice)
   decided asked other [] after option is none = rw (kept (by asked option.choice) after none, sets asked other option.choice, is)
   decided asked other (first ∷ before) after option is none = decided (by asked first.choice) other before after option is none
 
-pub last_decides : {A C : Type 0} (by : A → Choice → A) (part : A → C) (test : Choice → Bool) → Sets by part test → (asked : A) → LastDecides test (λ options. part (asked_by by asked options)) (part asked)
+pub last_decides : {A C : Type 0} (by : A → Choice → A) (part : A → C) (test : Choice → Bool) → Sets by part test
+    → (asked : A) → LastDecides test (λ options. part (asked_by by asked options)) (part asked)
 last_decides by part test sets asked = record { last = decided by part test sets asked asked; none = kept by part test sets asked }
 
 -- What the options of each tool set. One without a value sets the same wherever it stands.
@@ -56,7 +59,8 @@ ends-sets asked other (choice.Amount unit count) = (refl, refl, refl)
 ends-sets asked other choice = (refl, refl, refl)
 
 pub tail-sets : (asked other : TailSettings) (choice : Choice)
-    → ((tail_by asked choice).followed ≡ (if says_followed choice then (tail_by other choice).followed else asked.followed))
+    → ((tail_by asked choice).followed ≡
+    (if says_followed choice then (tail_by other choice).followed else asked.followed))
     × ((tail_by asked choice).looks ≡ (if counts_looks choice then (tail_by other choice).looks else asked.looks))
     × ((tail_by asked choice).pause ≡ (if counts_pause choice then (tail_by other choice).pause else asked.pause))
     × ((tail_by asked choice).process ≡ (if names_process choice then (tail_by other choice).process else asked.process))
@@ -69,7 +73,8 @@ retry-sets asked choice.Retry = refl
 retry-sets asked choice = refl
 
 -- what `tail` is asked for of each input at first is what `head` is
-pub tail_ends : (asked : TailSettings) (options : List Chosen) → (asked_by tail_by asked options).ends ≡ asked_by ends_by asked.ends options
+pub tail_ends : (asked : TailSettings) (options : List Chosen)
+    → (asked_by tail_by asked options).ends ≡ asked_by ends_by asked.ends options
 tail_ends asked [] = refl
 tail_ends asked (option ∷ options) = tail_ends (tail_by asked option.choice) options ∙ ap (λ ends. asked_by ends_by ends options) (tail-sets asked asked option.choice).4
 
@@ -78,15 +83,18 @@ tail_ends asked (option ∷ options) = tail_ends (tail_by asked option.choice) o
 abbrev pub of_these : List (List ℕ) → TailSettings → TailSettings
 of_these names asked = record asked { ends = record asked.ends { names = names } }
 
-of_these-by : (names : List (List ℕ)) (asked : TailSettings) (choice : Choice) → tail_by (of_these names asked) choice ≡ of_these names (tail_by asked choice)
+of_these-by : (names : List (List ℕ)) (asked : TailSettings) (choice : Choice)
+    → tail_by (of_these names asked) choice ≡ of_these names (tail_by asked choice)
 of_these-by names asked choice.FollowNames = refl
 of_these-by names asked choice = refl
 
-asked_of_these : (names : List (List ℕ)) (asked : TailSettings) (options : List Chosen) → asked_by tail_by (of_these names asked) options ≡ of_these names (asked_by tail_by asked options)
+asked_of_these : (names : List (List ℕ)) (asked : TailSettings) (options : List Chosen)
+    → asked_by tail_by (of_these names asked) options ≡ of_these names (asked_by tail_by asked options)
 asked_of_these names asked [] = refl
 asked_of_these names asked (option ∷ options) = ap (λ asked. asked_by tail_by asked options) (of_these-by names asked option.choice) ∙ asked_of_these names (tail_by asked option.choice) options
 
-pub tail_of_these : (names : List (List ℕ)) (options : List Chosen) → tail_of names options ≡ of_these names (tail_of [] options)
+pub tail_of_these : (names : List (List ℕ)) (options : List Chosen)
+    → tail_of names options ≡ of_these names (tail_of [] options)
 tail_of_these names options = asked_of_these names (unfollowed (ten_lines [])) options
 
 pub split-sets : (asked other : SplitAsked) (choice : Choice)
@@ -99,12 +107,14 @@ pub split-sets : (asked other : SplitAsked) (choice : Choice)
 split-sets asked other (choice.Width width) = search rules
 split-sets asked other choice = search rules
 
-pub delim-sets : (asked other : ℕ) (choice : Choice) → delim_by asked choice ≡ (if separates choice then delim_by other choice else asked)
+pub delim-sets : (asked other : ℕ) (choice : Choice)
+    → delim_by asked choice ≡ (if separates choice then delim_by other choice else asked)
 delim-sets asked other (choice.Separator byte) = refl
 delim-sets asked other choice = refl
 
 pub csplit-sets : (asked other : CsplitOptions) (choice : Choice)
-    → ((csplit_by asked choice).prefix.now ≡ (if names_prefix choice then (csplit_by other choice).prefix.now else asked.prefix.now))
+    → ((csplit_by asked choice).prefix.now
+    ≡ (if names_prefix choice then (csplit_by other choice).prefix.now else asked.prefix.now))
     × ((csplit_by asked choice).digits ≡ (if widens choice then (csplit_by other choice).digits else asked.digits))
     × ((csplit_by asked choice).format ≡ (if gives_format choice then (csplit_by other choice).format else asked.format))
     × ((csplit_by asked choice).keep ≡ (if keeps_files choice then true else asked.keep))
@@ -128,9 +138,11 @@ module _ (before after : List Chosen) (word : ℕ) where
   abbrev with_it : List Chosen
   with_it = before ++ it ∷ after
 
-  left_out : {A : Type 0} (by : A → Choice → A) (asked : A) → ((asked : A) → by asked choice.NoEffect ≡ asked) → asked_by by asked with_it ≡ asked_by by asked (before ++ after)
+  left_out : {A : Type 0} (by : A → Choice → A) (asked : A) → ((asked : A) → by asked choice.NoEffect ≡ asked)
+      → asked_by by asked with_it ≡ asked_by by asked (before ++ after)
   left_out {A} by asked same = from before asked where
-    from : (front : List Chosen) (asked : A) → asked_by by asked (front ++ it ∷ after) ≡ asked_by by asked (front ++ after)
+    from : (front : List Chosen) (asked : A)
+        → asked_by by asked (front ++ it ∷ after) ≡ asked_by by asked (front ++ after)
     from [] asked = ap (λ those. asked_by by those after) (same asked)
     from (option ∷ front) asked = from front (by asked option.choice)
 
@@ -140,7 +152,9 @@ module _ (before after : List Chosen) (word : ℕ) where
     from [] = refl
     from (option ∷ front) = ap (λ those. if is_way option then option ∷ those else those) (from front)
 
-  no_work : (calling : Calling) (which : Tool) (operands : List GivenOperand) → work_for calling which (record { options = with_it; operands = operands }) ≡ work_for calling which (record { options = before ++ after; operands = operands })
+  no_work : (calling : Calling) (which : Tool) (operands : List GivenOperand)
+      → work_for calling which (record { options = with_it; operands = operands })
+      ≡ work_for calling which (record { options = before ++ after; operands = operands })
   no_work calling tool.Head operands = rw (left_out ends_by (ten_lines (names_asked operands)) (λ asked. refl)) refl
   no_work calling tool.Tail operands = rw (left_out tail_by (unfollowed (ten_lines (names_asked operands))) (λ asked. refl), left_out retry_by false (λ asked. refl)) refl
   no_work calling tool.Split operands = rw (no_way, left_out delim_by 10 (λ asked. refl), left_out split_by no_options (λ asked. refl)) refl
@@ -154,7 +168,9 @@ module _ (before after : List Chosen) (word : ℕ) where
     from [] = refl
     from (option ∷ front) = ap (or_later (topic_of option.choice)) (from front)
 
-  pub no_effect : (calling : Calling) (which : Tool) (operands : List GivenOperand) → settings_for calling which (record { options = with_it; operands = operands }) ≡ settings_for calling which (record { options = before ++ after; operands = operands })
+  pub no_effect : (calling : Calling) (which : Tool) (operands : List GivenOperand)
+      → settings_for calling which (record { options = with_it; operands = operands })
+      ≡ settings_for calling which (record { options = before ++ after; operands = operands })
   no_effect calling which operands =
       ap (λ topic. about_or which topic (work_for calling which (record { options = with_it; operands = operands }))) no_topic
       ∙ ap (about_or which (topic_in (before ++ after))) (no_work calling which operands)
@@ -168,7 +184,8 @@ either_fixed one rest fixed other = refl
 
 pub given_anywhere : {A C : Type 0} (by : A → Choice → A) (part : A → C) (test : Choice → Bool) (fixed : C)
     → ((asked : A) (choice : Choice) → part (by asked choice) ≡ (if test choice then fixed else part asked))
-    → (asked : A) (options : List Chosen) → part (asked_by by asked options) ≡ (if has test options then fixed else part asked)
+    → (asked : A) (options : List Chosen)
+    → part (asked_by by asked options) ≡ (if has test options then fixed else part asked)
 given_anywhere by part test fixed sets asked [] = refl
 given_anywhere by part test fixed sets asked (option ∷ options) = rw (given_anywhere by part test fixed sets (by asked option.choice) options, sets asked option.choice, either_fixed (test option.choice) (has test options) fixed (part asked))
 
@@ -186,7 +203,8 @@ append_is false = search rules
 
 -- at most one way to split
 
-pub few_ways : (delim : ℕ) (ways : List Chosen) → (IsOk (only_way delim ways) → length ways ≤ 1) × (length ways ≤ 1 → IsOk (only_way delim ways))
+pub few_ways : (delim : ℕ) (ways : List Chosen)
+    → (IsOk (only_way delim ways) → length ways ≤ 1) × (length ways ≤ 1 → IsOk (only_way delim ways))
 few_ways delim (way ∷ second ∷ more) = search rules
 few_ways delim ways = search rules
 
@@ -195,7 +213,9 @@ ways_around : (before after : List Chosen) (option : Chosen) → is_way option �
     → filter is_way (before ++ option ∷ after) ≡ filter is_way before ++ option ∷ filter is_way after
 ways_around before after option is = grind (arith, common_steps)
 
-way_among : (delim : ℕ) (front rest : List Chosen) (option : Chosen) (way : Way) → only_way delim (front ++ option ∷ rest) ≡ Ok way → way ≡ unwrap_or (way_in delim option.choice) (thousand_lines delim)
+way_among : (delim : ℕ) (front rest : List Chosen) (option : Chosen) (way : Way)
+    → only_way delim (front ++ option ∷ rest) ≡ Ok way
+    → way ≡ unwrap_or (way_in delim option.choice) (thousand_lines delim)
 way_among delim [] [] option cut is = cc
 way_among delim (way ∷ []) rest option cut is = absurd (cc)
 way_among delim front rest option cut is = absurd (cc)
@@ -210,14 +230,17 @@ the_way (Some found) other way some is = cc
 the_way None other way some is = absurd (cc)
 
 pub way_is : (before after : List Chosen) (option : Chosen) (way : Way) → is_way option ≡ true
-    → way_of (before ++ option ∷ after) ≡ Ok way → way_in (separator_in (before ++ option ∷ after)) option.choice ≡ Some way
+    → way_of (before ++ option ∷ after) ≡ Ok way
+    → way_in (separator_in (before ++ option ∷ after)) option.choice ≡ Some way
 way_is before after option way is ok = grind (arith, common_steps, the_way, same_ways, way_among, ways_around)
 
-second_among : (delim : ℕ) (front rest : List Chosen) (option : Chosen) → length front ≡ 1 → only_way delim (front ++ option ∷ rest) ≡ Err (Usage TwoWays option.word)
+second_among : (delim : ℕ) (front rest : List Chosen) (option : Chosen) → length front ≡ 1
+    → only_way delim (front ++ option ∷ rest) ≡ Err (Usage TwoWays option.word)
 second_among delim (way ∷ []) rest option one = refl
 second_among delim front rest option one = cc
 
-pub second_told : (before after : List Chosen) (option : Chosen) → length (filter is_way before) ≡ 1 → is_way option ≡ true
+pub second_told : (before after : List Chosen) (option : Chosen) → length (filter is_way before) ≡ 1
+    → is_way option ≡ true
     → way_of (before ++ option ∷ after) ≡ Err (Usage TwoWays option.word)
 second_told before after option one is = grind (arith, common_steps, ways_around, second_among)
 

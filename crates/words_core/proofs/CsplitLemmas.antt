@@ -17,9 +17,13 @@ asked_first style none all = asked_with style (get_or all 0 none).text.now (map 
 -- the first operand is the file
 
 -- what a call returns for the style of these options and for these operands is what is asked, or why it is refused
-pub settled : (given : Given) (options : List Chosen) (none : Operand) (all : List Operand) {style : Style} (result : Result CsplitAsked Fault)
-    → map option_seen options ≡ given.options → map operand_seen all ≡ given.operands → style ≡ style_of (map option_seen options)
-    → 1 ≤ length all → 1 ≤ length (take (length all - 1) (drop 1 all)) → IfOk result (λ settings. settings ≡ asked_first style none all)
+pub settled : (given : Given) (options : List Chosen) (none : Operand) (all : List Operand) {style : Style}
+    (result : Result CsplitAsked Fault)
+    → map option_seen options ≡ given.options → map operand_seen all ≡ given.operands
+    → style ≡ style_of (map option_seen options)
+    → 1 ≤ length all → 1 ≤ length (take (length all - 1) (drop 1 all))
+    → IfOk result (λ settings. settings ≡ asked_first style none all)
     → IfErr result (λ fault. (fault ≡ Memory) ⊎ HasBadOperand (asked_first style none all) fault)
-    → IfOk result (λ settings. csplit_asked given ≡ Ok settings) × IfErr result (IsRefused HasBadOperand (csplit_asked given))
+    → IfOk result (λ settings. csplit_asked given ≡ Ok settings)
+    × IfErr result (IsRefused HasBadOperand (csplit_asked given))
 settled given options none all {style} result are these is some more equal bad = grind (arith, common_steps)

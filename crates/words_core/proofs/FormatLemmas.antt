@@ -22,20 +22,24 @@ no_form : {A : Type 0} (fits : Bool) (form : A) → (fits ≡ true → ⊥) → 
 no_form true form none = absurd (none refl)
 no_form false form none = refl
 
-too_wide : (flags : List ℕ) (width : ℕ) (precision : Option ℕ) (base : Base) → 255 < width → form_of flags width precision (Some base) ≡ None
+too_wide : (flags : List ℕ) (width : ℕ) (precision : Option ℕ) (base : Base) → 255 < width
+    → form_of flags width precision (Some base) ≡ None
 too_wide flags width precision base wide = no_form (go_with base flags && (nat_le width 255 && nat_le (digits_by precision) 255)) _ (λ fits. grind (arith, nat_tests))
 
-too_many : (flags : List ℕ) (width digits : ℕ) (base : Base) → 255 < digits → form_of flags width (Some digits) (Some base) ≡ None
+too_many : (flags : List ℕ) (width digits : ℕ) (base : Base) → 255 < digits
+    → form_of flags width (Some digits) (Some base) ≡ None
 too_many flags width digits base many = no_form (go_with base flags && (nat_le width 255 && nat_le digits 255)) _ (λ fits. grind (arith, nat_tests))
 
-width_clipped : (flags : List ℕ) (width : ℕ) (precision : Option ℕ) (base : Base) → form_of flags (min width (2 ^ 64 - 1)) precision (Some base) ≡ form_of flags width precision (Some base)
+width_clipped : (flags : List ℕ) (width : ℕ) (precision : Option ℕ) (base : Base)
+    → form_of flags (min width (2 ^ 64 - 1)) precision (Some base) ≡ form_of flags width precision (Some base)
 width_clipped flags width precision base = elim (cases_lt 255 width) [
   | inl wide ↦ too_wide flags (min width (2 ^ 64 - 1)) precision base (omega (arith, wide)) ∙ sym (too_wide flags width precision base wide)
   | inr within ↦ ap (λ width. form_of flags width precision (Some base)) (let same : min width (2 ^ 64 - 1) ≡ width = omega (arith, within) in same)
 ]
 
 form_clipped : (flags : List ℕ) (width : ℕ) (precision : Option ℕ) (base : Option Base)
-    → form_of flags (min width (2 ^ 64 - 1)) (option_map (λ digits. min digits (2 ^ 64 - 1)) precision) base ≡ form_of flags width precision base
+    → form_of flags (min width (2 ^ 64 - 1)) (option_map (λ digits. min digits (2 ^ 64 - 1)) precision) base
+    ≡ form_of flags width precision base
 form_clipped flags width precision None = refl
 form_clipped flags width None (Some base) = width_clipped flags width None base
 form_clipped flags width (Some digits) (Some base) = width_clipped flags width (Some (min digits (2 ^ 64 - 1))) base ∙ elim (cases_lt 255 digits) [
@@ -44,7 +48,8 @@ form_clipped flags width (Some digits) (Some base) = width_clipped flags width (
 ]
 
 pub letter_clipped : (flags : List ℕ) (width : ℕ) (precision : Option ℕ) (text : List ℕ)
-    → with_letter flags (min width (2 ^ 64 - 1)) (option_map (λ digits. min digits (2 ^ 64 - 1)) precision) text ≡ with_letter flags width precision text
+    → with_letter flags (min width (2 ^ 64 - 1)) (option_map (λ digits. min digits (2 ^ 64 - 1)) precision) text
+    ≡ with_letter flags width precision text
 letter_clipped flags width precision [] = refl
 letter_clipped flags width precision (letter ∷ rest) = ap (λ form. with_rest form rest) (form_clipped flags width precision (base_of letter))
 
@@ -56,14 +61,16 @@ after_drop n text (front, letter, ascii, is) = (take n text ++ front, letter, as
 after_more : (byte : ℕ) {text rest : List ℕ} → AfterLetter text rest → AfterLetter (byte ∷ text) rest
 after_more byte (front, letter, ascii, is) = (byte ∷ front, letter, ascii, ap (λ text. byte ∷ text) is)
 
-pub after_letter_of_precision : (text : List ℕ) {rest : List ℕ} → AfterLetter (after_precision text) rest → AfterLetter text rest
+pub after_letter_of_precision : (text : List ℕ) {rest : List ℕ} → AfterLetter (after_precision text) rest
+    → AfterLetter text rest
 after_letter_of_precision [] is = is
 after_letter_of_precision (byte ∷ text) {rest} is = by (byte == 46) is where
   by : (dot : Bool) → AfterLetter (cond dot (after_digits text) (byte ∷ text)) rest → AfterLetter (byte ∷ text) rest
   by true is = after_more byte (after_drop (prefix_len is_ascii_digit text) text is)
   by false is = is
 
-letter_ends : {text rest : List ℕ} → IsUtf8 text → AfterLetter text rest → (length rest ≤ length text) × IsCharBoundary text (length text - length rest)
+letter_ends : {text rest : List ℕ} → IsUtf8 text → AfterLetter text rest
+    → (length rest ≤ length text) × IsCharBoundary text (length text - length rest)
 letter_ends {text} {rest} utf8 (front, letter, ascii, is) =
     let size : length text ≡ length front + suc (length rest) = ap length is ∙ length-append front (letter ∷ rest) in
     let at : get_or text (length front) 0 ≡ letter = ap (λ text. get_or text (length front) 0) is ∙ get_or-append_seam front letter rest 0 in
@@ -77,10 +84,12 @@ pub first_and_rest : (text : List ℕ) → 1 ≤ length text → text ≡ get_or
 first_and_rest [] some = elim some [ ]
 first_and_rest (byte ∷ text) some = ap (λ rest. byte ∷ rest) (sym (take_rest (byte ∷ text) 1))
 
-pub after_slice : (n : ℕ) (text : List ℕ) {rest : List ℕ} → AfterLetter (take (length text - n) (drop n text)) rest → AfterLetter text rest
+pub after_slice : (n : ℕ) (text : List ℕ) {rest : List ℕ} → AfterLetter (take (length text - n) (drop n text)) rest
+    → AfterLetter text rest
 after_slice n text {rest} is = after_drop n text (subst (λ slice. AfterLetter slice rest) (take_rest text n) is)
 
-pub some_too : {T : Type 0} {P Q : T → Type 0} (found : Option T) → ((value : T) → P value → Q value) → IfSome found P → IfSome found Q
+pub some_too : {T : Type 0} {P Q : T → Type 0} (found : Option T) → ((value : T) → P value → Q value) → IfSome found P
+    → IfSome found Q
 some_too (Some value) goes is = goes value is
 some_too None goes is = tt
 
@@ -103,13 +112,16 @@ is_end (byte ∷ []) = alone (byte == 37) refl where
   alone true is = ([], refl, grind (arith, nat_tests))
   alone false is = (byte ∷ [], refl, tt)
 is_end (byte ∷ next ∷ rest) = by (byte == 37) (next == 37) refl (is_end rest) (is_end (next ∷ rest)) where
-  by : (percent second : Bool) → (byte == 37) ≡ percent → IsEnd rest (after_text rest) → IsEnd (next ∷ rest) (after_text (next ∷ rest))
-      → IsEnd (byte ∷ next ∷ rest) (cond percent (cond second (after_text rest) (byte ∷ next ∷ rest)) (after_text (next ∷ rest)))
+  by : (percent second : Bool) → (byte == 37) ≡ percent → IsEnd rest (after_text rest)
+      → IsEnd (next ∷ rest) (after_text (next ∷ rest))
+      → IsEnd (byte ∷ next ∷ rest)
+      (cond percent (cond second (after_text rest) (byte ∷ next ∷ rest)) (after_text (next ∷ rest)))
   by true true is ends more = end_of_more byte (end_of_more next ends)
   by true false is ends more = ([], refl, grind (arith, nat_tests))
   by false second is ends more = end_of_more byte more
 
-boundary_at : (text front rest : List ℕ) → text ≡ front ++ rest → IsPercentOrEnd rest → IsCharBoundary text (length front)
+boundary_at : (text front rest : List ℕ) → text ≡ front ++ rest → IsPercentOrEnd rest
+    → IsCharBoundary text (length front)
 boundary_at text front [] is begins =
     let size : length text ≡ length front = ap length is ∙ length-append front [] ∙ omega arith in
     rw (← size) (IsCharBoundary-end text)
@@ -118,7 +130,8 @@ boundary_at text front (byte ∷ rest) is begins =
     let at : get_or text (length front) 0 ≡ byte = ap (λ text. get_or text (length front) 0) is ∙ get_or-append_seam front byte rest 0 in
     IsCharBoundary-before_ascii text (length front) (omega (arith, size)) (omega (arith, at, begins))
 
-pub conversion_begins : (text : List ℕ) → (length (after_text text) ≤ length text) × IsCharBoundary text (length text - length (after_text text))
+pub conversion_begins : (text : List ℕ)
+    → (length (after_text text) ≤ length text) × IsCharBoundary text (length text - length (after_text text))
 conversion_begins text =
     let (front, is, begins) = is_end text in
     let size : length text ≡ length front + length (after_text text) = ap length is ∙ length-append front (after_text text) in
@@ -146,15 +159,18 @@ after_conversion text {rest} (front, letter, ascii, is) =
 abbrev pub EndsAt : List ℕ → List ℕ → Type 0
 EndsAt text rest = (length rest ≤ length text) × IsCharBoundary text (length text - length rest) × (drop (length text - length rest) text ≡ rest)
 
-pub rest_ends : (text : List ℕ) {bytes conversion rest : List ℕ} → bytes ≡ text → conversion ≡ after_text bytes → IsUtf8 text → AfterLetter conversion rest → EndsAt text rest
+pub rest_ends : (text : List ℕ) {bytes conversion rest : List ℕ} → bytes ≡ text → conversion ≡ after_text bytes
+    → IsUtf8 text → AfterLetter conversion rest → EndsAt text rest
 rest_ends text {bytes} {conversion} {rest} same is utf8 after =
     let there : AfterLetter text rest = after_conversion text (subst (λ conversion. AfterLetter conversion rest) (is ∙ ap after_text same) after) in
     let ends = letter_ends utf8 there in
     (ends.0, ends.1, letter_rest there)
 
 -- what was read is the format of a text
-pub is_format : (text : List ℕ) {bytes conversion rest front back : List ℕ} {form : Form} → bytes ≡ text → conversion ≡ after_text bytes → EndsAt text rest
-    → Some (form, rest) ≡ conversion_in conversion → (length (after_text rest) == 0) ≡ true → front ≡ slice_range text 0 (length bytes - length conversion) → back ≡ drop (length bytes - length rest) text
+pub is_format : (text : List ℕ) {bytes conversion rest front back : List ℕ} {form : Form} → bytes ≡ text
+    → conversion ≡ after_text bytes → EndsAt text rest
+    → Some (form, rest) ≡ conversion_in conversion → (length (after_text rest) == 0) ≡ true
+    → front ≡ slice_range text 0 (length bytes - length conversion) → back ≡ drop (length bytes - length rest) text
     → Some (record { before = plain_text front; form = form; after = plain_text back }) ≡ format_in text
 is_format text {bytes} {conversion} {rest} {front} {back} {form} same is ends read none first last =
     let conv : conversion ≡ after_text text = is ∙ ap after_text same in
@@ -174,17 +190,21 @@ plain_other : (byte : ℕ) (text : List ℕ) → is_percent byte ≡ false → p
 plain_other byte [] other = refl
 plain_other byte (next ∷ rest) other = ap (λ percent. cond (percent && is_percent next) (37 ∷ plain_text rest) (byte ∷ plain_text (next ∷ rest))) other
 
-plain_percent : (byte : ℕ) (text : List ℕ) → is_percent byte ≡ true → plain_text (byte ∷ text) ≡ 37 ∷ plain_text (without_percent text)
+plain_percent : (byte : ℕ) (text : List ℕ) → is_percent byte ≡ true
+    → plain_text (byte ∷ text) ≡ 37 ∷ plain_text (without_percent text)
 plain_percent byte [] is = let same : byte ≡ 37 = grind (arith, nat_tests) in ap (λ byte. byte ∷ []) same
 plain_percent byte (next ∷ rest) is =
     let same : byte ≡ 37 = grind (arith, nat_tests) in
     ap (λ percent. cond (percent && is_percent next) (37 ∷ plain_text rest) (byte ∷ plain_text (next ∷ rest))) is ∙ ap (λ byte. cond (is_percent next) (37 ∷ plain_text rest) (byte ∷ plain_text (next ∷ rest))) same
     ∙ by (is_percent next) where
-      by : (second : Bool) → cond second (37 ∷ plain_text rest) (37 ∷ plain_text (next ∷ rest)) ≡ 37 ∷ plain_text (cond second rest (next ∷ rest))
+      by : (second : Bool)
+          → cond second (37 ∷ plain_text rest) (37 ∷ plain_text (next ∷ rest))
+          ≡ 37 ∷ plain_text (cond second rest (next ∷ rest))
       by true = refl
       by false = refl
 
-pub percent_at : (text : List ℕ) → position_or_len is_percent text < length text → plain_text text ≡ before_first is_percent text ++ 37 ∷ plain_text (without_percent (after_first is_percent text))
+pub percent_at : (text : List ℕ) → position_or_len is_percent text < length text
+    → plain_text text ≡ before_first is_percent text ++ 37 ∷ plain_text (without_percent (after_first is_percent text))
 percent_at [] some = absurd (omega (arith, some))
 percent_at (byte ∷ text) some = by (is_percent byte) refl some (percent_at text) where
   at : ℕ
@@ -194,7 +214,9 @@ percent_at (byte ∷ text) some = by (is_percent byte) refl some (percent_at tex
   Is n = plain_text (byte ∷ text) ≡ take n (byte ∷ text) ++ 37 ∷ plain_text (without_percent (drop (n + 1) (byte ∷ text)))
 
   by : (percent : Bool) → is_percent byte ≡ percent → cond (not percent) (1 + at) 0 < suc (length text)
-      → (at < length text → plain_text text ≡ before_first is_percent text ++ 37 ∷ plain_text (without_percent (after_first is_percent text))) → Is (cond (not percent) (1 + at) 0)
+      → (at < length text
+      → plain_text text ≡ before_first is_percent text
+      ++ 37 ∷ plain_text (without_percent (after_first is_percent text))) → Is (cond (not percent) (1 + at) 0)
   by true is some more = plain_percent byte text is
   by false is some more =
       let next : suc at ≡ 1 + at = omega arith in

@@ -31,34 +31,42 @@ use Rattle.words_core.specs.Table.{OptionRow, alone, head_table, is_among, tail_
 use Rattle.words_core.specs.Value.{counted, then_check}
 use Rattle.words_core.specs.inner.Spelling.{Adds}
 
-adds_both : (old one more : Given) (new : Given) (result : Result State Fault) → Adds (reading more) (joined old one) new result → Adds (reading (joined one more)) old new result
+adds_both : (old one more : Given) (new : Given) (result : Result State Fault)
+    → Adds (reading more) (joined old one) new result → Adds (reading (joined one more)) old new result
 adds_both old one more new (Ok next) is = grind (arith, common_steps)
 adds_both old one more new (Err fault) is = search rules
 
 -- the count was added, and then the options
-pub adds_count : (rows : List OptionRow) (sign : Sign) (place : ℕ) (text : List ℕ) (unit : Measured × ℕ) (counted : Result Count UsageKind) {count : Count} (old mid new : Given) (result : Result State Fault)
-    → unit ≡ unit_in (after_digits text) → counted ≡ times sign (leading_digits text) unit.1 → counted ≡ Ok count → mid ≡ joined old (one_option (Amount unit.0 count) place)
-    → Adds (reading (switches rows place (after_digits text))) mid new result → Adds (given_at place (with_letters rows sign place text)) old new result
+pub adds_count : (rows : List OptionRow) (sign : Sign) (place : ℕ) (text : List ℕ) (unit : Measured × ℕ)
+    (counted : Result Count UsageKind) {count : Count} (old mid new : Given) (result : Result State Fault)
+    → unit ≡ unit_in (after_digits text) → counted ≡ times sign (leading_digits text) unit.1 → counted ≡ Ok count
+    → mid ≡ joined old (one_option (Amount unit.0 count) place)
+    → Adds (reading (switches rows place (after_digits text))) mid new result
+    → Adds (given_at place (with_letters rows sign place text)) old new result
 adds_count rows sign place text unit counted {count} old mid new result which many is met adds =
     let told : times sign (leading_digits text) (unit_in (after_digits text)).1 ≡ Ok count = rw (← which) (sym many ∙ is) in
     rw told (rw (← which) (adds_both old (one_option (Amount unit.0 count) place) _ new result (rw met at adds)))
 
 -- such a word means nothing else
 
-unknown_first : (rows : List OptionRow) (place byte : ℕ) (rest : List ℕ) → option_lettered rows byte ≡ None → (byte == 45) ≡ false → mixed rows place (45 ∷ byte ∷ rest) ≡ Err (Usage UnknownOption place)
+unknown_first : (rows : List OptionRow) (place byte : ℕ) (rest : List ℕ) → option_lettered rows byte ≡ None
+    → (byte == 45) ≡ false → mixed rows place (45 ∷ byte ∷ rest) ≡ Err (Usage UnknownOption place)
 unknown_first rows place byte rest none other = rw (other, none)
 
 tail_has_no_digit : (byte : ℕ) → 48 ≤ byte → byte ≤ 57 → option_lettered tail_table byte ≡ None
 tail_has_no_digit byte least most = search rules
 
-begins_with_digit : (P : List ℕ → Type 0) (text : List ℕ) → nat_lt 0 (length (leading_digits text)) ≡ true → ((byte : ℕ) (rest : List ℕ) → 48 ≤ byte → byte ≤ 57 → P (byte ∷ rest)) → P text
+begins_with_digit : (P : List ℕ → Type 0) (text : List ℕ) → nat_lt 0 (length (leading_digits text)) ≡ true
+    → ((byte : ℕ) (rest : List ℕ) → 48 ≤ byte → byte ≤ 57 → P (byte ∷ rest)) → P text
 begins_with_digit P [] some each = absurd (cc)
 begins_with_digit P (byte ∷ rest) some each = grind (arith, common_steps)
 
-pub head_letters : (text : List ℕ) (place : ℕ) → is_lettered head_table OfHead text ≡ true → mixed head_table place (45 ∷ text) ≡ Err (Usage UnknownOption place)
+pub head_letters : (text : List ℕ) (place : ℕ) → is_lettered head_table OfHead text ≡ true
+    → mixed head_table place (45 ∷ text) ≡ Err (Usage UnknownOption place)
 head_letters text place is = grind (arith, common_steps)
 
-found_by : (P : List ℕ → Type 0) (known text : List ℕ) (names : List (List ℕ)) (test : Bool) → bytes_eq known text ≡ test → (if test then true else is_among names text) ≡ true
+found_by : (P : List ℕ → Type 0) (known text : List ℕ) (names : List (List ℕ)) (test : Bool)
+    → bytes_eq known text ≡ test → (if test then true else is_among names text) ≡ true
     → P known → (is_among names text ≡ true → P text) → P text
 found_by P known text names true same is first more = search rules
 found_by P known text names false other is first more = more is
@@ -67,11 +75,13 @@ abbrev pub AreAll : (List ℕ → Type 0) → List (List ℕ) → Type 0
 AreAll P [] = ⊤
 AreAll P (name ∷ names) = P name × AreAll P names
 
-pub begins_with_unit : (P : List ℕ → Type 0) (names : List (List ℕ)) (text : List ℕ) → is_among names text ≡ true → AreAll P names → P text
+pub begins_with_unit : (P : List ℕ → Type 0) (names : List (List ℕ)) (text : List ℕ) → is_among names text ≡ true
+    → AreAll P names → P text
 begins_with_unit P [] text is all = absurd (cc)
 begins_with_unit P (known ∷ names) text is all = found_by P known text names (bytes_eq known text) refl is all.0 (λ among. begins_with_unit P names text among all.1)
 
-pub tail_letters : (text : List ℕ) (place : ℕ) → is_lettered tail_table OfTail text ≡ true → mixed tail_table place (45 ∷ text) ≡ Err (Usage UnknownOption place)
+pub tail_letters : (text : List ℕ) (place : ℕ) → is_lettered tail_table OfTail text ≡ true
+    → mixed tail_table place (45 ∷ text) ≡ Err (Usage UnknownOption place)
 tail_letters text place is =
     let P : List ℕ → Type 0 = λ text. mixed tail_table place (45 ∷ text) ≡ Err (Usage UnknownOption place) in
     let either_way : (nat_lt 0 (length (leading_digits text)) ≡ true) ⊎ (is_among without_digits text ≡ true) = grind (arith, nat_tests) in
@@ -82,7 +92,8 @@ tail_letters text place is =
 
 -- what the letters after digits ask
 
-pub digits_in : (digits rest : List ℕ) → list_all is_ascii_digit digits ≡ true → prefix_len is_ascii_digit rest ≡ 0 → prefix_len is_ascii_digit (digits ++ rest) ≡ length digits
+pub digits_in : (digits rest : List ℕ) → list_all is_ascii_digit digits ≡ true → prefix_len is_ascii_digit rest ≡ 0
+    → prefix_len is_ascii_digit (digits ++ rest) ≡ length digits
 digits_in [] rest all none = none
 digits_in (digit ∷ digits) rest all none =
     let both = and_parts (is_ascii_digit digit) _ all in
@@ -101,12 +112,14 @@ unit_is_no_digit letter is = search rules
 abbrev pub HasParts : (text digits letters : List ℕ) → Type 0
 HasParts text digits letters = (leading_digits text ≡ digits) × (after_digits text ≡ letters)
 
-pub parts : (digits letters : List ℕ) → list_all is_ascii_digit digits ≡ true → prefix_len is_ascii_digit letters ≡ 0 → HasParts (digits ++ letters) digits letters
+pub parts : (digits letters : List ℕ) → list_all is_ascii_digit digits ≡ true → prefix_len is_ascii_digit letters ≡ 0
+    → HasParts (digits ++ letters) digits letters
 parts digits letters all none =
     let count : prefix_len is_ascii_digit (digits ++ letters) ≡ length digits = digits_in digits letters all none in
     (rw count (take-append_seam digits letters), rw count (drop-append_seam digits letters))
 
-lettered_so : (place : ℕ) (rest : List ℕ) (takes : Takes) (given : Given) {choice : Choice} → alone takes ≡ Some choice → lettered place rest (reading given) (Some takes) ≡ reading (joined (switched place (Some takes)) given)
+lettered_so : (place : ℕ) (rest : List ℕ) (takes : Takes) (given : Given) {choice : Choice} → alone takes ≡ Some choice
+    → lettered place rest (reading given) (Some takes) ≡ reading (joined (switched place (Some takes)) given)
 lettered_so place rest (takes.Nothing choice) given is = refl
 lettered_so place rest (takes.Optional choice kind) given is = refl
 lettered_so place rest other given is = absurd (cc)
@@ -135,7 +148,8 @@ module _ (rows : List OptionRow) where
   no_unit [] are = refl
   no_unit (letter ∷ letters) are = rw (are.0.0, no_unit letters are.1) refl
 
-  as_cluster : (place : ℕ) (letters : List ℕ) → AreOthers letters → cluster rows place letters ≡ reading (switches rows place letters)
+  as_cluster : (place : ℕ) (letters : List ℕ) → AreOthers letters
+      → cluster rows place letters ≡ reading (switches rows place letters)
   as_cluster place [] are = refl
   as_cluster place (letter ∷ letters) are =
       let switch = are.0.3 in
@@ -144,34 +158,48 @@ module _ (rows : List OptionRow) where
 
   -- one letter among them says what is counted
 
-  pub no_digit_first : (before : List ℕ) (letter : ℕ) (after : List ℕ) {unit : Measured × ℕ} → unit_of letter ≡ Some unit → AreOthers (before ++ after) → prefix_len is_ascii_digit (before ++ letter ∷ after) ≡ 0
+  pub no_digit_first : (before : List ℕ) (letter : ℕ) (after : List ℕ) {unit : Measured × ℕ}
+      → unit_of letter ≡ Some unit → AreOthers (before ++ after)
+      → prefix_len is_ascii_digit (before ++ letter ∷ after) ≡ 0
   no_digit_first [] letter after is are = rw (unit_is_no_digit letter is) refl
   no_digit_first (one ∷ before) letter after is are = rw are.0.1 refl
 
-  the_unit : (before : List ℕ) (letter : ℕ) (after : List ℕ) {unit : Measured × ℕ} → unit_of letter ≡ Some unit → AreOthers (before ++ after) → unit_in (before ++ letter ∷ after) ≡ unit
+  the_unit : (before : List ℕ) (letter : ℕ) (after : List ℕ) {unit : Measured × ℕ} → unit_of letter ≡ Some unit
+      → AreOthers (before ++ after) → unit_in (before ++ letter ∷ after) ≡ unit
   the_unit [] letter after is are = rw is refl
   the_unit (one ∷ before) letter after is are = rw are.0.0 (the_unit before letter after is are.1)
 
-  their_switches : (place : ℕ) (before : List ℕ) (letter : ℕ) (after : List ℕ) {unit : Measured × ℕ} → unit_of letter ≡ Some unit → switches rows place (before ++ letter ∷ after) ≡ switches rows place (before ++ after)
+  their_switches : (place : ℕ) (before : List ℕ) (letter : ℕ) (after : List ℕ) {unit : Measured × ℕ}
+      → unit_of letter ≡ Some unit
+      → switches rows place (before ++ letter ∷ after) ≡ switches rows place (before ++ after)
   their_switches place [] letter after is = rw is refl
   their_switches place (one ∷ before) letter after is = rw (their_switches place before letter after is) refl
 
   -- what such a text asks
 
-  checked : (unit : Measured) (place : ℕ) (given : Given) (count : Result Count UsageKind) → counted_with unit place given count ≡ then_check count (λ count. Ok (joined (one_option (Amount unit count) place) given))
+  checked : (unit : Measured) (place : ℕ) (given : Given) (count : Result Count UsageKind)
+      → counted_with unit place given count
+      ≡ then_check count (λ count. Ok (joined (one_option (Amount unit count) place) given))
   checked unit place given (Ok count) = refl
   checked unit place given (Err fault) = refl
 
-  asked_by_parts : (sign : Sign) (text : List ℕ) {digits letters : List ℕ} {unit : Measured × ℕ} (place : ℕ) {given : Given} → HasParts text digits letters → unit_in letters ≡ unit → switches rows place letters ≡ given
-      → with_letters rows sign place text ≡ then_check (counted (sized sign (how_many digits * unit.1))) (λ count. Ok (joined (one_option (Amount unit.0 count) place) given))
+  asked_by_parts : (sign : Sign) (text : List ℕ) {digits letters : List ℕ} {unit : Measured × ℕ} (place : ℕ)
+      {given : Given} → HasParts text digits letters → unit_in letters ≡ unit → switches rows place letters ≡ given
+      → with_letters rows sign place text
+      ≡ then_check (counted (sized sign (how_many digits * unit.1)))
+      (λ count. Ok (joined (one_option (Amount unit.0 count) place) given))
   asked_by_parts sign text {digits = digits} {unit = unit} place {given} has unit_is given_is =
       rw (has.0, has.1, unit_is, given_is) (checked unit.0 place given (counted (sized sign (how_many digits * unit.1))))
 
-  given_so : (place : ℕ) (options : List ℕ) {given : Given} → AreOthers options → cluster rows place options ≡ reading given → switches rows place options ≡ given
+  given_so : (place : ℕ) (options : List ℕ) {given : Given} → AreOthers options
+      → cluster rows place options ≡ reading given → switches rows place options ≡ given
   given_so place options are is = same_given (sym (as_cluster place options are) ∙ is)
 
-  pub letters_ask : (sign : Sign) (text digits options : List ℕ) (unit : Measured × ℕ) (place : ℕ) (given : Given) → HasLetters rows text digits options unit → cluster rows place options ≡ reading given
-      → with_letters rows sign place text ≡ then_check (counted (sized sign (how_many digits * unit.1))) (λ count. Ok (joined (one_option (Amount unit.0 count) place) given))
+  pub letters_ask : (sign : Sign) (text digits options : List ℕ) (unit : Measured × ℕ) (place : ℕ) (given : Given)
+      → HasLetters rows text digits options unit → cluster rows place options ≡ reading given
+      → with_letters rows sign place text
+      ≡ then_check (counted (sized sign (how_many digits * unit.1)))
+      (λ count. Ok (joined (one_option (Amount unit.0 count) place) given))
   letters_ask sign text digits options unit place given (of_lines is all are) gives =
       let others = recursion_from_All IsOther options are in
       asked_by_parts sign text {letters = options} place (rw is (parts digits options all (no_digit options others))) (no_unit options others) (given_so place options others gives)

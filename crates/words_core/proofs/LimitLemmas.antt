@@ -38,8 +38,11 @@ use Rattle.words_core.proofs.WidthLemmas.{least_within, least_writes}
 abbrev GivesAmong : List OptionRow → ℕ → List (List ℕ) → Result Given Fault → Type 0
 GivesAmong rows place words given = IfOk given (λ given. (AreSafe rows → AreSound given.options) × AreAmong given.operands place words)
 
-before-among : (rows : List OptionRow) {place : ℕ} {word : List ℕ} (words : List (List ℕ)) (front : Given) (rest : Result Given Fault)
-    → (AreSafe rows → AreSound front.options) × ((front.operands ≡ []) ⊎ (front.operands ≡ record { text = word; word = place } ∷ [])) → GivesAmong rows (place + 1) words rest → GivesAmong rows place (word ∷ words) (given_before front rest)
+before-among : (rows : List OptionRow) {place : ℕ} {word : List ℕ} (words : List (List ℕ)) (front : Given)
+    (rest : Result Given Fault)
+    → (AreSafe rows → AreSound front.options)
+    × ((front.operands ≡ []) ⊎ (front.operands ≡ record { text = word; word = place } ∷ []))
+    → GivesAmong rows (place + 1) words rest → GivesAmong rows place (word ∷ words) (given_before front rest)
 before-among rows {place} {word} words front (Ok more) (sound, inl is) among =
     let P : List GivenOperand → Type 0 = λ operands. AreAmong (operands ++ more.operands) place (word ∷ words) in
     (λ safe. sound-append front.options more.options (sound safe) (among.0 safe), rw is (passed more.operands place word words among.1))
@@ -48,23 +51,28 @@ before-among rows {place} {word} words front (Ok more) (sound, inr is) among =
     (λ safe. sound-append front.options more.options (sound safe) (among.0 safe), rw is (taken more.operands place word words among.1))
 before-among rows words front (Err fault) is among = tt
 
-onward-among : (rows : List OptionRow) (place : ℕ) (word : List ℕ) (words : List (List ℕ)) (rest : State → Result Given Fault) (meant : Result Meaning Fault)
-    → GivesItself rows place word meant → ((next : State) → GivesAmong rows (place + 1) words (rest next)) → GivesAmong rows place (word ∷ words) (onward rest meant)
+onward-among : (rows : List OptionRow) (place : ℕ) (word : List ℕ) (words : List (List ℕ))
+    (rest : State → Result Given Fault) (meant : Result Meaning Fault)
+    → GivesItself rows place word meant → ((next : State) → GivesAmong rows (place + 1) words (rest next))
+    → GivesAmong rows place (word ∷ words) (onward rest meant)
 onward-among rows place word words rest (Ok meaning) is among = before-among rows words meaning.given (rest meaning.next) (is.0, is.1) (among meaning.next)
 onward-among rows place word words rest (Err fault) is among = tt
 
-spelled-gives : (rows : List OptionRow) (words : List (List ℕ)) (place : ℕ) (state : State) → GivesAmong rows place words (spelled rows words place state)
+spelled-gives : (rows : List OptionRow) (words : List (List ℕ)) (place : ℕ) (state : State)
+    → GivesAmong rows place words (spelled rows words place state)
 spelled-gives rows [] place (Awaiting kind option) = tt
 spelled-gives rows [] place state = (λ _. tt, none place)
 spelled-gives rows (word ∷ words) place state =
     onward-among rows place word words (spelled rows words (place + 1)) (meaning_of rows state place word) (meaning-gives rows place state word) (λ next. spelled-gives rows words (place + 1) next)
 
-pub gives : (rows : List OptionRow) (words : List (List ℕ)) (place : ℕ) (state : State) (given : Given) → spelled rows words place state ≡ Ok given
+pub gives : (rows : List OptionRow) (words : List (List ℕ)) (place : ℕ) (state : State) (given : Given)
+    → spelled rows words place state ≡ Ok given
     → (AreSafe rows → AreSound given.options) × AreAmong given.operands place words
 gives rows words place state given is = rw is at (spelled-gives rows words place state)
 
 -- what each option keeps, all keep
-asked-keeps : {A : Type 0} (by : A → Choice → A) (P : A → Type 0) → ((asked : A) (choice : Choice) → P asked → IsSound choice → P (by asked choice))
+asked-keeps : {A : Type 0} (by : A → Choice → A) (P : A → Type 0)
+    → ((asked : A) (choice : Choice) → P asked → IsSound choice → P (by asked choice))
     → (options : List Chosen) (asked : A) → P asked → AreSound options → P (asked_by by asked options)
 asked-keeps by P keeps [] asked holds are = holds
 asked-keeps by P keeps (option ∷ options) asked holds are =
@@ -90,7 +98,8 @@ ways-sound : (options : List Chosen) → AreSound options → AreSound (filter i
 ways-sound [] are = tt
 ways-sound (option ∷ options) are = either AreSound (is_way option) _ _ (are.0, ways-sound options are.1) (ways-sound options are.1)
 
-then_check-kept : {A B : Type 0} (P : A → Type 0) (Q : B → Type 0) (first : Result A Fault) (next : A → Result B Fault) → IfOk first P → ((value : A) → P value → IfOk (next value) Q) → IfOk (then_check first next) Q
+then_check-kept : {A B : Type 0} (P : A → Type 0) (Q : B → Type 0) (first : Result A Fault) (next : A → Result B Fault)
+    → IfOk first P → ((value : A) → P value → IfOk (next value) Q) → IfOk (then_check first next) Q
 then_check-kept P Q (Ok value) next is goes = goes value is
 then_check-kept P Q (Err fault) next is goes = tt
 
@@ -99,7 +108,9 @@ then_check-kept P Q (Err fault) next is goes = tt
 abbrev Serves : Way → Alphabet → Option ℕ → Suffix → Type 0
 Serves way alphabet from suffix = AreNamed way alphabet from suffix.width × IsWidth suffix.width
 
-wide_enough-can : (alphabet : Alphabet) (count width : ℕ) → 1 ≤ width → width ≤ 255 → IfOk (wide_enough alphabet count width) (λ suffix. (count ≤ name_count alphabet suffix.width) × IsWidth suffix.width)
+wide_enough-can : (alphabet : Alphabet) (count width : ℕ) → 1 ≤ width → width ≤ 255
+    → IfOk (wide_enough alphabet count width) (λ suffix. (count ≤ name_count alphabet suffix.width)
+    × IsWidth suffix.width)
 wide_enough-can alphabet count width some most = search rules
 
 all_writes : (alphabet : Alphabet) {count : ℕ} → count ≤ 10 ^ 20 → count ≤ name_count alphabet 23
@@ -109,7 +120,8 @@ all_writes Hex few = omega (arith, few)
 all_writes Capitals few = omega (arith, few)
 all_writes Octal few = omega (arith, few)
 
-least-can : (alphabet : Alphabet) {count : ℕ} → count ≤ 10 ^ 20 → (count ≤ name_count alphabet (least_width alphabet count)) × IsWidth (least_width alphabet count)
+least-can : (alphabet : Alphabet) {count : ℕ} → count ≤ 10 ^ 20
+    → (count ≤ name_count alphabet (least_width alphabet count)) × IsWidth (least_width alphabet count)
 unfolding least_width
 least-can alphabet {count} few =
     let within = least_within alphabet count 21 2 in
@@ -144,7 +156,8 @@ suffix-can (way.Turn place files delim) alphabet from width is most least = sear
 
 -- names whose first number an option gives don't widen
 
-pub never_widen : (given : Given) (asked : SplitAsked) (from : ℕ) → split_asked given ≡ Ok asked → asked.from ≡ Some from → asked.auto ≡ false
+pub never_widen : (given : Given) (asked : SplitAsked) (from : ℕ) → split_asked given ≡ Ok asked
+    → asked.from ≡ Some from → asked.auto ≡ false
 never_widen given asked from is first = grind (arith, common_steps)
 
 -- the line as a whole
@@ -159,17 +172,20 @@ asked-can given sound =
     then_check-kept (λ _. ⊤) CanSplit (files_in given.operands) _ (anything (files_in given.operands)) (λ files _.
     record { way = is; width = those.1; named = those.0 })))
 
-work-can : (calling : Calling) (which : Tool) (given : Given) → AreSound given.options → IfOk (work_for calling which given) CanRun
+work-can : (calling : Calling) (which : Tool) (given : Given) → AreSound given.options
+    → IfOk (work_for calling which given) CanRun
 work-can calling tool.Tail given sound = search rules
 work-can calling tool.Split given sound = then_check-kept CanSplit CanRun (split_asked given) _ (asked-can given sound) (λ asked is. is)
 work-can calling tool.Csplit given sound = grind (arith, common_steps)
 work-can calling which given sound = tt
 
-about-can : (which : Tool) (topic : Option Topic) (work : Result Settings Fault) → IfOk work CanRun → IfOk (about_or which topic work) CanRun
+about-can : (which : Tool) (topic : Option Topic) (work : Result Settings Fault) → IfOk work CanRun
+    → IfOk (about_or which topic work) CanRun
 about-can which (Some topic) work can = tt
 about-can which None work can = can
 
-settled-can : (calling : Calling) (which : Tool) (given : Given) → AreSound given.options → IfOk (settings_for calling which given) CanRun
+settled-can : (calling : Calling) (which : Tool) (given : Given) → AreSound given.options
+    → IfOk (settings_for calling which given) CanRun
 settled-can calling which given sound = about-can which (topic_in given.options) (work_for calling which given) (work-can calling which given sound)
 
 -- what the tools' options ask for without a value is within the limits
@@ -178,7 +194,10 @@ unfolding tools
 tools-safe name = search rules
 
 -- what was read of words can be done
-pub read-can : (calling : Calling) (name : List ℕ) {rows : List ToolRow} {row : ToolRow} (words : List (List ℕ)) {given : Given} (result : Result Settings Fault) → rows ≡ tools → Some row ≡ row_named rows name → given_by calling row words ≡ Ok given → IfOk result (λ settings. settings_for calling row.tool given ≡ Ok settings)
+pub read-can : (calling : Calling) (name : List ℕ) {rows : List ToolRow} {row : ToolRow} (words : List (List ℕ))
+    {given : Given} (result : Result Settings Fault) → rows ≡ tools → Some row ≡ row_named rows name
+    → given_by calling row words ≡ Ok given
+    → IfOk result (λ settings. settings_for calling row.tool given ≡ Ok settings)
     → IfOk result CanRun
 read-can calling name {row = row} words {given} (Ok settings) all named read is =
     let known : Some row ≡ row_named tools name = rw all at named in

@@ -76,7 +76,8 @@ only-safe [] safe = tt
 only-safe (row ∷ []) safe = safe.0
 only-safe (row ∷ other ∷ rows) safe = tt
 
-full-safe : (found : Option Takes) (short : Result Takes UsageKind) → IfSome found IsSafe → IfOk short IsSafe → IfOk (full_or found short) IsSafe
+full-safe : (found : Option Takes) (short : Result Takes UsageKind) → IfSome found IsSafe → IfOk short IsSafe
+    → IfOk (full_or found short) IsSafe
 full-safe (Some found) short safe other = safe
 full-safe None short safe other = other
 
@@ -120,7 +121,8 @@ GivesItself rows place word meant = Gives (AreSafe rows) (λ operands. (operands
 
 -- what `-n` says
 
-all-sound : (dealing : Dealing) (files : List ℕ) → IfOk (all_in dealing files) (λ division. IsSound (choice.Divided division))
+all-sound : (dealing : Dealing) (files : List ℕ)
+    → IfOk (all_in dealing files) (λ division. IsSound (choice.Divided division))
 all-sound dealing files = search rules
 
 numbers-sound : (dealing : Dealing) (front rest : List ℕ)
@@ -142,22 +144,27 @@ choice-sound kind.Divided text = as-sound (λ division. choice.Divided division)
 choice-sound which text = search rules
 
 module _ (rows : List OptionRow) (place : ℕ) where
-  options_alone : (word : List ℕ) (meant : Result Meaning Fault) → GivesOptions rows place meant → GivesItself rows place word meant
+  options_alone : (word : List ℕ) (meant : Result Meaning Fault) → GivesOptions rows place meant
+      → GivesItself rows place word meant
   options_alone word (Ok meaning) is = (is.0, inl is.1, is.2)
   options_alone word (Err fault) is = is
 
-  said-gives : (option : ℕ) (value : Result Choice UsageKind) → IfOk value IsSound → GivesOptions rows place (said option place value)
+  said-gives : (option : ℕ) (value : Result Choice UsageKind) → IfOk value IsSound
+      → GivesOptions rows place (said option place value)
   said-gives option (Ok choice) is = (λ _. (is, tt), refl, tt)
   said-gives option (Err fault) is = omega arith
 
   valued-gives : (kind : Kind) (option : ℕ) (text : List ℕ) → GivesOptions rows place (valued kind option place text)
   valued-gives kind option text = said-gives option (choice_in kind text) (choice-sound kind text)
 
-  bare-gives : (choice : Choice) (meant : Result Meaning Fault) → (AreSafe rows → IsSound (seen choice)) → GivesOptions rows place meant → GivesOptions rows place (before (bare choice place) meant)
+  bare-gives : (choice : Choice) (meant : Result Meaning Fault) → (AreSafe rows → IsSound (seen choice))
+      → GivesOptions rows place meant → GivesOptions rows place (before (bare choice place) meant)
   bare-gives choice (Ok meaning) sound is = (λ safe. (sound safe, is.0 safe), is.1, is.2)
   bare-gives choice (Err fault) sound is = is
 
-  lettered-gives : (rest : List ℕ) (others : Result Meaning Fault) (option : Option Takes) → (AreSafe rows → IfSome option IsSafe) → GivesOptions rows place others → GivesOptions rows place (lettered place rest others option)
+  lettered-gives : (rest : List ℕ) (others : Result Meaning Fault) (option : Option Takes)
+      → (AreSafe rows → IfSome option IsSafe) → GivesOptions rows place others
+      → GivesOptions rows place (lettered place rest others option)
   lettered-gives rest others None safe is = omega arith
   lettered-gives [] others (Some (takes.Value kind)) safe is = (λ _. tt, refl, omega arith)
   lettered-gives (byte ∷ text) others (Some (takes.Value kind)) safe is = valued-gives kind place (byte ∷ text)
@@ -169,7 +176,8 @@ module _ (rows : List OptionRow) (place : ℕ) where
   cluster-gives [] = (λ _. tt, refl, tt)
   cluster-gives (letter ∷ rest) = lettered-gives rest (cluster rows place rest) (option_lettered rows letter) (lettered-safe rows letter) (cluster-gives rest)
 
-  named-gives : (option : Result Takes UsageKind) (value : Option (List ℕ)) → (AreSafe rows → IfOk option IsSafe) → GivesOptions rows place (named place option value)
+  named-gives : (option : Result Takes UsageKind) (value : Option (List ℕ)) → (AreSafe rows → IfOk option IsSafe)
+      → GivesOptions rows place (named place option value)
   named-gives (Err fault) value safe = omega arith
   named-gives (Ok (takes.Value kind)) (Some text) safe = valued-gives kind place text
   named-gives (Ok (takes.Optional choice kind)) (Some text) safe = valued-gives kind place text
@@ -184,7 +192,8 @@ module _ (rows : List OptionRow) (place : ℕ) where
   abbrev GivesSound : Given → Type 0
   GivesSound given = (AreSafe rows → AreSound given.options) × (given.operands ≡ [])
 
-  switched-gives : (rest : Given) (option : Option Takes) → (AreSafe rows → IfSome option IsSafe) → GivesSound rest → GivesSound (joined (switched place option) rest)
+  switched-gives : (rest : Given) (option : Option Takes) → (AreSafe rows → IfSome option IsSafe) → GivesSound rest
+      → GivesSound (joined (switched place option) rest)
   switched-gives rest (Some (takes.Nothing choice)) safe is = (λ rows. (safe rows, is.0 rows), is.1)
   switched-gives rest (Some (takes.Optional choice kind)) safe is = (λ rows. (safe rows, is.0 rows), is.1)
   switched-gives rest other safe is = is
@@ -194,11 +203,13 @@ module _ (rows : List OptionRow) (place : ℕ) where
   switches-give (letter ∷ letters) =
       either GivesSound (is_unit letter) _ _ (switches-give letters) (switched-gives _ (letter_named rows letter) (found-safe rows (45 ∷ letter ∷ [])) (switches-give letters))
 
-  counted-gives : (unit : Measured) (options : Given) (count : Result Count UsageKind) → GivesSound options → GivesOptions rows place (given_at place (counted_with unit place options count))
+  counted-gives : (unit : Measured) (options : Given) (count : Result Count UsageKind) → GivesSound options
+      → GivesOptions rows place (given_at place (counted_with unit place options count))
   counted-gives unit options (Ok count) is = (λ safe. (tt, is.0 safe), is.1, tt)
   counted-gives unit options (Err fault) is = omega arith
 
-  numbered-gives : (sign : Sign) (text : List ℕ) → GivesOptions rows place (given_at place (with_letters rows sign place text))
+  numbered-gives : (sign : Sign) (text : List ℕ)
+      → GivesOptions rows place (given_at place (with_letters rows sign place text))
   numbered-gives sign text = counted-gives (unit_in (after_digits text)).0 _ (times sign (leading_digits text) (unit_in (after_digits text)).1) (switches-give (after_digits text))
 
   dashed-gives : (rest : List ℕ) → GivesOptions rows place (dashed rows place rest)

@@ -11,7 +11,8 @@ use Rattle.words_core.specs.Given.{Given}
 use Rattle.words_core.specs.Spelling.{Meaning, given_before, onward, meaning_of, spelled}
 
 -- what is so of both is so of either
-pub either : {A : Type 0} (P : A → Type 0) (test : Bool) (one other : A) → P one → P other → P (if test then one else other)
+pub either : {A : Type 0} (P : A → Type 0) (test : Bool) (one other : A) → P one → P other
+    → P (if test then one else other)
 either P true one other first second = first
 either P false one other first second = second
 
@@ -25,18 +26,24 @@ either P false one other first second = second
 
 -- a fault among the first words, whatever follows them
 
-pub of_more : (given : Given) (meant : Result Given Fault) {fault : Fault} → given_before given meant ≡ Err fault → meant ≡ Err fault
+pub of_more : (given : Given) (meant : Result Given Fault) {fault : Fault} → given_before given meant ≡ Err fault
+    → meant ≡ Err fault
 of_more given (Ok more) is = absurd (cc)
 of_more given (Err other) is = is
 
-still_told : (first more : List (List ℕ)) (rows : List OptionRow) (place : ℕ) (meant : Result Meaning Fault) (kind : UsageKind) (word : ℕ)
-    → ((state : State) → spelled rows first (place + 1) state ≡ Err (Usage kind word) → spelled rows (first ++ more) (place + 1) state ≡ Err (Usage kind word))
-    → onward (spelled rows first (place + 1)) meant ≡ Err (Usage kind word) → onward (spelled rows (first ++ more) (place + 1)) meant ≡ Err (Usage kind word)
+still_told : (first more : List (List ℕ)) (rows : List OptionRow) (place : ℕ) (meant : Result Meaning Fault)
+    (kind : UsageKind) (word : ℕ)
+    → ((state : State) → spelled rows first (place + 1) state ≡ Err (Usage kind word)
+    → spelled rows (first ++ more) (place + 1) state ≡ Err (Usage kind word))
+    → onward (spelled rows first (place + 1)) meant ≡ Err (Usage kind word)
+    → onward (spelled rows (first ++ more) (place + 1)) meant ≡ Err (Usage kind word)
 still_told first more rows place (Ok meaning) kind word rest is = grind (arith, common_steps)
 still_told first more rows place (Err fault) kind word rest is = is
 
-pub told_whatever_follows : (first more : List (List ℕ)) (rows : List OptionRow) (place : ℕ) (state : State) {kind : UsageKind} (word : ℕ) → (kind ≡ MissingValue → ⊥)
-    → spelled rows first place state ≡ Err (Usage kind word) → spelled rows (first ++ more) place state ≡ Err (Usage kind word)
+pub told_whatever_follows : (first more : List (List ℕ)) (rows : List OptionRow) (place : ℕ) (state : State)
+    {kind : UsageKind} (word : ℕ) → (kind ≡ MissingValue → ⊥)
+    → spelled rows first place state ≡ Err (Usage kind word)
+    → spelled rows (first ++ more) place state ≡ Err (Usage kind word)
 told_whatever_follows [] more rows place state word other is = grind (arith, common_steps)
 told_whatever_follows (front ∷ first) more rows place state {kind} word other is =
     still_told first more rows place (meaning_of rows state place front) kind word (λ next. told_whatever_follows first more rows (place + 1) next word other) is

@@ -21,17 +21,21 @@ use Rattle.words_core.specs.Value.{counted}
 use Rattle.words_core.proofs.LetteredLemmas.{HasParts, not_empty, parts}
 use Rattle.std.proofs.Math.Bool.{and-false, or-true}
 
-with_unit : (text digits letters : List ℕ) → HasParts text digits letters → is_number digits ≡ true → are_of_tail letters ≡ true → is_start OwnName tail_table OfTail text ≡ true
+with_unit : (text digits letters : List ℕ) → HasParts text digits letters → is_number digits ≡ true
+    → are_of_tail letters ≡ true → is_start OwnName tail_table OfTail text ≡ true
 with_unit text digits letters is number of_tail =
     let some = (and_parts (nat_lt 0 (length digits)) (list_all is_ascii_digit digits) number).0 in
     rw (is.0, is.1, of_tail, some, or-true (is_number text)) refl
 
 -- what these ask
-asked_so : (sign : Sign) (text : List ℕ) {digits letters : List ℕ} (place amount : ℕ) → HasParts text digits letters → is_number digits ≡ true → value_of digits * (unit_in letters).1 ≡ amount
-    → with_letters tail_table sign place text ≡ counted_with (unit_in letters).0 place (switches tail_table place letters) (counted (sized sign amount))
+asked_so : (sign : Sign) (text : List ℕ) {digits letters : List ℕ} (place amount : ℕ) → HasParts text digits letters
+    → is_number digits ≡ true → value_of digits * (unit_in letters).1 ≡ amount
+    → with_letters tail_table sign place text
+    ≡ counted_with (unit_in letters).0 place (switches tail_table place letters) (counted (sized sign amount))
 asked_so sign text {digits = digits} place amount is number many = rw (is.0, is.1, not_empty digits number, many) refl
 
-pub sized_so : (sign : Sign) (amount : ℕ) → amount ≤ 2 ^ 63 - 1 → sized sign amount ≡ Ok (record { sign = sign; amount = amount })
+pub sized_so : (sign : Sign) (amount : ℕ) → amount ≤ 2 ^ 63 - 1
+    → sized sign amount ≡ Ok (record { sign = sign; amount = amount })
 sized_so sign amount most = grind (arith, nat_tests)
 
 pub sized_large : (amount : ℕ) → 2 ^ 63 - 1 < amount → sized Plus amount ≡ Err TooLarge
@@ -46,7 +50,8 @@ no_letters digits number =
     subst HasNone nil (parts digits [] (and_parts (nat_lt 0 (length digits)) (list_all is_ascii_digit digits) number).1 refl)
 
 pub digits_start : (digits : List ℕ) (place : ℕ) → is_number digits ≡ true
-    → foremost OwnName tail_table (Amount Lines) OfTail place (43 ∷ digits) ≡ given_at place (counted_with Lines place (switches tail_table place []) (counted (sized Plus (value_of digits))))
+    → foremost OwnName tail_table (Amount Lines) OfTail place (43 ∷ digits)
+    ≡ given_at place (counted_with Lines place (switches tail_table place []) (counted (sized Plus (value_of digits))))
 unfolding foremost
 digits_start digits place number =
     let starts : is_start OwnName tail_table OfTail digits ≡ true = rw number refl in
@@ -64,19 +69,29 @@ digits_count (digit ∷ digits) number =
     let one : value_of (digit ∷ digits) * 1 ≡ value_of (digit ∷ digits) = omega arith in
     rw (no_plus, no_minus, is.0, is.1, not_empty (digit ∷ digits) number, one) refl
 
-pub letters_start : (digits letters : List ℕ) (place amount : ℕ) → is_number digits ≡ true → prefix_len is_ascii_digit letters ≡ 0 → are_of_tail letters ≡ true → value_of digits * (unit_in letters).1 ≡ amount
-    → foremost OwnName tail_table (Amount Lines) OfTail place (43 ∷ digits ++ letters) ≡ given_at place (counted_with (unit_in letters).0 place (switches tail_table place letters) (counted (sized Plus amount)))
+pub letters_start : (digits letters : List ℕ) (place amount : ℕ) → is_number digits ≡ true
+    → prefix_len is_ascii_digit letters ≡ 0 → are_of_tail letters ≡ true
+    → value_of digits * (unit_in letters).1 ≡ amount
+    → foremost OwnName tail_table (Amount Lines) OfTail place (43 ∷ digits ++ letters)
+    ≡ given_at place
+    (counted_with (unit_in letters).0 place (switches tail_table place letters) (counted (sized Plus amount)))
 unfolding foremost
 letters_start digits letters place amount number none of_tail many =
     let is = parts digits letters (and_parts (nat_lt 0 (length digits)) (list_all is_ascii_digit digits) number).1 none in
     rw (with_unit (digits ++ letters) digits letters is number of_tail, asked_so Plus (digits ++ letters) place amount is number many) refl
 
-not_all : (digits : List ℕ) (letter : ℕ) (letters : List ℕ) → is_ascii_digit letter ≡ false → list_all is_ascii_digit (digits ++ letter ∷ letters) ≡ false
+not_all : (digits : List ℕ) (letter : ℕ) (letters : List ℕ) → is_ascii_digit letter ≡ false
+    → list_all is_ascii_digit (digits ++ letter ∷ letters) ≡ false
 not_all [] letter letters other = rw other refl
 not_all (digit ∷ digits) letter letters other = rw (not_all digits letter letters other, and-false (is_ascii_digit digit)) refl
 
-pub letters_last : (calling : Calling) (digits : List ℕ) (letter : ℕ) (letters : List ℕ) (place amount : ℕ) → is_number digits ≡ true → is_ascii_digit letter ≡ false → are_of_tail (letter ∷ letters) ≡ true → value_of digits * (unit_in (letter ∷ letters)).1 ≡ amount
-    → foremost calling tail_table (Amount Lines) OfTail place (45 ∷ digits ++ letter ∷ letters) ≡ given_at place (counted_with (unit_in (letter ∷ letters)).0 place (switches tail_table place (letter ∷ letters)) (counted (sized Plain amount)))
+pub letters_last : (calling : Calling) (digits : List ℕ) (letter : ℕ) (letters : List ℕ) (place amount : ℕ)
+    → is_number digits ≡ true → is_ascii_digit letter ≡ false → are_of_tail (letter ∷ letters) ≡ true
+    → value_of digits * (unit_in (letter ∷ letters)).1 ≡ amount
+    → foremost calling tail_table (Amount Lines) OfTail place (45 ∷ digits ++ letter ∷ letters)
+    ≡ given_at place
+    (counted_with (unit_in (letter ∷ letters)).0 place (switches tail_table place (letter ∷ letters))
+    (counted (sized Plain amount)))
 unfolding foremost
 letters_last calling digits letter letters place amount number other of_tail many =
     let whole = and_parts (nat_lt 0 (length digits)) (list_all is_ascii_digit digits) number in

@@ -20,7 +20,8 @@ use Rattle.words_core.specs.Laws.{Gives, IsLetter, IsLong, kind_of}
 
 -- one that takes no value
 
-pub value_attached : (rows : List OptionRow) (letter : ℕ) (kind : Kind) (value : List ℕ) (choice : Choice) (words : List (List ℕ)) (place : ℕ)
+pub value_attached : (rows : List OptionRow) (letter : ℕ) (kind : Kind) (value : List ℕ) (choice : Choice)
+    (words : List (List ℕ)) (place : ℕ)
     → IsLetter rows letter kind → value ≢ [] → choice_in kind value ≡ Ok choice
     → Gives rows ((45 ∷ letter ∷ value) ∷ words) place choice (spelled rows words (place + 1) Reading)
 value_attached rows letter kind [] choice words place is some reads = absurd (some refl)
@@ -28,12 +29,14 @@ value_attached rows letter kind (byte ∷ value) choice words place is some read
 
 -- the next word
 
-awaited : (rows : List OptionRow) (kind : Kind) (word value : List ℕ) {choice : Choice} (words : List (List ℕ)) {place : ℕ}
+awaited : (rows : List OptionRow) (kind : Kind) (word value : List ℕ) {choice : Choice} (words : List (List ℕ))
+    {place : ℕ}
     → mixed rows place word ≡ awaiting kind place → choice_in kind value ≡ Ok choice
     → Gives rows (word ∷ value ∷ words) place choice (spelled rows words (place + 1 + 1) Reading)
 awaited rows kind word value words awaits reads = search rules
 
-pub value_after_letter : (rows : List OptionRow) (letter : ℕ) (kind : Kind) (value : List ℕ) (choice : Choice) (words : List (List ℕ)) (place : ℕ)
+pub value_after_letter : (rows : List OptionRow) (letter : ℕ) (kind : Kind) (value : List ℕ) (choice : Choice)
+    (words : List (List ℕ)) (place : ℕ)
     → IsLetter rows letter kind → choice_in kind value ≡ Ok choice
     → Gives rows ((45 ∷ letter ∷ []) ∷ value ∷ words) place choice (spelled rows words (place + 1 + 1) Reading)
 value_after_letter rows letter kind value choice words place is reads = search rules
@@ -51,10 +54,12 @@ place_of_equals (byte ∷ front) rest none here =
 no_place : (front : List ℕ) → list_any is_equals front ≡ false → position_or_len is_equals front ≡ length front
 no_place front none = cc (append-nil front, place_of_equals front [] none refl)
 
-equals_in : (front : List ℕ) {value : List ℕ} → list_any is_equals front ≡ false → after_equals (front ++ 61 ∷ value) ≡ Some value
+equals_in : (front : List ℕ) {value : List ℕ} → list_any is_equals front ≡ false
+    → after_equals (front ++ 61 ∷ value) ≡ Some value
 equals_in front {value} none = grind (arith, common_steps, place_of_equals, cond-false, ne_eqb, drop-append-add)
 
-name_in : (front value : List ℕ) → list_any is_equals front ≡ false → before_first is_equals (front ++ 61 ∷ value) ≡ front
+name_in : (front value : List ℕ) → list_any is_equals front ≡ false
+    → before_first is_equals (front ++ 61 ∷ value) ≡ front
 name_in front value none = rw (place_of_equals front (61 ∷ value) none refl, take-append_seam front (61 ∷ value))
 
 no_equals_in : (front : List ℕ) → list_any is_equals front ≡ false → after_equals front ≡ None
@@ -63,44 +68,54 @@ no_equals_in front none = grind (arith, common_steps, cond-true, eq-eqb, no_plac
 all_name : (front : List ℕ) → list_any is_equals front ≡ false → before_first is_equals front ≡ front
 all_name front none = rw (no_place front none, take-length front)
 
-by_its_name : (rows : List OptionRow) (place : ℕ) (word : List ℕ) {name : List ℕ} {meant : Result Takes UsageKind} {value : Option (List ℕ)} → before_first is_equals word ≡ name → after_equals word ≡ value → option_called rows name ≡ meant
+by_its_name : (rows : List OptionRow) (place : ℕ) (word : List ℕ) {name : List ℕ} {meant : Result Takes UsageKind}
+    {value : Option (List ℕ)} → before_first is_equals word ≡ name → after_equals word ≡ value
+    → option_called rows name ≡ meant
     → long rows place word ≡ named place meant value
 by_its_name rows place word front rest is = rw (rest, front, is)
 
-long_equals : {rows : List OptionRow} (name : List ℕ) {meant : Result Takes UsageKind} (value : List ℕ) (place : ℕ) → IsLong rows name meant
+long_equals : {rows : List OptionRow} (name : List ℕ) {meant : Result Takes UsageKind} (value : List ℕ) (place : ℕ)
+    → IsLong rows name meant
     → mixed rows place (45 ∷ 45 ∷ name ++ 61 ∷ value) ≡ named place meant (Some value)
 long_equals [] value place is = absurd (is.some refl)
 long_equals {rows} (byte ∷ name) value place is =
     let front : List ℕ = 45 ∷ 45 ∷ byte ∷ name in
     by_its_name rows place (front ++ 61 ∷ value) (name_in front value is.no_equals) (equals_in front is.no_equals) is.called
 
-pub long_name : {rows : List OptionRow} (name : List ℕ) {meant : Result Takes UsageKind} (place : ℕ) → IsLong rows name meant
+pub long_name : {rows : List OptionRow} (name : List ℕ) {meant : Result Takes UsageKind} (place : ℕ)
+    → IsLong rows name meant
     → mixed rows place (45 ∷ 45 ∷ name) ≡ named place meant None
 long_name [] place is = absurd (is.some refl)
 long_name {rows} (byte ∷ name) place is =
     let front : List ℕ = 45 ∷ 45 ∷ byte ∷ name in
     by_its_name rows place front (all_name front is.no_equals) (no_equals_in front is.no_equals) is.called
 
-with_value : (takes : Takes) {kind : Kind} (place : ℕ) (value : List ℕ) → kind_of takes ≡ Some kind → named place (Ok takes) (Some value) ≡ valued kind place place value
+with_value : (takes : Takes) {kind : Kind} (place : ℕ) (value : List ℕ) → kind_of takes ≡ Some kind
+    → named place (Ok takes) (Some value) ≡ valued kind place place value
 with_value (takes.Value kind) place value is = cc
 with_value (takes.Optional choice kind) place value is = cc
 with_value other place value is = absurd (cc)
 
-pub value_after_equals : (rows : List OptionRow) (name : List ℕ) (takes : Takes) (kind : Kind) (value : List ℕ) (choice : Choice) (words : List (List ℕ)) (place : ℕ)
+pub value_after_equals : (rows : List OptionRow) (name : List ℕ) (takes : Takes) (kind : Kind) (value : List ℕ)
+    (choice : Choice) (words : List (List ℕ)) (place : ℕ)
     → IsLong rows name (Ok takes) → kind_of takes ≡ Some kind → choice_in kind value ≡ Ok choice
     → Gives rows ((45 ∷ 45 ∷ name ++ 61 ∷ value) ∷ words) place choice (spelled rows words (place + 1) Reading)
 value_after_equals rows name takes kind value choice words place is takes_one reads = rw (long_equals name value place is, with_value takes place value takes_one, reads)
 
-pub value_after_name : (rows : List OptionRow) (name : List ℕ) (kind : Kind) (value : List ℕ) (choice : Choice) (words : List (List ℕ)) (place : ℕ)
+pub value_after_name : (rows : List OptionRow) (name : List ℕ) (kind : Kind) (value : List ℕ) (choice : Choice)
+    (words : List (List ℕ)) (place : ℕ)
     → IsLong rows name (Ok (takes.Value kind)) → choice_in kind value ≡ Ok choice
     → Gives rows ((45 ∷ 45 ∷ name) ∷ value ∷ words) place choice (spelled rows words (place + 1 + 1) Reading)
 value_after_name rows name kind value choice words place is reads = awaited rows kind (45 ∷ 45 ∷ name) value words (long_name name place is) reads
 
-without_value : (takes : Takes) {choice : Choice} (place : ℕ) → alone takes ≡ Some choice → named place (Ok takes) None ≡ reading (bare choice place)
+without_value : (takes : Takes) {choice : Choice} (place : ℕ) → alone takes ≡ Some choice
+    → named place (Ok takes) None ≡ reading (bare choice place)
 without_value (takes.Nothing choice) place is = cc
 without_value (takes.Optional choice kind) place is = cc
 without_value other place is = absurd (cc)
 
-pub long_alone : (rows : List OptionRow) (name : List ℕ) (takes : Takes) (choice : Choice) (words : List (List ℕ)) (place : ℕ) → IsLong rows name (Ok takes) → alone takes ≡ Some choice
-    → spelled rows ((45 ∷ 45 ∷ name) ∷ words) place Reading ≡ given_before (bare choice place) (spelled rows words (place + 1) Reading)
+pub long_alone : (rows : List OptionRow) (name : List ℕ) (takes : Takes) (choice : Choice) (words : List (List ℕ))
+    (place : ℕ) → IsLong rows name (Ok takes) → alone takes ≡ Some choice
+    → spelled rows ((45 ∷ 45 ∷ name) ∷ words) place Reading
+    ≡ given_before (bare choice place) (spelled rows words (place + 1) Reading)
 long_alone rows name takes choice words place is takes_none = rw (long_name name place is, without_value takes place takes_none)

@@ -13,13 +13,15 @@ least_next alphabet count width few not =
     ap (λ more. least_from alphabet count more width) more ∙ rw not refl
 
 -- what is found is from the first width on and at most the last, and writes them if that one does
-pub least_within : (alphabet : Alphabet) (count more width : ℕ) → (width ≤ least_from alphabet count more width) × (least_from alphabet count more width ≤ width + more)
+pub least_within : (alphabet : Alphabet) (count more width : ℕ)
+    → (width ≤ least_from alphabet count more width) × (least_from alphabet count more width ≤ width + more)
 least_within alphabet count zero width = (omega arith, omega arith)
 least_within alphabet count (suc more) width = cond_both (names_all alphabet count width) width (least_from alphabet count more (width + 1)) (λ found. (width ≤ found) × (found ≤ width + suc more))
     (λ _. (omega arith, omega arith))
     (λ _. let rest = least_within alphabet count more (width + 1) in (omega (arith, rest.0), omega (arith, rest.1)))
 
-pub least_writes : (alphabet : Alphabet) (count more width : ℕ) → count ≤ name_count alphabet (width + more) → count ≤ name_count alphabet (least_from alphabet count more width)
+pub least_writes : (alphabet : Alphabet) (count more width : ℕ) → count ≤ name_count alphabet (width + more)
+    → count ≤ name_count alphabet (least_from alphabet count more width)
 least_writes alphabet count zero width last = rw (let same : width + 0 ≡ width = omega arith in same) at last
 least_writes alphabet count (suc more) width last = cond_both (names_all alphabet count width) width (least_from alphabet count more (width + 1)) (λ found. count ≤ name_count alphabet found)
     (λ is. leb-true _ _ is)

@@ -18,8 +18,12 @@ after_first words = texts (take (length words - 1) (drop 1 words))
 
 -- what the words after it ask of the tool in this row
 
-pub returned : (calling : Calling) (words : List (Bor (List ℕ))) (none : Bor (List ℕ)) {rows : List ToolRow} {row : ToolRow} {given : Given} (result : Result Settings Fault)
-    → 1 ≤ length words → rows ≡ tools → Some row ≡ row_named rows (get_or words 0 none).now → given_by calling row (after_first words) ≡ Ok given
-    → IfOk result (λ settings. settings_for calling row.tool given ≡ Ok settings) → IfErr result (IsRefused HasBadOperands (settings_for calling row.tool given))
-    → IfOk result (λ settings. settings_of calling (texts words) ≡ Ok settings) × IfErr result (IsRefused HasBadOperands (settings_of calling (texts words)))
+pub returned : (calling : Calling) (words : List (Bor (List ℕ))) (none : Bor (List ℕ)) {rows : List ToolRow}
+    {row : ToolRow} {given : Given} (result : Result Settings Fault)
+    → 1 ≤ length words → rows ≡ tools → Some row ≡ row_named rows (get_or words 0 none).now
+    → given_by calling row (after_first words) ≡ Ok given
+    → IfOk result (λ settings. settings_for calling row.tool given ≡ Ok settings)
+    → IfErr result (IsRefused HasBadOperands (settings_for calling row.tool given))
+    → IfOk result (λ settings. settings_of calling (texts words) ≡ Ok settings)
+    × IfErr result (IsRefused HasBadOperands (settings_of calling (texts words)))
 returned calling words none {row} {given} result some are named read is bad = grind (arith, common_steps)

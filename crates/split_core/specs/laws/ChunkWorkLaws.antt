@@ -62,7 +62,8 @@ goes_past chunks size x y more some within ends =
       begun = before_chunk chunks size place x
 
       next : IsBeginning x (before_chunk chunks size (place + 1) (x ++ y))
-      next = rw (before_next chunks size x place some less here) at (begun_grows chunks.unit chunks.delim (chunk_start chunks.count size (place + 1)) x y)
+      next = rw (before_next chunks size x place some less here) at
+          (begun_grows chunks.unit chunks.delim (chunk_start chunks.count size (place + 1)) x y)
 
       first : IsBeginning (drop (length begun) x) (f (0 + place))
       first = subst (λ n. IsBeginning (drop (length begun) x) (f n)) (omega arith)
@@ -102,7 +103,8 @@ chunks_go_on chunks size x y some = by (begun_grows Bytes 0 size x y) where
 
   by : IsBeginning (take size x) (take size (x ++ y))
       → GoesOn (chunks_of chunks size x) (chunks_of chunks size (x ++ y))
-  by (rest, is) = rw (again x) at (subst (GoesOn (chunks_of chunks size (take size x))) (ap (chunks_of chunks size) (sym is) ∙ again (x ++ y))
+  by (rest, is) = rw (again x) at (subst (GoesOn (chunks_of chunks size (take size x)))
+      (ap (chunks_of chunks size) (sym is) ∙ again (x ++ y))
       (goes_within chunks size (take size x) rest some
       (omega (arith, sym (ap length is), take_within size (x ++ y)))))
 

@@ -63,7 +63,8 @@ first_lines_begin delim k n x less = (
 whole_begins_by : (delim : ℕ) (x y : List ℕ) (k m : ℕ) → delimiters delim x ≡ k → delimiters delim (x ++ y) ≡ m
     → IsBeginning (whole_lines delim x) (whole_lines delim (x ++ y))
 whole_begins_by delim x y (suc k) (suc m) here all = rw (← (whole_of_lines delim x (omega arith)
-    ∙ sym (first_lines-full delim (delimiters delim x) x y (omega arith)))) at (subst (λ high. IsBeginning (first_lines delim (delimiters delim x) (x ++ y)) high)
+    ∙ sym (first_lines-full delim (delimiters delim x) x y (omega arith)))) at (subst
+    (λ high. IsBeginning (first_lines delim (delimiters delim x) (x ++ y)) high)
     (sym (whole_of_lines delim (x ++ y) (omega arith)))
     (first_lines_begin delim (delimiters delim x) (delimiters delim (x ++ y)) (x ++ y)
     (omega (arith, delimiters-append delim x y))))
@@ -199,5 +200,6 @@ shares_fewer (share ∷ low) (whole ∷ high) begins = omega (arith, shares_fewe
 
 -- a text that goes on has no fewer parts
 pub parts_grow : (limit : Limit) (x y : List ℕ) → length (parts limit x) ≤ length (parts limit (x ++ y))
-parts_grow limit x y = rw (settled_count limit x) at (subst (λ n. length (settled_parts limit x) ≤ n) (settled_count limit (x ++ y))
+parts_grow limit x y = rw (settled_count limit x) at (subst (λ n. length (settled_parts limit x) ≤ n)
+    (settled_count limit (x ++ y))
     (shares_fewer _ _ (settled_grow limit x y)))

@@ -14,21 +14,27 @@ use Rattle.ends_core.proofs.EndsLemmas.{none_settled, on_means}
 use Rattle.ends_core.proofs.laws.full_windows_lack_nothing.Goals as goal
 
 -- of what writes to standard output alone, lacks no memory and has no fault of its own
-only_writes : (memory : Bool) {lacks : Bool} (Ends : Verdict → Type 0) (old new : List Slot) (fault : Fault) → lacks ≡ false → ((verdict : Verdict) → Ends verdict → ⊥)
-    → IsMet (on_output memory) (on_output memory).feeding (lacks ≡ true) Ends old new fault → (fault ≡ Write 0) ⊎ (fault ≡ TooLong)
+only_writes : (memory : Bool) {lacks : Bool} (Ends : Verdict → Type 0) (old new : List Slot) (fault : Fault)
+    → lacks ≡ false → ((verdict : Verdict) → Ends verdict → ⊥)
+    → IsMet (on_output memory) (on_output memory).feeding (lacks ≡ true) Ends old new fault
+    → (fault ≡ Write 0) ⊎ (fault ≡ TooLong)
 only_writes memory Ends old new Memory enough well cause = absurd (false≢true (sym enough ∙ cause.1))
 only_writes memory Ends old new (Write slot) enough well cause = inl (ap Write (cause.1 refl))
 only_writes memory Ends old new (Open slot) enough well cause = absurd (false≢true cause.0)
 only_writes memory Ends old new (fault_is.Verdict verdict) enough well cause = absurd (well verdict cause)
 only_writes memory Ends old new fault enough well cause = absurd cause
 
-only_these : (memory : Bool) {lacks is_over : Bool} (Ends : Verdict → Type 0) {fed size : ℕ} {old new : List Slot} {fault : Fault} → is_over ≡ false → lacks ≡ false → ((verdict : Verdict) → Ends verdict → ⊥)
-    → IsCaused (IsMet (on_output memory) (on_output memory).feeding (lacks ≡ true) Ends old new) is_over fed size old new fault → (fault ≡ Write 0) ⊎ (fault ≡ TooLong)
+only_these : (memory : Bool) {lacks is_over : Bool} (Ends : Verdict → Type 0) {fed size : ℕ} {old new : List Slot}
+    {fault : Fault} → is_over ≡ false → lacks ≡ false → ((verdict : Verdict) → Ends verdict → ⊥)
+    → IsCaused
+    (IsMet (on_output memory) (on_output memory).feeding (lacks ≡ true) Ends old new) is_over fed size old new fault
+    → (fault ≡ Write 0) ⊎ (fault ≡ TooLong)
 only_these memory Ends live enough well (over ended same) = absurd (false≢true (sym live ∙ ended))
 only_these memory Ends live enough well (long going much same) = inr refl
 only_these memory Ends {old} {new} live enough well (met fault going cause) = only_writes memory Ends old new fault enough well cause
 
-fails : (engine : GuardState Ends) (x piece : List ℕ) (old new : List Slot) (fault : Fault) → HoldsIn Holds engine x → may_lack engine.stage ≡ false
+fails : (engine : GuardState Ends) (x piece : List ℕ) (old new : List Slot) (fault : Fault) → HoldsIn Holds engine x
+    → may_lack engine.stage ≡ false
     → IsRefusedWith terms piece engine old new fault → (fault ≡ Write 0) ⊎ (fault ≡ TooLong)
 fails engine x piece old new fault holds enough refused =
     let s = stretch_of engine.stage in

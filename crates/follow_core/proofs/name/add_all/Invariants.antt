@@ -6,7 +6,8 @@ use Rattle.follow_core.proofs.name.add_all.Given as goal
 
 abbrev pub invariant-loop-left : goal.invariant-loop-left
 invariant-loop-left g l = record {
-  watched : g.W.Watch.watched l.watch ++ map added (texts l.left) ≡ g.W.Watch.watched l.fn.watch ++ map added (texts l.names);
+  watched : g.W.Watch.watched l.watch ++ map added (texts l.left)
+      ≡ g.W.Watch.watched l.fn.watch ++ map added (texts l.names);
   kept : IsFront (g.W.Watch.watched l.fn.watch) (g.W.Watch.watched l.watch);
   first : l.first ≡ length (g.W.Watch.watched l.fn.watch);
   fits : length (g.W.Watch.watched l.watch) ≤ 2 ^ 64;

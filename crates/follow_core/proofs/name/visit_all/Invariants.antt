@@ -13,10 +13,15 @@ invariant-loop-place g l = let snapshot = latest (g.W.Watch.seen l.fn.watch) in 
   within : l.place ≤ length l.names;
   same : texts l.names ≡ texts l.fn.names;
   ready : AllReady l.names l.fn.first (g.W.Watch.watched l.watch);
-  visited : (from : ℕ) (looks : List Look) → StandFrom g.W.Watch.told (ways_of from l.fn.by_name l.fn.start) looks l.fn.first l.fn.names (g.W.Watch.watched l.fn.watch)
-      → VisitedTo g.W.Watch.told g.O.Outs.told (ways_of from l.fn.by_name l.fn.start) looks snapshot l.place l.fn.names l.fn.visitor (g.O.Outs.slots l.fn.outs) l.visitor (g.O.Outs.slots l.outs) (g.W.Watch.watched l.watch) l.names l.has_failed;
+  visited : (from : ℕ) (looks : List Look)
+      → StandFrom g.W.Watch.told (ways_of from l.fn.by_name l.fn.start) looks l.fn.first l.fn.names
+      (g.W.Watch.watched l.fn.watch)
+      → VisitedTo g.W.Watch.told g.O.Outs.told
+      (ways_of from l.fn.by_name l.fn.start) looks snapshot l.place l.fn.names l.fn.visitor
+      (g.O.Outs.slots l.fn.outs) l.visitor (g.O.Outs.slots l.outs) (g.W.Watch.watched l.watch) l.names l.has_failed;
   count : length (g.W.Watch.watched l.watch) ≡ length (g.W.Watch.watched l.fn.watch);
-  others : (number : ℕ) → ((place : ℕ) → place < length l.fn.names → number ≡ l.fn.first + place → ⊥) → watched_at (g.W.Watch.watched l.watch) number ≡ watched_at (g.W.Watch.watched l.fn.watch) number;
+  others : (number : ℕ) → ((place : ℕ) → place < length l.fn.names → number ≡ l.fn.first + place → ⊥)
+      → watched_at (g.W.Watch.watched l.watch) number ≡ watched_at (g.W.Watch.watched l.fn.watch) number;
   can : CanPrint (g.O.Outs.slots l.outs);
   seen : g.W.Watch.seen l.watch ≡ g.W.Watch.seen l.fn.watch;
   shows : g.W.Watch.shows l.watch ≡ g.W.Watch.shows l.fn.watch;

@@ -17,8 +17,12 @@ invariant-loop-made g l = record {
   can : CanLook l.follow (g.W.Watch.watched l.watch) (g.O.Outs.slots l.outs);
   error : HasError (g.O.Outs.slots l.outs);
   shows : g.W.Watch.shows l.watch ≡ g.W.Watch.shows l.fn.watch;
-  progress : (calling : Calling) (ways : Ways) (headers : Bool) (names : List (List ℕ)) (first : List Slot) → Holds g.W.Watch.told g.O.Outs.told calling ways headers names [] first l.fn.follow (g.W.Watch.watched l.fn.watch) (g.O.Outs.slots l.fn.outs)
-      → Progress g.W.Watch.told g.O.Outs.told calling ways headers names (g.W.Watch.shows l.fn.watch) first l.made true l.follow (g.W.Watch.seen l.watch) (g.W.Watch.watched l.watch) (g.O.Outs.slots l.outs);
+  progress : (calling : Calling) (ways : Ways) (headers : Bool) (names : List (List ℕ)) (first : List Slot)
+      → Holds g.W.Watch.told g.O.Outs.told calling ways headers names [] first l.fn.follow
+      (g.W.Watch.watched l.fn.watch) (g.O.Outs.slots l.fn.outs)
+      → Progress g.W.Watch.told g.O.Outs.told calling ways headers names
+      (g.W.Watch.shows l.fn.watch) first l.made true l.follow (g.W.Watch.seen l.watch) (g.W.Watch.watched l.watch)
+      (g.O.Outs.slots l.outs);
 }
 
 abbrev pub decreases-loop-made : goal.decreases-loop-made

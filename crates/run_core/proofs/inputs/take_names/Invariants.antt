@@ -9,7 +9,8 @@ invariant-loop-left g l = record {
   walked : Walked g.I.Inputs.told g.O.Outs.told (g.A.Adapter.task l.job.adapter.now)
       (world_of (g.I.Inputs.laid l.fn.inputs) (g.I.Inputs.sources l.fn.inputs)) (map (λ name. name.now) l.names) (map (λ name. name.now) l.left)
       l.progress (g.I.Inputs.laid l.inputs) (g.I.Inputs.sources l.inputs) (g.O.Outs.slots l.outs);
-  untouched : Untouched (map (λ name. name.now) l.names) (map (λ name. name.now) l.left) (g.I.Inputs.sources l.fn.inputs) (g.I.Inputs.sources l.inputs);
+  untouched : Untouched (map (λ name. name.now) l.names) (map (λ name. name.now) l.left)
+      (g.I.Inputs.sources l.fn.inputs) (g.I.Inputs.sources l.inputs);
   room : length l.buffer ≡ largest_piece;
 }
 

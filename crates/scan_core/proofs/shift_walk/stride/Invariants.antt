@@ -5,5 +5,6 @@ use Rattle.scan_core.proofs.shift_walk.stride.Given as goal
 abbrev pub invariant-loop-done : goal.invariant-loop-done
 invariant-loop-done l = record {
   small : l.steps ≤ l.done * 65537;
-  at : (before : ℕ) → IsAt l.nodes l.table l.line l.from l.fn.word before → IsAt l.nodes l.table l.line (l.from + l.done) l.word (before + l.steps);
+  at : (before : ℕ) → IsAt l.nodes l.table l.line l.from l.fn.word before
+      → IsAt l.nodes l.table l.line (l.from + l.done) l.word (before + l.steps);
 }

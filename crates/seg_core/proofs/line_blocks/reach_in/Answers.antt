@@ -8,7 +8,9 @@ use Rattle.seg_core.proofs.BlockLemmas.{counted_at, text_from, lines_pass}
 use Rattle.seg_core.proofs.line_blocks.reach_in.Goals as goal
 
 -- the lines end in this block
-ends_here : (delim : ℕ) {wanted : ℕ} (passed left end : ℕ) {rest : List ℕ} (block after : List ℕ) → rest ≡ block ++ after → wanted ≡ passed + length (first_lines delim left rest) → left ≤ delimiters delim block → end ≡ length (first_lines delim left block)
+ends_here : (delim : ℕ) {wanted : ℕ} (passed left end : ℕ) {rest : List ℕ} (block after : List ℕ)
+    → rest ≡ block ++ after → wanted ≡ passed + length (first_lines delim left rest) → left ≤ delimiters delim block
+    → end ≡ length (first_lines delim left block)
     → passed + end ≡ wanted
 ends_here delim passed left end block after is place enough of = grind (arith, common_steps, first_lines-full)
 

@@ -11,7 +11,8 @@ use Rattle.words_core.proofs.laws.beginnings_are_of_one_option.Goals as goal
 abbrev HasBeginning : List ℕ → List (List ℕ) → Type 0
 HasBeginning start names = (rest : List ℕ) × Contains names (start ++ rest)
 
-begins_by : (start name : List ℕ) (names : List (List ℕ)) (test : Bool) → starts_with eqb name start ≡ test → (if test then true else begins_one start names) ≡ true
+begins_by : (start name : List ℕ) (names : List (List ℕ)) (test : Bool) → starts_with eqb name start ≡ test
+    → (if test then true else begins_one start names) ≡ true
     → (begins_one start names ≡ true → HasBeginning start names) → HasBeginning start (name ∷ names)
 begins_by start name names true same is more = (drop (length start) name, (zero, omega arith, (starts_is Decides-eqb name start true (sym same)).0 refl))
 begins_by start name names false same is more =

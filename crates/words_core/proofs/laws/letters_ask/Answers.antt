@@ -40,7 +40,9 @@ module _ (rows : List OptionRow) where
   abbrev HasShape : List ℕ → Type 0
   HasShape letters = AreOthers rows letters ⊎ WithUnit letters
 
-  leading_with : (byte : ℕ) (text : List ℕ) (test : Bool) → is_ascii_digit byte ≡ test → list_all is_ascii_digit (leading_digits text) ≡ true → list_all is_ascii_digit (leading_digits (byte ∷ text)) ≡ true
+  leading_with : (byte : ℕ) (text : List ℕ) (test : Bool) → is_ascii_digit byte ≡ test
+      → list_all is_ascii_digit (leading_digits text) ≡ true
+      → list_all is_ascii_digit (leading_digits (byte ∷ text)) ≡ true
   leading_with byte text true is are = rw (take_while-cons is_ascii_digit byte text, is, is, are) refl
   leading_with byte text false is are = rw (take_while-cons is_ascii_digit byte text, is) refl
 
@@ -48,7 +50,8 @@ module _ (rows : List OptionRow) where
   leading_are [] = refl
   leading_are (byte ∷ text) = leading_with byte text (is_ascii_digit byte) refl (leading_are text)
 
-  whole : (text : List ℕ) → HasShape (after_digits text) → (options : List ℕ) × (unit : Measured × ℕ) × HasLetters rows text (leading_digits text) options unit
+  whole : (text : List ℕ) → HasShape (after_digits text)
+      → (options : List ℕ) × (unit : Measured × ℕ) × HasLetters rows text (leading_digits text) options unit
   whole text (inl others) =
       (after_digits text, (Lines, 1), of_lines (sym (take-append-drop (prefix_len is_ascii_digit text) text)) (leading_are text) (All-from_recursion (IsOther rows) (after_digits text) others))
   whole text (inr with) =
@@ -68,18 +71,22 @@ module _ (rows : List OptionRow) where
     known_other : (letter : ℕ) → unit_of letter ≡ None → is_known rows letter ≡ true → IsOther rows letter
     known_other letter none known = safe letter (rw none at known)
 
-    more_others : (letter : ℕ) (letters : List ℕ) (found : Option (Measured × ℕ)) → unit_of letter ≡ found → is_known rows letter ≡ true → length (filter is_unit (letter ∷ letters)) < 1 → (length (filter is_unit letters) < 1 → AreOthers rows letters)
+    more_others : (letter : ℕ) (letters : List ℕ) (found : Option (Measured × ℕ)) → unit_of letter ≡ found
+        → is_known rows letter ≡ true → length (filter is_unit (letter ∷ letters)) < 1
+        → (length (filter is_unit letters) < 1 → AreOthers rows letters)
         → AreOthers rows (letter ∷ letters)
     more_others letter letters (Some unit) is known few more = absurd (let none : suc (length (filter is_unit letters)) < 1 = rw is at few in omega (arith, none))
     more_others letter letters None is known few more = (known_other letter is known, more (rw is at few))
 
-    no_more : (letters : List ℕ) → are_known rows letters ≡ true → length (filter is_unit letters) < 1 → AreOthers rows letters
+    no_more : (letters : List ℕ) → are_known rows letters ≡ true → length (filter is_unit letters) < 1
+        → AreOthers rows letters
     no_more [] known few = tt
     no_more (letter ∷ letters) known few =
         let parts = both (is_known rows letter) (are_known rows letters) known in
         more_others letter letters (unit_of letter) refl parts.0 few (no_more letters parts.1)
 
-    one_more : (letter : ℕ) (letters : List ℕ) (found : Option (Measured × ℕ)) → unit_of letter ≡ found → is_known rows letter ≡ true → are_known rows letters ≡ true → length (filter is_unit (letter ∷ letters)) < 2
+    one_more : (letter : ℕ) (letters : List ℕ) (found : Option (Measured × ℕ)) → unit_of letter ≡ found
+        → is_known rows letter ≡ true → are_known rows letters ≡ true → length (filter is_unit (letter ∷ letters)) < 2
         → (length (filter is_unit letters) < 2 → HasShape letters) → HasShape (letter ∷ letters)
     one_more letter letters (Some unit) is known are few more =
         let fewer : suc (length (filter is_unit letters)) < 2 = rw is at few in
@@ -121,7 +128,8 @@ NeverOptional takes = ⊤
 head_never : (letter : ℕ) → IfSome (letter_named head_table letter) NeverOptional
 head_never letter = search rules
 
-switch_by : (takes : Takes) {choice : Choice} → alone takes ≡ Some choice → NeverOptional takes → is_switch (Some takes) ≡ true
+switch_by : (takes : Takes) {choice : Choice} → alone takes ≡ Some choice → NeverOptional takes
+    → is_switch (Some takes) ≡ true
 switch_by (takes.Nothing choice) is never = refl
 switch_by (takes.Optional choice kind) is never = absurd never
 switch_by other is never = absurd (cc)
@@ -139,11 +147,13 @@ no_units : (letters : List ℕ) → AreOthers head_table letters → length (fil
 no_units [] are = refl
 no_units (letter ∷ letters) are = rw are.0.0 (no_units letters are.1)
 
-known_with : (before : List ℕ) (letter : ℕ) (after : List ℕ) {unit : Measured × ℕ} → unit_of letter ≡ Some unit → AreOthers head_table (before ++ after) → are_known head_table (before ++ letter ∷ after) ≡ true
+known_with : (before : List ℕ) (letter : ℕ) (after : List ℕ) {unit : Measured × ℕ} → unit_of letter ≡ Some unit
+    → AreOthers head_table (before ++ after) → are_known head_table (before ++ letter ∷ after) ≡ true
 known_with [] letter after says are = rw says (all_known after are)
 known_with (one ∷ before) letter after says are = rw (head_known one are.0) (known_with before letter after says are.1)
 
-one_unit : (before : List ℕ) (letter : ℕ) (after : List ℕ) {unit : Measured × ℕ} → unit_of letter ≡ Some unit → AreOthers head_table (before ++ after) → length (filter is_unit (before ++ letter ∷ after)) ≡ 1
+one_unit : (before : List ℕ) (letter : ℕ) (after : List ℕ) {unit : Measured × ℕ} → unit_of letter ≡ Some unit
+    → AreOthers head_table (before ++ after) → length (filter is_unit (before ++ letter ∷ after)) ≡ 1
 one_unit [] letter after says are = rw (says, no_units after are) refl
 one_unit (one ∷ before) letter after says are = rw are.0.0 (one_unit before letter after says are.1)
 
@@ -154,11 +164,14 @@ some_digits (digit ∷ digits) some = lt-ltb 0 (length (digit ∷ digits)) (omeg
 no_nil : (digits : List ℕ) → nat_lt 0 (length digits) ≡ true → digits ≢ []
 no_nil digits some none = absurd (let never : false ≡ true = rw none at some in cc)
 
-head_lettered : (text digits letters : List ℕ) {count : ℕ} → HasParts text digits letters → digits ≢ [] → length (filter is_unit letters) ≡ count → count < 2 → are_known head_table letters ≡ true → is_lettered head_table OfHead text ≡ true
+head_lettered : (text digits letters : List ℕ) {count : ℕ} → HasParts text digits letters → digits ≢ []
+    → length (filter is_unit letters) ≡ count → count < 2 → are_known head_table letters ≡ true
+    → is_lettered head_table OfHead text ≡ true
 head_lettered text digits letters {count} is some units few known =
     rw (is.0, is.1, some_digits digits some, units, lt-ltb count 2 few, known) refl
 
-head_is : (text digits options : List ℕ) {unit : Measured × ℕ} → digits ≢ [] → HasLetters head_table text digits options unit → is_lettered head_table OfHead text ≡ true
+head_is : (text digits options : List ℕ) {unit : Measured × ℕ} → digits ≢ []
+    → HasLetters head_table text digits options unit → is_lettered head_table OfHead text ≡ true
 head_is text digits options some (of_lines is all are) =
     let others = recursion_from_All (IsOther head_table) options are in
     head_lettered text digits options (rw is (parts digits options all (no_digit head_table options others))) some (no_units options others) (omega arith) (all_known options others)
@@ -183,7 +196,9 @@ tail_shape text is =
     (codes "f" ∷ codes "b" ∷ codes "bf" ∷ codes "c" ∷ codes "cf" ∷ codes "l" ∷ codes "lf" ∷ []) (after_digits text) among
     (inl (f_switch, tt), (without_f 98 refl, (with_f 98 refl, (without_f 99 refl, (with_f 99 refl, (without_f 108 refl, (with_f 108 refl, tt))))))))
 
-start_shape : (text : List ℕ) (number lettered : Bool) → is_number text ≡ number → is_lettered tail_table OfTail text ≡ lettered → (number || (lettered || is_among (codes "c" ∷ codes "cf" ∷ []) text)) ≡ true → IsNumberWithLetters tail_table text
+start_shape : (text : List ℕ) (number lettered : Bool) → is_number text ≡ number
+    → is_lettered tail_table OfTail text ≡ lettered
+    → (number || (lettered || is_among (codes "c" ∷ codes "cf" ∷ []) text)) ≡ true → IsNumberWithLetters tail_table text
 start_shape text true lettered number of_tail is =
     (text, [], (Lines, 1), of_lines (sym (append-nil text)) (and_parts (nat_lt 0 (length text)) (list_all is_ascii_digit text) number).1 (All-from_recursion (IsOther tail_table) [] tt))
 start_shape text false true number of_tail is = tail_shape text of_tail
@@ -194,7 +209,8 @@ start_shape text false false number of_tail is =
 pub returns-clause-asks : goal.returns-clause-asks
 returns-clause-asks c = letters_ask
 
-head_shape : (text : List ℕ) → is_lettered head_table OfHead text ≡ true → (digits options : List ℕ) × (unit : Measured × ℕ) × (digits ≢ []) × HasLetters head_table text digits options unit
+head_shape : (text : List ℕ) → is_lettered head_table OfHead text ≡ true
+    → (digits options : List ℕ) × (unit : Measured × ℕ) × (digits ≢ []) × HasLetters head_table text digits options unit
 head_shape text is =
     let counted = and_parts (nat_lt 0 (length (leading_digits text)) && nat_lt (length (filter is_unit (after_digits text))) 2) (are_known head_table (after_digits text)) is in
     let both = and_parts (nat_lt 0 (length (leading_digits text))) (nat_lt (length (filter is_unit (after_digits text))) 2) counted.0 in

@@ -11,7 +11,9 @@ use Rattle.words_core.proofs.laws.names_mean_the_same.Goals as goal
 abbrev Each : (List OptionRow → OptionRow → Type 0) → Type 0
 Each P = AllByRecursion (λ tool. AllByRecursion (P tool.options) tool.options) tools
 
-each_row : (P Q : List OptionRow → OptionRow → Type 0) → ((rows : List OptionRow) (row : OptionRow) → P rows row → Q rows row) → Each P → All (λ tool. All (Q tool.options) tool.options) tools
+each_row : (P Q : List OptionRow → OptionRow → Type 0)
+    → ((rows : List OptionRow) (row : OptionRow) → P rows row → Q rows row) → Each P
+    → All (λ tool. All (Q tool.options) tool.options) tools
 each_row P Q is each =
     let Rows : ToolRow → Type 0 = λ tool. AllByRecursion (P tool.options) tool.options in
     All-weaker Rows (λ tool. All (Q tool.options) tool.options)

@@ -5,7 +5,8 @@ use Rattle.words_core.specs.Spelling.{spelled}
 use Rattle.words_core.specs.Laws.{as_operands}
 use Rattle.words_core.proofs.laws.operands_follow_the_end.Goals as goal
 
-only_operands : (rows : List OptionRow) (words : List (List ℕ)) (place : ℕ) → spelled rows words place OnlyOperands ≡ Ok (record { options = []; operands = as_operands place words })
+only_operands : (rows : List OptionRow) (words : List (List ℕ)) (place : ℕ)
+    → spelled rows words place OnlyOperands ≡ Ok (record { options = []; operands = as_operands place words })
 only_operands rows [] place = refl
 only_operands rows (word ∷ words) place = rw (only_operands rows words (place + 1))
 

@@ -19,13 +19,16 @@ before_nothing : (meant : Result Given Fault) → given_before nothing meant ≡
 before_nothing (Ok given) = refl
 before_nothing (Err fault) = refl
 
-before_both : (first next : Given) (meant : Result Given Fault) → given_before first (given_before next meant) ≡ given_before (joined first next) meant
+before_both : (first next : Given) (meant : Result Given Fault)
+    → given_before first (given_before next meant) ≡ given_before (joined first next) meant
 before_both first next (Ok given) = grind (arith, common_steps, append_assoc)
 before_both first next (Err fault) = refl
 
 module _ (rows : List OptionRow) where
-  leaves : (first : List (List ℕ)) (place : ℕ) (meant : Result Meaning Fault) → ((next : State) → LeaveTheRest rows first (place + 1) next)
-      → ((fault : Fault) × ((more : List (List ℕ)) → onward (spelled rows (first ++ more) (place + 1)) meant ≡ Err fault))
+  leaves : (first : List (List ℕ)) (place : ℕ) (meant : Result Meaning Fault)
+      → ((next : State) → LeaveTheRest rows first (place + 1) next)
+      → ((fault : Fault) × ((more : List (List ℕ))
+      → onward (spelled rows (first ++ more) (place + 1)) meant ≡ Err fault))
       ⊎ ((given : Given) × (next : State) × ((more : List (List ℕ)) → onward (spelled rows (first ++ more) (place + 1)) meant ≡ given_before given (spelled rows more (place + 1 + length first) next)))
   leaves first place (Err fault) rest = inl (fault, λ more. refl)
   leaves first place (Ok meaning) rest = elim (rest meaning.next) [
@@ -49,7 +52,9 @@ nothing_more : (rows : List OptionRow) (words : List (List ℕ)) (place : ℕ) �
 nothing_more rows [] place = refl
 nothing_more rows (word ∷ words) place = ap (given_before nothing) (nothing_more rows words (place + 1))
 
-last_ends : (rows : List OptionRow) (name : List ℕ) (topic : Topic) (words : List (List ℕ)) (place : ℕ) → IsLong rows name (Ok (Last topic)) → spelled rows ((45 ∷ 45 ∷ name) ∷ words) place Reading ≡ Ok (one_option (About topic) place)
+last_ends : (rows : List OptionRow) (name : List ℕ) (topic : Topic) (words : List (List ℕ)) (place : ℕ)
+    → IsLong rows name (Ok (Last topic))
+    → spelled rows ((45 ∷ 45 ∷ name) ∷ words) place Reading ≡ Ok (one_option (About topic) place)
 last_ends rows name topic words place is = rw (long_name name place is, nothing_more rows words (place + 1))
 
 pub returns : goal.returns

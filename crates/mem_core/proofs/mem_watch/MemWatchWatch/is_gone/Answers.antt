@@ -4,7 +4,8 @@ use Rattle.mem_core.proofs.MemWatchLemmas.{gone_next}
 use Rattle.mem_core.proofs.mem_watch.MemWatchWatch.is_gone.Goals as goal
 use Rattle.std.specs.Prelude.{length}
 
-is_gone : (g : goal.After-has_ended) → g.has_ended.result ≡ (shows g.args.self.now (length (seen g.args.self.now))).lacks g.args.process
+is_gone : (g : goal.After-has_ended)
+    → g.has_ended.result ≡ (shows g.args.self.now (length (seen g.args.self.now))).lacks g.args.process
 is_gone c = gone_next c.args.process c.self.view_is c.self.invariant.0
     (c.min-next.ensures ∙ ap (λ n. min (c.self.inside.turns + 1) (n - 1)) (let long : c.len.result ≡ length c.self.inside.worlds.items = omega arith in long))
     (c.world_in.ensures ∙ ap (λ worlds. world_at worlds c.min-next.result) c.deref.ensures.value) c.has_ended.ensures

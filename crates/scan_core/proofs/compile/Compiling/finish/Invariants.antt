@@ -5,7 +5,8 @@ use Rattle.scan_core.proofs.compile.Compiling.finish.Given as goal
 
 abbrev pub invariant-loop-duplication : goal.invariant-loop-duplication
 invariant-loop-duplication l = record {
-  so_far : (final : Compiling) → Finishes l.self.nodes.items l.self.pending.items final → Finishes l.initial.self.nodes.items l.initial.self.pending.items final;
+  so_far : (final : Compiling) → Finishes l.self.nodes.items l.self.pending.items final
+      → Finishes l.initial.self.nodes.items l.initial.self.pending.items final;
   begun : AreBegun l.self;
   passing : l.self.passing ≡ None;
 }

@@ -7,7 +7,8 @@ use Rattle.split_core.proofs.FilesLemmas.{sent_all, sent_next, sent_stops}
 use Rattle.split_core.proofs.round_files.RoundFiles.write.Goals as goal
 
 -- what the file at a place gets, as the code reads it
-gets : (gathered : List (List ℕ)) (place : ℕ) {one bytes : List ℕ} → place < length gathered → one ≡ get_or gathered place one → bytes ≡ one → bytes ≡ get_or gathered place []
+gets : (gathered : List (List ℕ)) (place : ℕ) {one bytes : List ℕ} → place < length gathered
+    → one ≡ get_or gathered place one → bytes ≡ one → bytes ≡ get_or gathered place []
 gets gathered place {one} within is same = grind (arith, common_steps)
 
 pub returns-in_err-send : goal.returns-in_err-send
