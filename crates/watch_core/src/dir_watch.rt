@@ -29,14 +29,14 @@ const SECOND: u64 = 1000;
 /// without either after a second, or what `wait_at_most` said. A change is another length of a file that is open or that a name
 /// leads to, or a name that comes to lead elsewhere. Each name is asked at a pace of its own, at multiples of 5 ms: at the next one
 /// after it changed, and then after twice as long each time, 50 ms at the most. What comes to a regular file t milliseconds after its
-/// last change is to be seen within t + 5, and within 50. So is a name that comes to lead elsewhere, but within 250 where it led to
+/// last change is to be seen within t + 5, and within 50. So is a name that comes to lead elsewhere, but within 500 where it led to
 /// the open file, a regular one, and that didn't change for a second. Where a process was asked for, waiting ends at once where that is
 /// gone, and within 50 ms where that comes to be so: where the system lists its processes, and lists none of this number. The next look
 /// after that sees all that the process wrote. Waiting takes no memory, and no thread waits on another.
 ///
 /// A look is told what was found when its name was asked last, so it asks the system nothing of a name that didn't change. Where
 /// a name leads is one question to the system, which tells the length too where it leads to the open file. That is asked at the multiples
-/// of 250 ms after a second without a change, and the open file its length, which takes a third of the time, at the other multiples of 50;
+/// of 500 ms after a second without a change, and the open file its length, which takes a third of the time, at the other multiples of 50;
 /// where looks ask open files alone, at all of them. So while nothing changes the system is asked once for each name every 50 ms, and
 /// once or twice for the process.
 ///

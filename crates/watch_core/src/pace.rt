@@ -11,7 +11,7 @@ const LONGEST: u64 = 50;
 const SECOND: u64 = 1_000;
 
 /// That is asked then at multiples of this number of milliseconds, which is a multiple of `LONGEST`.
-const SELDOM: u64 = 250;
+const SELDOM: u64 = 500;
 
 /// After how many milliseconds without a change a name is at rest: a minute.
 const MINUTE: u64 = 60_000;
@@ -19,7 +19,7 @@ const MINUTE: u64 = 60_000;
 /// When a name is asked, in milliseconds of a clock: within 5 ms after a change, then after as long again as it didn't change for and 5
 /// more at most, and every 50 ms at the least. Names are asked at the same times, the multiples of 5, and those that didn't change for
 /// so long at the multiples of 50, so that waiting for all of them wakes once. Where a name leads costs the system three times what the
-/// length of an open file does: it is asked each time in the first second after a change, and then at the multiples of 250.
+/// length of an open file does: it is asked each time in the first second after a change, and then at the multiples of 500.
 #[derive(Drop)]
 pub(crate) struct Pace {
     /// When it changed the last time.
@@ -46,7 +46,7 @@ impl Pace {
 
     /// Whether, at this time, at which the name is due, it is to be asked where it leads, and not its open file alone.
     pub(crate) fn asks_where(&self, now: u64) -> bool
-        ensures { result ≡ false → (n : ℕ) → self.now.due ≤ 250 * n → now < 250 * n }
+        ensures { result ≡ false → (n : ℕ) → self.now.due ≤ 500 * n → now < 500 * n }
     {
         now.saturating_sub(self.changed) < SECOND
             || now / SELDOM != self.due.saturating_sub(1) / SELDOM
