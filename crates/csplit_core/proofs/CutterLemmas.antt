@@ -22,7 +22,7 @@ use Rattle.csplit_core.specs.declared.progress.Turn.TheVariants.{Below}
 use Rattle.csplit_core.specs.laws.PlanLaws.{plan_once, goes_on, runs}
 use Rattle.csplit_core.specs.inner.PlanLaws.{EndsAs, needed}
 use Rattle.csplit_core.specs.laws.SectionLaws.{ends_as, closed_still, are_within, shares-append, section_grows}
-use Rattle.csplit_core.specs.Cutter.{kept_by, most_by, text_from, draft_by, settled_draft, CutterState, suppress_in, state_in, IsAt, EndsNow, IsLive, IsFit, Stands, Leads}
+use Rattle.csplit_core.specs.Cutter.{kept_by, most_by, text_from, draft_by, settled_draft, CutterState, suppress_in, state_in, IsAt, EndsNow, IsLive, IsFit, Leads}
 use Rattle.csplit_core.specs.inner.Cutter.{Joins, settled_part, Keeps, part_at, Arrives, Holds, GoesPast, search_after, CutsNow, WentOn, PassesCut, IsAfter, CutAt, CutsAll, WillCut, IsEnd}
 use Rattle.csplit_core.proofs.LineLemmas.{all_lines-append, bytes_between, length-all_lines, count-append, count_from, first_still, rest_more, from_further, first_further}
 use Rattle.ports_core.specs.Slot.{Slot}
@@ -138,7 +138,7 @@ pub reaches_then : {told : Bool} {style other : Style} {low middle high : Part} 
     → Reaches (sizes_wanted style) told one two low middle old mid None
     → Reaches (sizes_wanted other) told two three middle high mid new fault
     → Reaches (sizes_wanted style) told one three low high old new fault
-reaches_then {told} {low = low} {middle} {high} {mid = mid} {new} {fault} {two = two} {three} same begins first second = reaches_again begins first (subst (λ style. Reaches (sizes_wanted style) told two three middle high mid new fault) same second)
+reaches_then {told} {low = low} {middle} {high} {mid = mid} {new} {fault} {two = two} {three} same begins first second = reaches_again begins first (rw same at second)
 
 -- what style and operands decide stays
 pub same_by : {A : Type 0} {cutter next : CutterState} {old new : List Slot} {fault : Option Fault}
@@ -161,8 +161,7 @@ unfoldable pub at_more : (cutter : CutterState) (lines : ℕ) (aim : Turn) (x t 
 at_more cutter lines aim x t left whole some at ends count =
     let e = all_lines-append t whole in record {
       steps = at.steps;
-      leads = λ more last ending run. subst (λ those. Runs (suppress_in cutter) those (start cutter.operands) (at.steps ++ more) last ending) (sym e)
-          (goes_on (all_lines t) more last (runs_to at ends) (subst (λ those. Runs (suppress_in cutter) those (state_in cutter) more last ending) e run));
+      leads = λ more last ending run. rw (← e) at (goes_on (all_lines t) more last (runs_to at ends) (subst (λ those. Runs (suppress_in cutter) those (state_in cutter) more last ending) e run));
       counted = count;
       taken = at.taken;
       written = at.written;
@@ -422,8 +421,7 @@ hold_goes {cutter = cutter} {writer} {window} {left} {fault = fault} fit differs
       let window_is : window ≡ record cutter.window { held = window.held } = kept ∙ ap (λ held. record cutter.window { held = held }) (sym (ap (λ (w : Window). w.held) kept)) in record {
         same = refl;
         window = window_is;
-        stands = λ x at arrives. subst (λ w. Stands (record cutter { writer = writer; window = w }) x) (sym window_is)
-            (inl (held_live arrives fit (aims_live cutter.aim arrives.ends.ending arrives.ends.aims differs) bytes_is held_is (writes (manner_of cutter.style))));
+        stands = λ x at arrives. rw window_is (inl (held_live arrives fit (aims_live cutter.aim arrives.ends.ending arrives.ends.aims differs) bytes_is held_is (writes (manner_of cutter.style))));
         size = size;
       });
 } where
@@ -481,8 +479,7 @@ begins_with : (style : Style) (lines : List Line) (steps : List Step) (one : Sec
     → Begins (draft_part (manner_of style) (draft_by style lines steps kept []))
     (part_of style (map (section_of lines) steps ++ one ∷ more))
 begins_with style lines steps one more kept same =
-    subst (λ shares. Begins (part_by (manner_of style) shares) (part_of style (map (section_of lines) steps ++ one ∷ more))) (sym (draft_shares style lines steps kept []))
-    (section_grows style (map (section_of lines) steps) (section kept false []) one more refl same (bytes_of one.lines) refl)
+    rw (← draft_shares style lines steps kept []) at (section_grows style (map (section_of lines) steps) (section kept false []) one more refl same (bytes_of one.lines) refl)
 
 settled_by_plan : (style : Style) (operands : List Operand) {lines : List Line} {steps : List Step} {last : State}
     {ending : Ending} → Runs style.suppress lines (start operands) steps last ending
@@ -498,8 +495,7 @@ begun_by : (style : Style) (operands : List Operand) {lines : List Line} (steps 
     (settled_of style operands lines)
 begun_by style operands {lines} steps {state} [] {last} {ending} rest all =
     subst (Begins (draft_part (manner_of style) (draft_by style lines steps (kept_by state.operands) []))) (sym (settled_by_plan style operands all))
-    (subst (λ those. Begins (draft_part (manner_of style) (draft_by style lines steps (kept_by state.operands) [])) (part_of style (map (section_of lines) those ++ section (is_last_kept ending) false (lines_between last.current (settled_end (length lines) ending) lines) ∷ []))) (sym (append-nil steps))
-    (begins_with style lines steps (section (is_last_kept ending) false (lines_between last.current (settled_end (length lines) ending) lines)) [] (kept_by state.operands) (at_end state last ending rest))) where
+    (rw (append-nil steps) (begins_with style lines steps (section (is_last_kept ending) false (lines_between last.current (settled_end (length lines) ending) lines)) [] (kept_by state.operands) (at_end state last ending rest))) where
       at_end : (state last : State) (ending : Ending) → Runs style.suppress lines state [] last ending
           → kept_by state.operands ≡ is_last_kept ending
       at_end state last ending (is_used_up state' none) = last_kept style.suppress lines state' ending (ends_as style.suppress lines state' [] state' ending (is_used_up state' none))
@@ -545,8 +541,7 @@ leads_on : {cutter : CutterState} {x left : List ℕ} (at : IsAt cutter x left) 
     → Leads (suppress_in cutter) (all_lines x) cutter.operands (at.steps ++ step_at cutter goes.operand cut ∷ [])
     (state_after (suppress_in cutter) goes.operand goes.operands cutter.progress.repetition cut.matched cut.line)
 leads_on {cutter} {x} at cut goes more last ending run =
-    subst (λ steps. Runs (suppress_in cutter) (all_lines x) (start cutter.operands) steps last ending) (sym (append_assoc at.steps (step_at cutter goes.operand cut ∷ []) more))
-    (at.leads (step_at cutter goes.operand cut ∷ more) last ending (cuts (state_in cutter) goes.operand goes.operands cut.matched cut.line more last ending goes.are goes.cuts goes.from goes.within run))
+    rw (← append_assoc at.steps (step_at cutter goes.operand cut ∷ []) more) at (at.leads (step_at cutter goes.operand cut ∷ more) last ending (cuts (state_in cutter) goes.operand goes.operands cut.matched cut.line more last ending goes.are goes.cuts goes.from goes.within run))
 
 -- what is settled begins with the sections after the cut
 pub cut_begins : {cutter : CutterState} {x left : List ℕ} (line : List ℕ) {before : List ℕ} {at : IsAt cutter x left}
@@ -601,8 +596,7 @@ began_there : {told : Bool} (cutter : CutterState) {mid : CutterState} {writer n
     → Goes told writer (with_next (opening_of cutter.style (kept_by (state_in mid).operands))) old new next fault
 began_there {told} cutter {mid} {writer} {next} {old = old} {new} {fault} passed opening_is began =
     let style : mid.style ≡ cutter.style = ap (λ (c : CutterState). c.style) passed.same in
-    subst (λ w. Goes told w (with_next (opening_of cutter.style (kept_by (state_in mid).operands))) old new next fault) (ap (λ (c : CutterState). c.writer) passed.same)
-    (subst (λ those. Goes told mid.writer (with_next those) old new next fault) (opening_is ∙ ap (λ (s : Style). opening_of s (kept_by (state_in mid).operands)) style) began)
+    rw (ap (λ (c : CutterState). c.writer) passed.same) at (subst (λ those. Goes told mid.writer (with_next those) old new next fault) (opening_is ∙ ap (λ (s : Style). opening_of s (kept_by (state_in mid).operands)) style) began)
 
 -- a cut of this cutter is due, and stands after these bytes of the lines that are left
 module _ {cutter : CutterState} {cut : Cut} {place : ℕ} {left before : List ℕ} (fit : IsFit cutter)
@@ -619,7 +613,7 @@ module _ {cutter : CutterState} {cut : Cut} {place : ℕ} {left before : List �
       → PassesCut (record cutter { writer = writer }) cut mid (Some fault)
       → CutsAll told cutter cut place left line [] old new mid (Some fault)
   cut_pass_stopped {told} {old = old} {new} {fault} line goes (is_memory, same_writer, same_operands, same_style) =
-      cut_put_stopped line same_operands same_style (subst (λ w. Goes told cutter.writer (with_bytes before) old new w (Some fault)) (sym same_writer) (goes_or_lacks (Err fault) goes is_memory))
+      cut_put_stopped line same_operands same_style (rw (← same_writer) at (goes_or_lacks (Err fault) goes is_memory))
 
   pub cut_next_stopped : {told : Bool} {mid : CutterState} {writer next : WriterState} {opening : Opening}
       {old between new : List Slot} {fault : Fault} (line : List ℕ)
@@ -636,8 +630,7 @@ module _ {cutter : CutterState} {cut : Cut} {place : ℕ} {left before : List �
       let draft = draft_at cutter x left at in
       reaches_again (bytes_begin manner before draft) (went.reaches manner draft at.writes)
       (stops_wider (stopped.reaches manner (with_bytes before draft) (went.writes manner draft at.writes))
-      (subst (λ k. Begins (draft_part manner (with_next (opening_of cutter.style k) (with_bytes before draft))) (settled_part cutter x)) (sym (ap (λ (s : State). kept_by s.operands) (passed_state went passed due.goes.are)))
-      (cut_begins line cut due fit will before_is))))
+      (rw (← (ap (λ (s : State). kept_by s.operands) (passed_state went passed due.goes.are))) at (cut_begins line cut due fit will before_is))))
 
 -- the next section began
 
@@ -704,7 +697,7 @@ module _ {told : Bool} {cutter mid : CutterState} {writer next : WriterState} {c
           written_is = sym (first_lines-zero newline (text_from mid.progress.current x));
           left_is = rest_from mid.style.suppress all cut.line x first left_after skipped whole
               ∙ ap (λ n. text_from n x) (ap (λ b. line_after b cut.line) suppress_is ∙ sym current ∙ (let e : mid.progress.current ≡ mid.progress.current + 0 = omega arith in e));
-          writes = subst (λ (s : Style). Writes (manner_of s) next (draft_by s (all_lines x) steps kept [])) (sym style_is) (subst (Writes manner next) draft_is (second.writes manner (with_bytes before draft) (went.writes manner draft at.writes)));
+          writes = rw (← style_is) at (subst (Writes manner next) draft_is (second.writes manner (with_bytes before draft) (went.writes manner draft at.writes)));
         };
         looked = record {
           counted = lines_is ∙ at.counted;

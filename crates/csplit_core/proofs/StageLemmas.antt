@@ -1,5 +1,5 @@
 -- What opening the cutter leaves, what ending it does, and what the stage that takes in bytes owes.
-use Rattle.std.proofs.Common.{◌≡◌, inl, ◌+◌, ◌-◌, ◌≤◌, length, max, Bool, true, false, List, [], ◌∷◌, None, Option, Some, refl, sym, ◌∙◌, ap, subst, arith, ℕ, suc, ◌++◌, take, ◌<◌, nat_lt, get_or, rules, cond, drop, inr, ◌^◌, min, length-append, ◌⊎◌, Result, Ok, Err, IfErr, eqb, OnOk, not, IsTrue}
+use Rattle.std.proofs.Common.{◌≡◌, inl, ◌+◌, ◌-◌, ◌≤◌, length, max, Bool, true, false, List, [], ◌∷◌, None, Option, Some, refl, sym, ◌∙◌, ap, subst, arith, ℕ, suc, ◌++◌, take, ◌<◌, nat_lt, get_or, rules, cond, drop, inr, ◌^◌, min, length-append, ◌⊎◌, Result, Ok, Err, IfErr, eqb, OnOk, IsTrue}
 use Rattle.bre_core.specs.Pattern.{Pattern}
 use Rattle.seg_core.specs.Window.{Window}
 use Rattle.ports_core.specs.Slot.{Slot, is_writable}
@@ -48,10 +48,10 @@ use Rattle.std.proofs.lemmas.Grind.{common_steps}
 use Rattle.std.proofs.Math.Nat.{min-eq_left}
 use Rattle.csplit_core.specs.CsplitState.{CsplitState, Holds, whole_lines, IsReady, Owns, terms, files, work}
 use Rattle.csplit_core.proofs.TakeLemmas.{past_plan, past_part, is_past, still_past, more_settled, takes_again, takes_none, takes_wider, took_past, none_there}
-use Rattle.ports_core.specs.Part.{Begins, OutputsAt, StoppedBetween, nothing, writes}
+use Rattle.ports_core.specs.Part.{OutputsAt, StoppedBetween, nothing, writes}
 use Rattle.ports_core.specs.Turn.{fault_in}
 use Rattle.ports_core.specs.Engine.{is_verdict, CutsOff, EndsWith, EndsThere, Finishes, StandsAt, IsMet, IsMetWith, IsMetThere, Sweeps}
-use Rattle.ports_core.specs.Swept.{AreThere, RemovesIf, Swept, is_among}
+use Rattle.ports_core.specs.Swept.{AreThere, Swept, is_among}
 use Rattle.ports_core.proofs.SweepLemmas.{all_cleared}
 use Rattle.ports_core.specs.Engine as engine
 
@@ -176,10 +176,9 @@ opened_at told {style} {suppress} {operands} {opening = opening} {old} {new} {wr
     let sought_first : pattern_by operands ≡ sought = sym (sought_is ∙ ap pattern_next next_is) in
     let opening_first : opening ≡ opening_of style (kept_by operands) = opening_is ∙ ap (λ o. opening_of style (kept_next o)) next_is in
     let says_first : SaysFirst style.suppress operands aim = subst (λ s. SaysFirst s operands aim) suppress_is
-    (subst (λ (p : Progress). (lines : List Line) → AreSeen suppress lines 0 (state_of operands p) false → Turns suppress lines (state_of operands p) aim) start_is says) in
+    (rw start_is at says) in
     let moves_first : MovesOn operands 0 first_progress aim = subst (λ (p : Progress). p.matched ≤ 0 → MovesOn operands 0 p aim) start_is moves (omega arith) in
-    subst (λ (p : Progress). Opened told style operands old new (opened operands style writer p aim window sought)) (sym start_is)
-    (subst (λ w. Opened told style operands old new (opened operands style writer first_progress aim w sought)) window_first
+    rw (← start_is) at (subst (λ w. Opened told style operands old new (opened operands style writer first_progress aim w sought)) window_first
     (subst (λ s. Opened told style operands old new (opened operands style writer first_progress aim (first_window operands) s)) sought_first
     (first_opened told aim two (subst (λ those. Goes told (writer_for style) (with_next those) old new writer None) opening_first (subst (λ w. Goes told (paused w) (with_next opening) old new writer None) made begun)) none says_first moves_first)))
 
@@ -199,8 +198,7 @@ pub opened_not : (told : Bool) {style : Style} (operands : List Operand) {next :
     → Goes told (paused first) (with_next opening) old new writer (Some fault) → writer.files ≡ first.files
     → BegunNot told style (settled_of style operands []) old new fault
 opened_not told {style} operands {opening = opening} {old} {new} {writer = writer} {fault} next_is opening_is made two begun same =
-    subst (λ part. BegunNot told style part old new fault) (ap (λ those. draft_part (manner_of style) (with_next those nothing_yet)) (opening_is ∙ ap (λ o. opening_of style (kept_next o)) next_is) ∙ first_part style operands)
-    (begun_not two (subst (λ w. Goes told (paused w) (with_next opening) old new writer (Some fault)) made begun) (same ∙ ap (λ (w : WriterState). w.files) made))
+    rw (← (ap (λ those. draft_part (manner_of style) (with_next those nothing_yet)) (opening_is ∙ ap (λ o. opening_of style (kept_next o)) next_is) ∙ first_part style operands)) (begun_not two (subst (λ w. Goes told (paused w) (with_next opening) old new writer (Some fault)) made begun) (same ∙ ap (λ (w : WriterState). w.files) made))
 
 none_told : (style : Style) → LinesTo (sizes_wanted style) nothing nothing 0 Memory
 none_told style = grind (arith, common_steps)
@@ -295,7 +293,7 @@ ending_in cutter x = (plan (suppress_in cutter) cutter.operands (all_lines x)).e
 of_it : {cutter : CutterState} {x : List ℕ} → IsJudged cutter x
     → EndsAs (suppress_in cutter) (all_lines x) (state_in cutter) (ending_in cutter x)
 of_it {cutter} {x} judged =
-    subst (λ state. EndsAs (suppress_in cutter) (all_lines x) state (ending_in cutter x)) (sym judged.last) (ends_as _ _ _ _ _ _ (plan_runs (suppress_in cutter) cutter.operands (all_lines x)))
+    rw (← judged.last) at (ends_as _ _ _ _ _ _ (plan_runs (suppress_in cutter) cutter.operands (all_lines x)))
 
 -- where no operand is left
 
@@ -379,7 +377,7 @@ pub takes_or_lacks : {told : Bool} {cutter next : CutterState} {t : List ℕ} {o
     (result : Result (Unit {0}) Fault) → Takes told cutter t old new next None → IfErr result (λ fault. fault ≡ Memory)
     → Takes told cutter t old new next (fault_in result)
 takes_or_lacks (Ok done) took lacks = took
-takes_or_lacks {told} {cutter} {next} {t} {old} {new} (Err fault) took lacks = subst (λ why. Takes told cutter t old new next (Some why)) (sym lacks) (takes_lacking took)
+takes_or_lacks {told} {cutter} {next} {t} {old} {new} (Err fault) took lacks = rw (← lacks) at (takes_lacking took)
 
 -- The end
 
@@ -387,7 +385,7 @@ pub closed_on : {told : Bool} {stage : CsplitState} (last : CsplitState) {next :
     {old mid new : List Slot} {fault : Option Fault} → two ≡ last.cutter
     → Takes told stage.cutter stage.rest old mid last.cutter None → EndsAll told two mid new next.cutter fault
     → Closed told stage old new next fault
-closed_on {told} {stage} last {old = old} {mid} {fault = fault} is took second = let first = subst (λ c. Takes told stage.cutter stage.rest old mid c None) (sym is) took in record {
+closed_on {told} {stage} last {old = old} {mid} {fault = fault} is took second = let first = rw (← is) at took in record {
   keeps = keeps_on first.keeps second.keeps;
   reaches = λ x front stands. reaches_then first.keeps.style (more_settled stage.cutter stage.rest front) (first.reaches x front stands)
       (reaches_as (sym (settled_same (x ++ stage.rest) first.keeps)) (sym (same_by (λ style operands. whole_of style operands (all_lines (x ++ stage.rest))) first.keeps)) (second.reaches (x ++ stage.rest) (first.went.stands x front stands)));
@@ -397,7 +395,7 @@ closed_on {told} {stage} last {old = old} {mid} {fault = fault} is took second =
 -- the open line could not be taken in
 pub closed_short : {told : Bool} {stage next : CsplitState} {old new : List Slot} {fault : Fault}
     → Takes told stage.cutter stage.rest old new next.cutter (Some fault) → Closed told stage old new next (Some fault)
-closed_short {stage = stage} stopped = record { keeps = stopped.keeps; reaches = λ x front stands. stops_wider (stopped.reaches x front stands) (subst (λ lines. Begins (settled_part stage.cutter (x ++ stage.rest)) (whole_of stage.cutter.style stage.cutter.operands lines)) (append-nil (all_lines (x ++ stage.rest))) (whole_grows stage.cutter.style stage.cutter.operands (all_lines (x ++ stage.rest)) [])); judged = tt }
+closed_short {stage = stage} stopped = record { keeps = stopped.keeps; reaches = λ x front stands. stops_wider (stopped.reaches x front stands) (rw (append-nil (all_lines (x ++ stage.rest))) at (whole_grows stage.cutter.style stage.cutter.operands (all_lines (x ++ stage.rest)) [])); judged = tt }
 
 -- Where later input goes nowhere, it changes nothing of the end either.
 
@@ -430,7 +428,7 @@ line_at {before} end is text_is none line = grind (arith, common_steps, joined_l
 pub lacks_at : {told : Bool} {before stage : CsplitState} (t : List ℕ) {slots : List Slot} → before ≡ stage
     → IsSound stage.cutter → CanWrite stage.cutter.writer slots
     → Takes told stage.cutter t slots slots before.cutter (Some Memory)
-lacks_at {told} {stage = stage} t {slots} is sound ready = subst (λ (s : CsplitState). Takes told stage.cutter t slots slots s.cutter (Some Memory)) (sym is) (takes_wider t (inl refl) (takes_lacking (takes_none sound ready)))
+lacks_at {told} {stage = stage} t {slots} is sound ready = rw is (takes_wider t (inl refl) (takes_lacking (takes_none sound ready)))
 
 -- the first of the lines was taken in, and then the others
 
@@ -455,7 +453,7 @@ pub lines_stop : {told : Bool} {before stage : CsplitState} {next : CutterState}
     → Takes told before.cutter text old new next (Some fault)
     → Takes told stage.cutter (stage.rest ++ lines) old new next (Some fault)
 lines_stop {told} {before} {next = next} end {others} {old} {new} {fault} same text_is is last whole stopped =
-    lines_from end others same is (takes_wider others (open_complete before.rest end (first_complete end last is whole)) (subst (λ those. Takes told before.cutter those old new next (Some fault)) text_is stopped))
+    lines_from end others same is (takes_wider others (open_complete before.rest end (first_complete end last is whole)) (rw text_is at stopped))
 
 pub lines_after : {told : Bool} {before stage : CsplitState} {mid next : CutterState} {lines text : List ℕ}
     (end : List ℕ) {others : List ℕ}
@@ -464,7 +462,7 @@ pub lines_after : {told : Bool} {before stage : CsplitState} {mid next : CutterS
     → Takes told before.cutter text old between mid None → Takes told mid others between new next fault
     → Takes told stage.cutter (stage.rest ++ lines) old new next fault
 lines_after {told} {before} {mid = mid} end {others} {old} {between} same text_is is last whole first second =
-    lines_from end others same is (takes_again (open_complete before.rest end (first_complete end last is whole)) (subst (λ those. Takes told before.cutter those old between mid None) text_is first) second)
+    lines_from end others same is (takes_again (open_complete before.rest end (first_complete end last is whole)) (rw text_is at first) second)
 
 -- A piece
 
@@ -474,7 +472,7 @@ pub past_passes : {told : Bool} {view stage : CsplitState} {piece : List ℕ} {s
     → Passes told stage piece slots slots view (Ok tt)
 past_passes {told} {stage = stage} {piece} {slots} is aim ready sound unbroken =
     let aimed : stage.cutter.aim ≡ Below = ap (λ (s : CsplitState). s.cutter.aim) (sym is) ∙ aim in
-    subst (λ (s : CsplitState). Passes told stage piece slots slots s (Ok tt)) (sym is) (record {
+    rw is (record {
       took = took_past aimed sound ready;
       passed = record { live = λ differs. absurd (differs aimed); past = λ is_below was. was is_below; still = λ is_below. refl; unbroken = unbroken; size = omega arith };
     })
@@ -494,8 +492,7 @@ pub none_passes : {told : Bool} {view stage : CsplitState} (next : CsplitState) 
     → OnOk result ((view.cutter.aim ≡ Below → ⊥) → next.rest ≡ view.rest ++ piece)
     → IfErr result (λ fault. fault ≡ Memory) → Passes told stage piece slots slots next result
 none_passes {told} {view} {stage} next {piece} {slots} result is differs none ready sound unbroken cutter rest lacks = subst (λ (s : CsplitState). Passes told s piece slots slots next result) is (record {
-  took = takes_or_lacks result (subst (λ (c : CutterState). Takes told view.cutter (whole_lines (view.rest ++ piece)) slots slots c None) (sym cutter)
-      (subst (λ text. Takes told view.cutter text slots slots view.cutter None) (sym (front_is [] (view.rest ++ piece) (inl refl) (no_newline view.rest piece here none)))
+  took = takes_or_lacks result (rw cutter (subst (λ text. Takes told view.cutter text slots slots view.cutter None) (sym (front_is [] (view.rest ++ piece) (inl refl) (no_newline view.rest piece here none)))
       (takes_none (subst (λ (s : CsplitState). IsSound s.cutter) (sym is) sound) (subst (λ (s : CsplitState). CanWrite s.cutter.writer slots) (sym is) ready)))) lacks;
   passed = on_both result rest rest (λ rest same. record {
     live = λ also. rest differs ∙ sym (tail_is [] (inl refl) (no_newline view.rest piece here none));
@@ -525,7 +522,7 @@ pub some_passes : {told : Bool} {view stage : CsplitState} (mid next : CsplitSta
     → OnOk result (mid.cutter.aim ≡ Below → next.rest ≡ mid.rest)
     → OnOk result ((mid.cutter.aim ≡ Below → ⊥) → next.rest ≡ mid.rest ++ text)
     → IfErr result (λ fault. fault ≡ Memory) → Passes told stage piece old new next result
-some_passes {told} {view} {stage} mid next {piece} {lines} text end {old} {new} result is differs last lines_is text_is took empty cutter past live lacks = subst (λ (s : CsplitState). Passes told s piece old new next result) is (record {
+some_passes {told} {view} {stage} mid next {piece} {lines} text end {old} {new} result is differs last lines_is text_is took empty cutter past live lacks = rw (← is) (record {
   took = takes_or_lacks result (subst (λ (c : CutterState). Takes told view.cutter (whole_lines (view.rest ++ piece)) old new c None) (sym cutter)
       (subst (λ those. Takes told view.cutter those old new mid.cutter None) (ap (λ those. view.rest ++ those) lines_is ∙ sym (piece_lines view.rest end last)) took)) lacks;
   passed = on_both result past live (λ past live.
@@ -549,8 +546,7 @@ pub some_stopped : {told : Bool} {view stage : CsplitState} (next : CsplitState)
     {old new : List Slot} {fault : Fault} → view ≡ stage → LastEndsAt newline piece end → lines ≡ take end piece
     → Takes told view.cutter (view.rest ++ lines) old new next.cutter (Some fault)
     → Passes told stage piece old new next (Err fault)
-some_stopped {told} {view} next {piece} end {old} {new} {fault} is last lines_is stopped = subst (λ (s : CsplitState). Passes told s piece old new next (Err fault)) is
-    (record { took = subst (λ those. Takes told view.cutter those old new next.cutter (Some fault)) (ap (λ those. view.rest ++ those) lines_is ∙ sym (piece_lines view.rest end last)) stopped; passed = tt })
+some_stopped {told} {view} next {piece} end {old} {new} {fault} is last lines_is stopped = rw (← is) (record { took = subst (λ those. Takes told view.cutter those old new next.cutter (Some fault)) (ap (λ those. view.rest ++ those) lines_is ∙ sym (piece_lines view.rest end last)) stopped; passed = tt })
 
 -- The last line
 
@@ -558,7 +554,7 @@ pub last_none : {told : Bool} {before stage : CsplitState} {n : ℕ} {slots : Li
     → n ≡ length before.rest → eqb n 0 ≡ true → CanWrite stage.cutter.writer slots → IsSound stage.cutter
     → Takes told stage.cutter stage.rest slots slots stage.cutter None
 last_none {told} {stage = stage} {slots = slots} is size empty ready sound =
-    subst (λ text. Takes told stage.cutter text slots slots stage.cutter None) (sym (ap (λ (s : CsplitState). s.rest) (sym is) ∙ none_there (ap (λ k. eqb k 0) size) empty)) (takes_none sound ready)
+    rw (ap (λ (s : CsplitState). s.rest) (sym is) ∙ none_there (ap (λ k. eqb k 0) size) empty) (takes_none sound ready)
 
 pub last_line : {before stage : CsplitState} {n : ℕ} {text : List ℕ} → before ≡ stage → text ≡ before.rest
     → n ≡ length before.rest → eqb n 0 ≡ false → delimiters newline stage.rest ≡ 0 → IsLine text
@@ -656,8 +652,7 @@ passes_by told stage next piece old new (Ok done) passes is_ready taken fits = r
   same = same_by csplit_work passes.took.keeps;
   size = omega (arith, taken);
   holds = λ x holds. holds_by passes holds (below_or_not stage.cutter.aim);
-  outputs = λ before x at. subst (λ part. OutputsAt told before part new) (settled_then piece at.holds)
-      ((passes.took.reaches (whole_lines x) (lines_whole x) at.holds.stands).there before (stands_so told at)).outputs;
+  outputs = λ before x at. rw (settled_then piece at.holds) at ((passes.took.reaches (whole_lines x) (lines_whole x) at.holds.stands).there before (stands_so told at)).outputs;
   ready = record {
     writer = passes.took.keeps.writer.ready;
     output = passes.took.keeps.writer.output is_ready.output;
@@ -681,8 +676,7 @@ passes_by told stage next piece old new (Err fault) stopped is_ready taken fits 
   owns = owns_on stopped.took.keeps.writer;
   there = stopped.took.keeps.writer.owns.there;
   cut = λ before x at. engine.cut (not_verdict stage.cutter.style old new fault is_ready.manner stopped.took.keeps.writer.slots)
-      (subst (λ low. StoppedBetween (work stage).means.output told before low ((work stage).settled (x ++ piece)) fault new) (settled_is stage x)
-      (subst (λ high. StoppedBetween (work stage).means.output told before (settled_part stage.cutter (whole_lines x)) high fault new) (settled_then piece at.holds)
+      (rw (settled_is stage x) at (subst (λ high. StoppedBetween (work stage).means.output told before (settled_part stage.cutter (whole_lines x)) high fault new) (settled_then piece at.holds)
       (stopped_in_turn (work stage).means.output told before _ _ fault new (has_settled stage (whole_lines x)) ((stopped.took.reaches (whole_lines x) (lines_whole x) at.holds.stands).there before (stands_so told at)))));
   met = met_by refl (EndsWith terms piece stage) stage.cutter.style old new fault is_ready.manner stopped.took.keeps.writer.slots;
 }
@@ -716,7 +710,7 @@ module _ (told : Bool) (stage next : CsplitState) (old new : List Slot) where
   pub whole_out : Closed told stage old new next None → {before : List Slot} {x : List ℕ}
       → StandsAt terms stage told before x old → OutputsAt told before ((work stage).whole x) new
   whole_out closed {before} {x} at =
-      subst (λ part. OutputsAt told before part new) (whole_then stage x at.holds) ((closed.reaches (whole_lines x) (lines_whole x) at.holds.stands).there before (stands_so told at)).outputs
+      rw (whole_then stage x at.holds) at ((closed.reaches (whole_lines x) (lines_whole x) at.holds.stands).there before (stands_so told at)).outputs
 
   pub ends_there : Closed told stage old new next None → {verdict : Verdict} → Judges next.cutter (Some verdict)
       → EndsThere terms stage verdict
@@ -725,8 +719,7 @@ module _ (told : Bool) (stage next : CsplitState) (old new : List Slot) where
   pub ends_short : {fault : Fault} → Closed told stage old new next (Some fault) → IsReady stage old
       → CutsOff terms stage (work stage).whole told old new fault
   ends_short {fault} stopped ready before x at = engine.cut (not_verdict stage.cutter.style old new fault ready.manner stopped.keeps.writer.slots)
-      (subst (λ low. StoppedBetween (work stage).means.output told before low ((work stage).whole x) fault new) (settled_is stage x)
-      (subst (λ high. StoppedBetween (work stage).means.output told before (settled_part stage.cutter (whole_lines x)) high fault new) (whole_then stage x at.holds)
+      (rw (settled_is stage x) at (subst (λ high. StoppedBetween (work stage).means.output told before (settled_part stage.cutter (whole_lines x)) high fault new) (whole_then stage x at.holds)
       (stopped_in_turn (work stage).means.output told before _ _ fault new (has_settled stage (whole_lines x)) ((stopped.reaches (whole_lines x) (lines_whole x) at.holds.stands).there before (stands_so told at)))))
 
   -- the work ends with a verdict, and the files were cleared away after it
@@ -735,7 +728,7 @@ module _ (told : Bool) (stage next : CsplitState) (old new : List Slot) where
       → CutsOff terms stage (work stage).whole told old cleared (fault_is.Verdict verdict)
   ends_judged closed cleared swept before x at =
       engine.judged refl new (whole_out closed at)
-      (subst (λ (style : Style). Swept (not style.keep) (length before) new cleared) closed.keeps.style (swept (length before) (owns_on closed.keeps.writer (length before) at.owns)))
+      (rw closed.keeps.style at (swept (length before) (owns_on closed.keeps.writer (length before) at.owns)))
 
 -- what the end owes, however it went
 pub finishes_by : (told : Bool) (stage next : CsplitState) (old new : List Slot) {result : Result (Unit {0}) Fault}
@@ -780,7 +773,7 @@ none_stands : (told : Bool) (style : Style) {before slots : List Slot} → 2 ≤
     → OutputsAt told before nothing slots → At told (writer_for style) before nothing slots
 none_stands told style {before} {slots} two at =
     let size : length slots ≡ length before + 0 = outputs_count told before nothing slots at in
-    record { owns = subst (λ n. OwnsFiles (writer_for style) n slots) (let e : length slots ≡ length before = omega (arith, size) in e) (first_owns style two); outputs = at }
+    record { owns = rw (let e : length slots ≡ length before = omega (arith, size) in e) at (first_owns style two); outputs = at }
 
 -- the first section began, or could not; the operands are as they are handed over
 pub begins_at : (told : Bool) (style : Style) {given operands : List Operand} {writer : WriterState}
@@ -789,15 +782,14 @@ pub begins_at : (told : Bool) (style : Style) {given operands : List Operand} {w
     → (before : List Slot) → OutputsAt told before nothing old
     → OutputsAt told before (settled_by style operands []) new
 begins_at told style {new} same two reaches before at =
-    subst (λ those. OutputsAt told before (settled_of style those []) new) same (reaches.there before (none_stands told style two at)).outputs
+    rw same at (reaches.there before (none_stands told style two at)).outputs
 
 pub cannot_begin : (told : Bool) {style : Style} {given operands : List Operand} {old new : List Slot} {fault : Fault}
     → given ≡ operands → 2 ≤ length old → BegunNot told style (settled_of style given []) old new fault
     → (before : List Slot) → OutputsAt told before nothing old
     → StoppedBetween (sizes_wanted style) told before nothing (settled_by style operands []) fault new
 cannot_begin told {style} {given} {new} {fault} same two stopped before at =
-    subst (λ those. StoppedBetween (sizes_wanted style) told before nothing (settled_of style those []) fault new) same
-    (stopped_in_turn (sizes_wanted style) told before nothing (settled_of style given []) fault new (nothing_told (sizes_wanted style)) (stopped.reaches.there before (none_stands told style two at)))
+    rw same at (stopped_in_turn (sizes_wanted style) told before nothing (settled_of style given []) fault new (nothing_told (sizes_wanted style)) (stopped.reaches.there before (none_stands told style two at)))
 
 -- The files are removed.
 
@@ -809,8 +801,8 @@ sweeps stage next {old} {new} is taken clears_view none are =
     let kept = files_left (ap (λ (c : CutterState). c.writer.keeps) clears.same) (ap (λ (c : CutterState). c.writer.current) clears.same) clears.removes in record {
       same = ap (λ (c : CutterState). csplit_work c.style c.operands) clears.same;
       size = omega (arith, taken);
-      removes = subst (λ keep. RemovesIf (not keep) (files stage) old (files next) new) (sym none) clears.removes;
-      swept = λ first own. subst (λ keep. Swept (not keep) first old new) (sym none) (all_cleared first (files stage) (files next) old new clears.removes own.writer.there own.writer.from (own.writer.own own.all));
+      removes = rw none clears.removes;
+      swept = λ first own. rw none (all_cleared first (files stage) (files next) old new clears.removes own.writer.there own.writer.from (own.writer.own own.all));
       owns = λ first own. record { writer = kept.owns first own.writer; all = ap (λ (c : CutterState). c.writer.keeps) clears.same ∙ own.all };
       there = kept.there are;
     }

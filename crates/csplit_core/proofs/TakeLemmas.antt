@@ -41,13 +41,13 @@ live_before : {cutter : CutterState} {x : List ℕ} (t : List ℕ) (live : IsLiv
     → settled_end (line_count newline x) live.ends.ending ≤ cut
 live_before {cutter} {x} t live matched cut are at =
     let so = cuts_from (suppress_in cutter) (all_lines x) (all_lines t) (state_in cutter) live.ends.ending (ends_as _ _ _ _ _ _ live.ends.runs) are in
-    subst (λ n. settled_end n live.ends.ending ≤ cut) (length-all_lines x) (so.1 matched cut at)
+    rw (length-all_lines x) at (so.1 matched cut at)
 
 pub place_before : {cutter : CutterState} {x : List ℕ} (t : List ℕ) {matched : ℕ} (cut : ℕ) (live : IsLive cutter x)
     → IsWhole x → (goes : GoesPast (suppress_in cutter) (all_lines (x ++ t)) (state_in cutter) matched cut)
     → IsFit cutter → cutter.progress.current ≤ cut → cutter.progress.current + live.at.taken ≤ cut
 place_before {cutter} {x} t {matched} cut live whole goes fit from =
-    let at = subst (λ lines. CutsAt (suppress_in cutter) lines (state_in cutter) goes.operand goes.operand.target matched cut) (all_lines-append t (inl whole)) goes.cuts in omega (arith, live_taken live, live_before t live matched cut goes.are at, from)
+    let at = rw (all_lines-append t (inl whole)) at goes.cuts in omega (arith, live_taken live, live_before t live matched cut goes.are at, from)
 
 -- What arrives where more lines came.
 
@@ -198,8 +198,8 @@ pub take_cut : {told : Bool} {cutter mid next : CutterState} (line more : List �
     → CutsAll told mid cut (mid.lines - delimiters newline mid.window.held)
     (mid.window.held ++ line) line more old new next fault → Takes told cutter (line ++ more) old new next fault
 take_cut {told} {cutter} {next = next} line more {cut} {old} {new} {fault} fit differs one is will tries all =
-    took_cut line more fit differs one refl (subst (λ (m : CutterState). WillCut m cut) is will) (subst (λ (m : CutterState). TriesNext cutter line m (Some cut)) is tries)
-    (subst (λ (m : CutterState). CutsAll told m cut (m.lines - delimiters newline m.window.held) (m.window.held ++ line) line more old new next fault) is all)
+    took_cut line more fit differs one refl (rw is at will) (rw is at tries)
+    (rw is at all)
 
 -- Where the cut is below the current line, later lines go nowhere.
 
@@ -249,7 +249,7 @@ found_first left found is known sure = grind (arith, common_steps)
 
 pub more_settled : (cutter : CutterState) {x : List ℕ} (t : List ℕ) → IsWhole x
     → Begins (settled_part cutter x) (settled_part cutter (x ++ t))
-more_settled cutter {x} t whole = subst (λ lines. Begins (settled_part cutter x) (Rattle.csplit_core.specs.Csplit.settled_of cutter.style cutter.operands lines)) (sym (all_lines-append t (inl whole))) (grows cutter.style cutter.operands (all_lines x) (all_lines t))
+more_settled cutter {x} t whole = rw (← all_lines-append t (inl whole)) at (grows cutter.style cutter.operands (all_lines x) (all_lines t))
 
 -- one text after another
 
@@ -274,7 +274,7 @@ pub takes_wider : {told : Bool} {cutter next : CutterState} {a : List ℕ} (b : 
 takes_wider {cutter = cutter} {a = a} b whole stopped = record {
   keeps = stopped.keeps;
   reaches = λ x before stands. stops_wider (stopped.reaches x before stands)
-      (subst (λ those. Begins (settled_part cutter (x ++ a)) (settled_part cutter those)) (append_assoc x a b) (more_settled cutter b (whole-append a before whole)));
+      (rw (append_assoc x a b) at (more_settled cutter b (whole-append a before whole)));
   went = tt;
 }
 
@@ -298,17 +298,16 @@ module _ {told : Bool} {cutter now : CutterState} {text left : List ℕ} {old mi
   takes_more {next} passed {new} more = record {
     front = so_far.front ++ take n left;
     whole = so_far.whole ∙ ap (λ those. so_far.front ++ those) (sym (take-append-drop n left) ∙ ap (λ those. take n left ++ those) (sym (rest_all n left))) ∙ sym (append_assoc so_far.front (take n left) (take (length left - n) (drop n left)));
-    complete = whole-append (take n left) so_far.complete (subst (λ k. IsWhole (take k left)) (sym more.size_is) (more.whole so_far.rest));
+    complete = whole-append (take n left) so_far.complete (rw (← more.size_is) at (more.whole so_far.rest));
     rest = subst IsWhole (sym (rest_all n left)) (whole_drop n so_far.rest);
-    took = takes_again so_far.complete so_far.took (subst (λ k. Takes told now (take k left) mid new next None) (sym more.size_is) more.took);
+    took = takes_again so_far.complete so_far.took (rw (← more.size_is) at more.took);
   } where
     n : ℕ
     n = passed.size
 
   pub takes_stopped : {next : CutterState} {size : ℕ} {new : List Slot} {fault : Fault}
       → Stretches told now left size mid new next (Err fault) → Takes told cutter text old new next (Some fault)
-  takes_stopped {next} {new = new} {fault} more = subst (λ those. Takes told cutter those old new next (Some fault)) (sym so_far.whole)
-      (takes_again so_far.complete so_far.took (subst (λ those. Takes told now those mid new next (Some fault)) (take-append-drop more.n left) (takes_wider (drop more.n left) (more.whole so_far.rest) more.took)))
+  takes_stopped {next} {new = new} {fault} more = rw (← so_far.whole) at (takes_again so_far.complete so_far.took (subst (λ those. Takes told now those mid new next (Some fault)) (take-append-drop more.n left) (takes_wider (drop more.n left) (more.whole so_far.rest) more.took)))
 
   pub takes_end : left ≡ [] → Takes told cutter text old mid now None
   takes_end none = grind (arith, common_steps)
@@ -368,7 +367,7 @@ pub spread_more : {told : Bool} {cutter now mid next : CutterState} {cut cut' : 
 unfolding at_alike
 spread_more {told} {cutter} {now} {mid} {next} {cut} {cut'} {waiting = waiting} {line} {left} {rest} {between = between} {new} so_far is tries will at_cut =
     let tried = subst (λ (m : CutterState). Tries now line m (Some cut')) is tries in
-    let once = (subst (λ (m : CutterState). CutAt told m cut' m.progress.current left between new next rest) is at_cut).spreading line in record {
+    let once = (rw is at at_cut).spreading line in record {
       keeps = keeps_on so_far.keeps (record { operands = once.keeps.operands; style = once.keeps.style; writer = once.keeps.writer });
       lines = once.lines ∙ so_far.lines;
       fit = once.fit;
@@ -396,7 +395,7 @@ pub spread_stopped : {told : Bool} {cutter now mid next : CutterState} {cut cut'
 unfolding at_alike
 spread_stopped {told} {now = now} {mid} {next} {cut' = cut'} {line = line} {left} {between = between} {new} {fault} so_far is tries will stops =
     let tried = subst (λ (m : CutterState). Tries now line m (Some cut')) is tries in
-    let stopped = subst (λ (m : CutterState). CutsAll told m cut' m.progress.current left line [] between new next (Some fault)) is stops in record {
+    let stopped = rw is at stops in record {
       keeps = keeps_on so_far.keeps (record { operands = stopped.keeps.operands; style = stopped.keeps.style; writer = stopped.keeps.writer });
       reaches = λ x at here. let after = so_far.after x at here in reaches_then so_far.keeps.style after.grows after.reaches
           (reaches_as refl (sym (settled_same (x ++ []) so_far.keeps)) (stopped.reaches x (at_alike now mid.aim now.window x left after.now) (cuts_again cut' line after tried will)));
@@ -442,12 +441,11 @@ spread_held {told} {cutter} {mid} {next} {left = left} {between = between} {new}
     let low = part_at now x left after.now in
     let there : Reached low (more_lines now now.lines mid.aim) x left = record {
       at = at_alike now mid.aim now.window x left after.now;
-      arrives = record { ends = subst (λ (m : CutterState). EndsNow m x) is (spread.tries x after.looked); low = λ past. after.none; enough = inl after.none };
+      arrives = record { ends = rw is at (spread.tries x after.looked); low = λ past. after.none; enough = inl after.none };
       same = refl;
     } in
-    subst (λ those. Reached low (more_lines now now.lines mid.aim) those (left ++ [])) (sym (append-nil x)) (subst (Reached low (more_lines now now.lines mid.aim) x) (sym (append-nil left)) there))
-    (subst (λ those. Holds told (more_lines now now.lines mid.aim) those between new next fault) (sym (append-nil left))
-    (subst (λ (m : CutterState). Holds told m left between new next fault) is (subst (λ those. Holds told mid those between new next fault) (ap (λ those. those ++ left) none) held)))
+    rw (append-nil x) (subst (Reached low (more_lines now now.lines mid.aim) x) (sym (append-nil left)) there))
+    (rw (← append-nil left) at (subst (λ (m : CutterState). Holds told m left between new next fault) is (subst (λ those. Holds told mid those between new next fault) (ap (λ those. those ++ left) none) held)))
 
 -- Cutting the lines that wait and one more.
 
@@ -487,8 +485,7 @@ pub cut_drained : {told : Bool} {cutter next : CutterState} {window : Window} {c
     → CutsAll told cutter cut (cutter.lines - delimiters newline cutter.window.held)
     (cutter.window.held ++ line) line [] old new next fault
 cut_drained {told} {cutter} {next} {window} {cut} {waiting = waiting} {line} {old} {new} {fault} waiting_is place_is cuts =
-    all_alike cutter window (subst (λ those. CutsAll told (record cutter { window = window }) cut (cutter.lines - delimiters newline cutter.window.held) those line [] old new next fault) waiting_is
-    (subst (λ n. CutsAll told (record cutter { window = window }) cut n waiting line [] old new next fault) place_is cuts))
+    all_alike cutter window (rw waiting_is at (subst (λ n. CutsAll told (record cutter { window = window }) cut n waiting line [] old new next fault) place_is cuts))
 
 -- how many lines wait
 pub waiting_count : (lines : ℕ) (held : List ℕ) {waiting : List ℕ} (line front : List ℕ) {size count place : ℕ}
@@ -529,13 +526,13 @@ pub gone_on : {told : Bool} {cutter mid next : CutterState} (text : List ℕ) {r
     → IfOk result (λ all. (all.size ≡ kept + passed.size) × (all.found ≡ passed.found))
     → GoesOn told cutter (take kept text) (drop kept text) old new next result
 gone_on {told} {cutter} {mid} {next} text kept {passed} {old} {new} result within rest_is stops held are =
-    let stops_there = subst (λ those. StopsAt cutter those mid passed) rest_is stops in record {
+    let stops_there = rw rest_is at stops in record {
       mid = mid;
       n = passed.size;
       over = stops_there.over;
-      held = subst (λ those. Holds told mid (mid.window.held ++ those) old new next (fault_in result)) (take-add kept passed.size text) held;
+      held = rw (take-add kept passed.size text) at held;
       size = ok_as result (λ all both. both.0 ∙ ap (λ k. k + passed.size) (sym (length-take-le kept text within))) are;
-      found = ok_as result (λ all both. subst (λ found. IfSome found (IsNextFound mid (drop passed.size (drop kept text)))) (sym both.1) stops_there.found) are;
+      found = ok_as result (λ all both. rw (← both.1) at stops_there.found) are;
     }
 
 -- The lines after a cut, up to where the next operand cuts: none of the open section is written before them.
@@ -552,7 +549,7 @@ there_of {now = now} {mid} {aim} {x} line {left} {rest} {n} fit whole tries over
     let ends : EndsNow here x = tries x after.looked in
     let both = over.ends x whole after.now.counted ends in record {
       at = at_more here mid.lines aim x (take n rest) left whole fit.fits.some at ends both.0;
-      arrives = record { ends = subst (λ (c : CutterState). EndsNow c (x ++ take n rest)) over.same both.1; low = λ past. after.none; enough = inl after.none };
+      arrives = record { ends = rw over.same at both.1; low = λ past. after.none; enough = inl after.none };
       same = part_more aim (take n rest) whole fit.fits.some at ends both.0;
     }
 
@@ -571,9 +568,9 @@ spread_passes {told} {mid = mid} {end} {next} {line = line} {left} {rest} {n} {b
     let over_now = subst (λ (m : CutterState). PassesOver m rest end n) spread.is over in
     let long : length (take n rest) ≡ n = length-take-le n rest over.within in
     spread_on spread.so_far (subst IsSound over_now.same over.sound) (let few = over_now.few in let s = spread.so_far.lines in omega (arith, few, s, long))
-    (λ x at here. there_of line spread.so_far.fit (joins_by n complete here.last.2) (subst (λ (m : CutterState). Tries now line m None) spread.is spread.tries) over_now (spread.so_far.after x at here))
+    (λ x at here. there_of line spread.so_far.fit (joins_by n complete here.last.2) (rw spread.is at spread.tries) over_now (spread.so_far.after x at here))
     (subst (λ those. Holds told (more_lines now end.lines mid.aim) (those ++ (left ++ take n rest)) between new next fault) spread.so_far.held
-    (subst (λ (m : CutterState). Holds told m (m.window.held ++ (left ++ take n rest)) between new next fault) over_now.same held))
+    (rw over_now.same at held))
 
 -- The text from what is left of its first line on.
 
@@ -615,7 +612,7 @@ cut_on {next = next} text {left = left} size {passed = passed} within complete s
       whole = gone.over.whole;
       all = spread_passes spread complete gone.over gone.held;
       size = (let g = gone.size in omega (arith, size_is, g, few, kept_is, long));
-      found = subst (λ found. IfSome found (IsNextFound next (drop gone.n (drop size text)))) (sym found_is) (found_by (drop gone.n (drop size text)) passed.found gone.held gone.found);
+      found = rw found_is (found_by (drop gone.n (drop size text)) passed.found gone.held gone.found);
     }
 
 pub cut_not_on : {told : Bool} {cutter mid next : CutterState} {cut : Cut} {line tail left rest : List ℕ} {kept : ℕ}
@@ -639,8 +636,8 @@ ends_on {cutter} {mid} {end} line {rest} {n} one complete mid_is tries over end_
     let count : mid.lines ≡ line_count newline (x ++ line) = ap (λ (c : CutterState). c.lines) mid_is ∙ ap (λ k. k + 1) live.at.counted ∙ sym (count-line line whole one) in
     let both = over.ends (x ++ line) (joins_by n complete (λ ends. whole-append line whole (inr ends))) count (tries x whole live) in
     let is = append_assoc x line (take n rest) in (
-      subst (λ those. end.lines ≡ line_count newline those) is both.0,
-      subst (EndsNow (more_lines cutter end.lines mid.aim)) is (subst (λ (c : CutterState). EndsNow c ((x ++ line) ++ take n rest)) end_is both.1),
+      rw is at both.0,
+      subst (EndsNow (more_lines cutter end.lines mid.aim)) is (rw end_is at both.1),
     )
 
 stretched : {told : Bool} {cutter next : CutterState} {text : List ℕ} {size n : ℕ} {old new : List Slot}
@@ -655,9 +652,9 @@ stretched {told} {cutter} {next} {text} {size} {n} {old} {new} result within mor
   least = omega arith;
   within = (let long = length-drop size text in omega (arith, long, within, more));
   whole = λ all. subst IsWhole (sym (take-add size n text)) (by complete all);
-  took = subst (λ those. Takes told cutter those old new next (fault_in result)) (sym (take-add size n text)) took;
+  took = rw (← take-add size n text) at took;
   size_is = ok_as result (λ passed is. is ∙ ap (λ k. k + n) (length-take-le size text within)) size_is;
-  found = ok_as result (λ passed found. subst (λ those. IfSome passed.found (IsNextFound next those)) (drop-drop n size text) found) found;
+  found = ok_as result (λ passed found. rw (drop-drop n size text) at found) found;
 } where
   by : (drop size text ≡ []) ⊎ (ends_with newline (take size text) ≡ true) → IsWhole text
       → IsWhole (take size text ++ take n (drop size text))
@@ -680,7 +677,7 @@ stretch_on {told} {cutter} {mid} {next} {text} {size} {old} {new} result fit dif
     let rest : length more ≡ gone.n = length-take-le gone.n (drop size text) gone.over.within in
     let first : mid.lines ≡ cutter.lines + 1 = ap (λ (c : CutterState). c.lines) mid_is in
     stretched result within gone.over.within complete gone.over.whole (took_held (subst IsSound end_is gone.over.sound) fit differs (let few = gone.over.few in omega (arith, few, longer, rest, first, some))
-    (ends_on line one complete mid_is tries gone.over end_is) (subst (λ (m : CutterState). Holds told m (m.window.held ++ (line ++ more)) old new next (fault_in result)) end_is gone.held)) gone.size (found_held (drop gone.n (drop size text)) result gone.held gone.found)
+    (ends_on line one complete mid_is tries gone.over end_is) (rw end_is at gone.held)) gone.size (found_held (drop gone.n (drop size text)) result gone.held gone.found)
 
 -- It is cut, and none waits.
 pub stretch_cut : {told : Bool} {cutter mid next : CutterState} {text : List ℕ} {size : ℕ} {cut : Cut}
@@ -707,7 +704,7 @@ pub stretch_first : {told : Bool} {cutter mid next : CutterState} {text : List �
     → Stretches told cutter text size old new next result
 stretch_first {told} {cutter} {next = next} {text} {size} {old = old} {new} result fit differs within one complete mid_is will tries all are =
     stretched {n = 0} result within (omega arith) complete (inl refl) (take_cut (take size text) [] fit differs one mid_is will tries all)
-    (ok_as result (λ passed both. both.0 ∙ (let long = length-take-le size text within in omega (arith, long))) are) (ok_as result (λ passed both. subst (λ found. IfSome found (IsNextFound next (drop 0 (drop size text)))) (sym both.1) tt) are)
+    (ok_as result (λ passed both. both.0 ∙ (let long = length-take-le size text within in omega (arith, long))) are) (ok_as result (λ passed both. rw both.1 tt) are)
 
 -- All of it goes nowhere.
 pub stretch_past : {told : Bool} {cutter next : CutterState} {text : List ℕ} {size : ℕ} {old new : List Slot}

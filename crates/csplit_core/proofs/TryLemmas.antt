@@ -102,7 +102,7 @@ pub falls_number : (suppress : Bool) (all : List Line) {total : ℕ} (state : St
     → most ≡ min (number * (state.repetition + 1)) (2 ^ 64 - 1) → total < 2 ^ 64 - 1 → (turn : Turn)
     → FallsAt total state.current state.matched most turn → Turns suppress all state turn
 falls_number suppress all state {operand = operand} number are target seen is few turn at = falls suppress all state state.matched (number * (state.repetition + 1)) seen.count are
-    (subst (λ t. CutsAt suppress all state operand t state.matched (number * (state.repetition + 1))) (sym target) (refl, refl)) is few turn at
+    (rw target (refl, refl)) is few turn at
 
 -- where the last line has the operand's pattern, its search ends there
 pub falls_search : (suppress : Bool) (all : List Line) {total : ℕ} (state : State) {found : Bool} {operand : Operand}
@@ -113,7 +113,7 @@ pub falls_search : (suppress : Bool) (all : List Line) {total : ℕ} (state : St
     → FallsAt total state.current total most turn → Turns suppress all state turn
 falls_search suppress all {total} state {operand = operand} {operands} {pattern} {kept} offset are target seen near is_found is few turn at = falls suppress all state total (moved offset total) seen.count are
     (subst (λ t. CutsAt suppress all state operand t total (moved offset total)) (sym target)
-    (subst (λ n. CutsAt suppress all state operand (Search pattern kept offset) n (moved offset n)) seen.count (
+    (rw (← seen.count) (
       (grind (arith, common_steps)),
       refl,
     ))) is few turn at
@@ -282,8 +282,7 @@ ends_over {cutter} {lines} text fit count stays x before counted ends =
       omega (arith, count, counted, sum),
       record {
         ending = ends.ending;
-        runs = subst (λ those. Runs (suppress_in cutter) those (state_in cutter) [] (state_in cutter) ends.ending) (sym (all_lines-append text before))
-            (ends_still (all_lines text) ends.runs (grind (arith, common_steps)));
+        runs = rw (← all_lines-append text before) at (ends_still (all_lines text) ends.runs (grind (arith, common_steps)));
         aims = ends.aims;
       },
     )
@@ -319,7 +318,7 @@ pub next_looked : {cutter : CutterState} {x : List ℕ} (line : List ℕ) (live 
 next_looked {cutter} {x} line live whole one aim =
     let ends = ends_as _ _ _ _ _ _ live.ends.runs in
     let count = lines_are live in
-    let aims = subst (λ a. AimsAt a live.ends.ending) aim live.ends.aims in record {
+    let aims = rw aim at live.ends.aims in record {
       counted = ap (λ n. n + 1) live.at.counted ∙ sym (count-line line whole one);
       last = (all_lines x, all_lines-line line whole one, λ ends. whole-append line whole (inr ends));
       others = λ operand operands are other from less. ap (λ lines. is_match operand lines other) (all_lines-line line whole one)
@@ -361,7 +360,7 @@ passes_all {cutter} {text} {n} sound whole count stays =
     let all : text ≡ take (length text) text = sym (take_all (length text) text (omega arith)) in
     let same : line_count newline text ≡ delimiters newline text = whole_count whole in
     let taken : line_count newline text ≡ line_count newline (take (length text) text) = ap (line_count newline) all in
-    passes sound (omega arith) (subst IsWhole all whole) (omega (arith, count, same, taken)) (subst (λ those. StaysOver cutter those (cutter.lines + n) cutter.aim) all stays)
+    passes sound (omega arith) (subst IsWhole all whole) (omega (arith, count, same, taken)) (rw all at stays)
 
 pub passes_used_up : {cutter : CutterState} {text : List ℕ} {n : ℕ} → IsSound cutter → IsWhole text
     → n ≡ delimiters newline text → cutter.aim ≡ UsedUp
@@ -447,8 +446,7 @@ one_more {cutter} {left} {rest} {next} number end so is within here none found r
       whole = whole-append line so.whole (inr (first_ends left end within here));
       same = ap (λ (those : CutterState). record those { lines = number }) so.same;
       count = is ∙ (let more : line_count newline (so.front ++ line) ≡ line_count newline so.front + 1 = count-line line so.whole one in let c : next.lines ≡ cutter.lines + line_count newline so.front = so.count in omega (arith, more, c));
-      none = λ operand same. subst (λ those. NoneFrom operand cutter.lines those (search_line (suppress_in cutter) (state_in cutter))) (sym (all_lines-line line so.whole one))
-          (none_more operand cutter.lines (all_lines so.front) (marked line ∷ []) (search_line (suppress_in cutter) (state_in cutter)) (so.none operand same)
+      none = λ operand same. rw (← all_lines-line line so.whole one) at (none_more operand cutter.lines (all_lines so.front) (marked line ∷ []) (search_line (suppress_in cutter) (state_in cutter)) (so.none operand same)
           (none_one operand _ (marked line) _ (λ near. found_is line number operand.target (sym (ap without_newline parts.0 ∙ without_last (take end left) parts.1)) same found_at
           (let c : next.lines ≡ cutter.lines + line_count newline so.front = so.count in omega (arith, near, is, c, before)))));
     }
@@ -480,8 +478,7 @@ all_passed_at {cutter} {text} {left} {next} sound aim so is =
     let long : length text ≡ length so.front + length left = ap length so.all ∙ length-append so.front left in
     let count : length so.front ≡ length text - length left = omega (arith, long) in
     let front_is : so.front ≡ take (length text - length left) text = sym (ap (take (length text - length left)) so.all ∙ take_at so.front left (length text - length left) count) in
-    subst (λ (those : CutterState). PassesOver cutter text those (length text - length left)) (sym (is ∙ so.same))
-    (passes sound (omega arith) (subst IsWhole front_is so.whole) (so.count ∙ ap (λ those. cutter.lines + line_count newline those) front_is)
+    rw (← (is ∙ so.same)) at (passes sound (omega arith) (subst IsWhole front_is so.whole) (so.count ∙ ap (λ those. cutter.lines + line_count newline those) front_is)
     (subst (StaysOver cutter (take (length text - length left) text) next.lines) (sym aim) (subst (λ those. StaysOver cutter those next.lines Missed) front_is so.none)))
 
 -- Lines that are seen to have no match
@@ -504,8 +501,7 @@ more_clear {cutter} {left} {rest} {next} {after} {n} so clear rest_is =
       whole = whole-append t so.whole clear.whole;
       same = clear.same ∙ ap (λ (those : CutterState). record those { lines = after.lines }) so.same;
       count = clear.count ∙ (let more : line_count newline (so.front ++ t) ≡ line_count newline so.front + line_count newline t = count-append t (inl so.whole) in let c : next.lines ≡ cutter.lines + line_count newline so.front = so.count in omega (arith, more, c));
-      none = λ operand same. subst (λ those. NoneFrom operand cutter.lines those (search_line (suppress_in cutter) (state_in cutter))) (sym (all_lines-append t (inl so.whole)))
-          (none_more operand cutter.lines (all_lines so.front) (all_lines t) (search_line (suppress_in cutter) (state_in cutter)) (so.none operand same)
+      none = λ operand same. rw (← all_lines-append t (inl so.whole)) at (none_more operand cutter.lines (all_lines so.front) (all_lines t) (search_line (suppress_in cutter) (state_in cutter)) (so.none operand same)
           (λ k less near. marks_clear operand t (λ pattern is. clear.clear pattern (ap (λ (those : CutterState). those.sought) so.same ∙ same ∙ is)) k less));
     }
 
@@ -542,8 +538,7 @@ next_found {text} {left} {next} end {found} aim so now_is within here none finds
     let left_is : drop (length text - length left) text ≡ left = ap (drop (length text - length left)) so.all ∙ drop_at so.front left (length text - length left) (omega (arith, long)) in
     let one : suc end ≡ end + 1 = omega arith in
     let parts = first_parts left end within here none in
-    subst (λ (those : CutterState). IsNextFound those (drop (length text - length left) text) (end + 1)) (sym now_is)
-    (subst (λ those. IsNextFound next those (end + 1)) (sym left_is) (subst (IsNextFound next left) one (record {
+    rw (← now_is) at (subst (λ those. IsNextFound next those (end + 1)) (sym left_is) (subst (IsNextFound next left) one (record {
       some = omega arith;
       within = omega (arith, within);
       line = line_by (take (suc end) left) (inl (take end left, parts.0, parts.1));

@@ -74,7 +74,7 @@ pub all_met : (code : List Node) (base : List ℕ) (old new : List Hop) {count :
     → ((to : ℕ) → Flows code false false count to → Meets base new (count / 64) to) → (number to : ℕ)
     → number < count + 1 → Flows code false false number to → Meets base new (number / 64) to
 all_met code base old new {count} before grown here number to h f = elim (cases_eq number count) [
-  | inl same ↦ subst (λ n. Meets base new (n / 64) to) (sym same) (here to (subst (λ n. Flows code false false n to) same f))
+  | inl same ↦ rw (← same) at (here to (subst (λ n. Flows code false false n to) same f))
   | inr other ↦ meets_kept base old new grown (before number to (omega (arith, h, other)) f)
 ]
 
@@ -96,7 +96,7 @@ part_onward {all = all} {onward} {landings} {new} {count} {hop} p is eh en = rec
   first = adding_one p.first is en;
   last = p.last;
   parted = λ place l. elim (cases_eq place count) [
-    | inl same ↦ inl (subst (λ h. HopsTo new h.at (end_of h)) (eh ∙ ap (λ n. get_or all n no_hop) (sym same)) (hops_to_last onward hop en))
+    | inl same ↦ inl (rw (eh ∙ ap (λ n. get_or all n no_hop) (sym same)) at (hops_to_last onward hop en))
     | inr other ↦ elim (p.parted place (omega (arith, l, other))) [
       | inl on ↦ inl (hops_added onward (hop ∷ []) (get_or all place no_hop).at (end_of (get_or all place no_hop)) en on)
       | inr land ↦ inr land
@@ -112,7 +112,7 @@ part_landing {all = all} {onward} {landings} {new} {count} {hop} p is eh en = re
   first = p.first;
   last = let l = ap length en in let m = length-append landings (hop ∷ []) in each_to (each_more p.last is en) (omega (arith, l, m));
   parted = λ place l. elim (cases_eq place count) [
-    | inl same ↦ inr (subst (λ h. HopsTo new h.at (end_of h)) (eh ∙ ap (λ n. get_or all n no_hop) (sym same)) (hops_to_last landings hop en))
+    | inl same ↦ inr (rw (eh ∙ ap (λ n. get_or all n no_hop) (sym same)) at (hops_to_last landings hop en))
     | inr other ↦ elim (p.parted place (omega (arith, l, other))) [
       | inl on ↦ inl on
       | inr land ↦ inr (hops_added landings (hop ∷ []) (get_or all place no_hop).at (end_of (get_or all place no_hop)) en land)
@@ -129,7 +129,7 @@ parting_ends {all = all} {onward} {landings} p h met number to f = elim (met num
   | inl near ↦ inl near
   | inr other ↦ inr (elim other [
     | inl based ↦ inl based
-    | inr hop ↦ inr (subst (PartsTo onward landings (number / 64)) hop.3 (subst (λ at. PartsTo onward landings at (end_of (get_or all hop.0 no_hop))) hop.2 (p.parted hop.0 (let l = hop.1 in omega (arith, l, h)))))
+    | inr hop ↦ inr (rw hop.3 at (subst (λ at. PartsTo onward landings at (end_of (get_or all hop.0 no_hop))) hop.2 (p.parted hop.0 (let l = hop.1 in omega (arith, l, h)))))
   ])
 ]
 
@@ -155,10 +155,10 @@ none_more code words count anchors before has none = λ number h k. elim (cases_
   | inl l ↦ before number l k
   | inr l ↦
       let same : number ≡ count * 64 + number % 64 = omega (arith, h, l) in
-      let one = (is_in_word words count (number % 64) (omega arith)).1 (subst (IsIn words) same k) in
+      let one = (is_in_word words count (number % 64) (omega arith)).1 (rw same at k) in
       elim (has (number % 64) (omega arith)) [
         | inl two ↦ absurd (none_of (get_or words count 0) anchors (number % 64) none one two)
-        | inr plain ↦ subst (IsPlain code) (sym same) plain
+        | inr plain ↦ rw (← same) at plain
       ]
 ]
 
@@ -191,25 +191,25 @@ close_word {code} {at} {word} all {old} {now} h ew c fits small es = record {
   adds = record {
     size = ap length en ∙ length-set old at (bit_or word all);
     kept = λ number k. elim (cases_eq (number / 64) at) [
-      | inl same ↦ let e : number ≡ at * 64 + number % 64 = omega (arith, same) in subst (IsIn now) (sym e) ((is_in_word now at (number % 64) (omega arith)).0 (bit_now (number % 64) (left_bit word all (number % 64) (bit_old (number % 64) (omega arith) (subst (IsIn old) e k)))))
-      | inr other ↦ subst (λ w. IsIn w number) (sym en) ((set_elsewhere old (bit_or word all) number other).1 k)
+      | inl same ↦ let e : number ≡ at * 64 + number % 64 = omega (arith, same) in rw (← e) at ((is_in_word now at (number % 64) (omega arith)).0 (bit_now (number % 64) (left_bit word all (number % 64) (bit_old (number % 64) (omega arith) (subst (IsIn old) e k)))))
+      | inr other ↦ rw (← en) at ((set_elsewhere old (bit_or word all) number other).1 k)
     ];
     from = λ number k. elim (cases_eq (number / 64) at) [
       | inl same ↦
           let e : number ≡ at * 64 + number % 64 = omega (arith, same) in
-          let b = c.from_chosen (number % 64) (omega arith) (in_all (number % 64) (omega arith) (subst (IsIn now) e k)) in
+          let b = c.from_chosen (number % 64) (omega arith) (in_all (number % 64) (omega arith) (rw e at k)) in
           (at * 64 + b.0, (is_in_word old at b.0 b.1).0 (ap (λ w. bit_at w b.0) (sym ew) ∙ b.2), subst (λ n. FlowsOn code false false (at * 64 + b.0) n) (sym e) b.3)
-      | inr other ↦ (number, (set_elsewhere old (bit_or word all) number other).0 (subst (λ w. IsIn w number) en k), (0, refl))
+      | inr other ↦ (number, (set_elsewhere old (bit_or word all) number other).0 (rw en at k), (0, refl))
     ];
   };
-  elsewhere = λ number other k. (set_elsewhere old (bit_or word all) number other).0 (subst (λ w. IsIn w number) en k);
-  fuller = subst (λ w. unset w ≤ unset old) (sym en) (unset_fuller old at (bit_or word all) (let l = le_or_l word all in omega (arith, l, ew)));
+  elsewhere = λ number other k. (set_elsewhere old (bit_or word all) number other).0 (rw en at k);
+  fuller = rw (← en) at (unset_fuller old at (bit_or word all) (let l = le_or_l word all in omega (arith, l, ew)));
   closed = λ start to here k s.
       let e : start ≡ at * 64 + start % 64 = omega (arith, here) in
       let f : to ≡ at * 64 + to % 64 = (let q = s.1 in omega (arith, here, q)) in
-      let flow = subst (λ n. Flows code false false n (at * 64 + to % 64)) e (subst (λ n. Flows code false false start n) f s.0) in
-      let b = c.closed (start % 64) (to % 64) (omega arith) (omega arith) (in_all (start % 64) (omega arith) (subst (IsIn now) e k)) flow in
-      subst (IsIn now) (sym f) ((is_in_word now at (to % 64) (omega arith)).0 (bit_now (to % 64) (right_bit word all (to % 64) b)));
+      let flow = subst (λ n. Flows code false false n (at * 64 + to % 64)) e (rw f at s.0) in
+      let b = c.closed (start % 64) (to % 64) (omega arith) (omega arith) (in_all (start % 64) (omega arith) (rw e at k)) flow in
+      rw (← f) at ((is_in_word now at (to % 64) (omega arith)).0 (bit_now (to % 64) (right_bit word all (to % 64) b)));
 }
   where
     en : now ≡ set old at (bit_or word all)
@@ -234,8 +234,8 @@ based_of : {code : List Node} {closures : Closures} {at : ℕ} (words : List ℕ
     → IsIn closures.base.items to
 based_of {code} {closures} {at} words start to c inside e here h f =
     let same : start ≡ at * 64 + start % 64 = omega (arith, here) in
-    let one = (is_in_word words at (start % 64) (omega arith)).1 (subst (IsIn words) same h) in
-    elim (c.leads.each at inside (start % 64) to (omega arith) (subst (λ n. Flows code false false n to) same f)) [
+    let one = (is_in_word words at (start % 64) (omega arith)).1 (rw same at h) in
+    elim (c.leads.each at inside (start % 64) to (omega arith) (rw same at f)) [
       | inl two ↦ absurd (none_of (get_or words at 0) (get_or closures.leads.items at 0) (start % 64) e one two)
       | inr based ↦ based
     ]
@@ -340,7 +340,7 @@ led_is {code} {hop} {old} {mid} holds is size fits high some any em = record {
     entered number t e =
         let one = one_of (get_or old hop.at 0) hop.from fits (some t) in
         let start : ℕ = hop.at * 64 + one.0 in
-        (start, (is_in_word old hop.at one.0 one.1).0 one.2, (1, (start, refl, subst (Flows code false false start) (sym e) ((is.exact one.0 one.1).0 one.3))))
+        (start, (is_in_word old hop.at one.0 one.1).0 one.2, (1, (start, refl, rw (← e) at ((is.exact one.0 one.1).0 one.3))))
 
 -- no number is new
 pub follows_none : {code : List Node} {closures : Closures} {hop : Hop} {old mid : List ℕ} (all : ℕ) {over : ℕ}
@@ -351,7 +351,7 @@ follows_none {code} {closures} {hop} {old} {mid} all is size high apart led eo z
   closer = record {
     adds = led.adds;
     apart = λ from to k flow. elim (apart from to (settled from k) flow) [ inl there ↦ inl (led.adds.kept to there) | inr hop ↦ inr hop ];
-    fuller = subst (λ w. unset w ≤ unset old) (sym led.set) (unset_fuller old hop.word all led.larger);
+    fuller = rw (← led.set) at (unset_fuller old hop.word all led.larger);
     less = λ some. absurd (some z);
   };
   followed = led.followed;
@@ -371,7 +371,7 @@ follows_none {code} {closures} {hop} {old} {mid} all is size high apart led eo z
         (is_in_word old hop.word hop.bit is.bit).0 (omega (arith, now, e, none, l))
 
     settled : (number : ℕ) → IsIn mid number → IsIn old number
-    settled number k = elim (led.new number k) [ inl was ↦ was | inr e ↦ subst (IsIn old) (sym e) (was_in (subst (IsIn mid) e k)) ]
+    settled number k = elim (led.new number k) [ inl was ↦ was | inr e ↦ rw (← e) at (was_in (subst (IsIn mid) e k)) ]
 
 -- a number is new, and its word was closed
 pub follows_more : {code : List Node} {closures : Closures} {hop : Hop} {old mid new : List ℕ} (all inside : ℕ)
@@ -419,7 +419,7 @@ follows_more {code} {closures} {hop} {old} {mid} {new} all inside {over} c is si
         omega (arith, b, is, same)
 
     less : unset mid < unset old
-    less = subst (λ w. unset w < unset old) (sym led.set) (unset-set old hop.word all inside_old (let l = led.larger in omega (arith, l, differs)) (let l = led.fits in omega (arith, l)))
+    less = rw (← led.set) at (unset-set old hop.word all inside_old (let l = led.larger in omega (arith, l, differs)) (let l = led.fits in omega (arith, l)))
 
 -- Following all hops.
 
@@ -452,7 +452,7 @@ following_more {code} {closures} {hop} {old} {now} {new} {count} {over} led s f 
       elim (cases_eq place count) [
         | inl same ↦
             let e : get_or closures.hops.onward.items place no_hop ≡ hop = ap (λ p. get_or closures.hops.onward.items p no_hop) same ∙ sym eh in
-            subst (λ h. IsIn new (end_of h)) (sym e) (f.followed bit small (subst (λ h. bit_at h.from bit ≡ 1) e one) (subst (λ h. IsIn now (h.at * 64 + bit)) e was))
+            rw (← e) at (f.followed bit small (subst (λ h. bit_at h.from bit ≡ 1) e one) (subst (λ h. IsIn now (h.at * 64 + bit)) e was))
         | inr other ↦ f.closer.adds.kept (end_of (get_or closures.hops.onward.items place no_hop)) (s.done (omega (arith, a, z)) place (omega (arith, l, other)) bit small one was)
       ];
 }
@@ -462,7 +462,7 @@ from_bit : {code : List Node} {hop : Hop} (from to : ℕ) → IsHop code hop →
     → Flows code false false from to → bit_at hop.from (from % 64) ≡ 1
 from_bit {code} {hop} from to is at end flow =
     let same : from ≡ hop.at * 64 + from % 64 = omega (arith, at) in
-    (is.exact (from % 64) (omega arith)).1 (subst (λ n. Flows code false false n (end_of hop)) same (subst (Flows code false false from) (sym end) flow))
+    (is.exact (from % 64) (omega arith)).1 (rw same at (subst (Flows code false false from) (sym end) flow))
 
 pub following_ends : {code : List Node} {closures : Closures} {old now : List ℕ} {count over : ℕ}
     → Following code closures old now count over → AreHops code closures.hops.onward.items
@@ -480,7 +480,7 @@ following_ends {code} {closures} {old} {now} {count} {over} s are h = record {
     ended z from to k flow hop =
         let same : from ≡ (get_or closures.hops.onward.items hop.0 no_hop).at * 64 + from % 64 = (let e = hop.2 in omega (arith, e)) in
         let one = from_bit from to (are.each hop.0 hop.1) hop.2 hop.3 flow in
-        subst (IsIn now) hop.3 (s.done z hop.0 (let l = hop.1 in omega (arith, l, h)) (from % 64) (omega arith) one (subst (IsIn now) same k))
+        rw hop.3 at (s.done z hop.0 (let l = hop.1 in omega (arith, l, h)) (from % 64) (omega arith) one (subst (IsIn now) same k))
 
 -- Following the landings.
 
@@ -499,11 +499,11 @@ pub landing_more : {code : List Node} {base : List ℕ} {landings : List Hop} {h
     → Landing_on code base landings old new (count + 1)
 landing_more {code} {base} {landings} {hop} {old} {now} {new} {count} s is led eh = record {
   adds = adds_both s.adds led.adds;
-  over = λ n k. elim (led.new n k) [ inl was ↦ s.over n was | inr e ↦ inr (subst (λ m. (to : ℕ) → Flows code false false m to → IsIn base to) (sym e) is.ends) ];
+  over = λ n k. elim (led.new n k) [ inl was ↦ s.over n was | inr e ↦ inr (rw (← e) at is.ends) ];
   led = λ place l bit small one k. elim (cases_eq place count) [
     | inl same ↦
         let e : get_or landings place no_hop ≡ hop = ap (λ p. get_or landings p no_hop) same ∙ sym eh in
-        subst (λ h. IsIn new (end_of h)) (sym e) (led.followed bit small (subst (λ h. bit_at h.from bit ≡ 1) e one) (s.adds.kept (hop.at * 64 + bit) (subst (λ h. IsIn old (h.at * 64 + bit)) e k)))
+        rw (← e) at (led.followed bit small (subst (λ h. bit_at h.from bit ≡ 1) e one) (s.adds.kept (hop.at * 64 + bit) (subst (λ h. IsIn old (h.at * 64 + bit)) e k)))
     | inr other ↦ led.adds.kept (end_of (get_or landings place no_hop)) (s.led place (omega (arith, l, other)) bit small one k)
   ];
 }
@@ -517,7 +517,7 @@ landing_ends {code} {landings = landings} {old} {now} s are h = record {
   led = λ from to k flow hop.
       let same : from ≡ (get_or landings hop.0 no_hop).at * 64 + from % 64 = (let e = hop.2 in omega (arith, e)) in
       let one = from_bit from to (are.each hop.0 hop.1).leads hop.2 hop.3 flow in
-      subst (IsIn now) hop.3 (s.led hop.0 (let l = hop.1 in omega (arith, l, h)) (from % 64) (omega arith) one (subst (IsIn old) same k));
+      rw hop.3 at (s.led hop.0 (let l = hop.1 in omega (arith, l, h)) (from % 64) (omega arith) one (subst (IsIn old) same k));
 }
 
 -- Until nothing is missing.
@@ -542,9 +542,9 @@ spreads_end {code} base landings {old} {now} {new} s z l eb el begun = spreads_o
     closed from to k flow = elim (l.over from k) [
       | inl was ↦ elim (s.done z from to was flow) [
         | inl there ↦ l.adds.kept to there
-        | inr landing ↦ l.led from to was flow (subst (λ hops. HopsTo hops (from / 64) to) (sym el) landing)
+        | inr landing ↦ l.led from to was flow (rw (← el) at landing)
       ]
-      | inr ends ↦ l.adds.kept to (s.adds.kept to (begun to (subst (λ w. IsIn w to) eb (ends to flow))))
+      | inr ends ↦ l.adds.kept to (s.adds.kept to (begun to (rw eb at (ends to flow))))
     ]
 
 -- At a line's front and end.
@@ -553,7 +553,7 @@ pub spreads_front : {code : List Node} {base front old new : List ℕ} {at_first
     → IsBegun code true front → length old ≡ width code → ((number : ℕ) → IsIn base number → IsIn old number)
     → ((number : ℕ) → IsIn old number → IsIn base number) → new ≡ front → IsTrue at_first → at_last ≡ false
     → SpreadsOut code at_first at_last old new
-spreads_front {code} {old = old} {new} {at_last = at_last} b f size begun only e t l = subst (λ first. SpreadsOut code first at_last old new) (sym t) (subst (λ last. SpreadsOut code true last old new) (sym l) (record {
+spreads_front {code} {old = old} {new} {at_last = at_last} b f size begun only e t l = rw (← t) at (subst (λ last. SpreadsOut code true last old new) (sym l) (record {
   size = ap length e ∙ f.size ∙ sym size;
   exact = λ number. (
     λ k. (0, begun 0 ((b.exact 0).1 (0, refl)), (f.exact number).0 (subst (λ w. IsIn w number) e k)),

@@ -19,7 +19,7 @@ at-left (x ∷ a) b zero node h = h
 at-left (x ∷ a) b (suc n) node h = at-left a b n node h
 
 pub at_at : (code : List Node) {n m : ℕ} (node : Node) → n ≡ m → At code n node → At code m node
-at_at code node e h = subst (λ k. At code k node) e h
+at_at code node e h = rw e at h
 
 pub at-right : (a b : List Node) (n : ℕ) (node : Node) → At b n node → At (a ++ b) (length a + n) node
 at-right [] b n node h = at_at b node (omega arith) h
@@ -158,14 +158,14 @@ exact_one {node} line Kind out there here = record {
 }
   where
     fits : (n : ℕ) (other : Node) → At (node ∷ []) n other → FitsIn 1 n other
-    fits zero other h = subst (FitsIn 1 0) (sym h) here
+    fits zero other h = rw (← h) at here
     fits (suc n) other h = absurd h
 
     sound : (from to count : ℕ) → Walks (node ∷ []) line count 0 from 1 to → Kind from to
     sound from to zero w = absurd (omega (arith, w.0))
     sound from to (suc count) w =
-        let o = out 0 from w.0 w.1 (subst (λ m. Leads m line 0 from w.0 w.1) w.2.1 w.2.2) in
-        subst (λ p. Kind from p) (ended (node ∷ []) line count 1 (omega (arith, o.0)) w.3) o.1
+        let o = out 0 from w.0 w.1 (rw w.2.1 at w.2.2) in
+        rw (ended (node ∷ []) line count 1 (omega (arith, o.0)) w.3) at o.1
 
 -- one code after another
 pub exact_both : {a b : List Node} (line : List ℕ) (Kind Other : ℕ → ℕ → Type 0) → Exact a line Kind
@@ -187,7 +187,7 @@ exact_both {a} {b} line Kind Other e f = record {
         let e1 : length a + length b ≡ length (a ++ b) = sym (length-append a b) in
         let e2 : length a + 0 ≡ length a = omega arith in
         let second : Walks (a ++ b) line q.0 (length a) middle (length (a ++ b)) to =
-        subst (λ n. Walks (a ++ b) line q.0 n middle (length (a ++ b)) to) e2 (subst (λ n. Walks (a ++ b) line q.0 (length a + 0) middle n to) e1 (walk-right a b line q.0 0 middle (length b) to q.1)) in
+        subst (λ n. Walks (a ++ b) line q.0 n middle (length (a ++ b)) to) e2 (rw e1 at (walk-right a b line q.0 0 middle (length b) to q.1)) in
         walk_on (a ++ b) line p.0 q.0 0 from (length a) middle (length (a ++ b)) to (walk-left a b line p.0 0 from (length a) middle p.1) second
 
 -- a code that may be passed by
@@ -200,7 +200,7 @@ exact_maybe {code} line Kind e = record {
 }
   where
     fits : (n : ℕ) (node : Node) → At (maybe code) n node → FitsIn (suc (length code)) n node
-    fits zero node h = subst (FitsIn (suc (length code)) 0) (sym h) (omega arith)
+    fits zero node h = rw h (omega arith)
     fits (suc n) node h = fits_moved node 1 _ _ (e.fits.fits n node h) (omega arith) (omega arith)
 
     sound : (from to count : ℕ) → Walks (maybe code) line count 0 from (suc (length code)) to
@@ -211,7 +211,7 @@ exact_maybe {code} line Kind e = record {
         elim led.0 [
           | inl q ↦
               let inside = in_second (Choose (length code + 1) ∷ []) line e.fits count 0 w.1 to (omega (arith, q)) w.3 in
-              inr (e.sound from to (count, subst (λ place. Walks code line count 0 place (length code) to) led.1 inside))
+              inr (e.sound from to (count, rw led.1 at inside))
           | inr q ↦ inl (sym led.1 ∙ ended (maybe code) line count (suc (length code)) (omega (arith, q)) w.3)
         ]
 
@@ -221,16 +221,16 @@ exact_maybe {code} line Kind e = record {
         let p = e.complete from to k in
         let right = walk-right (Choose (length code + 1) ∷ []) code line p.0 0 from (length code) to p.1 in
         let e1 : 1 + length code ≡ suc (length code) = omega arith in
-        (suc p.0, (1 + 0, from, (Choose (length code + 1), refl, (inl refl, refl)), subst (λ n. Walks (maybe code) line p.0 (1 + 0) from n to) e1 right))
+        (suc p.0, (1 + 0, from, (Choose (length code + 1), refl, (inl refl, refl)), rw e1 at right))
 
 pub parts_first : (Kind : ℕ → ℕ → Type 0) (count from middle to : ℕ) → Kind from middle → Parts Kind count middle to
     → Parts Kind (suc count) from to
-parts_first Kind zero from middle to k p = (from, refl, subst (λ n. Kind from n) p k)
+parts_first Kind zero from middle to k p = (from, refl, rw p at k)
 parts_first Kind (suc count) from middle to k p = (p.0, parts_first Kind count from middle p.0 k p.1, p.2)
 
 pub parts_next : (Kind : ℕ → ℕ → Type 0) (count from to : ℕ) → Parts Kind (suc count) from to
     → (middle : ℕ) × Kind from middle × Parts Kind count middle to
-parts_next Kind zero from to p = (to, subst (λ n. Kind n to) (sym p.1) p.2, refl)
+parts_next Kind zero from to p = (to, rw (← p.1) at p.2, refl)
 parts_next Kind (suc count) from to p = let q = parts_next Kind count from p.0 p.1 in (q.0, q.1, (p.0, q.2, p.2))
 
 -- any number of times
@@ -251,7 +251,7 @@ star_begun : {code : List Node} (line : List ℕ) (Kind : ℕ → ℕ → Type 0
 star_begun {code} line Kind e {at'} {place'} {place} stop ih (inl q) same w =
     let inside = ih.within at' 0 place' stop (omega (arith, q)) (omega arith) w in
     let rest : Often Kind inside.0 stop = inside.2 in
-    (suc rest.0, parts_first Kind rest.0 place inside.0 stop (e.sound place inside.0 (subst (λ n. Path code line 0 n (length code) inside.0) same inside.1)) rest.1)
+    (suc rest.0, parts_first Kind rest.0 place inside.0 stop (e.sound place inside.0 (rw (← same) inside.1)) rest.1)
 star_begun {code} line Kind e {count} stop ih (inr q) same w =
     let l = length-append code (Back (length code + 1) ∷ []) in
     (0, sym same ∙ ended (starred code) line count (length code + 2) (omega (arith, q, l)) w)
@@ -263,14 +263,14 @@ star_at : {code : List Node} (line : List ℕ) (Kind : ℕ → ℕ → Type 0) �
     → (middle : ℕ) × Path code line k place (length code) middle × Often Kind middle stop
 star_at {code} line Kind e {k} {place} stop ih h at' place' {node} (inl here) led w =
     let n1 : suc k ≡ 1 + k = omega arith in
-    let moved = leads_unshift node line 1 (length code) k place place' (e.fits.fits k node here) (subst (λ n. Leads node line n place at' place') n1 led) in
+    let moved = leads_unshift node line 1 (length code) k place place' (e.fits.fits k node here) (rw n1 at led) in
     let fits = fits_led code line k place place' node e.fits here moved.2 in
     let rest = ih.within at' moved.0 place' stop (omega (arith, moved.1)) fits w in
     (rest.0, (suc rest.1.0, (moved.0, place', (node, here, moved.2), rest.1.1)), rest.2)
 star_at {code} line Kind e {count} {k} {place} stop ih h at' place' (inr (zero, far, last)) led w =
     let back_led : Leads (Back (length code + 1)) line (suc k) place at' place' = subst (λ n. Leads n line (suc k) place at' place') last led in
     let at0 : at' ≡ 0 = omega (arith, back_led.0, far) in
-    let rest = ih.whole place' stop (subst (λ n. Walks (starred code) line count n place' (length code + 2) stop) at0 w) in
+    let rest = ih.whole place' stop (rw at0 at w) in
     (place', (zero, (omega (arith, far), sym back_led.1)), rest)
 star_at line Kind e stop ih h at' place' (inr (suc j, far, last)) led w = absurd last
 
@@ -281,7 +281,7 @@ star_holds {code} line Kind e (suc count) = let ih = star_holds line Kind e coun
   whole = λ place stop w. let led : ((w.0 ≡ 0 + 1) ⊎ (w.0 ≡ 0 + (length code + 2))) × (w.1 ≡ place) = subst (λ m. Leads m line 0 place w.0 w.1) w.2.1 w.2.2 in
       star_begun line Kind e stop ih led.0 led.1 w.3;
   within = λ at k place stop q h w.
-      star_at line Kind e stop ih h w.0 w.1 (at-split code (Back (length code + 1) ∷ []) k w.2.0 (at_at (starred code) w.2.0 q w.2.1)) (subst (λ n. Leads w.2.0 line n place w.0 w.1) q w.2.2) w.3;
+      star_at line Kind e stop ih h w.0 w.1 (at-split code (Back (length code + 1) ∷ []) k w.2.0 (at_at (starred code) w.2.0 q w.2.1)) (rw q at w.2.2) w.3;
 }
 
 -- a code any number of times
@@ -289,7 +289,7 @@ pub exact_starred : {code : List Node} (line : List ℕ) (Kind : ℕ → ℕ →
     → Exact (starred code) line (Often Kind)
 exact_starred {code} line Kind e = record {
   fits = record { fits = λ n node h. fits n node h };
-  sound = λ from to p. (star_holds line Kind e p.0).whole from to (subst (λ n. Walks (starred code) line p.0 0 from n to) (sym size) p.1);
+  sound = λ from to p. (star_holds line Kind e p.0).whole from to (rw (← size) at p.1);
   complete = λ from to k. complete k.0 from to k.1;
 }
   where
@@ -297,13 +297,13 @@ exact_starred {code} line Kind e = record {
     size = let l = length-append code (Back (length code + 1) ∷ []) in omega (arith, l)
 
     fits : (n : ℕ) (node : Node) → At (starred code) n node → FitsIn (length (starred code)) n node
-    fits zero node h = subst (FitsIn (length (starred code)) 0) (sym h) (let l = size in omega (arith, l))
+    fits zero node h = rw h (let l = size in omega (arith, l))
     fits (suc n) node h = there (at-split code (Back (length code + 1) ∷ []) n node h)
       where
         there : (At code n node) ⊎ ((j : ℕ) × (n ≡ length code + j) × At (Back (length code + 1) ∷ []) j node)
             → FitsIn (length (starred code)) (suc n) node
         there (inl k) = fits_moved node 1 _ _ (e.fits.fits n node k) (let l = size in omega (arith, l)) (omega arith)
-        there (inr (zero, far, last)) = subst (FitsIn (length (starred code)) (suc n)) (sym last) (omega (arith, far))
+        there (inr (zero, far, last)) = rw last (omega (arith, far))
         there (inr (suc j, far, last)) = absurd last
 
     around : (from to : ℕ) → Kind from to → Path (starred code) line 0 from 0 to
@@ -344,7 +344,7 @@ exact_copies line Kind e (suc count) = exact_both line (Parts Kind count) Kind (
 exact_up_to : {code : List Node} (line : List ℕ) (Kind : ℕ → ℕ → Type 0) → Exact code line Kind → (most : ℕ)
     → Exact (up_to most code) line (AtMost Kind most)
 exact_up_to line Kind e zero = exact_by line (λ from to. from ≡ to) (AtMost Kind 0) (exact_none line) (λ from to q. (0, omega arith, q))
-    (λ from to k. let e : k.0 ≡ 0 = omega (arith, k.1) in subst (λ n. Parts Kind n from to) e k.2)
+    (λ from to k. let e : k.0 ≡ 0 = omega (arith, k.1) in rw e at k.2)
 exact_up_to line Kind e (suc most) =
     exact_by line (λ from to. (from ≡ to) ⊎ ((middle : ℕ) × Kind from middle × AtMost Kind most middle to)) (AtMost Kind (suc most))
     (exact_maybe line (λ from to. (middle : ℕ) × Kind from middle × AtMost Kind most middle to) (exact_both line Kind (AtMost Kind most) e (exact_up_to line Kind e most)))
@@ -366,11 +366,11 @@ parts_join Kind first zero from middle to r s = grind (arith, common_steps)
 parts_join Kind first (suc second) from middle to r s =
     let e : suc (first + second) ≡ first + suc second = omega arith in
     let longer : Parts Kind (suc (first + second)) from to = (s.0, parts_join Kind first second from middle s.0 r s.1, s.2) in
-    subst (λ c. Parts Kind c from to) e longer
+    rw (← e) longer
 
 parts_split : (Kind : ℕ → ℕ → Type 0) (first second from to : ℕ) → Parts Kind (first + second) from to
     → (middle : ℕ) × Parts Kind first from middle × Parts Kind second middle to
-parts_split Kind first zero from to r = let e : first + zero ≡ first = omega arith in (to, subst (λ c. Parts Kind c from to) e r, refl)
+parts_split Kind first zero from to r = let e : first + zero ≡ first = omega arith in (to, rw e at r, refl)
 parts_split Kind first (suc second) from to r =
     let e : first + suc second ≡ suc (first + second) = omega arith in
     let last : Parts Kind (suc (first + second)) from to = subst (λ c. Parts Kind c from to) e r in
@@ -390,7 +390,7 @@ exact_repeated line Kind low None e b =
     (λ from to k. let often : Often Kind k.0 to = k.2 in
     (low + often.0, omega arith, tt, parts_join Kind low often.0 from k.0 to k.1 often.1)) (λ from to k.
     let q : k.0 ≡ low + (k.0 - low) = omega (arith, k.1) in
-    let split = parts_split Kind low (k.0 - low) from to (subst (λ c. Parts Kind c from to) q k.3) in
+    let split = parts_split Kind low (k.0 - low) from to (rw q at k.3) in
     (split.0, split.1, (k.0 - low, split.2)))
 exact_repeated line Kind low (Some high) e b =
     exact_by line (λ from to. (middle : ℕ) × Parts Kind low from middle × AtMost Kind (high - low) middle to) (Between Kind low (Some high))
@@ -399,7 +399,7 @@ exact_repeated line Kind low (Some high) e b =
     (low + most.0, omega arith, omega (arith, most.1, b), parts_join Kind low most.0 from k.0 to k.1 most.2))
     (λ from to k.
     let q : k.0 ≡ low + (k.0 - low) = omega (arith, k.1) in
-    let split = parts_split Kind low (k.0 - low) from to (subst (λ c. Parts Kind c from to) q k.3) in
+    let split = parts_split Kind low (k.0 - low) from to (rw q at k.3) in
     (split.0, split.1, (k.0 - low, omega (arith, k.2), split.2)))
 
 mutual

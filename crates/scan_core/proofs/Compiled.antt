@@ -27,7 +27,7 @@ begun_wider pending {size} {wider} h = search rules
 pub popped_begun : (old new : Compiling) (d : Duplication) → Pops old (Some d) new → AreBegun old
     → IsBegun d.high d.low d.start (length new.nodes.items) × AreBegun new
 popped_begun old new d p b =
-    let parts = All-pop (Waits (length new.nodes.items)) old.pending.items new.pending.items (Some (Repeated d)) p.2 (subst (λ n. All (Waits (length n)) old.pending.items) (sym p.0) b) in
+    let parts = All-pop (Waits (length new.nodes.items)) old.pending.items new.pending.items (Some (Repeated d)) p.2 (rw (← p.0) at b) in
     (parts.1, parts.0)
 
 turned : {pending : List Pending} (around : List Pending) (last : Pending) → pending ≡ around ++ last ∷ []
@@ -38,7 +38,7 @@ turned around last e = ap reverse e ∙ reverse-append around (last ∷ [])
 pub finish_more : (nodes written : List Node) {pending : List Pending} (around : List Pending) (d : Duplication)
     (final : Compiling) → pending ≡ around ++ Repeated d ∷ [] → Repeats d nodes written → Finishes written around final
     → Finishes nodes pending final
-finish_more nodes written around d final e r f = subst (λ stack. FinishesBy stack nodes final) (sym (turned around (Repeated d) e)) (written, r, f)
+finish_more nodes written around d final e r f = rw (turned around (Repeated d) e) (written, r, f)
 
 -- no duplication waits
 ends_by : (stack : List Pending) {nodes : List Node} {pending : List Pending} (final : Compiling)
@@ -58,7 +58,7 @@ finished_group {nodes} {pending} around {new} f e = grind (arith, common_steps)
 
 pub finished_all : {nodes : List Node} {pending : List Pending} {new : Compiling} → Finishes nodes pending new
     → pending ≡ [] → IsNow nodes [] None new
-finished_all {nodes} {new} f e = subst (λ p. FinishesBy (reverse p) nodes new) e f
+finished_all {nodes} {new} f e = rw e at f
 
 parted : (one other : List Token) (old new : Compiling) → TakesAll old (one ++ other) new
     → (now : Compiling) × TakesAll old other now × TakesAll now one new
@@ -66,7 +66,7 @@ parted [] other old new s = (new, s, refl)
 parted (token ∷ one) other old new s = let p = parted one other old s.0 s.1 in (p.0, p.1, (s.0, p.2, s.2))
 
 alone : (token : Token) (old new : Compiling) → TakesAll old (token ∷ []) new → Takes old token new
-alone token old new s = subst (λ c. Takes c token new) (sym s.1) s.2
+alone token old new s = rw (← s.1) at s.2
 
 last_taken : (one : List Token) (token : Token) (old new : Compiling) → TakesAll old (one ++ token ∷ []) new
     → (now : Compiling) × Takes old token now × TakesAll now one new
@@ -78,7 +78,7 @@ Base pending = (pending ≡ []) ⊎ ((around : List Pending) × (pending ≡ aro
 
 finished_base : {nodes : List Node} {pending : List Pending} {new : Compiling} → Base pending
     → Finishes nodes pending new → IsNow nodes pending None new
-finished_base {nodes} {new} (inl e) f = subst (λ p. IsNow nodes p None new) (sym e) (finished_all f e)
+finished_base {nodes} {new} (inl e) f = rw (← e) at (finished_all f e)
 finished_base (inr e) f = finished_group e.0 f e.1
 
 takes_writing : (old new : Compiling) (token : Token) → old.passing ≡ None → Takes old token new → Writes token old new
@@ -91,7 +91,7 @@ takes_passing old new token e t = subst (λ p. TakesIn p token old new) e t
 -- what is passed over leaves nodes and what waits
 passed_from : (depth : ℕ) (old now new : Compiling) → now.nodes.items ≡ old.nodes.items
     → now.pending.items ≡ old.pending.items → PassesLeaf depth now new → PassesLeaf depth old new
-passed_from zero old now new n p f = subst (λ l. Finishes l old.pending.items new) n (subst (λ l. Finishes now.nodes.items l new) p f)
+passed_from zero old now new n p f = rw n at (subst (λ l. Finishes now.nodes.items l new) p f)
 passed_from (suc depth) old now new n p f = record { nodes = f.nodes ∙ n; pending = f.pending ∙ p; passing = f.passing }
 
 mutual
@@ -137,7 +137,7 @@ mutual
   write_pattern : (pattern : Pattern) (old new : Compiling) → IsOrdered pattern → old.passing ≡ None
       → Base old.pending.items → TakesAll old (written pattern) new
       → IsNow (old.nodes.items ++ reverse (code_of pattern)) old.pending.items None new
-  write_pattern nothing old new o e b s = subst (IsNow (old.nodes.items ++ []) old.pending.items None) s (record { nodes = sym (append-nil old.nodes.items); pending = refl; passing = e })
+  write_pattern nothing old new o e b s = rw (← s) (record { nodes = sym (append-nil old.nodes.items); pending = refl; passing = e })
   write_pattern (append pattern item) old new o e b s =
       let p = parted (written pattern) (written_item item) old new s in
       let now = finished_base b (write_item item old p.0 o.1 e p.1) in
@@ -160,7 +160,7 @@ mutual
       let opened : IsNow old.nodes.items (old.pending.items ++ Group ∷ []) None p.0 = takes_writing old p.0 Close e p.1 in
       let inner = write_pattern pattern p.0 s.0 o opened.passing (inr (old.pending.items, opened.pending)) p.2 in
       let closed : Closes s.0 new = takes_writing s.0 new Open inner.passing s.2 in
-      subst (λ l. Finishes l old.pending.items new) (inner.nodes ∙ ap (λ l. l ++ reverse (code_of pattern)) opened.nodes) (closed old.pending.items (inner.pending ∙ opened.pending))
+      rw (inner.nodes ∙ ap (λ l. l ++ reverse (code_of pattern)) opened.nodes) at (closed old.pending.items (inner.pending ∙ opened.pending))
   write_item (repeat item low None) old new o e s =
       let p = last_taken (written_item item) (Repeat low None) old new s in
       let begins : Begins low None old p.0 = takes_writing old p.0 (Repeat low None) e p.1 in
@@ -170,7 +170,7 @@ mutual
   write_item (repeat item low (Some zero)) old new o e s =
       let p = last_taken (written_item item) (Repeat low (Some zero)) old new s in
       let begins : Begins low (Some zero) old p.0 = takes_writing old p.0 (Repeat low (Some zero)) e p.1 in
-      subst (λ l. Finishes l old.pending.items new) (begins.nodes ∙ none_of (code_of_item item) low o.1) (subst (λ l. Finishes p.0.nodes.items l new) begins.pending (pass_item item 0 p.0 new begins.passing p.2))
+      rw (← (begins.nodes ∙ none_of (code_of_item item) low o.1)) (subst (λ l. Finishes p.0.nodes.items l new) begins.pending (pass_item item 0 p.0 new begins.passing p.2))
   write_item (repeat item low (Some (suc high))) old new o e s =
       let p = last_taken (written_item item) (Repeat low (Some (suc high))) old new s in
       let begins : Begins low (Some (suc high)) old p.0 = takes_writing old p.0 (Repeat low (Some (suc high))) e p.1 in
@@ -205,7 +205,7 @@ pub compiled : (pattern : Pattern) {tokens : List Token} {first : Compiling} (fi
     → tokens ≡ written pattern → AreBounded tokens → IsNow [] [] None first → TakesAll first tokens final
     → reverse final.nodes.items ≡ code_of pattern
 compiled pattern {first} final e b n s =
-    let now = write_pattern pattern first final (ordered pattern (subst AreBounded e b)) n.passing (inl n.pending) (subst (λ ts. TakesAll first ts final) e s) in
+    let now = write_pattern pattern first final (ordered pattern (rw e at b)) n.passing (inl n.pending) (rw e at s) in
     ap reverse (now.nodes ∙ ap (λ l. l ++ reverse (code_of pattern)) n.nodes) ∙ reverse-reverse (code_of pattern)
 
 -- one token more, towards the front
@@ -214,10 +214,10 @@ pub way_more : (tokens : List Token) (before : ℕ) {place : ℕ} {token : Token
     → TakesAll first (drop place tokens) now → Takes now token new
     → TakesAll first (drop before tokens) new
 way_more tokens before {token} first now new e h is s t =
-    subst (λ l. TakesAll first l new) (sym (at_drop_more (λ ts. ts) tokens before token h ∙ ap (λ k. k ∷ drop (before + 1) tokens) (sym is))) (now, subst (λ n. TakesAll first (drop n tokens) now) e s, t)
+    rw (at_drop_more (λ ts. ts) tokens before token h ∙ ap (λ k. k ∷ drop (before + 1) tokens) (sym is)) (now, subst (λ n. TakesAll first (drop n tokens) now) e s, t)
 
 pub bounded_at : (tokens : List Token) (place : ℕ) {token : Token} → AreBounded tokens → place < length tokens
     → token ≡ get_or tokens place token → IsBounded token
 bounded_at [] place b h e = absurd (omega arith)
-bounded_at (first ∷ tokens) zero b h e = subst IsBounded (sym e) b.0
+bounded_at (first ∷ tokens) zero b h e = rw (← e) at b.0
 bounded_at (first ∷ tokens) (suc place) b h e = bounded_at tokens place b.1 (omega arith) e

@@ -23,7 +23,7 @@ pub takes_word : (code : List Node) (takes : List ℕ) {size : ℕ} (byte at : �
     → byte < 256 → at < width code → IsMask code (Takes byte) at (get_or takes (byte * size + at) 0)
 takes_word code takes byte at t e small within =
     let place : ℕ = byte * width code + at in
-    subst (λ n. IsMask code (Takes byte) at (get_or takes (byte * n + at) 0)) (sym e) (subst (λ b. IsMask code (Takes b) at (get_or takes place 0)) (div-mul-add byte (width code) at within)
+    rw (← e) at (subst (λ b. IsMask code (Takes b) at (get_or takes place 0)) (div-mul-add byte (width code) at within)
     (subst (λ n. IsMask code (Takes (place / width code)) n (get_or takes place 0)) (mod-mul-add byte (width code) at within)
     (t.each place (omega (arith, mul-add-lt byte (width code) at 256 small within)))))
 
@@ -96,10 +96,10 @@ pub passing_more : {code : List Node} {byte : ℕ} {base old now new : List ℕ}
 passing_more {code} {byte} {base} {old} {now} {new} {at} {carry} {kept} takes p m h ek fits en = record {
   size = ap length en ∙ length-set now at (bit_or (bit_or (kept * 2 ^ 1 % 2 ^ 64) carry) (get_or base at 0)) ∙ p.size;
   past = λ number l. elim (cases_lt number (64 * at)) [
-    | inl before ↦ subst (λ w. IsIn w number ↔ LedOrBase code byte base old number) (sym en) (earlier number before (p.past number before))
+    | inl before ↦ rw (← en) at (earlier number before (p.past number before))
     | inr here ↦
         let same : number ≡ at * 64 + number % 64 = omega (arith, l, here) in
-        subst (λ n. IsIn new n ↔ LedOrBase code byte base old n) (sym same) (joined (number % 64) (omega arith) (inside (number % 64) (omega arith)))
+        rw (← same) at (joined (number % 64) (omega arith) (inside (number % 64) (omega arith)))
   ];
   rest = λ n l. ap (λ w. get_or w n 0) en ∙ get_or-set_other now at n (bit_or (bit_or (kept * 2 ^ 1 % 2 ^ 64) carry) (get_or base at 0)) 0 (λ e. omega (arith, e, l)) ∙ p.rest n (omega (arith, l));
   bit = omega (arith, fits);
@@ -107,15 +107,15 @@ passing_more {code} {byte} {base} {old} {now} {new} {at} {carry} {kept} takes p 
       let k = kept_is 63 (omega arith) in
       let e : at * 64 + 63 + 1 ≡ (at + 1) * 64 = omega arith in
       let top : bit_at kept 63 ≡ kept / 2 ^ 63 = omega (arith, fits) in (
-        λ c. subst (Led code byte old) e (k.0 (top ∙ c)),
-        λ led. sym top ∙ k.1 (subst (Led code byte old) (sym e) led),
+        λ c. rw e at (k.0 (top ∙ c)),
+        λ led. sym top ∙ k.1 (rw (← e) at led),
       );
 }
   where
     kept_is : (bit : ℕ) → bit < 64 → (bit_at kept bit ≡ 1) ↔ Led code byte old (at * 64 + bit + 1)
     kept_is bit small =
         let e : kept ≡ bit_and (get_or old at 0) takes = ek ∙ ap (λ w. bit_and w takes) (p.rest at (omega arith)) in
-        subst (λ w. (bit_at w bit ≡ 1) ↔ Led code byte old (at * 64 + bit + 1)) (sym e) (kept_bit code old byte at bit takes m small)
+        rw (← e) at (kept_bit code old byte at bit takes m small)
 
     read : get_or new at 0 ≡ bit_or (bit_or (kept * 2 ^ 1 % 2 ^ 64) carry) (get_or base at 0)
     read = let s = p.size in ap (λ w. get_or w at 0) en ∙ get_or-set_same now at (bit_or (bit_or (kept * 2 ^ 1 % 2 ^ 64) carry) (get_or base at 0)) 0 (omega (arith, h, s))
@@ -147,15 +147,15 @@ passing_more {code} {byte} {base} {old} {now} {new} {at} {carry} {kept} takes p 
     inside zero small =
         let e = shifted_low kept p.bit in
         let z : at * 64 + 0 ≡ at * 64 = omega arith in (
-          λ k. subst (Led code byte old) (sym z) (p.over.0 (sym e ∙ k)),
-          λ k. e ∙ p.over.1 (subst (Led code byte old) z k),
+          λ k. rw (← z) at (p.over.0 (sym e ∙ k)),
+          λ k. e ∙ p.over.1 (rw z at k),
         )
     inside (suc bit) small =
         let e = shifted_high kept carry bit p.bit (omega (arith, small)) in
         let k = kept_is bit (omega (arith, small)) in
         let z : at * 64 + bit + 1 ≡ at * 64 + suc bit = omega arith in (
-          λ i. subst (Led code byte old) z (k.0 (sym e ∙ i)),
-          λ led. e ∙ k.1 (subst (Led code byte old) (sym z) led),
+          λ i. rw z at (k.0 (sym e ∙ i)),
+          λ led. e ∙ k.1 (rw (← z) at led),
         )
 
 pub passing_ends : {code : List Node} {byte : ℕ} {base old now : List ℕ} {at carry : ℕ}
@@ -179,7 +179,7 @@ pub none_in : (words : List ℕ) (at : ℕ) → ((n : ℕ) → n < at → get_or
 none_in words at zeros h number k =
     let l = is_within words number k in
     let same : number ≡ number / 64 * 64 + number % 64 = omega arith in
-    let b = (is_in_word words (number / 64) (number % 64) (omega arith)).1 (subst (IsIn words) same k) in
+    let b = (is_in_word words (number / 64) (number % 64) (omega arith)).1 (rw same at k) in
     let z = ap (λ x. bit_at x (number % 64)) (zeros (number / 64) (omega (arith, l, h))) ∙ bit_at-zero (number % 64) in
     omega (arith, b, z)
 

@@ -1,5 +1,5 @@
 -- The nodes at the numbers of a code, and what they lead to.
-use Rattle.std.proofs.Common.{rules, ◌≡◌, ◌⊎◌, inl, inr, ℕ, zero, suc, ◌+◌, ◌<◌, ◌≤◌, Bool, true, false, IsTrue, List, [], ◌∷◌, length, get_or, refl, sym, ◌∙◌, subst, arith, ◌-◌, ◌++◌}
+use Rattle.std.proofs.Common.{rules, ◌≡◌, ◌⊎◌, inl, inr, ℕ, zero, suc, ◌+◌, ◌<◌, ◌≤◌, Bool, true, false, IsTrue, List, [], ◌∷◌, length, get_or, refl, sym, ◌∙◌, arith, ◌-◌, ◌++◌}
 use Rattle.std.proofs.lemmas.Bool.{false≢true}
 use Rattle.bre_core.specs.Match.{Parts}
 use Rattle.scan_core.specs.declared.node.Node.{Node}
@@ -62,11 +62,11 @@ parts_anywhere code at_first at_last (suc count) from to p = (p.0, parts_anywher
 -- what a known node leads to
 pub flows_of : (code : List Node) {n : ℕ} (node : Node) (at_first at_last : Bool) (to : ℕ) → At code n node
     → Flows code at_first at_last n to → LeadsOn node at_first at_last n to
-flows_of code {n} node at_first at_last to here f = subst (λ m. LeadsOn m at_first at_last n to) (at_once code n f.0 node f.1 here) f.2
+flows_of code {n} node at_first at_last to here f = rw (at_once code n f.0 node f.1 here) at f.2
 
 pub node_here : (code : List Node) {n : ℕ} {node read : Node} → n < length code → read ≡ node
     → read ≡ get_or code n read → At code n node
-node_here code {n} {read} h e is = subst (At code n) (sym is ∙ e) (at_index code n read h)
+node_here code {n} {read} h e is = rw (sym is ∙ e) at (at_index code n read h)
 
 pub target_in : {code : List Node} (n skip : ℕ) → IsCode code → At code n (Choose skip) → n + skip ≤ length code
 target_in n skip c here = c.fits n (Choose skip) here
@@ -135,7 +135,7 @@ module _ {code : List Node} {number : ℕ} {way : Way} where
   -- what is so of both is so of all that is led to
   pub led_by : {at_first at_last : Bool} {to : ℕ} (So : ℕ → Type 0) → IsWay code number way → So way.one → So way.other
       → Flows code at_first at_last number to → So to
-  led_by {at_first} {at_last} {to} So w one other f = elim ((w.exact at_first at_last to).0 f).1 [ inl e ↦ subst So (sym e) one | inr e ↦ subst So (sym e) other ]
+  led_by {at_first} {at_last} {to} So w one other f = elim ((w.exact at_first at_last to).0 f).1 [ inl e ↦ rw e one | inr e ↦ rw e other ]
 
 -- Lists of which each entry is what its place asks for.
 
@@ -146,7 +146,7 @@ module _ {A : Type 0} {none : A} {Is : ℕ → A → Type 0} {count : ℕ} {list
   each_more {entry} a is e = grind (arith, common_steps)
 
   pub each_to : {all : ℕ} → AreEach none Is count list → count ≡ all → AreEach none Is all list
-  each_to a e = subst (λ n. AreEach none Is n list) e a
+  each_to a e = rw e at a
 
   pub each_by : {Other : ℕ → A → Type 0} → AreEach none Is count list
       → ((place : ℕ) (entry : A) → place < count → Is place entry → Other place entry) → AreEach none Other count list

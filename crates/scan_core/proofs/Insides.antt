@@ -39,8 +39,8 @@ pub bits_more : {Is : ℕ → ℕ → Type 0} {count word : ℕ} (flag : Bool) �
     → AreBits Is (count + 1) (bit_or word (bool_byte flag * 2 ^ count % 2 ^ 64))
 bits_more {Is} {count} {word} true a h is = record {
   past = λ bit l. elim (cases_eq bit count) [
-    | inl same ↦ subst (λ n. Is n (bit_at (bit_or word (1 * 2 ^ count % 2 ^ 64)) n)) (sym same) (subst (Is count) (sym (bit_at_set_same w64 word count h)) is)
-    | inr other ↦ subst (Is bit) (sym (bit_at_set_other w64 word count h bit other)) (a.past bit (omega (arith, l, other)))
+    | inl same ↦ rw same (subst (Is count) (sym (bit_at_set_same w64 word count h)) is)
+    | inr other ↦ rw (← bit_at_set_other w64 word count h bit other) at (a.past bit (omega (arith, l, other)))
   ];
   rest = λ bit l. bit_at_set_other w64 word count h bit (λ q. omega (arith, q, l)) ∙ a.rest bit (omega (arith, l));
 }
@@ -105,12 +105,12 @@ grows_one {old} {new} number {word} h none ew fits en eo = record {
     larger = elim (cases_eq word (bit_or word (1 * 2 ^ (number % 64) % 2 ^ 64))) [
       | inl same ↦
           let unchanged = en ∙ ap (set old (number / 64)) (sym same ∙ ew) ∙ set-get_or old (number / 64) 0 in
-          absurd (none (subst (λ l. IsIn l number) unchanged ((is number).1 (inr refl))))
+          absurd (none (rw unchanged at ((is number).1 (inr refl))))
       | inr differs ↦ let l = le_or_l word (1 * 2 ^ (number % 64) % 2 ^ 64) in omega (arith, l, differs, ew)
     ]
 
     fuller : unset new < unset old
-    fuller = subst (λ l. unset l < unset old) (sym en) (unset-set old (number / 64) (bit_or word (1 * 2 ^ (number % 64) % 2 ^ 64)) (omega (arith, h)) larger
+    fuller = rw (← en) at (unset-set old (number / 64) (bit_or word (1 * 2 ^ (number % 64) % 2 ^ 64)) (omega (arith, h)) larger
         (let m = or_lt 64 word (1 * 2 ^ (number % 64) % 2 ^ 64) fits (omega arith) in omega (arith, m)))
 
 pub goes_none : (words : List ℕ) (before : ℕ) → GoesOn words words before before
@@ -159,7 +159,7 @@ is_within words number h = grind (arith, common_steps)
 pub flows_join : (code : List Node) (at_first at_last : Bool) (count start middle number : ℕ)
     → FlowsOn code at_first at_last start middle → Parts (Flows code at_first at_last) count middle number
     → FlowsOn code at_first at_last start number
-flows_join code at_first at_last zero start middle number f p = subst (FlowsOn code at_first at_last start) p f
+flows_join code at_first at_last zero start middle number f p = rw p at f
 flows_join code at_first at_last (suc count) start middle number f p = let r = flows_join code at_first at_last count start middle p.0 f p.1 in (suc r.0, (p.0, r.1, p.2))
 
 pub adds_both : {code : List Node} {at_first at_last : Bool} {old middle new : List ℕ}
@@ -186,7 +186,7 @@ spreads_out {code} {at_first} {at_last} {old} {now} adds closed = record {
   where
     follow : (count start number : ℕ) → IsIn old start → Parts (Flows code at_first at_last) count start number
         → IsIn now number
-    follow zero start number k p = subst (IsIn now) p (adds.kept start k)
+    follow zero start number k p = rw p at (adds.kept start k)
     follow (suc count) start number k p = closed p.0 number (follow count start p.0 k p.1) p.2
 
 -- what the first numbers lead to was entered
@@ -209,7 +209,7 @@ spreading_more {code} {at_first} {at_last} {now = now} {number = number} s g = r
     | inr here ↦
         let w = g.goes.low in
         let e : start ≡ number = omega (arith, w, h, here) in
-        (g.exact to).1 (inr (subst (IsIn now) e was, subst (λ n. Flows code at_first at_last n to) e flow))
+        (g.exact to).1 (inr (rw e at was, rw e at flow))
   ];
 }
 
@@ -291,7 +291,7 @@ inside_more {code} {at} all done found {bit} i small fits here is = record {
         (was.0, was.1, was.2, (suc was.3.0, (at * 64 + bit, was.3.1, (is n h).0 new)))
   ];
   looked = λ b to h l k f. elim (cases_eq b bit) [
-    | inl same ↦ right_bit all found to ((is to l).1 (subst (λ n. Flows code false false (at * 64 + n) (at * 64 + to)) same f))
+    | inl same ↦ right_bit all found to ((is to l).1 (rw same at f))
     | inr other ↦ left_bit all found to (i.looked b to h l (sym (bit_at_set_other w64 done bit small b other) ∙ k) f)
   ];
 }
@@ -368,8 +368,7 @@ join_more {code} {at} {word} {eight} all {entry} j i within h fits e = record {
     c : Closes code at (word / 2 ^ (eight * 8) % 256 * 2 ^ (eight * 8) % 2 ^ 64) entry
     c =
         let place : ℕ = at * 2048 + (eight * 256 + word / 2 ^ (eight * 8) % 256) in
-        subst (Closes code at (word / 2 ^ (eight * 8) % 256 * 2 ^ (eight * 8) % 2 ^ 64)) (sym e)
-        (entry_at place (omega (arith, h)) (omega (arith, h)) (omega arith) (i.each place (omega (arith, within, h))))
+        rw e (entry_at place (omega (arith, h)) (omega (arith, h)) (omega arith) (i.each place (omega (arith, within, h))))
 
 -- the bits of a number in its place in a word
 fitted : (n i : ℕ) → i < 64 → bit_at (n % 2 ^ 64) i ≡ bit_at n i

@@ -1,5 +1,5 @@
 -- What each line with a match has, and where a text lacks it.
-use Rattle.std.proofs.Common.{rules, ◌≡◌, inl, inr, ℕ, zero, suc, ◌+◌, ◌-◌, ◌<◌, ◌≤◌, Bool, true, false, IsTrue, List, [], ◌∷◌, ◌++◌, length, slice_index, refl, sym, ap, ◌∙◌, subst, arith, length-append}
+use Rattle.std.proofs.Common.{rules, ◌≡◌, inl, inr, ℕ, zero, suc, ◌+◌, ◌-◌, ◌<◌, ◌≤◌, Bool, true, false, IsTrue, List, [], ◌∷◌, ◌++◌, length, slice_index, refl, sym, ap, ◌∙◌, arith, length-append}
 use Rattle.std.proofs.lemmas.Bool.{cases_eq}
 use Rattle.std.proofs.lemmas.List.{get_or_append_left}
 use Rattle.std.proofs.Math.Seq.{get_or-append_seam}
@@ -36,7 +36,7 @@ come_by : (code : List Node) (line : List ℕ) (number : ℕ) → IsPassed code 
     → (there : ℕ) × (rest : ℕ) × Walks code line rest number there to stop
 come_by code line number passed zero at place to stop w low high = absurd (omega (arith, w.0, low, high))
 come_by code line number passed (suc count) at place to stop w low high = elim (cases_eq at number) [
-  | inl same ↦ (place, suc count, subst (λ n. Walks code line (suc count) n place to stop) same w)
+  | inl same ↦ (place, suc count, rw same at w)
   | inr other ↦ come_by code line number passed count w.0 w.1 to stop w.3 (step_near code line number w.2.0 place w.1 passed w.2.1 w.2.2 (omega (arith, low, other))) high
 ]
 
@@ -62,7 +62,7 @@ taken code line zero number place to stop (suc count) w high takes =
     let there : place ≡ place + 0 = omega arith in
     let led = led_on code line count number place to stop first.0 w (at_at code (Take first.0) here first.1) in (
       omega (arith, led.0),
-      λ bytes at. subst (λ n. IsTrue (has bytes (slice_index line n))) there (led_on code line count number place to stop bytes w (at_at code (Take bytes) here at)).1,
+      λ bytes at. rw there at (led_on code line count number place to stop bytes w (at_at code (Take bytes) here at)).1,
     )
 taken code line (suc k) number place to stop (suc count) w high takes =
     let first = takes 0 (omega arith) in
@@ -70,7 +70,7 @@ taken code line (suc k) number place to stop (suc count) w high takes =
     let more = taken code line k (number + 1) (place + 1) to stop count led.2 (omega (arith, high)) (λ j low. let next = takes (suc j) (omega (arith, low)) in (next.0, at_at code (Take next.0) (omega arith) next.1)) in
     let there : place + 1 + k ≡ place + suc k = omega arith in (
       omega (arith, more.0),
-      λ bytes at. subst (λ n. IsTrue (has bytes (slice_index line n))) there (more.1 bytes (at_at code (Take bytes) (omega arith) at)),
+      λ bytes at. rw there at (more.1 bytes (at_at code (Take bytes) (omega arith) at)),
     )
 
 -- the walk of a line with a match, from such a node on
@@ -104,7 +104,7 @@ pub is_text_needle : (code : List Node) (number : ℕ) {text needle : List ℕ} 
     → IsLiteral code number text → needle ≡ text → 0 < length text → IsNeedle code (Text needle)
 is_text_needle code number {text} passed literal same some line are ends = (
   walk.0,
-  subst (λ those. OccursAt line those walk.0) (sym same) (record {
+  rw same (record {
     fits = let last = each (length text - 1) (omega (arith, some)) in omega (arith, last.0, some);
     reads = λ j within. (each j within).1;
   }),
@@ -137,7 +137,7 @@ pub lacks_text : (needle text : List ℕ) (place : ℕ) → Nowhere (OccursAt te
     → LacksBefore (Text needle) text place
 lacks_text needle text place none before part after all ends has =
     let fits = has.1.fits in
-    none (length before + has.0) (omega arith) (omega (arith, ends, fits)) (subst (λ those. OccursAt those needle (length before + has.0)) (sym all) (record {
+    none (length before + has.0) (omega arith) (omega (arith, ends, fits)) (rw all (record {
       fits = (let one : length (before ++ part) ≡ length before + length part = length-append before part in let two : length (before ++ part ++ after) ≡ length (before ++ part) + length after = length-append (before ++ part) after in omega (arith, one, two, fits));
       reads = λ j within.
           let there : length before + has.0 + j ≡ length before + (has.0 + j) = omega arith in
@@ -155,7 +155,7 @@ clear_of pattern needle text place ordered are is lacks before line after all en
   where
     by : (found : Bool) → contains pattern line ≡ found → found ≡ false
     by false same = refl
-    by true same = absurd (lacks before line after all ends (is line (part_bytes before line after (subst AreBytes all are)) ((contained pattern line ordered).0 ((contains_tells pattern line).0 same))))
+    by true same = absurd (lacks before line after all ends (is line (part_bytes before line after (rw all at are)) ((contained pattern line ordered).0 ((contains_tells pattern line).0 same))))
 
 -- Choosing the rarest nodes
 
@@ -170,10 +170,10 @@ literal_more code from {at} byte text node all literal here only k within = elim
   | inl same ↦
       let there : at ≡ from + k = omega (arith, all, same) in
       let last : byte ≡ slice_index (text ++ byte ∷ []) k = sym (ap (λ n. slice_index (text ++ byte ∷ []) n) same ∙ get_or-append_seam text byte [] _) in
-      (node, at_at code node there here, subst (TakesOnly node) last only)
+      (node, at_at code node there here, rw last at only)
   | inr other ↦
       let long : length (text ++ byte ∷ []) ≡ length text + 1 = length-append text (byte ∷ []) in
       let less : k < length text = omega (arith, within, long, other) in
       let one = literal k less in
-      (one.0, one.1, subst (TakesOnly one.0) (sym (get_or_append_left text (byte ∷ []) _ k less)) one.2)
+      (one.0, one.1, rw (← get_or_append_left text (byte ∷ []) _ k less) at one.2)
 ]

@@ -84,12 +84,11 @@ search_more {code} line {place} {byte} {steps} now {new} b s here h e p absent t
   came = λ number.
       let one : suc place ≡ place + 1 = omega arith in
       let c = came_exact code line place (IsIn now) here h e number in
-      subst (λ n. IsIn new number ↔ (Came code line n number ⊎ FlowsOn code false false 0 number)) one (
+      rw (← one) (
         λ k. elim ((passed number).0 k) [ inl led ↦ inl (c.0 led) | inr based ↦ inr ((b.exact number).0 based) ],
         λ k. elim k [ inl came ↦ (passed number).1 (inl (c.1 came)) | inr flows ↦ (passed number).1 (inr ((b.exact number).1 flows)) ],
       );
-  so_far = subst (λ q. IsCounted code line (place + 1) (steps + q)) (sym p)
-      (counted_more (flags_of now) s.so_far (marked_here code line place now here) (λ m. false≢true (sym absent ∙ test.1 ((flags_are now (length code)).0 m))));
+  so_far = rw (← p) at (counted_more (flags_of now) s.so_far (marked_here code line place now here) (λ m. false≢true (sym absent ∙ test.1 ((flags_are now (length code)).0 m))));
 }
 
 -- the end is entered
@@ -109,8 +108,7 @@ pub search_ends : {code : List Node} (line : List ℕ) {place steps positions : 
     → IsOutcome code line (record { found = found; steps = steps + positions })
 search_ends {code} line {place} {steps} now {found} s here e p test =
     let f = flags_are now (length code) in
-    subst (λ q. IsOutcome code line (record { found = found; steps = steps + q })) (sym p)
-    (counted_ends (flags_of now) s.so_far (marked_here code line place now here) e (λ t. f.1 (test.0 t), λ m. test.1 (f.0 m)))
+    rw (← p) at (counted_ends (flags_of now) s.so_far (marked_here code line place now here) e (λ t. f.1 (test.0 t), λ m. test.1 (f.0 m)))
 
 -- A table that is built set by set and entry by entry.
 
@@ -125,7 +123,7 @@ built_set : {code : List Node} {entries : ℕ} {sets : List (List Bool)} {rows :
     → IsOpen code set → Built code entries (sets ++ set ∷ []) rows
 built_set {code} {sets} {set} b small o = let l = length-append sets (set ∷ []) in record {
   some = omega (arith, l);
-  front = λ number. subst (λ s. IsMarked s number ↔ FlowsOn code true false 0 number) (sym (get_or_append_left sets (set ∷ []) [] 0 b.some)) (b.front number);
+  front = λ number. rw (← get_or_append_left sets (set ∷ []) [] 0 b.some) at (b.front number);
   going = each_to (each_more b.going o refl) (omega (arith, l));
   told = each_by b.told (λ place read h t. tells_more set (omega (arith, h, small)) t);
 }
@@ -162,8 +160,7 @@ twin_entry {code} {place} {twin} {read} d {building} f a less e = record {
     t : Tells code building.sets.items (place / 256) twin read
     t =
         let here : place / 256 * 256 + twin < place = omega (arith, less) in
-        subst (Tells code building.sets.items (place / 256) twin) (sym (e ∙ get_or_default building.rows.items (place / 256 * 256 + twin) d 0 (omega (arith, here, f.built.told.size))))
-        (subst (λ t. t) (sym (tells_at refl (omega (arith, less)))) (f.built.told.each (place / 256 * 256 + twin) here))
+        rw (← (e ∙ get_or_default building.rows.items (place / 256 * 256 + twin) d 0 (omega (arith, here, f.built.told.size)))) at (subst (λ t. t) (sym (tells_at refl (omega (arith, less)))) (f.built.told.each (place / 256 * 256 + twin) here))
 
 -- the sets stay, or one is added
 record Grown (code : List Node) (place : ℕ) (sets sets' : List (List Bool)) (rows : List ℕ) : Type 0 where
@@ -176,8 +173,8 @@ grown : {code : List Node} {place : ℕ} {sets sets' : List (List Bool)} {rows :
     → Built code place sets rows → place ≤ length sets * 256
     → place / 256 < length sets → (sets' ≡ sets) ⊎ ((sets' ≡ sets ++ set ∷ []) × IsOpen code set)
     → Grown code place sets sets' rows
-grown {code} {place} {sets} {rows} b r k (inl e) = subst (λ t. Grown code place sets t rows) (sym e) (record { built = b; order = r; known = k; same = refl })
-grown {code} {place} {sets} {rows} {set} b r k (inr e) = let l = length-append sets (set ∷ []) in subst (λ t. Grown code place sets t rows) (sym e.0) (record {
+grown {code} {place} {sets} {rows} b r k (inl e) = rw e (record { built = b; order = r; known = k; same = refl })
+grown {code} {place} {sets} {rows} {set} b r k (inr e) = let l = length-append sets (set ∷ []) in rw e.0 (record {
   built = built_set b r e.1;
   order = omega (arith, r, l);
   known = omega (arith, k, l);
@@ -197,10 +194,10 @@ pub led_on : {code : List Node} {most place read : ℕ} {old new : Building} (be
     → LeadsTo (length code) most words old.sets.items new.sets.items read → new.rows ≡ old.rows
     → new.words.items ≡ words → Led code most place new read
 led_on {code} {most} {place} {read} {old} {new} before {words} f k is size advanced l er ew = record {
-  so_far = record { built = subst (λ rows. Built code place new.sets.items rows.items) (sym er) g.built; room = l.room; size = ap length ew ∙ size; order = g.order };
+  so_far = record { built = rw (← er) at g.built; room = l.room; size = ap length ew ∙ size; order = g.order };
   known = g.known;
   tells = record {
-    next = λ s. let k = l.next s in (k.0, λ number. subst (λ t. IsMarked t number ↔ Next code (place % 256) (InSets new.sets.items (place / 256)) number) (sym k.1) (exact number));
+    next = λ s. let k = l.next s in (k.0, λ number. rw (← k.1) at (exact number));
     stop = λ e. (exact (length code)).0 ((flags_are words (length code)).1 (l.stop e));
   };
 }
@@ -217,7 +214,7 @@ led_on {code} {most} {place} {read} {old} {new} before {words} f k is size advan
 
     exact : (number : ℕ)
         → IsMarked (flags_of words) number ↔ Next code (place % 256) (InSets new.sets.items (place / 256)) number
-    exact number = subst (λ s. IsMarked (flags_of words) number ↔ Next code (place % 256) (IsMarked s) number) (is ∙ sym g.same) (
+    exact number = rw (← (is ∙ sym g.same)) (
       λ m. next_by code (IsIn before) (IsMarked (flags_of before)) (λ n. (flags_are before n).1) number ((advanced number).0 ((flags_are words number).0 m)),
       λ n. (flags_are words number).1 ((advanced number).1 (next_by code (IsMarked (flags_of before)) (IsIn before) (λ n. (flags_are before n).0) number n)),
     )
@@ -229,8 +226,7 @@ pub building_more : {code : List Node} {most place read : ℕ} {old new : Buildi
 building_more {code} {most} {place} {old} {new} l es ew er =
     let b = l.so_far.built in
     let built : Built code (place + 1) old.sets.items new.rows.items = record { some = b.some; front = b.front; going = b.going; told = each_more b.told l.tells er } in
-    subst (λ sets. IsBuilding code most (place + 1) (record { sets = sets; rows = new.rows; words = new.words })) (sym es)
-    (record { built = built; room = l.so_far.room; size = ap (λ w. length w.items) ew ∙ l.so_far.size; order = omega (arith, l.known) })
+    rw es (record { built = built; room = l.so_far.room; size = ap (λ w. length w.items) ew ∙ l.so_far.size; order = omega (arith, l.known) })
 
 -- a set that a line's front has
 pub front_built : {code : List Node} (words : List ℕ) {sets : List (List Bool)} → length words ≡ width code
@@ -259,7 +255,7 @@ pub alike_below : (code : List Node) (n one other : ℕ) {node : Node}
     → ((bytes : List Bool) → node ≡ Take bytes → has bytes one ≡ has bytes other) → (m : ℕ) (bytes : List Bool)
     → m < n + 1 → At code m (Take bytes) → has bytes one ≡ has bytes other
 alike_below code n one other {node} before is h here m bytes l at = elim (cases_eq m n) [
-  | inl same ↦ here bytes (at_once code n node (Take bytes) (subst (At code n) (sym is) (at_index code n node h)) (subst (λ k. At code k (Take bytes)) same at))
+  | inl same ↦ here bytes (at_once code n node (Take bytes) (rw (← is) at (at_index code n node h)) (rw same at at))
   | inr differs ↦ before m bytes (omega (arith, l, differs)) at
 ]
 

@@ -68,7 +68,7 @@ reaches_exact code line {place} {at_first} {at_last} p number = (there number, h
   where
     flows : (count from to : ℕ) → Entered code line from place → Parts (Flows code at_first at_last) count from to
         → Entered code line to place
-    flows zero from to e q = subst (λ n. Entered code line n place) q e
+    flows zero from to e q = rw q at e
     flows (suc count) from to e q = entered_on code line (flows count from q.0 e q.1) (q.2.0, q.2.1, (flow_goes q.2.0 line q.0 to p).0 q.2.2)
 
     there : (number : ℕ) → Reaches code line place at_first at_last number → Entered code line number place
@@ -81,9 +81,9 @@ reaches_exact code line {place} {at_first} {at_last} p number = (there number, h
       | inl same ↦
           let here : from ≡ place = omega (arith, same, q) in
           let was = h here in
-          let led = subst (λ n. Leads g.0 line at n at' place) here (subst (λ n. Leads g.0 line at from at' n) q g.2) in
+          let led = subst (λ n. Leads g.0 line at n at' place) here (rw q at g.2) in
           (was.0, was.1, (suc was.2.0, (at, was.2.1, (g.0, g.1, (flow_goes g.0 line at at' p).1 led))))
-      | inr more ↦ (at', inl (from, omega (arith, more.0, q), at, e, subst (λ n. Goes code line at from at' n) q g), (0, refl))
+      | inr more ↦ (at', inl (from, omega (arith, more.0, q), at, e, rw q at g), (0, refl))
     ]
 
     arrive : (count at from number : ℕ) → from ≤ place → Walks code line count at from number place
@@ -116,8 +116,8 @@ one_counted {code} line {place} set a x e = record {
   sets = a.sets ++ set ∷ [];
   all = let l = length-append a.sets (set ∷ []) in omega (arith, l, a.all);
   exact = λ p number h. elim (cases_eq p place) [
-    | inl same ↦ subst (λ s. IsMarked s number ↔ Entered code line number p) (sym (get_or_push a.sets set [] p (omega (arith, same, a.all)))) (subst (λ q. IsMarked set number ↔ Entered code line number q) (sym same) (x number))
-    | inr other ↦ let l : p < place = omega (arith, h, other) in subst (λ s. IsMarked s number ↔ Entered code line number p) (sym (get_or_append_left a.sets (set ∷ []) [] p (omega (arith, l, a.all)))) (a.exact p number l)
+    | inl same ↦ rw (← get_or_push a.sets set [] p (omega (arith, same, a.all))) at (subst (λ q. IsMarked set number ↔ Entered code line number q) (sym same) (x number))
+    | inr other ↦ let l : p < place = omega (arith, h, other) in rw (← get_or_append_left a.sets (set ∷ []) [] p (omega (arith, l, a.all))) at (a.exact p number l)
   ];
   total = let m = more_positions code a.sets set in let t = a.total in omega (arith, m, t, e);
 }
@@ -144,7 +144,7 @@ pub counted_more : {code : List Node} {line : List ℕ} {place steps : ℕ} (set
     → (IsMarked set (length code) → ⊥) → IsCounted code line (place + 1) (steps + positions_among code set)
 counted_more {code} {line} {place} {steps} set s here never = record {
   none = λ before l k. elim (cases_eq before place) [
-    | inl same ↦ never ((here (length code)).1 (subst (λ q. Entered code line (length code) q) same k))
+    | inl same ↦ never ((here (length code)).1 (rw same at k))
     | inr other ↦ s.none before (omega (arith, l, other)) k
   ];
   counted = one_counted line set s.counted here refl;
@@ -166,17 +166,17 @@ counted_ends {code} {line} {place} {steps} set s here e test = record {
   exact = (
     λ t. (place, omega (arith, e), (here (length code)).0 (test.0 t)),
     λ k. elim (cases_eq k.0 place) [
-      | inl same ↦ test.1 ((here (length code)).1 (subst (λ q. Entered code line (length code) q) same k.2))
+      | inl same ↦ test.1 ((here (length code)).1 (rw same at k.2))
       | inr other ↦ absurd (s.none k.0 (omega (arith, k.1, e, other)) k.2)
     ],
   );
-  counted = λ absent. subst (λ n. AreSteps code line (n + 1) (steps + positions_among code set)) e (one_counted line set s.counted here refl);
+  counted = λ absent. rw e at (one_counted line set s.counted here refl);
   least = λ t. (counted_found s (omega (arith, e)) ((here (length code)).0 (test.0 t)) (omega arith) all).least refl;
   bound = all;
 }
   where
     all : steps + positions_among code set ≤ (length line + 1) * (weight code + 1)
-    all = subst (λ n. steps + positions_among code set ≤ (n + 1) * (weight code + 1)) e (steps_more place steps (positions_among code set) (weight code + 1) s.bound (positions_most code set))
+    all = rw e at (steps_more place steps (positions_among code set) (weight code + 1) s.bound (positions_most code set))
 
 -- The sets of the places along a line, and a table of them.
 
@@ -227,10 +227,10 @@ walked_more {code} {sets} {table} line {place} {state} {steps} {steps'} t w h b 
   known = omega (arith, e, step.0);
   exact = λ number.
       let n = next_inner line w h number in
-      subst (λ s. InSets sets s number ↔ Inner code line (suc place) number) (sym e) (λ i. n.0 ((step.1 number).0 i), λ i. (step.1 number).1 (n.1 i));
+      rw e (λ i. n.0 ((step.1 number).0 i), λ i. (step.1 number).1 (n.1 i));
   so_far =
       let one : place + 1 ≡ suc place = omega arith in
-      subst (λ n. IsCounted code line n steps') one (subst (IsCounted code line (place + 1)) (sym p) (counted_more (set_at sets state) w.so_far (walked_here line w h) (t.none state w.known)));
+      rw one at (subst (IsCounted code line (place + 1)) (sym p) (counted_more (set_at sets state) w.so_far (walked_here line w h) (t.none state w.known)));
 }
   where
     step : (entry table.rows.items state (slice_index line place) < length sets)
@@ -252,7 +252,7 @@ walked_stay {code} {sets} line (suc more) {place} {state} {steps} t w h b s =
     let last = walked_more line t before (omega (arith, h)) (b (place + more) (omega (arith, h)))
     (sym (s (place + more) (omega arith) (omega arith))) (let l = w.known in omega (arith, m, l)) (omega (arith, z)) in
     let e : suc (place + more) ≡ place + suc more = omega arith in
-    subst (λ p. Walked code sets line p state (steps + positions_among code (set_at sets state) * suc more)) e last
+    rw (← e) last
 
 -- what is entered after a byte is entered also where the line ends there
 entered_there : (code : List Node) (line : List ℕ) (place number : ℕ) → place < length line
@@ -270,7 +270,7 @@ entry_read {table} state byte d t h b e = e ∙ get_or_default table.rows.items 
 pub noted_read : {table : Table} {code : List Node} {sets : List (List Bool)} {state : ℕ} {read : State} (d : State)
     → IsTableOf code sets table → state < length sets → read ≡ get_or table.states.items state d
     → IsState code sets table.rows.items state read
-noted_read {table} {code} {sets} {state} d t h e = subst (IsState code sets table.rows.items state) (sym (e ∙ get_or_default table.states.items state d no_state (let s = t.states in omega (arith, h, s)))) (t.noted state h)
+noted_read {table} {code} {sets} {state} d t h e = rw (← (e ∙ get_or_default table.states.items state d no_state (let s = t.states in omega (arith, h, s)))) at (t.noted state h)
 
 -- along a line, by some table's sets
 abbrev pub WalkedOf : List Node → Table → List ℕ → ℕ → ℕ → ℕ → Type 0
@@ -288,7 +288,7 @@ walk_run code table line from to {state} steps {added} d w l h b s e a =
     let more : steps + positions_among code (set_at w.0 state) * (to - from) ≡ steps + added = ap (λ p. steps + p * (to - from)) (sym n.positions) ∙ ap (λ p. steps + p) (sym a) in
     let there : from + (to - from) ≡ to = omega (arith, l) in
     let stays = walked_stay line (to - from) w.1 w.2 (omega (arith, l, h)) b (λ k m u. s k m (omega (arith, u, l))) in
-    (w.0, w.1, subst (Walked code w.0 line to state) more (subst (λ p. Walked code w.0 line p state (steps + positions_among code (set_at w.0 state) * (to - from))) there stays))
+    (w.0, w.1, rw more at (subst (λ p. Walked code w.0 line p state (steps + positions_among code (set_at w.0 state) * (to - from))) there stays))
 
 pub walk_next : (code : List Node) (table : Table) (line : List ℕ) (place state : ℕ) {next : ℕ} (steps d' : ℕ)
     {noted : State} (d : State) → WalkedOf code table line place state steps → place < length line
@@ -299,7 +299,7 @@ walk_next code table line place state {next} steps d' {noted} d w h b e k f =
     let n = noted_read d w.1 w.2.known f in
     let r = entry_read state (slice_index line place) d' w.1 w.2.known b e in
     let one : suc place ≡ place + 1 = omega arith in
-    (w.0, w.1, subst (λ p. Walked code w.0 line p next (steps + noted.positions)) one (walked_more line w.1 w.2 h b r k (ap (λ p. steps + p) n.positions)))
+    (w.0, w.1, rw one at (walked_more line w.1 w.2 h b r k (ap (λ p. steps + p) n.positions)))
 
 -- one place more
 pub walk_one : (code : List Node) (table : Table) (line : List ℕ) (place state steps : ℕ) {noted : State} (d : State)
@@ -323,7 +323,7 @@ walk_stops {code} table line place state {steps} d' {noted} d w h b e k f =
     let next = (next_inner line w.2 h (length code)).0 ((w.1.told state (slice_index line place) w.2.known b).stop (sym r ∙ k)) in
     let one : suc place ≡ place + 1 = omega arith in
     let counted = subst (λ p. IsCounted code line (place + 1) (steps + p)) (sym n.positions) (counted_more (set_at w.0 state) w.2.so_far (walked_here line w.2 h) (w.1.none state w.2.known)) in
-    counted_found counted (omega (arith, h)) (subst (Entered code line (length code)) one (entered_there code line place (length code) h next)) (omega arith)
+    counted_found counted (omega (arith, h)) (rw one at (entered_there code line place (length code) h next)) (omega arith)
     (steps_wider (place + 1) (length line + 1) (steps + noted.positions) (weight code + 1) (walk_one code table line place state steps d w f) (omega (arith, h)))
 
 -- the line's end
@@ -333,7 +333,7 @@ pub walk_ends : {code : List Node} (table : Table) (line : List ℕ) (place : �
     → IsOutcome code line (record { found = noted.ends; steps = steps + noted.last_positions })
 walk_ends table line zero state steps d w h some e = absurd (omega (arith, h, some))
 walk_ends {code} table line (suc place) state steps {noted} d w h some e =
-    subst (λ p. IsOutcome code line (record { found = noted.ends; steps = steps + p })) (sym n.last_positions) (counted_ends n.last w.2.so_far last h n.ends)
+    rw (← n.last_positions) at (counted_ends n.last w.2.so_far last h n.ends)
   where
     n : IsState code w.0 table.rows.items state noted
     n = noted_read d w.1 w.2.known e
@@ -395,8 +395,8 @@ word_more {rows} {count} {byte} {done} {word} {offset} b h o i = record {
         → IsOffset rows count state byte (six_bits (word * 64 + offset) place)
     told state zero l e =
         let same : count - done ≡ state = omega (arith, l, e, h) in
-        subst (IsOffset rows count state byte) (sym (six_first word o)) (subst (λ s. IsOffset rows count s byte offset) same i)
-    told state (suc place) l e = subst (IsOffset rows count state byte) (sym (six_more word offset place o)) (b.told state place l (omega (arith, e)))
+        rw (← six_first word o) at (subst (λ s. IsOffset rows count s byte offset) same i)
+    told state (suc place) l e = rw (← six_more word offset place o) at (b.told state place l (omega (arith, e)))
 
 pub word_fits : {rows : List ℕ} {count byte done word : ℕ} → IsBegun rows count byte done word → done ≤ 9
     → word < 18014398509481984
@@ -468,8 +468,7 @@ state_going {code} {table} line {place} {state} {steps} {added} t a h b k n e w 
       let g = a.going k in
       let m = g.1.most in
       let s = g.1.states in
-      subst (λ p. (sets : List (List Bool)) × IsTableOf code sets table × Walked code sets line (place + 1) (entry table.rows.items state (slice_index line place)) p) (ap (λ p. steps + p) (sym e))
-      (walk_next code table line place state steps 0 no_state g h b refl (omega (arith, n, m, s)) refl);
+      rw (ap (λ p. steps + p) (sym e)) at (walk_next code table line place state steps 0 no_state g h b refl (omega (arith, n, m, s)) refl);
   over = λ q. absurd (omega (arith, q, n));
   bound = steps_more place steps added (weight code + 1) a.bound w;
 }
@@ -489,7 +488,7 @@ state_ends {code} {table} line {place} {state} {steps} same c a h b k n =
       | inr more ↦ more
     ] in
     let o = walk_stops table line place state 0 no_state g h b refl (c (state * 256 + slice_index line place) (omega (arith, k, b, r, s)) high) refl in
-    subst (λ p. HasStepsBefore code line (steps + p)) (sym same) (o.least refl)
+    rw (← same) at (o.least refl)
 
 state_more : {code : List Node} {table : Table} (line : List ℕ) {place state steps added six : ℕ} → IsTable code table
     → IsComplete table.rows.items → IsStateAt code table line place state steps → place < length line
@@ -511,7 +510,7 @@ state_more {code} {table} line {place} {state} {added} t c a h b w o = elim (cas
 pub at_moved : {code : List Node} {shifts : ShiftTable} (line : List ℕ) {place place' : ℕ} (word : ℕ) {steps steps' : ℕ}
     → place ≡ place' → steps ≡ steps' → IsAt code shifts line place word steps
     → IsAt code shifts line place' word steps'
-at_moved {code} {shifts} line {place} word {steps'} p s a = subst (λ n. IsAt code shifts line n word steps') p (subst (λ n. IsAt code shifts line place word n) s a)
+at_moved {code} {shifts} line {place} word {steps'} p s a = rw p at (subst (λ n. IsAt code shifts line place word n) s a)
 
 -- one byte more
 pub at_more : {code : List Node} {shifts : ShiftTable} (line : List ℕ) {place : ℕ} (word : ℕ) {word' steps read : ℕ}

@@ -7,7 +7,7 @@ use Rattle.seg_core.proofs.FirstLines.{first_lines-full, lines_of-first_lines}
 use Rattle.ports_core.specs.Part.{Begins}
 use Rattle.csplit_core.specs.Operand.{Operand, Line}
 use Rattle.csplit_core.specs.Output.{Style}
-use Rattle.csplit_core.specs.Csplit.{settled_of, whole_of, settled_by, whole_by, csplit_work}
+use Rattle.csplit_core.specs.Csplit.{settled_of, settled_by, whole_by, csplit_work}
 use Rattle.ports_core.specs.Work.{IsLawful}
 use Rattle.std.proofs.lemmas.Bool.{false≢true}
 use Rattle.csplit_core.specs.Input.{newline, marked, all_lines, complete_lines}
@@ -49,8 +49,7 @@ settled_grows style operands x y =
 pub settled_ends : (style : Style) (operands : List Operand) (x : List ℕ)
     → Begins (settled_by style operands x) (whole_by style operands x)
 settled_ends style operands x =
-    let more = all_grow x in subst (λ those. Begins (settled_by style operands x) (whole_of style operands those))
-    (sym more.1) (ends_with style operands (complete_lines x) more.0)
+    let more = all_grow x in rw (← more.1) at (ends_with style operands (complete_lines x) more.0)
 
 pub lawful : (style : Style) (operands : List Operand) → IsLawful (csplit_work style operands)
 lawful style operands = record {

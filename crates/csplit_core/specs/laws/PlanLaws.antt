@@ -26,15 +26,13 @@ among operand front (line ∷ rest) {from} is = matched_on operand (front ++ lin
     (let e : from - 1 ≡ length front = omega (arith, is) in e)
     ∙ ap (λ (l : Line). l.marks operand) (get_or-append_seam front line rest unmarked))
     (let e = length-append front (line ∷ rest) in omega (arith, e, is)) (first_among operand (suc from) rest)
-    (subst (λ those. MatchesAs operand those (suc from) (first_among operand (suc from) rest))
-    (append_assoc front (line ∷ []) rest)
-    (among operand (front ++ line ∷ []) rest (let e = length-append front (line ∷ []) in omega (arith, e, is))))
+    (rw (← append_assoc front (line ∷ []) rest) (among operand (front ++ line ∷ []) rest
+    (let e = length-append front (line ∷ []) in omega (arith, e, is))))
 
 pub first_match_as : (operand : Operand) (lines : List Line) (from : ℕ) → 1 ≤ from
     → MatchesAs operand lines from (first_match operand lines from)
 first_match_as operand lines from some = elim (cases_lt (length lines) (from - 1)) [
-  | inl beyond ↦ subst (λ those. MatchesAs operand lines from (first_among operand from those))
-      (sym (drop_all (from - 1) lines (omega (arith, beyond))))
+  | inl beyond ↦ rw (drop_all (from - 1) lines (omega (arith, beyond)))
       (λ line from_on within. absurd (omega (arith, beyond, from_on, within)))
   | inr on ↦ subst (λ those. MatchesAs operand those from (first_match operand lines from))
       (take-append-drop (from - 1) lines)
@@ -119,9 +117,7 @@ pub fewer_moves : (suppress : Bool) (total : ℕ) (state : State) {operand : Ope
     → cut ≤ total
     → needed total (state_after suppress operand operands state.repetition matched cut) < needed total state
 fewer_moves suppress total state {operand} {operands} matched cut is at some within =
-    subst (λ those. needed total (state_after suppress operand operands state.repetition matched cut)
-    < needed_by total state those) (sym is)
-    (fewer_by total state operand operands cut at some within (has_more operand.times state.repetition)
+    rw is (fewer_by total state operand operands cut at some within (has_more operand.times state.repetition)
     (state_after suppress operand operands state.repetition matched cut) refl refl refl)
 
 pub fewer : (suppress : Bool) (lines : List Line) (state : State) {operand : Operand} {operands : List Operand}

@@ -186,9 +186,7 @@ pub section_grows : (style : Style) (front : List Section) (begun other : Sectio
 section_grows style front begun other more is_open kept rest bytes =
     subst (λ those. Begins (part_by (manner_of style) those) (part_of style (front ++ other ∷ more)))
     (sym (shares-append style front (begun ∷ []) ∙ ap (λ those. shares_in style front ++ those) last))
-    (subst (λ those.
-    Begins (part_by (manner_of style) (shares_in style front ++ map (share Open) (file_in style begun)))
-    (part_by (manner_of style) those)) (sym (shares-append style front (other ∷ more)))
+    (rw (← shares-append style front (other ∷ more)) at
     (part_grows (manner_of style) (shares_in style front) (file_in style begun) _
     (shares_wider _ _ (shares_in style more)
     (subst (λ k. SharesBegin (map (share Open) (made_of (opening_of style k) (bytes_of begun.lines)))
@@ -201,8 +199,7 @@ section_grows style front begun other more is_open kept rest bytes =
 pub parts_grow : (style : Style) {low high : List Section} → Grow low high
     → Begins (part_of style low) (part_of style high)
 parts_grow style {high} grow =
-    subst (λ those. Begins (part_of style those) (part_of style high)) (sym grow.low_is)
-    (subst (λ those. Begins (part_of style (grow.front ++ grow.begun ∷ [])) (part_of style those))
+    rw (← grow.low_is) at (subst (λ those. Begins (part_of style (grow.front ++ grow.begun ∷ [])) (part_of style those))
     (sym (grow.high_is ∙ ap (λ those. grow.front ++ those) grow.next.are))
     (section_grows style grow.front grow.begun grow.next.other grow.next.more grow.is_open grow.next.kept
     (bytes_of grow.next.rest)

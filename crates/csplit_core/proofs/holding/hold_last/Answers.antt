@@ -1,5 +1,5 @@
 use Rattle.ports_core.proofs.HandedOn.{handed_on}
-use Rattle.std.proofs.Common.{◌≡◌, ◌++◌, drop, min, OnOk, ◌∙◌, ap, subst, arith}
+use Rattle.std.proofs.Common.{◌++◌, drop, min, ◌∙◌, ap, arith}
 use Rattle.std.proofs.lemmas.Grind.{common_steps}
 use Rattle.seg_core.specs.Line.{but_last_lines}
 use Rattle.seg_core.specs.Window.{Window}
@@ -29,7 +29,7 @@ returns-clause-goes g c = goes_or_lacks c.keep.result (hold_on (parted c.over-ov
 
 pub returns-clause-window : goal.returns-clause-window
 returns-clause-window g c = kept_window c.keep.new.window c.keep.result (parted c.over-over.ensures (c.min-front.ensures ∙ ap (min c.over-over.result) c.len.ensures.len)) c.in_ok-write_front.ensures.window
-    (subst (λ rest. OnOk c.keep.result (c.keep.new.window ≡ record { most = c.write_front.new.window.most; delim = c.write_front.new.window.delim; held = c.write_front.new.window.held ++ rest })) c.split_at.ensures.back c.keep.ensures.ok)
+    (rw c.split_at.ensures.back at c.keep.ensures.ok)
 
 pub returns-clause-size : goal.returns-clause-size
 returns-clause-size g c = grind (arith, common_steps)

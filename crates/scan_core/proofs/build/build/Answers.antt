@@ -1,6 +1,5 @@
-use Rattle.std.proofs.Common.{◌≡◌, [], ◌*◌, length, refl, sym, subst, arith}
+use Rattle.std.proofs.Common.{◌≡◌, ◌*◌, length, refl, subst, arith}
 use Rattle.std.proofs.lemmas.Grind.{common_steps}
-use Rattle.scan_core.specs.inner.Built.{Built, IsOpen}
 use Rattle.scan_core.specs.inner.Each.{AreEach}
 use Rattle.scan_core.specs.inner.Table.{IsState, no_state}
 use Rattle.scan_core.proofs.Searchings.{building_more, table_is}
@@ -11,7 +10,7 @@ pub loop-place-preserved : goal.loop-place-preserved
 loop-place-preserved c = building_more c.in_ok-read.ensures.ok refl refl c.in_ok-push.ensures.items
 
 pub states_of-requires-clause-sets : goal.states_of-requires-clause-sets
-states_of-requires-clause-sets c = subst (λ sets. AreEach [] (λ _. IsOpen c.args.nodes.now) (length sets) sets) (sym c.deref.ensures.value) c.loop-place.invariant.built.going
+states_of-requires-clause-sets c = rw (← c.deref.ensures.value) at c.loop-place.invariant.built.going
 
 pub returns-in_err-states : goal.returns-in_err-states
 returns-in_err-states c = grind (arith, common_steps)
@@ -21,6 +20,5 @@ returns-clause-ok c =
     let i = c.loop-place.invariant in
     let all : c.loop-place.place ≡ length c.loop-place.building.sets.items * 256 =
     elim c.loop-place-test.branch [ else-loop-place-test w ↦ omega (arith, i.room, i.order) | then-loop-place-test+then-place-len w ↦ omega (arith, i.order) ] in
-    table_is (subst (λ entries. Built c.args.nodes.now entries c.loop-place.building.sets.items c.loop-place.building.rows.items) all i.built) (omega arith) (omega (arith, i.room))
-    (subst (λ rows. AreEach no_state (IsState c.args.nodes.now c.loop-place.building.sets.items rows) (length c.loop-place.building.sets.items) c.in_ok-states.states.items) c.deref-2.ensures.value
-    (subst (λ sets. AreEach no_state (IsState c.args.nodes.now sets c.deref-2.result.now) (length sets) c.in_ok-states.states.items) c.deref.ensures.value c.in_ok-states.ensures.ok))
+    table_is (rw all at i.built) (omega arith) (omega (arith, i.room))
+    (rw c.deref-2.ensures.value at (subst (λ sets. AreEach no_state (IsState c.args.nodes.now sets c.deref-2.result.now) (length sets) c.in_ok-states.states.items) c.deref.ensures.value c.in_ok-states.ensures.ok))

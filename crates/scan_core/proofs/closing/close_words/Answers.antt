@@ -1,7 +1,7 @@
-use Rattle.std.proofs.Common.{rules, ◌+◌, ◌<◌, ◌^◌, get_or, refl, sym, ap, ◌∙◌, subst, arith, bit_and}
+use Rattle.std.proofs.Common.{rules, ◌<◌, ◌^◌, get_or, refl, sym, ap, ◌∙◌, arith, bit_and}
 use Rattle.std.proofs.lemmas.List.{get_or_default}
 use Rattle.scan_core.specs.inner.Words.{width}
-use Rattle.scan_core.proofs.Closings.{Apart, apart_skip, apart_more, apart_ends}
+use Rattle.scan_core.proofs.Closings.{apart_skip, apart_more, apart_ends}
 use Rattle.scan_core.proofs.closing.close_words.Goals as goal
 use Rattle.scan_core.proofs.closing.close_words.Goals.{then-word-index-ne0, else-word-index-ne0}
 
@@ -14,10 +14,8 @@ loop-at-preserved c =
     let inside : at < width c.args.nodes.now = (let s = c.requires.size in let t = c.loop-at-test.true in omega (arith, s, t)) in
     let leads = c.index.ensures ∙ get_or_default closures.leads.items at _ 0 (let s = c.requires.closures.leads.size in omega (arith, s, inside)) in
     elim c.if-word-index-ne0.branch [
-      | then-word-index-ne0 w ↦ subst (λ words. Apart c.args.nodes.now closures c.args.words.now words (at + 1)) (sym w.words-is)
-          (apart_more w.looked_up.result c.loop-at.invariant c.requires.closures c.requires.begun inside c.requires.size w.looked_up.ensures fits (search rules) refl)
-      | else-word-index-ne0 w ↦ subst (λ words. Apart c.args.nodes.now closures c.args.words.now words (at + 1)) (sym w.words-is)
-          (apart_skip c.loop-at.invariant c.requires.closures c.requires.begun inside (ap (bit_and (get_or now at 0)) (sym leads) ∙ w.if-word-index-ne0.false))
+      | then-word-index-ne0 w ↦ rw (← w.words-is) at (apart_more w.looked_up.result c.loop-at.invariant c.requires.closures c.requires.begun inside c.requires.size w.looked_up.ensures fits (search rules) refl)
+      | else-word-index-ne0 w ↦ rw (← w.words-is) at (apart_skip c.loop-at.invariant c.requires.closures c.requires.begun inside (ap (bit_and (get_or now at 0)) (sym leads) ∙ w.if-word-index-ne0.false))
     ]
 
 pub returns-clause-apart : goal.returns-clause-apart

@@ -1,6 +1,6 @@
-use Rattle.std.proofs.Common.{◌<◌, length, sym, ◌∙◌, subst, arith}
+use Rattle.std.proofs.Common.{◌<◌, length, ◌∙◌, arith}
 use Rattle.std.proofs.lemmas.List.{get_or_default}
-use Rattle.scan_core.specs.inner.Hops.{IsHop, no_hop}
+use Rattle.scan_core.specs.inner.Hops.{no_hop}
 use Rattle.scan_core.proofs.Closings.{following_more, following_ends}
 use Rattle.scan_core.proofs.closing.follow_all.Goals as goal
 
@@ -8,7 +8,7 @@ pub follow-over-requires-clause-hop : goal.follow-over-requires-clause-hop
 follow-over-requires-clause-hop c =
     let hops = c.args.closures.now.hops.onward.items in
     let inside : c.loop-place.place < length hops = omega (arith, c.loop-place-test.true) in
-    subst (IsHop c.args.nodes.now) (sym (c.index-hop.ensures ∙ get_or_default hops c.loop-place.place _ no_hop inside)) (c.requires.closures.hops.onward.each c.loop-place.place inside)
+    rw (← (c.index-hop.ensures ∙ get_or_default hops c.loop-place.place _ no_hop inside)) at (c.requires.closures.hops.onward.each c.loop-place.place inside)
 
 pub loop-place-preserved : goal.loop-place-preserved
 loop-place-preserved c =

@@ -1,7 +1,4 @@
-use Rattle.std.proofs.Common.{◌≡◌, subst, arith}
-use Rattle.scan_core.specs.inner.Closures.{IsLeading}
-use Rattle.scan_core.specs.inner.Each.{AreEach}
-use Rattle.scan_core.specs.inner.Hops.{AreParted}
+use Rattle.std.proofs.Common.{◌≡◌, arith}
 use Rattle.scan_core.specs.inner.Words.{width}
 use Rattle.scan_core.proofs.Enterings.{each_more, each_to}
 use Rattle.scan_core.proofs.closures.closures_of.Goals as goal
@@ -17,8 +14,8 @@ returns-clause-ok c =
     record {
       base = c.in_ok-base.ensures.ok;
       front = c.in_ok-front.ensures.ok;
-      leads = subst (λ words. AreEach 0 (IsLeading nodes words) (width nodes) c.loop-at.leads.items) value (each_to c.loop-at.invariant.0 all);
+      leads = rw value at (each_to c.loop-at.invariant.0 all);
       inside = c.in_ok-inside.ensures.ok;
-      hops = subst (λ words. AreParted nodes words c.in_ok-hops.hops) value c.in_ok-hops.ensures.ok;
+      hops = rw value at c.in_ok-hops.ensures.ok;
       anchors = each_to c.loop-at.invariant.1 all;
     }

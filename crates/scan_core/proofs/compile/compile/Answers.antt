@@ -1,7 +1,6 @@
-use Rattle.std.proofs.Common.{rules, ◌≡◌, ◌-◌, drop, length, refl, sym, ap, ◌∙◌, subst, arith}
+use Rattle.std.proofs.Common.{rules, ◌≡◌, ◌-◌, length, refl, ap, ◌∙◌, arith}
 use Rattle.std.proofs.lemmas.List.{at_drop_all}
-use Rattle.bre_core.specs.Flat.{AreBounded}
-use Rattle.scan_core.specs.inner.Compiling.{TakesAll, depth_in}
+use Rattle.scan_core.specs.inner.Compiling.{depth_in}
 use Rattle.scan_core.proofs.Compiled.{bounded_at, compiled, ordered, way_more}
 use Rattle.scan_core.proofs.compile.compile.Goals as goal
 
@@ -12,7 +11,7 @@ loop-place-init c = let first = c.new-compiling.result in record {
   way = (
     first,
     record { nodes = c.new-compiling.ensures.nodes; pending = c.new-compiling.ensures.pending; passing = c.new-compiling.ensures.passing },
-    subst (λ l. TakesAll first l first) (sym (at_drop_all (λ ts. ts) c.tokens-tokens.result.now (length c.tokens-tokens.result.now) (omega arith))) refl,
+    rw (at_drop_all (λ ts. ts) c.tokens-tokens.result.now (length c.tokens-tokens.result.now) (omega arith)) refl,
   );
 }
 
@@ -37,7 +36,7 @@ returns-clause-ok c =
     let w = c.loop-place.invariant.way in
     let front : c.loop-place.place ≡ 0 = omega (arith, c.loop-place-test.false) in
     c.reverse.ensures.items ∙ compiled c.args.expression.now c.loop-place.compiling c.tokens-tokens.ensures.written c.tokens-tokens.ensures.order w.1
-    (subst (λ n. TakesAll w.0 (drop n c.tokens-tokens.result.now) c.loop-place.compiling) front w.2)
+    (rw front at w.2)
 
 pub returns-clause-order : goal.returns-clause-order
-returns-clause-order c = ordered c.args.expression.now (subst AreBounded c.tokens-tokens.ensures.written c.tokens-tokens.ensures.order)
+returns-clause-order c = ordered c.args.expression.now (rw c.tokens-tokens.ensures.written at c.tokens-tokens.ensures.order)

@@ -16,12 +16,10 @@ loop-place-preserved c =
     let is = subst (IsHop nodes) (sym eh) (c.in_ok-all.ensures.sound.each place inside) in
     elim c.if-is_within.branch [
       | then-is_within+in_ok-push w ↦
-          subst (λ v. Parting nodes base all v.items c.if-is_within.landings.items (place + 1)) (sym w.onward-is)
-          (subst (λ v. Parting nodes base all c.loop-place.onward.items v.items (place + 1)) (sym w.landings-is)
+          rw (← w.onward-is) at (subst (λ v. Parting nodes base all c.loop-place.onward.items v.items (place + 1)) (sym w.landings-is)
           (part_landing c.loop-place.invariant (record { leads = is; ends = c.is_within.ensures w.if-is_within.true }) eh w.in_ok-push.ensures.items))
       | else-is_within+in_ok-push-2 w ↦
-          subst (λ v. Parting nodes base all v.items c.if-is_within.landings.items (place + 1)) (sym w.onward-is)
-          (subst (λ v. Parting nodes base all w.push-else-is_within.new.self.items v.items (place + 1)) (sym w.landings-is)
+          rw (← w.onward-is) at (subst (λ v. Parting nodes base all w.push-else-is_within.new.self.items v.items (place + 1)) (sym w.landings-is)
           (part_onward c.loop-place.invariant is eh w.in_ok-push-2.ensures.items))
     ]
 

@@ -1,5 +1,4 @@
-use Rattle.std.proofs.Common.{◌∷◌, [], length, refl, sym, ap, ◌∙◌, subst, arith, length-append}
-use Rattle.scan_core.specs.inner.Needles.{IsLiteral}
+use Rattle.std.proofs.Common.{◌∷◌, [], length, refl, ap, ◌∙◌, arith, length-append}
 use Rattle.scan_core.proofs.Enterings.{node_here}
 use Rattle.scan_core.proofs.Needles.{literal_more}
 use Rattle.scan_core.proofs.rarest.literal.Goals as goal
@@ -11,5 +10,5 @@ loop-at-preserved c =
     let long = ap length items ∙ length-append c.loop-at.text.items (c.in-Some.byte ∷ []) in
     record {
       all = omega (arith, long, c.loop-at.invariant.all);
-      literal = subst (IsLiteral c.args.nodes.now c.args.from) (sym items) (literal_more c.args.nodes.now c.args.from c.in-Some.byte c.loop-at.text.items _ c.loop-at.invariant.all c.loop-at.invariant.literal here c.in-Some.ensures);
+      literal = rw (← items) at (literal_more c.args.nodes.now c.args.from c.in-Some.byte c.loop-at.text.items _ c.loop-at.invariant.all c.loop-at.invariant.literal here c.in-Some.ensures);
     }

@@ -1,6 +1,4 @@
-use Rattle.std.proofs.Common.{rules, ◌≡◌, ◌⊎◌, ◌↔◌, ℕ, ◌<◌, length, slice_index, refl, sym, ◌∙◌, subst, arith, eqb-true}
-use Rattle.scan_core.specs.inner.Sets.{Passes}
-use Rattle.scan_core.specs.inner.Words.{IsIn}
+use Rattle.std.proofs.Common.{rules, ◌≡◌, ◌<◌, length, refl, sym, ◌∙◌, arith, eqb-true}
 use Rattle.scan_core.proofs.Shiftings.{inner, final}
 use Rattle.scan_core.proofs.Searchings.{entered_here, front_is, search_more, search_found, search_ends, search_fits}
 use Rattle.scan_core.proofs.search.search.Goals as goal
@@ -33,7 +31,7 @@ loop-place-preserved c =
     let here = entered_here c.args.line.now c.loop-place.invariant (inner c.args.line.now c.loop-place-test.true refl) c.spread.ensures in
     search_more c.args.line.now c.spread.new.words c.requires.closures.base c.loop-place.invariant here c.loop-place-test.true refl c.positions.ensures
     c.if-has.false c.has.ensures (c.pass.ensures.size ∙ c.spread.ensures.size ∙ c.loop-place.invariant.size)
-    (subst (λ base. (number : ℕ) → IsIn c.pass.new.words number ↔ (((before : ℕ) × IsIn c.spread.new.words before × Passes c.args.nodes.now (slice_index c.args.line.now c.loop-place.place) before number) ⊎ IsIn base number)) c.deref-in-loop-place-2.ensures.value c.pass.ensures.exact)
+    (rw c.deref-in-loop-place-2.ensures.value at c.pass.ensures.exact)
 
 pub returns-clause-outcome : goal.returns-clause-outcome
 returns-clause-outcome c =

@@ -1,12 +1,10 @@
-use Rattle.std.proofs.Common.{◌≡◌, List, [], length, refl, subst, sym, ap, arith}
+use Rattle.std.proofs.Common.{◌≡◌, List, [], length, refl, ap, arith}
 use Rattle.seg_core.specs.Line.{delimiters}
-use Rattle.ports_core.specs.Guard.{GuardState, HoldsIn}
 use Rattle.ports_core.specs.Part.{OutputsAt, StoppedBetween, nothing}
 use Rattle.csplit_core.specs.Output.{sizes_wanted}
 use Rattle.ports_core.specs.Slot.{Slot}
 use Rattle.ports_core.proofs.HandedOn.{fault_is}
 use Rattle.csplit_core.specs.Csplit.{settled_by}
-use Rattle.csplit_core.specs.CsplitState.{CsplitState, Holds, IsReady, Owns}
 use Rattle.csplit_core.specs.Input.{newline}
 use Rattle.csplit_core.proofs.StageLemmas.{begins_at, cannot_begin}
 use Rattle.csplit_core.proofs.csplitter.Csplitter.open.Goals as goal
@@ -14,18 +12,17 @@ use Rattle.csplit_core.proofs.csplitter.Csplitter.open.Goals as goal
 pub returns-clause-holds : goal.returns-clause-holds
 returns-clause-holds g c =
     let empty = c.new.ensures.items in
-    subst (λ (guard : GuardState CsplitState). HoldsIn Holds guard []) (sym c.new-2.ensures) (record { live = refl; count = refl; within = record { stands = c.in_ok-cutter.ensures.stands; live = λ differs. empty; past = λ below. empty } })
+    rw c.new-2.ensures (record { live = refl; count = refl; within = record { stands = c.in_ok-cutter.ensures.stands; live = λ differs. empty; past = λ below. empty } })
 
 pub returns-clause-ready : goal.returns-clause-ready
 returns-clause-ready g c =
     let empty = c.new.ensures.items in
     let opened = c.in_ok-cutter.ensures in
     let none : length c.new.result.items ≡ 0 = ap length empty in
-    subst (λ (guard : GuardState CsplitState). IsReady guard.stage (g.O.Outs.slots c.open.new.outs)) (sym c.new-2.ensures)
-    (record { writer = opened.ready; output = opened.output c.requires.output; manner = rw opened.asked opened.manner; sound = opened.sound; unbroken = ap (delimiters newline) empty; room = (let size = opened.size in omega (arith, size, none)); few = omega arith })
+    rw c.new-2.ensures (record { writer = opened.ready; output = opened.output c.requires.output; manner = rw opened.asked opened.manner; sound = opened.sound; unbroken = ap (delimiters newline) empty; room = (let size = opened.size in omega (arith, size, none)); few = omega arith })
 
 pub returns-clause-owns : goal.returns-clause-owns
-returns-clause-owns g c = subst (λ (guard : GuardState CsplitState). Owns guard.stage (length (g.O.Outs.slots c.args.outs.now)) (g.O.Outs.slots c.open.new.outs)) (sym c.new-2.ensures) (record { writer = c.in_ok-cutter.ensures.owns; all = c.in_ok-cutter.ensures.all })
+returns-clause-owns g c = rw c.new-2.ensures (record { writer = c.in_ok-cutter.ensures.owns; all = c.in_ok-cutter.ensures.all })
 
 pub returns-clause-outputs : goal.returns-clause-outputs
 returns-clause-outputs g c = begins_at g.O.Outs.told c.args.style c.as_slice.ensures c.requires.streams c.in_ok-cutter.ensures.reaches

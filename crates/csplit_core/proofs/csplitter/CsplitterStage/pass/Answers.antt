@@ -1,11 +1,6 @@
-use Rattle.std.proofs.Common.{◌≡◌, arith, refl, subst, sym}
+use Rattle.std.proofs.Common.{arith, refl}
 use Rattle.std.proofs.lemmas.Grind.{common_steps}
-use Rattle.seg_core.specs.Line.{delimiters}
 use Rattle.ports_core.proofs.HandedOn.{handed_on}
-use Rattle.csplit_core.specs.CsplitState.{CsplitState}
-use Rattle.csplit_core.specs.Cutter.{IsSound}
-use Rattle.csplit_core.specs.Input.{newline}
-use Rattle.ports_core.specs.FileWriter.{IsReady}
 use Rattle.csplit_core.proofs.LineLemmas.{piece_ends, rest_all}
 use Rattle.csplit_core.proofs.StageLemmas.{none_passes, past_passes, some_passes, some_stopped}
 use Rattle.csplit_core.proofs.csplitter.CsplitterStage.pass.Goals as goal
@@ -17,9 +12,9 @@ pub take_lines-requires : goal.take_lines-requires
 take_lines-requires g c = record {
   fits = grind (arith, common_steps);
   whole = piece_ends c.in-Some.end c.in-Some.ensures.some;
-  sound = subst (λ (stage : CsplitState). IsSound stage.cutter) (sym c.self.view_is) c.requires.ready.sound;
-  «open» = subst (λ (stage : CsplitState). delimiters newline stage.rest ≡ 0) (sym c.self.view_is) c.requires.ready.unbroken;
-  ready = subst (λ (stage : CsplitState). IsReady stage.cutter.writer (g.O.Outs.slots c.args.outs.now)) (sym c.self.view_is) c.requires.ready.writer;
+  sound = rw (← c.self.view_is) at c.requires.ready.sound;
+  «open» = rw (← c.self.view_is) at c.requires.ready.unbroken;
+  ready = rw (← c.self.view_is) at c.requires.ready.writer;
 }
 
 pub returns-in_err-take_lines-in-Some-clause-passes : goal.returns-in_err-take_lines-in-Some-clause-passes

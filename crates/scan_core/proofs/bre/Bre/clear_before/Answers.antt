@@ -1,5 +1,4 @@
-use Rattle.std.proofs.Common.{rules, IfSome, subst}
-use Rattle.scan_core.specs.Clear.{IsClear}
+use Rattle.std.proofs.Common.{rules, subst}
 use Rattle.scan_core.specs.inner.Needles.{AreBytes, IsNeedle}
 use Rattle.scan_core.proofs.Needles.{clear_of}
 use Rattle.scan_core.proofs.bre.Bre.clear_before.Goals as goal
@@ -7,6 +6,5 @@ use Rattle.scan_core.proofs.bre.Bre.clear_before.Goals as goal
 pub returns-in-Some-clause-clear : goal.returns-in-Some-clause-clear
 returns-in-Some-clause-clear c =
     let bytes : AreBytes c.args.text.now = λ k h. search (rules, c.type_inv.text) in
-    let needle = subst (λ code. IsNeedle code c.in-Some.needle) c.self.invariant.0 (subst (λ needle. IfSome needle (IsNeedle c.self.inside.code.items)) c.in-Some.is c.self.invariant.7) in
-    subst (λ pattern. IsClear pattern c.args.text.now c.find.result) c.self.view_is
-    (clear_of c.self.inside.expression c.in-Some.needle c.args.text.now c.find.result c.self.invariant.1 bytes needle c.find.ensures.lacks)
+    let needle = subst (λ code. IsNeedle code c.in-Some.needle) c.self.invariant.0 (rw c.in-Some.is at c.self.invariant.7) in
+    rw c.self.view_is at (clear_of c.self.inside.expression c.in-Some.needle c.args.text.now c.find.result c.self.invariant.1 bytes needle c.find.ensures.lacks)

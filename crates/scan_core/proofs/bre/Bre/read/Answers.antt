@@ -1,9 +1,8 @@
-use Rattle.std.proofs.Common.{Ok, Err, IsErrOf, length, sym, ap, ◌∙◌, subst, arith}
+use Rattle.std.proofs.Common.{Ok, Err, IsErrOf, length, ap, ◌∙◌, arith}
 use Rattle.std.proofs.lemmas.Result.{err_from_is_err_and}
 use Rattle.bre_core.specs.declared.fault.BreFault.{BreFault}
 use Rattle.bre_core.specs.declared.fault.BreFault.TheVariants.{Memory, TooLarge}
 use Rattle.bre_core.specs.Pattern.{Pattern}
-use Rattle.scan_core.specs.inner.Sets.{IsCode}
 use Rattle.scan_core.proofs.Codes.{is_code, enough_room}
 use Rattle.scan_core.proofs.bre.Bre.read.Goals as goal
 
@@ -17,13 +16,13 @@ pub closures_of-requires : goal.closures_of-requires
 closures_of-requires c =
     let o = c.in_ok-code.ensures.order in
     let e = c.as_slice-nodes.ensures.value ∙ c.in_ok-code.ensures.ok in
-    record { code = subst IsCode (sym e) (is_code _ o); short = let l = ap length e in let r = enough_room _ o in omega (arith, l, r, c.in_ok-expression.ensures.size) }
+    record { code = rw (← e) at (is_code _ o); short = let l = ap length e in let r = enough_room _ o in omega (arith, l, r, c.in_ok-expression.ensures.size) }
 
 pub build-requires-clause-code : goal.build-requires-clause-code
-build-requires-clause-code c = subst IsCode (sym (c.as_slice-nodes.ensures.value ∙ c.in_ok-code.ensures.ok)) (is_code _ c.in_ok-code.ensures.order)
+build-requires-clause-code c = rw (← (c.as_slice-nodes.ensures.value ∙ c.in_ok-code.ensures.ok)) at (is_code _ c.in_ok-code.ensures.order)
 
 pub needle_of-requires : goal.needle_of-requires
-needle_of-requires c = subst IsCode (sym (c.as_slice-nodes.ensures.value ∙ c.in_ok-code.ensures.ok)) (is_code _ c.in_ok-code.ensures.order)
+needle_of-requires c = rw (← (c.as_slice-nodes.ensures.value ∙ c.in_ok-code.ensures.ok)) at (is_code _ c.in_ok-code.ensures.order)
 
 pub returns-in_err-shifts : goal.returns-in_err-shifts
 returns-in_err-shifts c =

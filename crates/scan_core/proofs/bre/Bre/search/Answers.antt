@@ -1,6 +1,5 @@
-use Rattle.std.proofs.Common.{rules, ◌+◌, ◌/◌, ◌≤◌, length, sym, ap, ◌∙◌, subst, arith, length-take}
+use Rattle.std.proofs.Common.{rules, ◌+◌, ◌/◌, ◌≤◌, length, ap, ◌∙◌, arith, length-take}
 use Rattle.bre_core.specs.Pattern.{positions_of}
-use Rattle.scan_core.specs.inner.Sets.{IsCode}
 use Rattle.scan_core.proofs.Codes.{is_code, enough_room}
 use Rattle.scan_core.proofs.bre.Bre.search.Goals as goal
 
@@ -20,7 +19,7 @@ slice_bounds-search-end-2 c =
     search (rules, h)
 
 pub search-requires-clause-code : goal.search-requires-clause-code
-search-requires-clause-code c = subst IsCode (sym (c.deref.ensures.value ∙ c.self.invariant.0)) (is_code c.self.inside.expression c.self.invariant.1)
+search-requires-clause-code c = rw (← (c.deref.ensures.value ∙ c.self.invariant.0)) at (is_code c.self.inside.expression c.self.invariant.1)
 
 pub search-requires-clause-room : goal.search-requires-clause-room
 search-requires-clause-room c =

@@ -1,7 +1,7 @@
-use Rattle.std.proofs.Common.{IfSome, sym, subst}
+use Rattle.std.proofs.Common.{IfSome, subst}
 use Rattle.scan_core.specs.inner.Shifts.{IsShiftTable}
 use Rattle.scan_core.proofs.bre.Bre.walk.Goals as goal
 
 pub walk_by_shifts-requires-clause-table : goal.walk_by_shifts-requires-clause-table
 walk_by_shifts-requires-clause-table c =
-    subst (λ code. IsShiftTable code c.in-Some.shifts) (sym c.deref.ensures.value) (subst (λ shifts. IfSome shifts (IsShiftTable c.self.inside.code.items)) c.in-Some.is c.self.invariant.5)
+    rw (← c.deref.ensures.value) at (subst (λ shifts. IfSome shifts (IsShiftTable c.self.inside.code.items)) c.in-Some.is c.self.invariant.5)

@@ -1,7 +1,6 @@
-use Rattle.std.proofs.Common.{◌≡◌, [], ◌∷◌, ◌++◌, length, sym, ap, subst, ◌∙◌, arith}
+use Rattle.std.proofs.Common.{◌≡◌, [], ◌∷◌, ◌++◌, length, sym, ap, ◌∙◌, arith}
 use Rattle.std.proofs.lemmas.Bool.{false≢true}
 use Rattle.std.proofs.lemmas.List.{with_items_is}
-use Rattle.scan_core.specs.inner.Built.{Built}
 use Rattle.scan_core.specs.inner.Words.{IsIn, flags_of, width}
 use Rattle.scan_core.proofs.Searchings.{front_built}
 use Rattle.scan_core.proofs.build.Building.begin.Goals as goal
@@ -13,9 +12,9 @@ returns-clause-ok c =
     let sets = c.in_ok-push.ensures.items ∙ ap (λ l. l ++ flags_of c.in_ok-front.front.items ∷ []) c.new-sets.ensures.items
     ∙ ap (λ w. flags_of w ∷ []) (c.in_ok-front.ensures.items ∙ c.deref-3.ensures.value ∙ whole) in
     let none : IsIn c.begin.new.words (length c.args.nodes.now) → ⊥ = λ h.
-    false≢true (sym c.if-has.false ∙ c.has.ensures.1 (subst (λ w. IsIn w (length c.args.nodes.now)) (sym (c.deref.ensures.value ∙ whole)) h)) in
+    false≢true (sym c.if-has.false ∙ c.has.ensures.1 (rw (← (c.deref.ensures.value ∙ whole)) at h)) in
     record {
-      built = subst (Built c.args.nodes.now 0 c.push.new.self.items) (sym c.new.ensures.items) (front_built c.begin.new.words size c.begin.ensures.exact none sets);
+      built = rw (← c.new.ensures.items) at (front_built c.begin.new.words size c.begin.ensures.exact none sets);
       room = let l = ap length sets in omega (arith, l, c.requires.most);
       size = ap length whole ∙ size;
       order = omega arith;

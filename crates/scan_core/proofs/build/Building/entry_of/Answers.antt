@@ -1,10 +1,10 @@
-use Rattle.std.proofs.Common.{◌≡◌, ◌/◌, [], refl, ap, subst, ◌∙◌, length, arith}
+use Rattle.std.proofs.Common.{◌≡◌, ◌/◌, [], refl, ap, ◌∙◌, length, arith}
 use Rattle.std.proofs.lemmas.List.{get_or_default, with_items_is}
 use Rattle.std.specs.Vec.{with_items}
 use Rattle.std.proofs.lemmas.Result.{IfOk-weaker}
 use Rattle.scan_core.specs.Counted.{set_at}
 use Rattle.scan_core.specs.declared.build.Building.{Building}
-use Rattle.scan_core.specs.inner.Built.{LeadsTo, Led}
+use Rattle.scan_core.specs.inner.Built.{Led}
 use Rattle.scan_core.specs.inner.Words.{flags_of}
 use Rattle.scan_core.proofs.Searchings.{twin_entry, led_on, set_size}
 use Rattle.scan_core.proofs.build.Building.entry_of.Goals as goal
@@ -31,4 +31,4 @@ returns-clause-ok c =
     let size = c.advance.ensures.size ∙ ap length before ∙ set_size _ f.built.going c.requires.known set in
     IfOk-weaker c.lead_to.result _ (Led c.args.nodes.now c.args.most c.args.place new)
     (λ read l. led_on _ f c.requires.known (ap flags_of before ∙ set) size c.advance.ensures.exact
-    (subst (λ words. LeadsTo (length c.args.nodes.now) c.args.most words c.args.self.now.sets.items c.lead_to.new.sets.items read) (c.deref-2.ensures.value ∙ whole) l) refl whole) c.lead_to.ensures.ok
+    (rw (c.deref-2.ensures.value ∙ whole) at l) refl whole) c.lead_to.ensures.ok
