@@ -164,11 +164,11 @@ fn wait<R: Files<File = File> + Clock>(
     next_due(alloc, runtime, names, time_of(runtime));
 }
 
-/// What the clock tells, in milliseconds. Where it tells nothing, 0: then each name is always due.
+/// What the clock tells, in milliseconds. Where it tells nothing, the greatest number: then each name is always due.
 fn time_of(clock: &impl Clock) -> u64 {
     match clock.monotonic() {
-        Ok(time) => u64::try_from(time.as_millis()).unwrap_or(0),
-        Err(_) => 0,
+        Ok(time) => u64::try_from(time.as_millis()).unwrap_or(u64::MAX),
+        Err(_) => u64::MAX,
     }
 }
 
