@@ -33,8 +33,8 @@ use Rattle.csplit_core.specs.Plan.{State, start, line_after, operands_after, ste
 use Rattle.csplit_core.specs.Planned.{plan}
 use Rattle.csplit_core.specs.Section.{Section, section_of, bytes_of, is_final, is_last_kept, lines_between, lines_in, whole_sections}
 use Rattle.csplit_core.specs.laws.PlanLaws.{plan_runs}
-use Rattle.csplit_core.specs.laws.SectionLaws.{are_within}
-use Rattle.csplit_core.proofs.WholeLemmas.{ends_after_all, none_lost_at_end}
+use Rattle.csplit_core.specs.laws.SectionLaws.{are_within, bytes-append}
+use Rattle.csplit_core.proofs.WholeLemmas.{ends_after_all, none_lost_at_end, between_rest, rest_is_all}
 use Rattle.words_core.specs.CsplitWords.{CsplitAsked}
 use Rattle.words_core.specs.declared.settings.Settings.TheVariants.{Csplit}
 use Rattle.ports_core.specs.declared.calling.Calling.TheVariants.{Cutters}
@@ -42,6 +42,7 @@ use Rattle.tools_core.specs.Tasks.{csplit_task}
 use Rattle.tools_core.proofs.SplitPromises.{formatted_in_order, AreNamed, bytes_written, named_step}
 use Rattle.tools_core.proofs.LeftLemmas.{each_made, each_section, slot_of}
 use Rattle.tools_core.proofs.PromiseLemmas.{did_one, one_made}
+use Rattle.split_core.proofs.CutLaws.{bytes_of_shares}
 
 -- Where no word of `csplit`'s operands skips a section, each operand keeps its section.
 
@@ -177,26 +178,18 @@ sections_kept suppress operands lines keep =
 
 -- The files of sections that are kept are joined their lines.
 
-bytes_then : (one other : List Line) → bytes_of (one ++ other) ≡ bytes_of one ++ bytes_of other
-bytes_then one other = grind (arith, common_steps, map-append, joined-append)
-
 all_bytes : (lines : List (List ℕ)) → map (λ (line : Line). line.text) (map marked lines) ≡ lines
 all_bytes [] = refl
 all_bytes (text ∷ lines) = ap (λ rest. text ∷ rest) (all_bytes lines)
 
 -- what the files have
 
-share_bytes : (state : SlotState) (those : List (List ℕ))
-    → map (λ (one : Share). one.bytes) (map (share state) those) ≡ those
-share_bytes state [] = refl
-share_bytes state (bytes ∷ those) = ap (λ rest. bytes ∷ rest) (share_bytes state those)
-
 shares_have : (style : Style) (sections : List Section)
     → map (λ (one : Share). one.bytes) (shares_in style sections) ≡ flat_map (file_in style) sections
 shares_have style [] = refl
 shares_have style (section ∷ sections) =
     map-append (λ (one : Share). one.bytes) (map (share (state_in section)) (file_in style section)) (shares_in style sections)
-    ∙ ap (λ front. front ++ map (λ (one : Share). one.bytes) (shares_in style sections)) (share_bytes (state_in section) (file_in style section))
+    ∙ ap (λ front. front ++ map (λ (one : Share). one.bytes) (shares_in style sections)) (bytes_of_shares (state_in section) (file_in style section))
     ∙ ap (λ rest. file_in style section ++ rest) (shares_have style sections)
 
 files_have : (style : Style) (place : ℕ) (shares : List Share)
@@ -219,7 +212,7 @@ files_joined style [] kept = refl
 files_joined style (section ∷ sections) kept =
     joined-append (file_in style section) (flat_map (file_in style) sections)
     ∙ ap (λ front. front ++ joined (flat_map (file_in style) sections)) (file_joined style.elide section.is_kept (bytes_of section.lines) kept.0)
-    ∙ ap (λ rest. bytes_of section.lines ++ rest) (files_joined style sections kept.1) ∙ sym (bytes_then section.lines (lines_in sections))
+    ∙ ap (λ rest. bytes_of section.lines ++ rest) (files_joined style sections kept.1) ∙ sym (bytes-append section.lines (lines_in sections))
 
 -- Their names
 
@@ -301,16 +294,9 @@ none_is_lost run asked input does has whole none =
 
 -- Each line in its turn
 
--- the lines from one to before another, and the rest
-between_rest : {first cut : ℕ} (lines : List Line) → 1 ≤ first → first ≤ cut
-    → lines_between first cut lines ++ drop (cut - 1) lines ≡ drop (first - 1) lines
-between_rest {first} {cut} lines some least =
-    ap (λ those. lines_between first cut lines ++ those) (ap (λ n. drop n lines) (let e : cut - 1 ≡ first - 1 + (cut - first) = omega (arith, some, least) in e) ∙ sym (drop-drop (cut - first) (first - 1) lines))
-    ∙ take-append-drop (cut - first) (drop (first - 1) lines)
-
 cut_rest : (suppress : Bool) (lines : List Line) (step : Step) → 1 ≤ step.cut
     → left_out suppress lines step ++ drop (line_after suppress step.cut - 1) lines ≡ drop (step.cut - 1) lines
-cut_rest true lines step some = between_rest lines some (omega arith)
+cut_rest true lines step some = between_rest _ _ lines some (omega arith)
 cut_rest false lines step some = refl
 
 past_cut : (suppress : Bool) {cut : ℕ} → 1 ≤ cut → 1 ≤ line_after suppress cut
@@ -325,12 +311,8 @@ all_in_turn {suppress} {lines} (cuts state operand operands matched cut steps' l
     let step = step_of state operand matched cut in
     ap (λ those. lines_between state.current cut lines ++ (left_out suppress lines step ++ those)) (all_in_turn rest (past_cut suppress low))
     ∙ ap (λ those. lines_between state.current cut lines ++ those) (cut_rest suppress lines step low)
-    ∙ between_rest lines some from
+    ∙ between_rest state.current cut lines some from
 all_in_turn run some = refl
-
-rest_is_all : (lines : List Line) {current : ℕ} → 1 ≤ current
-    → lines_between current (suc (length lines)) lines ≡ drop (current - 1) lines
-rest_is_all lines {current} some = grind (arith, common_steps)
 
 none_missing : (suppress : Bool) (operands : List Operand) {lines : List Line}
     → is_final (plan suppress operands lines).ending ≡ false
@@ -340,7 +322,7 @@ none_missing suppress operands {lines} live =
     let plan' = plan suppress operands lines in
     let runs = plan_runs suppress operands lines in
     let some = (are_within suppress lines (start operands) _ _ _ runs (omega arith)).1 in
-    ap (in_turn suppress lines plan'.steps) (ap (λ end. lines_between plan'.last.current end lines) (ends_after_all (length lines) plan'.ending live) ∙ rest_is_all lines some)
+    ap (in_turn suppress lines plan'.steps) (ap (λ end. lines_between plan'.last.current end lines) (ends_after_all (length lines) plan'.ending live) ∙ rest_is_all lines _ some)
     ∙ all_in_turn runs (omega arith)
 
 pub are_sections : (run : Run) (asked : CsplitAsked) (input : List ℕ) → Does run (Csplit asked) → HasInput run input

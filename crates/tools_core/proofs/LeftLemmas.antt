@@ -155,29 +155,21 @@ pub record IsLiving (work : Work) : Type 0 where
   pub settled : (x : List ℕ) → AreLive (work.settled x).files
   pub whole : (x : List ℕ) → AreLive (work.whole x).files
 
-head_living : (delim : ℕ) (unit : Counted) (but_last : Bool) (n : ℕ) (shown : Option (List ℕ))
-    → IsLiving (head_in delim unit but_last n shown)
-head_living delim unit true n (Some text) = grind (arith, common_steps)
-head_living delim unit true n None = grind (arith, common_steps)
-head_living delim unit false n shown = grind (arith, common_steps)
+-- it makes none, and clears none
+abbrev MakesNone : Work → Type 0
+MakesNone work = IsLiving work × (work.clears ≡ false)
 
-head_clears : (delim : ℕ) (unit : Counted) (but_last : Bool) (n : ℕ) (shown : Option (List ℕ))
-    → (head_in delim unit but_last n shown).clears ≡ false
-head_clears delim unit true n (Some text) = refl
-head_clears delim unit true n None = refl
-head_clears delim unit false n shown = refl
+head_makes : (delim : ℕ) (unit : Counted) (but_last : Bool) (n : ℕ) (shown : Option (List ℕ))
+    → MakesNone (head_in delim unit but_last n shown)
+head_makes delim unit true n (Some text) = (grind (arith, common_steps), refl)
+head_makes delim unit true n None = (grind (arith, common_steps), refl)
+head_makes delim unit false n shown = (grind (arith, common_steps), refl)
 
-tail_living : (delim : ℕ) (unit : Counted) (from_nth : Bool) (n : ℕ) (shown : Option (List ℕ))
-    → IsLiving (tail_in delim unit from_nth n shown)
-tail_living delim unit false n (Some text) = grind (arith, common_steps)
-tail_living delim unit false n None = grind (arith, common_steps)
-tail_living delim unit true n shown = grind (arith, common_steps)
-
-tail_clears : (delim : ℕ) (unit : Counted) (from_nth : Bool) (n : ℕ) (shown : Option (List ℕ))
-    → (tail_in delim unit from_nth n shown).clears ≡ false
-tail_clears delim unit false n (Some text) = refl
-tail_clears delim unit false n None = refl
-tail_clears delim unit true n shown = refl
+tail_makes : (delim : ℕ) (unit : Counted) (from_nth : Bool) (n : ℕ) (shown : Option (List ℕ))
+    → MakesNone (tail_in delim unit from_nth n shown)
+tail_makes delim unit false n (Some text) = (grind (arith, common_steps), refl)
+tail_makes delim unit false n None = (grind (arith, common_steps), refl)
+tail_makes delim unit true n shown = (grind (arith, common_steps), refl)
 
 abbrev IsThere : Share → Type 0
 IsThere share = has_file share.state ≡ true
@@ -659,11 +651,15 @@ pub record LeftBy (run : Run) (asked : Settings) : Type 0 where
   pub fits : Fits (TellsMet run asked) (removes_files asked) made
   pub left : IsLeft (speaker_of run.calling asked) made run.outputs run.status
 
+none_made : {work : Option (List ℕ) → Work} → ((shown : Option (List ℕ)) → MakesNone (work shown))
+    → AreLiving work false
+none_made makes = record { each = λ shown. (makes shown).0; clears_all = λ shown. (makes shown).1 }
+
 -- what each tool does with its inputs is so
 pub task_lives : (calling : Calling) (asked : Settings) (task : Task) → IsTask calling asked task
     → AreLiving task.work (removes_files asked)
-task_lives calling (Head asked) task is = rw is (record { each = head_living asked.delim asked.unit (is_minus asked.count.sign) asked.count.amount; clears_all = head_clears asked.delim asked.unit (is_minus asked.count.sign) asked.count.amount })
-task_lives calling (Tail asked) task is = rw is (record { each = tail_living asked.ends.delim asked.ends.unit (is_plus asked.ends.count.sign) asked.ends.count.amount; clears_all = tail_clears asked.ends.delim asked.ends.unit (is_plus asked.ends.count.sign) asked.ends.count.amount })
+task_lives calling (Head asked) task is = rw is (none_made (head_makes asked.delim asked.unit (is_minus asked.count.sign) asked.count.amount))
+task_lives calling (Tail asked) task is = rw is (none_made (tail_makes asked.ends.delim asked.ends.unit (is_plus asked.ends.count.sign) asked.ends.count.amount))
 task_lives calling (Split asked) task is = rw is (record {
   each = λ shown. way_living asked.way asked.elide (filing_of asked) (option_map length shown);
   clears_all = λ shown. way_clears asked.way asked.elide (filing_of asked) (option_map length shown);

@@ -49,7 +49,7 @@ use Rattle.split_core.specs.laws.CutLaws.{whole_of_lines, whole_of_none}
 use Rattle.split_core.specs.laws.DealLaws.{share_none}
 use Rattle.split_core.proofs.CutLaws.{first_then_after, bytes_of_shares}
 use Rattle.split_core.proofs.AgreedLemmas.{bytes_named, each_named}
-use Rattle.split_core.proofs.RoundLemmas.{joined_files, joined_some, named_fewer}
+use Rattle.split_core.proofs.RoundLemmas.{joined_files, named_fewer, named_at}
 use Rattle.split_core.proofs.SectionLemmas.{line_at, all_dealt, first_files, joined_parts, part_lines, part_bytes, lines_count, bytes_count, line_bytes_are_parts, line_bytes_once, line_bytes_within}
 use Rattle.words_core.specs.declared.settings.Settings.TheVariants.{Split}
 use Rattle.words_core.specs.SplitWords.{SplitAsked, AreNamed as HasNumbers, CanSplit, IsInLimits}
@@ -60,6 +60,8 @@ use Rattle.tools_core.proofs.BeginLemmas.{all_have_names}
 use Rattle.tools_core.proofs.RunLemmas.{can_run}
 use Rattle.tools_core.proofs.LeftLemmas.{named_each, slot_of, slots_of}
 use Rattle.tools_core.proofs.PromiseLemmas.{DidOne, IsMade, did_one, one_made}
+use Rattle.split_core.specs.laws.ChunkWorkLaws.{length-kept}
+use Rattle.split_core.proofs.ChunkAgreedLemmas.{joined-kept}
 
 by_places : (names : List (List ℕ))
     → ((k : ℕ) → k + 1 < length names → slice_cmp nat_cmp (text_at names k) (text_at names (suc k)) ≡ Less)
@@ -116,11 +118,6 @@ have_names filing start [] k within = search rules
 have_names filing start (share ∷ shares) k within = named_step (name_at filing.names) start (file_at filing start share) (named filing (start + 1) shares) []
     (has_name filing.names start) refl (have_names filing (start + 1) shares) (λ k within. absurd (omega (arith, within))) k within
 
-named_below : (names : Naming) (count : ℕ) → are_named names count ≡ true → (place : ℕ) → place < count
-    → has_name names place ≡ true
-named_below names zero are place less = search rules
-named_below names (suc last) are place less = grind (arith, common_steps)
-
 split_in_order : (asked : SplitAsked) → 0 < asked.width → (k : ℕ) → has_name (naming_of asked) (suc k) ≡ true
     → slice_cmp nat_cmp (name_at (naming_of asked) k) (name_at (naming_of asked) (suc k)) ≡ Less
 split_in_order asked wide k has = in_order (naming_of asked) k (suc k) (cond_both asked.auto _ _ IsWide (λ is. wide) (λ is. tt)) (omega arith) has (cond_both asked.auto _ _ (λ numbering. IsTrue (keeps_order numbering (suc k))) (λ is. refl) (λ is. refl))
@@ -148,13 +145,6 @@ alone_by (way.Cut cut) x = []
 alone_by (way.Chunks chunks) x = []
 alone_by (way.Chunk place chunks) x = get_or (chunks_in chunks x) place []
 alone_by (way.Turn place n delim) x = share_of delim n x place
-
--- no more are kept than there are
-few_kept : (elide : Bool) (pieces : List (List ℕ)) → length (kept elide pieces) ≤ length pieces
-few_kept false pieces = omega arith
-few_kept true [] = omega arith
-few_kept true ([] ∷ pieces) = let few = few_kept true pieces in omega (arith, few)
-few_kept true ((byte ∷ bytes) ∷ pieces) = let few = few_kept true pieces in omega (arith, few)
 
 -- in the end a text is cut up into its chunks, and nothing is left
 ends_cut : (chunks : Chunks) (said : Option ℕ) (x : List ℕ) → 0 < chunks.count → size_by said x ≡ length x
@@ -189,7 +179,7 @@ module _ (asked : SplitAsked) (x : List ℕ) where
   named_all (way.Cut cut) limits named none = not_short _ none
   named_all (way.Chunks chunks) limits named none =
       named_fewer (naming_of asked) _ chunks.count (all_have_names (record asked { way = way.Chunks chunks }) named)
-      (omega (arith, length-map (kept asked.elide (chunks_in chunks x)) (share Closed), few_kept asked.elide (chunks_in chunks x), count_chunks chunks x limits.0))
+      (omega (arith, length-map (kept asked.elide (chunks_in chunks x)) (share Closed), length-kept asked.elide (chunks_in chunks x), count_chunks chunks x limits.0))
   named_all (way.Chunk place chunks) limits named none = refl
   named_all (way.Turn place n delim) limits named none = refl
 
@@ -226,7 +216,7 @@ is_filed run asked pieces can are left =
       listed = rw files (record {
         named = λ place within. called place (omega (arith, size, within));
         in_order = order_by (name_at names) _ called (λ k next.
-            split_in_order asked can.width.0 k (named_below names _ are (suc k) (omega (arith, size, count, next))));
+            split_in_order asked can.width.0 k (named_at names _ (suc k) are (omega (arith, size, count, next))));
         sound = All-map (IsSound Fresh) slot_of _ (named_each IsMade filing 0 (map (share Closed) pieces) (All-map (λ one. (place : ℕ) → IsMade (file_at filing place one)) (share Closed) pieces (λ k bytes within place. (refl, refl, refl))));
       });
       contents = rw (files, all_named filing are);
@@ -559,11 +549,8 @@ pub chunk_files : (chunks : Chunks) (elide : Bool) (x : List ℕ) → 0 < chunks
 chunk_files chunks elide x some = record {
   count = count_chunks chunks x some;
   files = refl;
-  all = joined_kept elide (chunks_in chunks x) ∙ join_chunks chunks x some;
-} where
-  joined_kept : (elide : Bool) (pieces : List (List ℕ)) → joined (kept elide pieces) ≡ joined pieces
-  joined_kept true pieces = joined_some pieces
-  joined_kept false pieces = refl
+  all = joined-kept elide (chunks_in chunks x) ∙ join_chunks chunks x some;
+}
 
 pub even_files : (chunks : Chunks) (x : List ℕ) → chunks.unit ≡ Bytes → AreEven chunks.count x (chunks_in chunks x)
 even_files chunks x unit place within = cond_both (nat_lt place (length x % chunks.count)) 1 0

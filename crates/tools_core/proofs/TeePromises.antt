@@ -1,6 +1,6 @@
 -- What a run of `tee` leaves, and what ended it.
 use Rattle.std.proofs.Common.{◌≡◌, ◌⊎◌, ◌||◌, ℕ, ◌≤◌, ◌<◌, ◌^◌, ◌+◌, get_or, map, not, zero, suc, Bool, true, false, List, [], ◌∷◌, ◌++◌, length, take, Option, None, Some, cond, if◌then◌else◌, nat_lt, inl, inr, refl, sym, ◌∙◌, ap, subst, arith, append-nil, append_assoc, All, length-append}
-use Rattle.std.proofs.lemmas.Bool.{lt-ltb, not-true, or_parts, false≢true}
+use Rattle.std.proofs.lemmas.Bool.{lt-ltb, not-true, or_parts, false≢true, or_cases}
 use Rattle.std.proofs.lemmas.Bool.Decides.{nat_tests}
 use Rattle.std.proofs.Math.Bool.{or-true}
 use Rattle.std.specs.List.{concat, list_any}
@@ -74,10 +74,6 @@ sound_before : (call : ℕ) (when : Option Break) → standing_of when ≡ Sound
     → is_same (standing_before call when) Sound ≡ true
 sound_before call None is = refl
 sound_before call (Some one) is = absurd (never_sound one.is_gone is)
-
-either : (one other : Bool) → (one || other) ≡ true → (one ≡ true) ⊎ (other ≡ true)
-either true other some = inl refl
-either false other some = inr some
 
 -- all pieces but the last, and the last
 
@@ -198,7 +194,7 @@ files_end : {mode : Mode} {pieces names : List (List ℕ)} {broke : List (Option
     → FilesLeft true mode pieces names broke files
     → (place : ℕ) × (place < length files) × (ends_run (get_or (map standing_of broke) place Sound) on_broken ≡ true)
 files_end on_broken call some tee.no_file = absurd (false≢true some)
-files_end on_broken call some (tee.one_file name names when broke file files left rest) = elim (either (Ends on_broken call when) (some_end on_broken call broke) some) [
+files_end on_broken call some (tee.one_file name names when broke file files left rest) = elim (or_cases (Ends on_broken call when) (some_end on_broken call broke) some) [
   | inl here ↦ (0, omega arith, ends_still on_broken call when here)
   | inr later ↦ let (place, within, ends) = files_end on_broken call later rest in (suc place, omega (arith, within), ends)
 ]
@@ -272,8 +268,8 @@ ends_with_break run asked few (tee.copied pieces fault first broke output error 
       ended : is_done asked.on_broken (standings_before (suc (length pieces)) (first ∷ broke)) ≡ true
           → OneIs run (stand_at first broke) (λ standing. ends_run standing asked.on_broken ≡ true)
           ⊎ (OneIs run (stand_at first broke) (λ standing. standing ≡ Sound) → ⊥) ⊎ (((source_at run.inputs 0).reads ≡ 0) × Tells run (Tee asked) Memory [])
-      ended vain = elim (either (some_end asked.on_broken (suc (length pieces)) (first ∷ broke)) _ vain) [
-        | inl one ↦ inl (elim (either (Ends asked.on_broken (suc (length pieces)) first) _ one) [
+      ended vain = elim (or_cases (some_end asked.on_broken (suc (length pieces)) (first ∷ broke)) _ vain) [
+        | inl one ↦ inl (elim (or_cases (Ends asked.on_broken (suc (length pieces)) first) _ one) [
           | inl here ↦ (0, (λ same. omega (arith, same)), rw slots (omega arith), ends_still asked.on_broken (suc (length pieces)) first here)
           | inr there ↦ let (place, within, ends) = files_end asked.on_broken (suc (length pieces)) there rest in (suc (suc place), (λ same. omega (arith, same)), rw slots (omega (arith, within)), ends)
         ])
