@@ -21,7 +21,7 @@ use Rattle.split_core.specs.inner.Sends.{Brings}
 abbrev pub made : ChunkerState → Work
 made chunker = work_on (course chunker.cutter) chunker.cutter.chunks chunker.said
 
--- so many bytes were passed over, and the chunk at this place was begun with them; they end within a line, if so
+-- it stands after so many bytes, with which the chunk at this place was begun; they end within a line, if so
 abbrev pub passed_to : ChunkerState → ℕ → ℕ → Bool → ChunkerState
 passed_to chunker front place within = record chunker {
   cutter = record chunker.cutter {
@@ -31,7 +31,7 @@ passed_to chunker front place within = record chunker {
   };
 }
 
--- whatever these bytes are, that takes them in
+-- whatever these bytes are, so it takes them in
 abbrev pub TakesFront : ChunkerState → ℕ × ℕ × Bool → Type 0
 TakesFront chunker front = (x : List ℕ) → front.0 ≡ length x
     → TookIn (as_if terms) (Chunks chunker) (Chunks (passed_to chunker front.0 front.1 front.2)) x
