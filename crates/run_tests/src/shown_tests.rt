@@ -419,6 +419,60 @@ const CHUNKS: &[Row<'static>] = &[
     ),
 ];
 
+/// Of texts that are longer than a read.
+#[test]
+fn what_stands_before_one_chunk_is_passed_over(rt: HostRuntime) -> Result<(), Fail> {
+    for row in LONG {
+        check_changing(&rt, rt.alloc(), &[b'x'; 200_000], row)?;
+    }
+    Ok(())
+}
+
+const LONG: &[Row<'static>] = &[
+    (
+        &["split", "-n", "2/2", "f"],
+        &[b'x'; 200_000],
+        &[],
+        &[b'x'; 100_000],
+        &[],
+        b"",
+    ),
+    // Each byte is a line, or there is one alone, which begins in the first chunk.
+    (
+        &["split", "-n", "l/2/2", "-t", "x", "f"],
+        &[b'x'; 200_000],
+        &[],
+        &[b'x'; 100_000],
+        &[],
+        b"",
+    ),
+    (
+        &["split", "-n", "l/2/2", "f"],
+        &[b'x'; 200_000],
+        &[],
+        b"",
+        &[],
+        b"",
+    ),
+    (
+        &["split", "-n", "l/2/2", "-t", "x", "f"],
+        &[b'x'; 150_000],
+        &[],
+        &[b'x'; 50_000],
+        &[],
+        SPLIT_CHANGED,
+    ),
+    // It gives fewer bytes than are passed over.
+    (
+        &["split", "-n", "l/2/2", "-t", "x", "f"],
+        b"xx",
+        &[],
+        b"",
+        &[],
+        SPLIT_CHANGED,
+    ),
+];
+
 #[test]
 fn an_empty_text_shows_nothing(rt: HostRuntime) -> Result<(), Fail> {
     for row in UNSHOWN {
