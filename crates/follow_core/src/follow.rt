@@ -158,7 +158,7 @@ impl Follow {
         any_goes_on(&self.names, self.by_name)
     }
 
-    /// Whether a name was missing at the first look, a call on one failed, or a fault ended following: the status is 1 then.
+    /// Whether a name was missing at the first look, a call on one failed, or a fault ended following: the status isn't 0 then.
     pub fn failed(&self) -> bool
         ensures { result ≡ self.now.has_failed }
     {

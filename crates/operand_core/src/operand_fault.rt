@@ -34,7 +34,7 @@ pub enum OperandFaultKind {
 }
 
 impl OperandFaultKind {
-    /// The number of the kind, as messages print it.
+    /// The number of the kind, as messages of invalid operands print it.
     pub fn number(&self) -> u8
         ensures { result ≡ number_of_kind self.now }
     {

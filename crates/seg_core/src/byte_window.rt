@@ -10,9 +10,9 @@ use std::marker::Model;
 // How many bytes of room a window asks for at first, if it is to keep that many.
 const FIRST_ROOM: usize = 65_536;
 
-/// A window over bytes: it keeps the last `most` of what came in. It takes as much memory as it
-/// holds bytes, and up to twice that while it grows, or as much as it is told is coming, but room
-/// for `most` bytes at most; once it has held `most` bytes it asks for no memory again.
+/// A window over bytes: it keeps the last `most` of what came in. It has room for 64 KiB at first, and
+/// then for twice as many bytes as before or more, but for `most` at most; once it has held `most`
+/// bytes it asks for no memory again.
 #[derive(Drop)]
 pub struct ByteWindow {
     alloc: Global,

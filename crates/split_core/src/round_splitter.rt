@@ -17,8 +17,8 @@ use std::alloc::Global;
 use std::marker::Model;
 
 /// Deals the lines of an input in turn to a number of files (GNU coreutils manual, split, `-n r/N`). What each file
-/// gets of a piece is gathered first, which takes as much memory as the piece, and is written at once. The number of
-/// each file's output is kept.
+/// gets of a piece is gathered first, in room that is kept, for twice the largest share that it had, and is written at
+/// once. The number of each file's output is kept.
 #[derive(Drop)]
 pub struct RoundSplitter {
     deal: Deal,

@@ -28,8 +28,8 @@ use std::alloc::Global;
 /// file is opened with its first byte, or that of an empty chunk once the chunk has ended, and is closed before the next is
 /// opened; where lines are dealt, files are closed at the end alone.
 ///
-/// It takes memory for names; under `-C` for the open line after whole ones; where lines are dealt, for one piece and a
-/// list of the files; and for chunks of an input that didn't say its length, for all that comes after the first one, or
+/// It takes memory for names; under `-C` for the open line after whole ones; where lines are dealt, for a list of the
+/// files and twice the largest share of a piece that each had; and for chunks of an input that didn't say its length, for all that comes after the first one, or
 /// after what stands before the one that is written.
 #[derive(Drop)]
 pub enum Splitter {

@@ -10,8 +10,8 @@ use std::alloc::Global;
 use std::marker::Model;
 
 /// Writes to standard output what one file would have of lines that are dealt in turn (GNU coreutils manual, split,
-/// `-n r/K/N`). What it has of a piece is gathered first, as that of all files is, and is written at once: that takes as
-/// much memory as the piece.
+/// `-n r/K/N`). What it has of a piece is gathered first, as that of all files is, and is written at once: room is kept for
+/// twice the largest share that each had.
 #[derive(Drop)]
 pub struct Turn {
     deal: Deal,
