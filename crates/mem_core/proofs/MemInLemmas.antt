@@ -1,5 +1,5 @@
 -- Lemmas on inputs in memory: how far one was read, where it breaks off, and what opening one finds.
-use Rattle.std.proofs.Common.{◌≡◌, ℕ, ◌+◌, ◌-◌, ◌<◌, ◌≤◌, max, Bool, true, false, IsTrue, List, Option, [], ◌∷◌, ◌++◌, Some, None, length, take, drop, get_or, set, eqb, refl, sym, ◌∙◌, ap, subst, arith, length-take, length-drop, take-take, drop-drop, take-add, if◌then◌else◌, leb, not, ◌&&◌, ◌==◌}
+use Rattle.std.proofs.Common.{◌≡◌, ℕ, ◌+◌, ◌-◌, ◌<◌, ◌≤◌, max, Bool, true, IsTrue, List, Option, [], ◌∷◌, ◌++◌, Some, None, length, take, drop, get_or, set, eqb, refl, sym, ◌∙◌, ap, subst, arith, length-take, length-drop, take-take, drop-drop, take-add, if◌then◌else◌, leb, not, ◌&&◌, ◌==◌}
 use Rattle.std.proofs.lemmas.List.{drop-take, take-append-drop}
 use Rattle.std.proofs.lemmas.Bool.{cond_both, le-leb, lt-ltb}
 use Rattle.ports_core.specs.Slot.{changed_at}

@@ -3,7 +3,7 @@ use Rattle.std.proofs.Common.{◌≡◌, ℕ, ◌↔◌, ◌≤◌, ◌<◌, Boo
 use Rattle.std.proofs.lemmas.Bool.{cases_lt, false≢true}
 use Rattle.std.proofs.lemmas.List.{append-nil, length-append, nil_from_length, drop-append-le, take-append-drop, take-append-le, take_at}
 use Rattle.std.proofs.Math.Seq.{drop-append_seam}
-use Rattle.ports_core.specs.Engine.{CutsOff, Ended, EndsThere, EndsWith, Finishes, IsMet, IsMetThere, IsMetWith, Passes, PutsOut, StandsAt, TakesIn, Terms, TookIn}
+use Rattle.ports_core.specs.Engine.{CutsOff, EndsThere, EndsWith, Finishes, IsMet, IsMetThere, IsMetWith, Passes, PutsOut, StandsAt, TakesIn, Terms, TookIn}
 use Rattle.ports_core.specs.Part.{OutputsAt, Part}
 use Rattle.ports_core.specs.Slot.{Slot}
 use Rattle.ports_core.specs.Work.{IsLawful, IsNeeded, IsSpare, Means, Needs, Work}

@@ -13,7 +13,7 @@ use Rattle.ports_core.specs.Part.{only_out}
 use Rattle.ports_core.specs.Work.{IsLawful, Work}
 use Rattle.ports_core.specs.declared.verdict.Verdict.TheVariants.{Changed}
 use Rattle.split_core.specs.Alike.{AreAlike}
-use Rattle.split_core.specs.Chunks.{before_chunk, begun_before, chunk_at, chunk_start, chunks_within, ended, has_ended, open_from, passed, pieces_in}
+use Rattle.split_core.specs.Chunks.{before_chunk, begun_before, chunk_at, chunk_start, chunks_within, ended, has_ended, open_from, pieces_in}
 use Rattle.split_core.specs.ChunkWork.{chunk_work}
 use Rattle.split_core.specs.laws.BegunLaws.{begun_on, open_append, open_within}
 use Rattle.split_core.specs.laws.ChunkLaws.{before_later, before_next, chunk_none, ended_is, passed_full, passed_open, start_grows, start_within, take_within}

@@ -1,6 +1,6 @@
 -- Lemmas on opening a tool's engine.
 use Rattle.std.proofs.lemmas.Grind.{common_steps}
-use Rattle.std.proofs.Common.{◌≡◌, ℕ, ◌-◌, ◌<◌, ◌≤◌, ◌^◌, zero, suc, Bool, true, false, IsTrue, if◌then◌else◌, List, [], length, Result, Ok, Err, IfOk, IfErr, IsErr, OnOk, refl, sym, ◌∙◌, ap, arith, Option, Some, None, option_map, replicate, ◌∷◌, inl, inr}
+use Rattle.std.proofs.Common.{◌≡◌, ℕ, ◌-◌, ◌<◌, ◌≤◌, ◌^◌, zero, suc, Bool, true, false, IsTrue, if◌then◌else◌, List, [], length, Result, Ok, Err, IfOk, IfErr, IsErr, OnOk, refl, sym, ◌∙◌, ap, arith, Option, Some, None, option_map, replicate, inl, inr}
 use Rattle.ports_core.specs.Slot.{Slot, is_writable}
 use Rattle.ports_core.specs.declared.calling.Calling.TheVariants.{Cutters}
 use Rattle.ports_core.specs.Part.{OutputsAt, StoppedBetween, nothing, only_out}
@@ -34,7 +34,6 @@ use Rattle.run_core.specs.RunSteps.{IsShown, OnlyLooked, Opens, OpensShort}
 use Rattle.ports_core.specs.Source.{Source, count_shown, source_at}
 use Rattle.ports_core.proofs.LoadLemmas.{looked_none}
 use Rattle.std.proofs.lemmas.List.{length-replicate}
-use Rattle.std.specs.Option.{unwrap_or}
 use Rattle.words_core.specs.EndsWords.{EndsAsked}
 use Rattle.words_core.specs.SplitWords.{SplitAsked}
 use Rattle.tools_core.specs.Tasks.{is_minus, is_plus, head_task, naming_of, split_task, tail_task}

@@ -3,10 +3,8 @@ use Rattle.std.proofs.Common.{◌≡◌, ℕ, ◌<◌, true, false, List, [], �
 use Rattle.ports_core.specs.Part.{Part}
 use Rattle.ports_core.specs.Slot.{Slot, slot_at}
 use Rattle.ports_core.specs.Source.{Content}
-use Rattle.ports_core.specs.Text.{message_of}
 use Rattle.ports_core.specs.Work.{Work}
 use Rattle.ports_core.specs.declared.calling.Calling.TheVariants.{Cutters}
-use Rattle.ports_core.specs.declared.fault.Fault.TheVariants as fault_is
 use Rattle.ports_core.specs.declared.verdict.Verdict.{Verdict}
 use Rattle.ports_core.specs.declared.verdict.Verdict.TheVariants.{Changed}
 use Rattle.seg_core.specs.Line.{joined as joined_texts}

@@ -1,6 +1,6 @@
 -- What `csplit` leaves of its input.
 use Rattle.std.proofs.lemmas.Grind.{common_steps}
-use Rattle.std.proofs.Common.{◌≡◌, ℕ, ◌+◌, suc, drop, Bool, true, false, eqb, List, [], ◌∷◌, Option, Some, None, refl, ◌∙◌, ◌-◌, ◌<◌, ◌≤◌, ◌++◌, length, map, sym, ap, subst, arith, cond}
+use Rattle.std.proofs.Common.{◌≡◌, ℕ, ◌+◌, drop, Bool, true, false, eqb, List, [], ◌∷◌, Option, Some, None, refl, ◌∙◌, ◌-◌, ◌<◌, ◌≤◌, ◌++◌, length, map, sym, ap, subst, arith, cond}
 use Rattle.operand_core.specs.declared.operand.Operand.{Operand}
 use Rattle.operand_core.specs.declared.operand.Target.{Target}
 use Rattle.operand_core.specs.declared.operand.Target.TheVariants.{Number, Search}
@@ -11,7 +11,7 @@ use Rattle.operand_core.specs.Word.{Spelling, number, search, spelling, closed_a
 use Rattle.csplit_core.specs.Operand.{is_kept, Line, has_more}
 use Rattle.tools_core.specs.Promises.{SkipNothing, skips, Run, Does, HasInput, AreNumbered, AreSections, IsSound, contents_of, files_of, in_turn, last_section, left_out, text_at}
 use Rattle.std.proofs.lemmas.Bool.{cond_both, false≢true, lt-ltb}
-use Rattle.std.proofs.lemmas.List.{append-nil, length-map, map-append, drop-drop, take-append-drop}
+use Rattle.std.proofs.lemmas.List.{append-nil, length-map, map-append}
 use Rattle.std.proofs.lemmas.List.Elements.{All-append, All-cons, All-map, All-nil}
 use Rattle.seg_core.specs.Line.{joined, lines_of}
 use Rattle.seg_core.proofs.FirstLines.{joined-append}
@@ -27,7 +27,6 @@ use Rattle.csplit_core.specs.Input.{all_lines, marked, newline}
 use Rattle.csplit_core.specs.Output.{file_in, manner_of, naming_of, shares_in, state_in}
 use Rattle.ports_core.specs.Draft.{Share, share, file_at, files_from, made_of}
 use Rattle.ports_core.specs.declared.file_writer.Opening.TheVariants.{Never, Late, AtOnce}
-use Rattle.ports_core.specs.declared.slot.State.{State as SlotState}
 use Rattle.std.specs.List.{flat_map}
 use Rattle.csplit_core.specs.Plan.{State, start, line_after, operands_after, step_of, Step, Ending, below, Runs, is_used_up, misses, is_above, is_below, cuts}
 use Rattle.csplit_core.specs.Planned.{plan}

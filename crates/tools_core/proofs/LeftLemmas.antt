@@ -1,7 +1,7 @@
 -- What is true of the outcome of any inputs: which messages it has, and that its files are live; and what a run leaves that no fault
 -- stopped: just what its inputs make, but for files that were to be removed.
 use Rattle.std.proofs.lemmas.Grind.{common_steps}
-use Rattle.std.proofs.Common.{◌≡◌, ℕ, ◌+◌, ◌<◌, zero, suc, Bool, true, false, ◌&&◌, ◌||◌, cond, is_some, List, [], ◌∷◌, ◌++◌, length, map, Option, Some, None, inl, inr, ◌⊎◌, refl, sym, ◌∙◌, ap, arith, append_assoc, append-nil, not, subst, All, rules, ◌≤◌, ◌^◌, is_none, Ok, codes, length-append, option_map}
+use Rattle.std.proofs.Common.{◌≡◌, ℕ, ◌+◌, ◌<◌, zero, suc, Bool, true, false, ◌&&◌, cond, is_some, List, [], ◌∷◌, ◌++◌, length, map, Option, Some, None, inl, inr, ◌⊎◌, refl, sym, ◌∙◌, ap, arith, append_assoc, append-nil, not, subst, All, rules, ◌≤◌, ◌^◌, is_none, Ok, codes, length-append, option_map}
 use Rattle.std.proofs.lemmas.Bool.{and_parts, false≢true, not-false, or_cases, or_left, or_parts, or_right, cases_Bool}
 use Rattle.std.proofs.lemmas.List.Elements.{All-append, All-cons, All-head, All-map, All-nil, All-tail}
 use Rattle.ports_core.specs.Slot.{Slot, adds, has_file, slot_at, closes, opened, removes}
@@ -59,8 +59,6 @@ use Rattle.operand_core.proofs.ReadingLemmas.{asks_once}
 use Rattle.operand_core.specs.Reading.{Asks}
 use Rattle.run_core.proofs.StopLemmas.{beside_error, swept_error}
 use Rattle.tee_core.specs.Run as tee
-use Rattle.tee_core.specs.declared.standing.Standing.{Standing}
-use Rattle.tee_core.specs.declared.standing.Standing.TheVariants.{Sound, Broken, Gone}
 use Rattle.tee_core.specs.Run.{Break, IsRead, are_sound, tee_called, messages_of, output_names, said_in, said_of_input}
 use Rattle.tee_core.proofs.EndLemmas.{nothing_before, nothing_in, sound_first, sound_goes_on, sound_status, whole_files, whole_output}
 use Rattle.words_core.specs.TeeWords.{TeeAsked}

@@ -1,5 +1,5 @@
 -- Lemmas on inputs that give what they show before they are read: what is made of them is what is made of those that show nothing.
-use Rattle.std.proofs.Common.{◌≡◌, ℕ, ◌&&◌, ◌||◌, if◌then◌else◌, map, Bool, true, false, is_some, List, [], ◌∷◌, Option, Some, None, inl, inr, refl, sym, ◌∙◌, ap, length, option_map}
+use Rattle.std.proofs.Common.{◌≡◌, ℕ, ◌&&◌, ◌||◌, if◌then◌else◌, Bool, true, false, is_some, List, [], ◌∷◌, Option, Some, None, inl, inr, refl, sym, ◌∙◌, ap, length, option_map}
 use Rattle.ports_core.specs.Part.{Part, only_out}
 use Rattle.ports_core.specs.Source.{unshown}
 use Rattle.ports_core.specs.Work.{IsLawful, Work}
@@ -12,11 +12,9 @@ use Rattle.ends_core.specs.laws.WorkLaws.{head_lawful, tail_lawful}
 use Rattle.ends_core.proofs.ShownLemmas.{head_shown_lawful, tail_shown_lawful, verdict-head_shown, verdict-tail_shown, whole-head_shown, whole-tail_shown}
 use Rattle.seg_core.specs.declared.cut.Way.{Way}
 use Rattle.seg_core.specs.declared.cut.Way.TheVariants as way
-use Rattle.split_core.specs.Chunks.{chunks_of, is_as_said, size_by}
-use Rattle.split_core.specs.ChunkWork.{files_by, is_written, piece_at, way_work}
-use Rattle.split_core.specs.Split.{Filing, manner_of, share}
-use Rattle.ports_core.specs.Draft.{part_of}
-use Rattle.ports_core.specs.declared.slot.State.TheVariants.{Closed}
+use Rattle.split_core.specs.Chunks.{is_as_said}
+use Rattle.split_core.specs.ChunkWork.{is_written, way_work}
+use Rattle.split_core.specs.Split.{Filing}
 use Rattle.ports_core.specs.declared.verdict.Verdict.TheVariants.{Changed}
 use Rattle.std.proofs.Math.Bool.{or-true}
 use Rattle.std.proofs.lemmas.Bool.{eq-eqb}

@@ -2,7 +2,7 @@
 -- files for tail, headers and their options, bytes, and all but the last are GNU's, and so is what split does where an
 -- input breaks off.
 use Rattle.std.specs.Option.{unwrap_or}
-use Rattle.std.specs.Prelude.{ℕ, ◌&&◌, nat_lt, is_none, Bool, true, false, not, List, [], ◌∷◌, length, slice_index_or, codes, Option, Some, None, option_map}
+use Rattle.std.specs.Prelude.{ℕ, ◌&&◌, nat_lt, is_none, Bool, true, false, not, List, [], ◌∷◌, length, slice_index_or, codes, Option, option_map}
 use Rattle.ports_core.specs.Name.{Naming, numbering_of}
 use Rattle.ports_core.specs.declared.verdict.Verdict.{Verdict}
 use Rattle.ports_core.specs.declared.verdict.Verdict.TheVariants.{Changed, NoMatch, Range}
@@ -11,7 +11,7 @@ use Rattle.ports_core.specs.declared.calling.Speaker.{Speaker}
 use Rattle.ports_core.specs.declared.tool.Tool.{Tool}
 use Rattle.ports_core.specs.declared.tool.Tool.TheVariants as tool
 use Rattle.seg_core.specs.declared.count.Sign.{Sign}
-use Rattle.seg_core.specs.declared.count.Sign.TheVariants.{Plain, Minus, Plus}
+use Rattle.seg_core.specs.declared.count.Sign.TheVariants.{Minus, Plus}
 use Rattle.ends_core.specs.Shown.{head_in, tail_in}
 use Rattle.split_core.specs.ChunkWork.{way_work}
 use Rattle.split_core.specs.Split.{Filing}
