@@ -1,6 +1,7 @@
 """Reads what stands in `specs/`, `proofs/` and the contracts of `src/`: blocks, what they are called, and which others they name.
 
-It goes by the layout that `rt fmt` keeps, and by `use` lines. A word is a name of its own file, an imported one, or a member of
+It goes by the layout that `rt fmt` keeps, and by `use` items, whose braces may stand in one another and on several lines:
+`use Rattle.ports_core.specs.{Slot.{Slot, slot_at}, Text.message_of}`. A word is a name of its own file, an imported one, or a member of
 an imported module (`law.name`). A name that the block binds itself, as a variable, is none of its file's.
 """
 import os
@@ -13,7 +14,7 @@ NO_LIBRARIES = re.compile(r".*_tests$|match_time$")
 
 WORD = re.compile(r"[^\s(){}\[\],;λ`\"]+")
 BEGINS = re.compile(r"(?:(?:abbrev|unfoldable|pub)\s+)*(?:(?P<kind>data|record)\s+(?P<type>[^\s:({]+)|(?P<name>[^\s:({]+)\s+:(?:\s|$))")
-USE = re.compile(r"\s*(?:ghost )?use (Rattle\.[\w.-]+?)(?:\.\{(.*)\}| as (\w+))?;?\s*$")
+USE = re.compile(r"\s*((?:(?:pub|unfoldable) )*)(?:ghost )?use (?=[A-Za-z]\w*\.)")
 BINDERS = re.compile(r"λ ([^.()]*)\.|[({]((?:[^\s(){}:;=]+ )+):(?=\s)")
 
 
@@ -53,7 +54,11 @@ class File:
 
     def read(self):
         comment, indent, around, is_head = [], 0, [], False
+        of_uses = {at for use in uses(self.lines) for at in range(use.begin, use.end)}
         for number, line in enumerate(self.lines, 1):
+            if number - 1 in of_uses:
+                comment = []
+                continue
             if number == 1 and line.startswith("--"):
                 self.comment = [line]
                 continue
@@ -76,8 +81,6 @@ class File:
                 comment = []
             elif inner.startswith("--"):
                 comment.append(inner)
-            elif USE.match(inner):
-                comment = []
             elif not inner.startswith(" ") and (found := BEGINS.match(inner)):
                 name = found["type"] or found["name"]
                 self.blocks.append(Block(self.place, self.module, name, number, comment, found["kind"]))
@@ -89,21 +92,79 @@ class File:
                 comment = []
 
 
+class Use:
+    """A `use` item: its first line, the one after its last, its words before the path, and the text of the path with its braces."""
+
+    def __init__(self, lines, begin, head):
+        self.begin, self.end, self.is_public, self.text = begin, begin + 1, "pub" in head[1], lines[begin][head.end():]
+        while self.text.count("{") > self.text.count("}") and self.end < len(lines):
+            self.text += "\n" + lines[self.end]
+            self.end += 1
+        self.text = self.text.strip().removesuffix(";")
+
+    def brings(self):
+        """What it brings: the path of each, whether that is an item or else a module, and the name that the file calls it by."""
+        return brought(self.text, "", False)
+
+
+def uses(lines):
+    """The `use` items of an .antt file, or the `ghost use` items of a file of code."""
+    at = 0
+    while at < len(lines):
+        head = USE.match(lines[at])
+        if head:
+            yield (use := Use(lines, at, head))
+        at = use.end if head else at + 1
+
+
+def entries(text):
+    """The parts of a text between the commas that stand in no braces."""
+    found, depth = [""], 0
+    for char in text:
+        depth += (char == "{") - (char == "}")
+        if char == "," and not depth:
+            found.append("")
+        else:
+            found[-1] += char
+    return [it.strip() for it in found if it.strip()]
+
+
+def brought(text, prefix, is_item):
+    head, opens, inner = text.partition("{")
+    if opens:
+        for entry in entries(inner.rpartition("}")[0]):
+            yield from brought(entry, prefix + head, True)
+    else:
+        path, _, other = text.partition(" as ")
+        yield prefix + path.strip(), is_item, other.strip() or path.strip().split(".")[-1]
+
+
+def with_fewer(text, is_kept, prefix="", is_item=False):
+    """The text of a `use` item with only those paths that are to be kept, or none."""
+    head, opens, inner = text.partition("{")
+    if not opens:
+        return text if is_kept(prefix + text.partition(" as ")[0].strip(), is_item) else ""
+    left = [it for entry in entries(inner.rpartition("}")[0]) if (it := with_fewer(entry, is_kept, prefix + head, True))]
+    if not left:
+        return ""
+    return f"{head}{{\n" + "".join(f"  {it},\n" for it in left) + "}" if "\n" in inner else f"{head}{{{', '.join(left)}}}"
+
+
 def imports_of(lines):
     """What the file calls each name that it imports: `word` to `(module, name)`, or to `(module, None)` for a module."""
     found = {}
-    for line in lines:
-        use = USE.match(line)
-        if not use:
-            continue
-        module, names, alias = use.groups()
-        if names is None:
-            found[alias or module.split(".")[-1]] = (module, None)
-            continue
-        for word in names.split(","):
-            name, _, other = word.strip().partition(" as ")
-            found[(other or name).strip()] = (module, name.strip())
+    for use in uses(lines):
+        for path, is_item, word in use.brings() if not use.is_public else ():
+            if path.startswith("Rattle."):
+                module, _, name = path.rpartition(".")
+                found[word] = (module, name) if is_item else (path, None)
     return found
+
+
+def without_uses(lines):
+    """The lines that are of no `use` item."""
+    gone = {at for use in uses(lines) for at in range(use.begin, use.end)}
+    return [line for at, line in enumerate(lines) if at not in gone]
 
 
 def bound_by(code):

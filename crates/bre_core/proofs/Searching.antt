@@ -1,10 +1,14 @@
 -- The truth value says what is contained.
-use Rattle.std.proofs.Common.{ℕ, zero, suc, ◌≤◌, List, length, arith, rules, ◌≡◌, ◌⊎◌, ◌↔◌, inl, inr, ◌+◌, ◌<◌, Bool, true, false, leb, ◌&&◌, Option, Some, None, refl, sym, ap, ◌∙◌, subst, IsTrue}
-use Rattle.bre_core.specs.Match.{Parts, Matches, MatchesItem, IsAtMost, Contains}
-use Rattle.bre_core.specs.Pattern.{Pattern, nothing, append, Item, set, front, end, group, repeat}
-use Rattle.std.proofs.lemmas.Bool.{cases_eq, cases_lt, false≢true, or_cases, or_left, or_right, and_parts, and_from, eqb-true, eq-eqb, leb-true, le-leb, lt-ltb}
+use Rattle.std.proofs.{
+  Common.{ℕ, zero, suc, ◌≤◌, List, length, arith, rules, ◌≡◌, ◌⊎◌, ◌↔◌, inl, inr, ◌+◌, ◌<◌, Bool, true, false, leb, ◌&&◌, Option, Some, None, refl, sym, ap, ◌∙◌, subst, IsTrue},
+  lemmas.Bool.{cases_eq, cases_lt, false≢true, or_cases, or_left, or_right, and_parts, and_from, eqb-true, eq-eqb, leb-true, le-leb, lt-ltb},
+}
+use Rattle.bre_core.specs.{
+  Match.{Parts, Matches, MatchesItem, IsAtMost, Contains},
+  Pattern.{Pattern, nothing, append, Item, set, front, end, group, repeat},
+  Search.{any_below, has_parts, is_at_most, matches, matches_item, contains},
+}
 use borrow.Author.Tests.{ltb-true}
-use Rattle.bre_core.specs.Search.{any_below, has_parts, is_at_most, matches, matches_item, contains}
 
 -- What a pattern matches stands on the line.
 

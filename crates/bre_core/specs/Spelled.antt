@@ -1,14 +1,12 @@
 -- Intervals and bracket lists as the author of a pattern spells them (XBD 9.3.5, 9.3.6), and what they stand for.
-use Rattle.std.specs.Prelude.{◌≡◌, ◌≢◌, ℕ, ◌+◌, ◌-◌, ◌*◌, ◌≤◌, Bool, true, false, ◌==◌, ◌&&◌, ◌||◌, nat_le, List, [], ◌∷◌, ◌++◌, map, fold, Option, Some, None, codes, if◌then◌else◌}
-use Rattle.std.specs.List.{list_all}
-use Rattle.bre_core.specs.declared.class.Class.{Class}
-use Rattle.bre_core.specs.declared.class.Class.TheVariants.{Upper, Lower, Alpha, Digit, Alnum, Xdigit, Blank, Space, Cntrl, Graph, Print, Punct}
-use Rattle.bre_core.specs.declared.member.Member.{Member}
-use Rattle.bre_core.specs.declared.member.Member.TheVariants.{Range, Class as InClass}
-use Rattle.bre_core.specs.declared.token.Token.{Token}
-use Rattle.bre_core.specs.declared.token.Token.TheVariants.{Repeat}
-use Rattle.bre_core.specs.Bracket.{begins_with, is_dash_inside, matched_bytes}
-use Rattle.bre_core.specs.Class.{is_between}
+use Rattle.std.specs.{Prelude.{◌≡◌, ◌≢◌, ℕ, ◌+◌, ◌-◌, ◌*◌, ◌≤◌, Bool, true, false, ◌==◌, ◌&&◌, ◌||◌, nat_le, List, [], ◌∷◌, ◌++◌, map, fold, Option, Some, None, codes, if◌then◌else◌}, List.list_all}
+use Rattle.bre_core.specs.{
+  declared.class.Class.{Class, TheVariants.{Upper, Lower, Alpha, Digit, Alnum, Xdigit, Blank, Space, Cntrl, Graph, Print, Punct}},
+  declared.member.Member.{Member, TheVariants.{Range, Class as InClass}},
+  declared.token.Token.{Token, TheVariants.Repeat},
+  Bracket.{begins_with, is_dash_inside, matched_bytes},
+  Class.is_between,
+}
 
 -- digits, one or more, that write a number to base 10, of at most 255; zeros may lead
 pub record IsNumber (digits : List ℕ) (number : ℕ) : Type 0 where

@@ -1,22 +1,22 @@
 -- What is settled is what all continuations agree on, and where lines go.
-use Rattle.std.proofs.Common.{◌≡◌, inl, inr, ℕ, suc, ◌+◌, ◌-◌, ◌<◌, ◌≤◌, ◌&&◌, Bool, true, false, cond, List, [], ◌∷◌, ◌++◌, length, get_or, refl, sym, ◌∙◌, ap, subst, arith, length-append, zero, map, take, drop, append_assoc, nat_lt, nat_le, min, length-take, ◌⊎◌, ne_eqb, eq-eqb, length-drop, length-take-le, rules, ◌≢◌}
-use Rattle.csplit_core.specs.Agreed.{CanCome, kept_lines, whole_outputs, settled_outputs, AreFronts, IsAgreed}
-use Rattle.ports_core.specs.Part.{IsBeginning}
-use Rattle.ports_core.proofs.AgreedLemmas.{agreed_as, nothing_waits}
-use Rattle.std.proofs.lemmas.Bool.{cases_lt, false≢true}
-use Rattle.bre_core.specs.Pattern.{Pattern}
-use Rattle.csplit_core.specs.Operand.{Minus, Target, Number, Search, Operand, Line, Plus, most_held, is_kept}
-use Rattle.csplit_core.specs.Plan.{State, start, Step, Ending, below, search_line, MatchesNone, CutsAt, line_after, state_after, step_of, Runs, is_below, cuts, missed, Misses, is_used_up, misses, is_above}
-use Rattle.csplit_core.specs.laws.PlanLaws.{line_some, runs, goes_on, plan_runs, plan_once, cuts_still, less_test, not_less_test}
-use Rattle.csplit_core.specs.inner.PlanLaws.{needed, EndsAs}
-use Rattle.std.proofs.lemmas.List.{append-nil, map-append, take-append-drop, drop-drop}
-use Rattle.csplit_core.specs.Planned.{plan, Plan}
-use Rattle.csplit_core.specs.Section.{Section, section, section_of, lines_between, is_last_kept, whole_end, settled_end, sections_by, whole_sections, is_final, waiting_lines}
-use Rattle.csplit_core.specs.laws.SectionLaws.{between_still, ends_as, are_within, closed_still, plan_grows, whole_covers, plan_goes_on}
-use Rattle.std.proofs.lemmas.Bool.Decides.{nat_tests}
-use Rattle.csplit_core.specs.Place.{Place, in_section, left_out, nowhere, place_from, place_of, IsUndecided, is_in, lines_into, ArePlaced}
+use Rattle.std.proofs.{
+  Common.{◌≡◌, inl, inr, ℕ, suc, ◌+◌, ◌-◌, ◌<◌, ◌≤◌, ◌&&◌, Bool, true, false, cond, List, [], ◌∷◌, ◌++◌, length, get_or, refl, sym, ◌∙◌, ap, subst, arith, length-append, zero, map, take, drop, append_assoc, nat_lt, nat_le, min, length-take, ◌⊎◌, ne_eqb, eq-eqb, length-drop, length-take-le, rules, ◌≢◌},
+  lemmas.{Bool.{cases_lt, false≢true, Decides.nat_tests}, List.{append-nil, map-append, take-append-drop, drop-drop}, Grind.common_steps},
+}
+use Rattle.csplit_core.specs.{
+  Agreed.{CanCome, kept_lines, whole_outputs, settled_outputs, AreFronts, IsAgreed},
+  Operand.{Minus, Target, Number, Search, Operand, Line, Plus, most_held, is_kept},
+  Plan.{State, start, Step, Ending, below, search_line, MatchesNone, CutsAt, line_after, state_after, step_of, Runs, is_below, cuts, missed, Misses, is_used_up, misses, is_above},
+  laws.PlanLaws.{line_some, runs, goes_on, plan_runs, plan_once, cuts_still, less_test, not_less_test},
+  laws.SectionLaws.{between_still, ends_as, are_within, closed_still, plan_grows, whole_covers, plan_goes_on},
+  inner.PlanLaws.{needed, EndsAs},
+  Planned.{plan, Plan},
+  Section.{Section, section, section_of, lines_between, is_last_kept, whole_end, settled_end, sections_by, whole_sections, is_final, waiting_lines},
+  Place.{Place, in_section, left_out, nowhere, place_from, place_of, IsUndecided, is_in, lines_into, ArePlaced},
+}
 use Rattle.csplit_core.proofs.WholeLemmas.{between_rest, after_within, ends_after_all}
-use Rattle.std.proofs.lemmas.Grind.{common_steps}
+use Rattle.ports_core.{specs.Part.IsBeginning, proofs.AgreedLemmas.{agreed_as, nothing_waits}}
+use Rattle.bre_core.specs.Pattern.{Pattern}
 
 -- One more line that every operand finds.
 
@@ -464,7 +464,8 @@ left_there false cut line from within = absurd (omega (arith, from, within))
 step_parts : (suppress : Bool) (lines : List Line) (current cut index s : ℕ) (later : ℕ → Place) → 1 ≤ current
     → current ≤ cut → cut ≤ length lines
     → lines_into s (places_with suppress index cut later) current (drop (current - 1) lines)
-    ≡ lines_into s (places_with suppress index cut later) current (lines_between current cut lines) ++ lines_into s later (line_after suppress cut) (drop (line_after suppress cut - 1) lines)
+    ≡ lines_into s (places_with suppress index cut later) current (lines_between current cut lines)
+    ++ lines_into s later (line_after suppress cut) (drop (line_after suppress cut - 1) lines)
 step_parts suppress lines current cut index s later some least within =
     let places = places_with suppress index cut later in
     let next = line_after suppress cut in
@@ -498,7 +499,8 @@ placed_from : {suppress : Bool} {lines : List Line} {first : State} {steps : Lis
     (map (λ
     (one : Section). one.lines)
     (sections_by true whole_end lines (record { steps = steps; last = last; ending = ending }))) k []
-    ≡ lines_into s (place_from suppress (length lines) index steps ending) first.current (drop (first.current - 1) lines)
+    ≡ lines_into s (place_from suppress (length lines) index steps ending) first.current
+    (drop (first.current - 1) lines)
 placed_from {suppress} {lines} (cuts state operand operands matched cut steps' last' ending' is cuts_at least within rest) some index zero {s} at =
     sym (step_parts suppress lines state.current cut index s (place_from suppress (length lines) (index + 1) steps' ending') some least within ∙ (grind (
       arith,

@@ -1,48 +1,42 @@
 -- Lemmas on the cutter of lines: what is settled, what holding lines leaves, and that a cut ends the open section and the next one begins.
-use Rattle.std.proofs.lemmas.Grind.{common_steps}
-use Rattle.std.proofs.Common.{◌≡◌, ℕ, ◌+◌, ◌-◌, ◌≤◌, Bool, true, false, List, [], ◌++◌, length, refl, sym, ◌∙◌, ap, arith, inl, inr, Option, None, subst, ◌<◌, min, Some, Result, Err, OnOk, take, drop, IfNone, rules, suc, ◌∷◌, map, append_assoc}
-use Rattle.std.proofs.lemmas.Bool.{cases_lt}
-use Rattle.std.proofs.lemmas.List.{append-nil, length-take-le, length-drop, take-append-le, take_all, drop_all, drop-drop, map-append}
-use Rattle.seg_core.specs.Line.{line_count, first_lines, after_lines, but_last_lines}
-use Rattle.seg_core.specs.inner.Lines.{last_lines}
-use Rattle.csplit_core.specs.Csplit.{settled_of, whole_of}
-use Rattle.ports_core.specs.Draft.{Draft, share, made_of, shares_of, draft_part, with_bytes, with_next, told_of_files, size_of_file, part_of as part_by}
-use Rattle.ports_core.proofs.ShareLemmas.{next_shares, bytes_begin, next_begins}
-use Rattle.std.specs.List.{flat_map}
-use Rattle.std.proofs.lemmas.Grind.{flat_map-append}
-use Rattle.csplit_core.specs.Input.{newline, all_lines}
-use Rattle.csplit_core.specs.Operand.{Operand, Line, is_kept}
-use Rattle.csplit_core.specs.Output.{Style, manner_of, opening_of, file_in, shares_in, part_of, sizes_wanted}
-use Rattle.csplit_core.specs.Plan.{State, start, Step, Ending, Runs, search_line, line_after, state_after, step_of, is_used_up, misses, is_above, is_below, cuts}
-use Rattle.csplit_core.specs.Planned.{Plan, plan, plan_within}
-use Rattle.csplit_core.specs.Section.{lines_between, is_last_kept, settled_end, whole_end, is_final, most_waiting, bytes_of, Section, section, section_of}
-use Rattle.csplit_core.specs.Progress.{AimsAt}
-use Rattle.csplit_core.specs.declared.progress.Turn.{Turn}
-use Rattle.csplit_core.specs.declared.progress.Turn.TheVariants.{Below}
-use Rattle.csplit_core.specs.laws.PlanLaws.{plan_once, goes_on, runs}
-use Rattle.csplit_core.specs.inner.PlanLaws.{EndsAs, needed}
-use Rattle.csplit_core.specs.laws.SectionLaws.{ends_as, closed_still, are_within, shares-append, section_grows}
-use Rattle.csplit_core.specs.Cutter.{kept_by, most_by, text_from, draft_by, settled_draft, CutterState, suppress_in, state_in, IsAt, EndsNow, IsLive, IsFit, Leads}
-use Rattle.csplit_core.specs.inner.Cutter.{Joins, settled_part, Keeps, part_at, Arrives, Holds, GoesPast, search_after, CutsNow, WentOn, PassesCut, IsAfter, CutAt, CutsAll, WillCut, IsEnd}
-use Rattle.csplit_core.proofs.LineLemmas.{all_lines-append, bytes_between, length-all_lines, count-append, count_from, first_still, rest_more, from_further, first_further}
-use Rattle.ports_core.specs.Slot.{Slot}
-use Rattle.ports_core.specs.declared.fault.Fault.{Fault}
-use Rattle.ports_core.specs.FileWriter.{Goes, Reaches, Leaves}
-use Rattle.ports_core.specs.FileWriter.{WriterState, Writes, IsReady, size_of}
-use Rattle.ports_core.proofs.FileWriterLemmas.{leaves_again, leaves_still, keeps_files, reaches_again, reaches_as, reaches_still, where_three, stops_wider, put_nothing}
-use Rattle.ports_core.proofs.WriterSteps.{goes_as, goes_more, stops_among, goes_or_lacks}
-use Rattle.std.proofs.Math.Nat.{min-eq_left, min-eq_right}
-use Rattle.std.proofs.Math.Seq.{take-add, take-append-add}
-use Rattle.seg_core.specs.Window.{Window, without_first}
-use Rattle.seg_core.proofs.FirstLines.{first_lines-is_take, first_lines-zero, first_lines_then_rest}
-use Rattle.seg_core.proofs.Carried.{left_after, left_alone, but_last_lines-last, over-le-length}
-use Rattle.ports_core.specs.Part.{Begins, File, Part, lines_for}
-use Rattle.ports_core.proofs.PartLemmas.{part_trans}
-use Rattle.ports_core.specs.declared.file_writer.Opening.{Opening}
-use Rattle.ports_core.specs.declared.file_writer.Opening.TheVariants.{Never}
-use Rattle.ports_core.specs.declared.slot.State.TheVariants.{Open, Closed}
-use Rattle.csplit_core.specs.declared.line_cutter.Cut.{Cut}
-use Rattle.csplit_core.proofs.WholeLemmas.{after_within}
+use Rattle.std.{
+  proofs.lemmas.{Grind.{common_steps, flat_map-append}, Bool.cases_lt, List.{append-nil, length-take-le, length-drop, take-append-le, take_all, drop_all, drop-drop, map-append}},
+  proofs.Common.{◌≡◌, ℕ, ◌+◌, ◌-◌, ◌≤◌, Bool, true, false, List, [], ◌++◌, length, refl, sym, ◌∙◌, ap, arith, inl, inr, Option, None, subst, ◌<◌, min, Some, Result, Err, OnOk, take, drop, IfNone, rules, suc, ◌∷◌, map, append_assoc},
+  proofs.Math.{Nat.{min-eq_left, min-eq_right}, Seq.{take-add, take-append-add}},
+  specs.List.flat_map,
+}
+use Rattle.seg_core.{
+  specs.{Line.{line_count, first_lines, after_lines, but_last_lines}, inner.Lines.last_lines, Window.{Window, without_first}},
+  proofs.{FirstLines.{first_lines-is_take, first_lines-zero, first_lines_then_rest}, Carried.{left_after, left_alone, but_last_lines-last, over-le-length}},
+}
+use Rattle.csplit_core.specs.{
+  Csplit.{settled_of, whole_of},
+  Input.{newline, all_lines},
+  Operand.{Operand, Line, is_kept},
+  Output.{Style, manner_of, opening_of, file_in, shares_in, part_of, sizes_wanted},
+  Plan.{State, start, Step, Ending, Runs, search_line, line_after, state_after, step_of, is_used_up, misses, is_above, is_below, cuts},
+  Planned.{Plan, plan, plan_within},
+  Section.{lines_between, is_last_kept, settled_end, whole_end, is_final, most_waiting, bytes_of, Section, section, section_of},
+  Progress.AimsAt,
+  declared.{progress.Turn.{Turn, TheVariants.Below}, line_cutter.Cut.Cut},
+  laws.{PlanLaws.{plan_once, goes_on, runs}, SectionLaws.{ends_as, closed_still, are_within, shares-append, section_grows}},
+  inner.{PlanLaws.{EndsAs, needed}, Cutter.{Joins, settled_part, Keeps, part_at, Arrives, Holds, GoesPast, search_after, CutsNow, WentOn, PassesCut, IsAfter, CutAt, CutsAll, WillCut, IsEnd}},
+  Cutter.{kept_by, most_by, text_from, draft_by, settled_draft, CutterState, suppress_in, state_in, IsAt, EndsNow, IsLive, IsFit, Leads},
+}
+use Rattle.csplit_core.proofs.{LineLemmas.{all_lines-append, bytes_between, length-all_lines, count-append, count_from, first_still, rest_more, from_further, first_further}, WholeLemmas.after_within}
+use Rattle.ports_core.specs.{
+  Draft.{Draft, share, made_of, shares_of, draft_part, with_bytes, with_next, told_of_files, size_of_file, part_of as part_by},
+  Slot.Slot,
+  declared.{fault.Fault.Fault, file_writer.Opening.{Opening, TheVariants.Never}, slot.State.TheVariants.{Open, Closed}},
+  FileWriter.{Goes, Reaches, Leaves, WriterState, Writes, IsReady, size_of},
+  Part.{Begins, File, Part, lines_for},
+}
+use Rattle.ports_core.proofs.{
+  ShareLemmas.{next_shares, bytes_begin, next_begins},
+  FileWriterLemmas.{leaves_again, leaves_still, keeps_files, reaches_again, reaches_as, reaches_still, where_three, stops_wider, put_nothing},
+  WriterSteps.{goes_as, goes_more, stops_among, goes_or_lacks},
+  PartLemmas.part_trans,
+}
 
 -- What is settled of complete lines, by where the plan over them ends.
 
@@ -156,7 +150,8 @@ pub runs_to : {cutter : CutterState} {x left : List ℕ} (at : IsAt cutter x lef
 runs_to {cutter} {x} at ends = grind (arith, common_steps)
 
 -- more lines came in, and nothing was done with them yet
-unfoldable pub at_more : (cutter : CutterState) (lines : ℕ) (aim : Turn) (x t left : List ℕ) → Joins x t → 1 ≤ cutter.progress.current → (at : IsAt cutter x left) → EndsNow cutter x → lines ≡ line_count newline (x ++ t)
+unfoldable pub at_more : (cutter : CutterState) (lines : ℕ) (aim : Turn) (x t left : List ℕ) → Joins x t
+    → 1 ≤ cutter.progress.current → (at : IsAt cutter x left) → EndsNow cutter x → lines ≡ line_count newline (x ++ t)
     → IsAt (record cutter { lines = lines; aim = aim }) (x ++ t) (left ++ t)
 at_more cutter lines aim x t left whole some at ends count =
     let e = all_lines-append t whole in record {
@@ -203,7 +198,8 @@ pub few_taken : {cutter : CutterState} {x left : List ℕ} (at : IsAt cutter x l
 few_taken {cutter} {x} at = grind (arith, common_steps)
 
 -- some lines of those that were left are written, and the others wait
-unfoldable pub at_held : (cutter : CutterState) (writer : WriterState) (x left bytes held : List ℕ) (n : ℕ) → 1 ≤ cutter.progress.current → (at : IsAt cutter x left) → n ≤ line_count newline left
+unfoldable pub at_held : (cutter : CutterState) (writer : WriterState) (x left bytes held : List ℕ) (n : ℕ)
+    → 1 ≤ cutter.progress.current → (at : IsAt cutter x left) → n ≤ line_count newline left
     → bytes ≡ first_lines newline n left → held ≡ after_lines newline n left
     → ((draft : Draft) → Writes (manner_of cutter.style) cutter.writer draft
     → Writes (manner_of cutter.style) writer (with_bytes bytes draft))
@@ -555,7 +551,8 @@ pub cut_begins : {cutter : CutterState} {x left : List ℕ} (line : List ℕ) {b
     (state_after
     (suppress_in cutter) now.goes.operand now.goes.operands cutter.progress.repetition cut.matched
     cut.line).operands))
-    (with_bytes before (draft_by cutter.style (all_lines x) at.steps (kept_by (state_in cutter).operands) at.written)))) (settled_part cutter x)
+    (with_bytes before (draft_by cutter.style (all_lines x) at.steps (kept_by (state_in cutter).operands) at.written))))
+    (settled_part cutter x)
 cut_begins {cutter} {x} {left} line {at} cut now fit will before_is =
     let state = state_after (suppress_in cutter) now.goes.operand now.goes.operands cutter.progress.repetition cut.matched cut.line in
     let on : cutter.progress.current + at.taken ≤ cut.line = (let p = now.place_is in let b = now.before in omega (arith, p, b)) in

@@ -1,20 +1,26 @@
 -- Lines of a text as operands see them, their bytes, and what follows the last newline, where more bytes come.
-use Rattle.std.proofs.Common.{◌≡◌, ◌⊎◌, inl, inr, ℕ, ◌+◌, ◌-◌, ◌<◌, ◌≤◌, List, [], ◌∷◌, ◌++◌, length, map, take, drop, refl, sym, ◌∙◌, ap, arith, length-append, Bool, true, false, cond, append_assoc, take-add, rules}
-use Rattle.std.proofs.lemmas.Bool.{cases_lt, cases_eq, eq-eqb, ne_eqb}
-use Rattle.std.proofs.lemmas.List.{take-append-drop, map-append, take-map, drop-map, length-map, length-drop, drop_all, drop-append-le, take-append-le, drop-drop, append-nil, append_cancel_left, length-take-le}
+use Rattle.std.proofs.{
+  Common.{◌≡◌, ◌⊎◌, inl, inr, ℕ, ◌+◌, ◌-◌, ◌<◌, ◌≤◌, List, [], ◌∷◌, ◌++◌, length, map, take, drop, refl, sym, ◌∙◌, ap, arith, length-append, Bool, true, false, cond, append_assoc, take-add, rules},
+  lemmas.Bool.{cases_lt, cases_eq, eq-eqb, ne_eqb},
+  lemmas.List.{take-append-drop, map-append, take-map, drop-map, length-map, length-drop, drop_all, drop-append-le, take-append-le, drop-drop, append-nil, append_cancel_left, length-take-le},
+  lemmas.Grind.common_steps,
+}
 use Rattle.seg_core.specs.Line.{lines_of, line_count, delimiters, joined, first_lines, after_lines, ends_with, EndsAt, HasNone, AreLines, LastEndsAt}
-use Rattle.seg_core.proofs.LinesOf.{lines_of-append, joined-lines_of, AreLines-lines_of, lines_of-joined}
-use Rattle.seg_core.proofs.LineCounts.{line_count-closed, ends_with-append, line_count-le-length, line_count-open, ends_with-some}
-use Rattle.seg_core.proofs.FirstLines.{after_lines-is_drop, first_lines_then_rest, joined-append, lines_of-after_lines, first_lines-zero, delimiters-first_lines, lines_of-first_lines}
-use Rattle.seg_core.proofs.EndLines.{after_lines-append}
-use Rattle.csplit_core.specs.Section.{lines_between, bytes_of}
-use Rattle.csplit_core.specs.Input.{newline, marked, all_lines, complete_lines, open_line}
-use Rattle.csplit_core.specs.inner.Cutter.{IsWhole, IsLine, Joins}
-use Rattle.csplit_core.specs.Cutter.{text_from}
-use Rattle.seg_core.proofs.Delimiters.{delimiters-append}
-use Rattle.seg_core.proofs.LastLines.{first_lines-whole}
-use Rattle.csplit_core.specs.CsplitState.{whole_lines}
-use Rattle.std.proofs.lemmas.Grind.{common_steps}
+use Rattle.seg_core.proofs.{
+  LinesOf.{lines_of-append, joined-lines_of, AreLines-lines_of, lines_of-joined},
+  LineCounts.{line_count-closed, ends_with-append, line_count-le-length, line_count-open, ends_with-some},
+  FirstLines.{after_lines-is_drop, first_lines_then_rest, joined-append, lines_of-after_lines, first_lines-zero, delimiters-first_lines, lines_of-first_lines},
+  EndLines.after_lines-append,
+  Delimiters.delimiters-append,
+  LastLines.first_lines-whole,
+}
+use Rattle.csplit_core.specs.{
+  Section.{lines_between, bytes_of},
+  Input.{newline, marked, all_lines, complete_lines, open_line},
+  inner.Cutter.{IsWhole, IsLine, Joins},
+  Cutter.text_from,
+  CsplitState.whole_lines,
+}
 
 -- the lines of complete lines and of what follows them
 pub lines-append : {x : List ℕ} (t : List ℕ) → Joins x t

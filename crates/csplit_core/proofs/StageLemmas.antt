@@ -1,58 +1,57 @@
 -- What opening the cutter leaves, what ending it does, and what the stage that takes in bytes owes.
-use Rattle.std.proofs.Common.{◌≡◌, inl, ◌+◌, ◌-◌, ◌≤◌, length, max, Bool, true, false, List, [], ◌∷◌, None, Option, Some, refl, sym, ◌∙◌, ap, subst, arith, ℕ, suc, ◌++◌, take, ◌<◌, nat_lt, get_or, rules, cond, drop, inr, ◌^◌, min, length-append, ◌⊎◌, Result, Ok, Err, IfErr, eqb, OnOk, IsTrue}
+use Rattle.std.proofs.{
+  Common.{◌≡◌, inl, ◌+◌, ◌-◌, ◌≤◌, length, max, Bool, true, false, List, [], ◌∷◌, None, Option, Some, refl, sym, ◌∙◌, ap, subst, arith, ℕ, suc, ◌++◌, take, ◌<◌, nat_lt, get_or, rules, cond, drop, inr, ◌^◌, min, length-append, ◌⊎◌, Result, Ok, Err, IfErr, eqb, OnOk, IsTrue},
+  lemmas.{List.{drop_all, drop-map, append-nil, take-append-drop}, Bool.Decides.nat_tests, Grind.common_steps},
+  Math.Nat.min-eq_left,
+}
 use Rattle.bre_core.specs.Pattern.{Pattern}
-use Rattle.seg_core.specs.Window.{Window}
-use Rattle.ports_core.specs.Slot.{Slot, is_writable}
-use Rattle.ports_core.specs.declared.fault.Fault.{Fault}
-use Rattle.ports_core.specs.declared.fault.Fault.TheVariants.{Memory}
+use Rattle.seg_core.{
+  specs.{Window.Window, Line.{line_count, first_lines, after_lines, delimiters, ends_with, LastEndsAt}},
+  proofs.FirstLines.{first_lines-all, first_lines_then_rest, lines_of-after_lines},
+}
+use Rattle.ports_core.specs.{
+  Slot.{Slot, is_writable},
+  declared.{fault.Fault.{Fault, TheVariants.Memory}, verdict.Verdict.Verdict, file_writer.Opening.{Opening, TheVariants.Never}},
+  Turn.{LinesTo, fault_in},
+  inner.Part.HasLines,
+  Draft.{Draft, draft_part, with_bytes, with_next, Manner},
+  FileWriter.{paused, Goes, Leaves, Reaches, At, WriterState, Writes, size_of, IsReady as CanWrite, IsManner, Breaks, OwnsFiles, manner_in},
+  Part.{OutputsAt, StoppedBetween, nothing, writes},
+  Engine.{is_verdict, CutsOff, EndsWith, EndsThere, Finishes, StandsAt, IsMet, IsMetWith, IsMetThere, Sweeps},
+  Swept.{AreThere, Swept, is_among},
+}
+use Rattle.ports_core.proofs.{
+  PartLemmas.{nothing_begins_part, outputs_count, stopped_in_turn},
+  ShareLemmas.{bytes_begin, next_begins, nothing_part, nothing_told},
+  SlotSteps.none_past,
+  FileWriterLemmas.{breaks_as, same_manner, in_turn, lacks_memory, reaches_as, stops_wider, in_any, leaves_again, reaches_again, leaves_lacking, where_well},
+  WriterSteps.{files_left, goes_as},
+  SweepLemmas.all_cleared,
+}
+use Rattle.csplit_core.proofs.{
+  CutterLemmas.{draft_is, settled_part_is, whole_part_is, runs_to, live_part, live_taken, keeps_on, reaches_then, same_by, settled_same},
+  TryLemmas.{turn_ends, left_is},
+  LineLemmas.{count_from, from_further, bytes_marked, length-all_lines, all_complete, lines_then_open, all_lines-append, joined_line, open_is_line, open_complete, first_complete, front_is, no_newline, tail_is, piece_lines, piece_open, lines_whole, lines_more, open_more},
+  WholeLemmas.ends_after_all,
+  TakeLemmas.{past_plan, past_part, is_past, still_past, more_settled, takes_again, takes_none, takes_wider, took_past, none_there},
+}
+use Rattle.csplit_core.specs.{
+  Csplit.{settled_of, whole_of, verdict_of, waiting, waiting_of, csplit_work, settled_by, verdict_by},
+  Input.{newline, all_lines, open_line},
+  Operand.{Operand, Line},
+  Output.{Style, manner_of, opening_of, part_of, sizes_wanted},
+  Plan.{State, start, Ending, below, missed, above},
+  Planned.{plan, Plan},
+  laws.{PlanLaws.{plan_runs, plan_once}, SectionLaws.{ends_as, are_within, closed_still, ends_with as whole_grows}},
+  Progress.{state_of, AimsAt, EndsHere},
+  inner.Cutter.{BegunNot, new_for, writer_for, AreSeen, Turns, MovesOn, Opened, settled_part, whole_part, IsJudged, EndsAll, IsWhole, Takes, IsLine, Clears, Keeps, Closed, Closes, ended_so, Judges, Passes, ended_well, ended_short},
+  inner.PlanLaws.{EndsAs, AreWithin},
+  Section.{is_final, whole_end, bytes_of, waiting_lines, whole_sections},
+  declared.progress.{Progress.Progress, Turn.{Turn, TheVariants.{Below, Missed, Above}}},
+  Cutter.{CutterState, most_next, pattern_next, kept_next, next_of, most_by, pattern_by, kept_by, settled_draft, IsFit, Stands, suppress_in, state_in, text_from, draft_by, IsLive, IsPast, IsSound, load},
+  CsplitState.{CsplitState, Holds, whole_lines, IsReady, Owns, terms, files, work},
+}
 use Rattle.ports_core.specs.declared.fault.Fault.TheVariants as fault_is
-use Rattle.ports_core.specs.declared.verdict.Verdict.{Verdict}
-use Rattle.ports_core.proofs.PartLemmas.{nothing_begins_part, outputs_count, stopped_in_turn}
-use Rattle.ports_core.specs.Turn.{LinesTo}
-use Rattle.ports_core.specs.inner.Part.{HasLines}
-use Rattle.csplit_core.proofs.CutterLemmas.{draft_is, settled_part_is, whole_part_is, runs_to, live_part, live_taken, keeps_on, reaches_then, same_by, settled_same}
-use Rattle.csplit_core.specs.Csplit.{settled_of, whole_of, verdict_of, waiting, waiting_of, csplit_work, settled_by, verdict_by}
-use Rattle.ports_core.specs.Draft.{Draft, draft_part, with_bytes, with_next}
-use Rattle.ports_core.specs.declared.file_writer.Opening.{Opening}
-use Rattle.ports_core.specs.declared.file_writer.Opening.TheVariants.{Never}
-use Rattle.ports_core.specs.FileWriter.{paused, Goes, Leaves, Reaches, At}
-use Rattle.ports_core.proofs.ShareLemmas.{bytes_begin, next_begins, nothing_part, nothing_told}
-use Rattle.csplit_core.specs.Input.{newline, all_lines, open_line}
-use Rattle.csplit_core.specs.Operand.{Operand, Line}
-use Rattle.csplit_core.specs.Output.{Style, manner_of, opening_of, part_of, sizes_wanted}
-use Rattle.csplit_core.specs.Plan.{State, start, Ending, below, missed, above}
-use Rattle.csplit_core.specs.Planned.{plan, Plan}
-use Rattle.csplit_core.specs.laws.PlanLaws.{plan_runs, plan_once}
-use Rattle.csplit_core.specs.Progress.{state_of, AimsAt, EndsHere}
-use Rattle.csplit_core.specs.inner.Cutter.{BegunNot, new_for, writer_for, AreSeen, Turns, MovesOn, Opened, settled_part, whole_part, IsJudged, EndsAll, IsWhole, Takes, IsLine, Clears, Keeps, Closed, Closes, ended_so, Judges, Passes, ended_well, ended_short}
-use Rattle.csplit_core.specs.Section.{is_final, whole_end, bytes_of, waiting_lines, whole_sections}
-use Rattle.csplit_core.specs.declared.progress.Progress.{Progress}
-use Rattle.csplit_core.specs.declared.progress.Turn.{Turn}
-use Rattle.csplit_core.specs.declared.progress.Turn.TheVariants.{Below, Missed, Above}
-use Rattle.ports_core.specs.FileWriter.{WriterState, Writes, size_of, IsReady as CanWrite, IsManner, Breaks, OwnsFiles, manner_in}
-use Rattle.ports_core.specs.Draft.{Manner}
-use Rattle.csplit_core.specs.Cutter.{CutterState, most_next, pattern_next, kept_next, next_of, most_by, pattern_by, kept_by, settled_draft, IsFit, Stands, suppress_in, state_in, text_from, draft_by, IsLive, IsPast, IsSound, load}
-use Rattle.csplit_core.proofs.TryLemmas.{turn_ends, left_is}
-use Rattle.ports_core.proofs.SlotSteps.{none_past}
-use Rattle.ports_core.proofs.FileWriterLemmas.{breaks_as, same_manner, in_turn, lacks_memory, reaches_as, stops_wider, in_any, leaves_again, reaches_again, leaves_lacking, where_well}
-use Rattle.ports_core.proofs.WriterSteps.{files_left, goes_as}
-use Rattle.std.proofs.lemmas.List.{drop_all, drop-map, append-nil, take-append-drop}
-use Rattle.seg_core.specs.Line.{line_count, first_lines, after_lines, delimiters, ends_with, LastEndsAt}
-use Rattle.seg_core.proofs.FirstLines.{first_lines-all, first_lines_then_rest, lines_of-after_lines}
-use Rattle.csplit_core.specs.inner.PlanLaws.{EndsAs, AreWithin}
-use Rattle.csplit_core.specs.laws.SectionLaws.{ends_as, are_within, closed_still, ends_with as whole_grows}
-use Rattle.csplit_core.proofs.LineLemmas.{count_from, from_further, bytes_marked, length-all_lines, all_complete, lines_then_open, all_lines-append, joined_line, open_is_line, open_complete, first_complete, front_is, no_newline, tail_is, piece_lines, piece_open, lines_whole, lines_more, open_more}
-use Rattle.csplit_core.proofs.WholeLemmas.{ends_after_all}
-use Rattle.std.proofs.lemmas.Bool.Decides.{nat_tests}
-use Rattle.std.proofs.lemmas.Grind.{common_steps}
-use Rattle.std.proofs.Math.Nat.{min-eq_left}
-use Rattle.csplit_core.specs.CsplitState.{CsplitState, Holds, whole_lines, IsReady, Owns, terms, files, work}
-use Rattle.csplit_core.proofs.TakeLemmas.{past_plan, past_part, is_past, still_past, more_settled, takes_again, takes_none, takes_wider, took_past, none_there}
-use Rattle.ports_core.specs.Part.{OutputsAt, StoppedBetween, nothing, writes}
-use Rattle.ports_core.specs.Turn.{fault_in}
-use Rattle.ports_core.specs.Engine.{is_verdict, CutsOff, EndsWith, EndsThere, Finishes, StandsAt, IsMet, IsMetWith, IsMetThere, Sweeps}
-use Rattle.ports_core.specs.Swept.{AreThere, Swept, is_among}
-use Rattle.ports_core.proofs.SweepLemmas.{all_cleared}
 use Rattle.ports_core.specs.Engine as engine
 
 -- What opening the cutter leaves: the first section, with no line yet.

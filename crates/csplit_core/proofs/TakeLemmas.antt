@@ -1,37 +1,31 @@
 -- Taking lines in, one by one and stretch by stretch, and cutting them as often as operands cut.
-use Rattle.std.proofs.lemmas.Grind.{common_steps}
-use Rattle.std.proofs.Common.{◌≡◌, ◌⊎◌, inl, inr, ℕ, ◌+◌, ◌-◌, ◌<◌, ◌≤◌, max, Bool, true, Option, Some, None, List, [], ◌∷◌, ◌++◌, length, refl, sym, ◌∙◌, ap, subst, arith, append_assoc, length-append, IfSome, Ok, Err, take, drop, eqb, Result, take_all, append-nil, take-append-drop, length-drop, length-take-le, drop_at, drop-drop, is_some, take-add, IfOk, rules}
-use Rattle.std.proofs.lemmas.Bool.{false≢true, cases_lt}
-use Rattle.seg_core.specs.Line.{line_count, delimiters, ends_with}
-use Rattle.seg_core.specs.Window.{Window}
-use Rattle.ports_core.specs.Part.{Part, Begins}
-use Rattle.ports_core.specs.Slot.{Slot}
-use Rattle.ports_core.specs.declared.fault.Fault.{Fault}
-use Rattle.csplit_core.specs.Input.{newline, all_lines, without_newline}
-use Rattle.csplit_core.specs.Operand.{Operand}
-use Rattle.csplit_core.specs.Plan.{CutsAt}
-use Rattle.csplit_core.specs.Output.{Style}
-use Rattle.csplit_core.specs.Planned.{Plan, plan}
-use Rattle.csplit_core.specs.laws.PlanLaws.{plan_runs}
-use Rattle.seg_core.proofs.EndLines.{line_count-grows}
-use Rattle.csplit_core.specs.inner.Cutter.{GoesPast, IsFound, settled_part, part_at, IsWhole, IsLine, Joins, Arrives, Held, Holds, CutsNow, CutsAll, WillCut, TriesNext, search_after, Takes, IsNextFound, Stretches, IsEnd, Tries, IsAfter, CutAt, Spreading, Spread, PassesOver, StopsAt, CutsOn, GoesOn}
-use Rattle.csplit_core.specs.Section.{is_final, most_waiting, settled_end}
-use Rattle.csplit_core.specs.laws.SectionLaws.{ends_as, cuts_from, grows}
-use Rattle.ports_core.specs.FileWriter.{IsReady, size_of}
-use Rattle.csplit_core.specs.declared.line_cutter.Cut.{Cut}
-use Rattle.csplit_core.specs.declared.progress.Turn.{Turn}
-use Rattle.csplit_core.specs.declared.progress.Turn.TheVariants.{Below}
-use Rattle.ports_core.specs.Draft.{draft_part}
-use Rattle.csplit_core.specs.Output.{manner_of}
-use Rattle.csplit_core.specs.Cutter.{CutterState, suppress_in, state_in, settled_draft, draft_by, IsFit, IsSound, IsAt, IsLive, IsPast, Stands, EndsNow, kept_by, load}
-use Rattle.csplit_core.proofs.CutterLemmas.{at_more, part_more, live_part, left_count, few_taken, live_taken, settled_part_is, most_is, draft_is, final_count, ended_still, keeps_on, reaches_then, settled_same}
-use Rattle.csplit_core.proofs.LineLemmas.{all_lines-append, all_lines-line, length-all_lines, count-line, whole_count, whole_from, whole-append, whole_drop, rest_all}
-use Rattle.ports_core.proofs.FileWriterLemmas.{keeps_files, leaves_still, reaches_as, reaches_still, where_well, stops_wider}
-use Rattle.csplit_core.proofs.TryLemmas.{stays}
-use Rattle.csplit_core.specs.declared.line_cutter.Passed.{Passed}
-use Rattle.ports_core.proofs.PartLemmas.{part_trans}
-use Rattle.csplit_core.specs.inner.PlanLaws.{needed}
-use Rattle.ports_core.specs.Turn.{fault_in}
+use Rattle.std.proofs.{
+  lemmas.{Grind.common_steps, Bool.{false≢true, cases_lt}},
+  Common.{◌≡◌, ◌⊎◌, inl, inr, ℕ, ◌+◌, ◌-◌, ◌<◌, ◌≤◌, max, Bool, true, Option, Some, None, List, [], ◌∷◌, ◌++◌, length, refl, sym, ◌∙◌, ap, subst, arith, append_assoc, length-append, IfSome, Ok, Err, take, drop, eqb, Result, take_all, append-nil, take-append-drop, length-drop, length-take-le, drop_at, drop-drop, is_some, take-add, IfOk, rules},
+}
+use Rattle.seg_core.{specs.{Line.{line_count, delimiters, ends_with}, Window.Window}, proofs.EndLines.line_count-grows}
+use Rattle.ports_core.{
+  specs.{Part.{Part, Begins}, Slot.Slot, declared.fault.Fault.Fault, FileWriter.{IsReady, size_of}, Draft.draft_part, Turn.fault_in},
+  proofs.{FileWriterLemmas.{keeps_files, leaves_still, reaches_as, reaches_still, where_well, stops_wider}, PartLemmas.part_trans},
+}
+use Rattle.csplit_core.specs.{
+  Input.{newline, all_lines, without_newline},
+  Operand.Operand,
+  Plan.CutsAt,
+  Output.{Style, manner_of},
+  Planned.{Plan, plan},
+  laws.{PlanLaws.plan_runs, SectionLaws.{ends_as, cuts_from, grows}},
+  inner.Cutter.{GoesPast, IsFound, settled_part, part_at, IsWhole, IsLine, Joins, Arrives, Held, Holds, CutsNow, CutsAll, WillCut, TriesNext, search_after, Takes, IsNextFound, Stretches, IsEnd, Tries, IsAfter, CutAt, Spreading, Spread, PassesOver, StopsAt, CutsOn, GoesOn},
+  inner.PlanLaws.needed,
+  Section.{is_final, most_waiting, settled_end},
+  declared.{line_cutter.{Cut.Cut, Passed.Passed}, progress.Turn.{Turn, TheVariants.Below}},
+  Cutter.{CutterState, suppress_in, state_in, settled_draft, draft_by, IsFit, IsSound, IsAt, IsLive, IsPast, Stands, EndsNow, kept_by, load},
+}
+use Rattle.csplit_core.proofs.{
+  CutterLemmas.{at_more, part_more, live_part, left_count, few_taken, live_taken, settled_part_is, most_is, draft_is, final_count, ended_still, keeps_on, reaches_then, settled_same},
+  LineLemmas.{all_lines-append, all_lines-line, length-all_lines, count-line, whole_count, whole_from, whole-append, whole_drop, rest_all},
+  TryLemmas.stays,
+}
 
 -- The lines that were left begin no later than a cut.
 
@@ -332,7 +326,8 @@ takes_fewer {left = left} passed some more = grind (arith, common_steps)
 abbrev pub alike : CutterState → Turn → Window → CutterState
 alike cutter aim window = record cutter { aim = aim; window = window }
 
-unfoldable pub at_alike : (cutter : CutterState) (aim : Turn) (window : Window) (x left : List ℕ) → IsAt cutter x left → IsAt (alike cutter aim window) x left
+unfoldable pub at_alike : (cutter : CutterState) (aim : Turn) (window : Window) (x left : List ℕ) → IsAt cutter x left
+    → IsAt (alike cutter aim window) x left
 at_alike cutter aim window x left at = record { steps = at.steps; leads = at.leads; counted = at.counted; taken = at.taken; written = at.written; few = at.few; written_is = at.written_is; left_is = at.left_is; writes = at.writes }
 
 -- Trying the next operand changes the aim alone.

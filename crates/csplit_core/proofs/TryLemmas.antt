@@ -1,38 +1,36 @@
 -- What stays of a plan when more lines come, what a turn says of it, what trying the next operand says, and over which lines it stands as it does.
-use Rattle.std.proofs.Common.{◌≡◌, inl, inr, ℕ, suc, ◌+◌, ◌-◌, ◌<◌, ◌≤◌, Bool, true, false, List, [], ◌∷◌, ◌++◌, length, get_or, refl, ◌∙◌, ap, arith, length-append, zero, ◌*◌, ◌^◌, drop, sym, subst, None, Result, Ok, Err, OnOk, IfErr, Option, Some, rules, append-nil, min, cond, take, append_assoc}
-use Rattle.csplit_core.specs.Operand.{Target, Number, Search, Operand, Line, unmarked, is_match, Offset, moved, has_more}
-use Rattle.csplit_core.specs.Plan.{State, Step, Ending, missed, above, search_line, MatchesNone, Misses, line_after, Runs, is_used_up, misses, is_above, is_below, cuts, below, CutsAt, operands_after, repetition_after, state_after}
-use Rattle.csplit_core.specs.Planned.{plan}
-use Rattle.csplit_core.specs.laws.PlanLaws.{cuts_still, goes_on, plan_runs, plan_once, line_some, fewer_left, fewer_moves}
-use Rattle.bre_core.specs.Pattern.{Pattern}
-use Rattle.csplit_core.specs.Progress.{state_of, EndsHere, AimsAt, WillMove}
-use Rattle.csplit_core.specs.inner.Cutter.{AreSeen, Turns, FallsAt, GoesPast, WillCut, PassesOn, PassesCut, IsWhole, IsLine, Joins, Looked, IsFound, IsNoCut, search_after, StaysNear, Tries, TriesNext, AreClear, IsNextFound, PassesClear, PassesOver, StopsAt}
-use Rattle.csplit_core.specs.declared.progress.Turn.{Turn}
-use Rattle.csplit_core.specs.declared.progress.Turn.TheVariants.{Missed, Above, Below, Cuts, UsedUp}
-use Rattle.csplit_core.specs.Measure.{Moves, IsRepeatedBy, IsRepeated, Fits}
-use Rattle.csplit_core.specs.declared.progress.Progress.{Progress}
-use Rattle.csplit_core.specs.inner.PlanLaws.{needed, EndsAs}
-use Rattle.csplit_core.proofs.WholeLemmas.{after_within}
-use Rattle.csplit_core.specs.laws.SectionLaws.{ends_as}
-use Rattle.ports_core.specs.declared.fault.Fault.{Fault}
-use Rattle.csplit_core.specs.Input.{newline, without_newline, marked, all_lines, is_match_of}
-use Rattle.csplit_core.specs.declared.line_cutter.Cut.{Cut}
-use Rattle.csplit_core.specs.Cutter.{CutterState, state_in, most_by, pattern_by, suppress_in, IsFit, pattern_in, AimHolds, IsLive, EndsNow, IsSound}
-use Rattle.ports_core.specs.Turn.{fault_in}
-use Rattle.ports_core.specs.declared.fault.Fault.TheVariants.{Memory}
+use Rattle.std.proofs.{
+  Common.{◌≡◌, inl, inr, ℕ, suc, ◌+◌, ◌-◌, ◌<◌, ◌≤◌, Bool, true, false, List, [], ◌∷◌, ◌++◌, length, get_or, refl, ◌∙◌, ap, arith, length-append, zero, ◌*◌, ◌^◌, drop, sym, subst, None, Result, Ok, Err, OnOk, IfErr, Option, Some, rules, append-nil, min, cond, take, append_assoc},
+  lemmas.{Grind.common_steps, Bool.{cases_lt, eq-eqb, eqb-true, ne_eqb, false≢true}, List.{get_or-map, drop_at, take_all, take_at, take-append-drop, length-take-le, append-nil}},
+}
+use Rattle.csplit_core.specs.{
+  Operand.{Target, Number, Search, Operand, Line, unmarked, is_match, Offset, moved, has_more},
+  Plan.{State, Step, Ending, missed, above, search_line, MatchesNone, Misses, line_after, Runs, is_used_up, misses, is_above, is_below, cuts, below, CutsAt, operands_after, repetition_after, state_after},
+  Planned.plan,
+  laws.{PlanLaws.{cuts_still, goes_on, plan_runs, plan_once, line_some, fewer_left, fewer_moves}, SectionLaws.ends_as},
+  Progress.{state_of, EndsHere, AimsAt, WillMove},
+  inner.Cutter.{AreSeen, Turns, FallsAt, GoesPast, WillCut, PassesOn, PassesCut, IsWhole, IsLine, Joins, Looked, IsFound, IsNoCut, search_after, StaysNear, Tries, TriesNext, AreClear, IsNextFound, PassesClear, PassesOver, StopsAt},
+  inner.PlanLaws.{needed, EndsAs},
+  declared.{progress.{Turn.{Turn, TheVariants.{Missed, Above, Below, Cuts, UsedUp}}, Progress.Progress}, line_cutter.{Cut.Cut, Passed.Passed}},
+  Measure.{Moves, IsRepeatedBy, IsRepeated, Fits},
+  Input.{newline, without_newline, marked, all_lines, is_match_of},
+  Cutter.{CutterState, state_in, most_by, pattern_by, suppress_in, IsFit, pattern_in, AimHolds, IsLive, EndsNow, IsSound},
+}
+use Rattle.csplit_core.proofs.{
+  WholeLemmas.after_within,
+  LineLemmas.{all_lines-append, all_lines-line, length-all_lines, count-append, count-line, whole-append, whole_drop, whole_count, whole_by, line_by},
+}
+use Rattle.bre_core.specs.{Pattern.Pattern, Search.contains}
+use Rattle.ports_core.specs.{declared.fault.Fault.{Fault, TheVariants.Memory}, Turn.fault_in}
 use Rattle.seg_core.specs.Line.{line_count, lines_of, delimiters, ends_with, EndsAt, FallsShort, joined, HasNone, IsComplete, AreLines}
-use Rattle.csplit_core.proofs.LineLemmas.{all_lines-append, all_lines-line, length-all_lines, count-append, count-line, whole-append, whole_drop, whole_count, whole_by, line_by}
-use Rattle.std.proofs.lemmas.Grind.{common_steps}
-use Rattle.std.proofs.lemmas.Bool.{cases_lt, eq-eqb, eqb-true, ne_eqb, false≢true}
-use Rattle.std.proofs.lemmas.List.{get_or-map, drop_at, take_all, take_at, take-append-drop, length-take-le, append-nil}
+use Rattle.seg_core.proofs.{
+  Delimiters.delimiters-le-length,
+  FirstLines.{EndsAt-enough, lines_of-first_lines},
+  LineCounts.{line_count-le-length, line_count_near, ends_with-append},
+  LinesOf.{AreLines-lines_of, joined-lines_of},
+}
 use Rattle.memchr.specs.Find.{Nowhere, Passes, is_byte}
-use Rattle.bre_core.specs.Search.{contains}
-use Rattle.seg_core.proofs.Delimiters.{delimiters-le-length}
-use Rattle.seg_core.proofs.FirstLines.{EndsAt-enough, lines_of-first_lines}
-use Rattle.seg_core.proofs.LineCounts.{line_count-le-length, line_count_near, ends_with-append}
-use Rattle.csplit_core.specs.declared.line_cutter.Passed.{Passed}
 use Rattle.scan_core.specs.Clear.{IsClear}
-use Rattle.seg_core.proofs.LinesOf.{AreLines-lines_of, joined-lines_of}
 
 -- `count` lines come before these, and none of these has the operand's pattern, from the line on of number `from`
 abbrev pub NoneFrom : Operand → (count : ℕ) → List Line → (from : ℕ) → Type 0

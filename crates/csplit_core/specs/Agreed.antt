@@ -2,12 +2,8 @@
 -- marks, one for each operand: those of the lines that came in are given, and the lines that follow may have any.
 use Rattle.std.specs.Prelude.{◌<◌, Bool, List, [], ◌∷◌, All, if◌then◌else◌}
 use Rattle.seg_core.specs.Line.{IsComplete}
-use Rattle.ports_core.specs.Agreed.{AgreeOn}
-use Rattle.ports_core.specs.Part.{IsBeginning}
-use Rattle.csplit_core.specs.Input.{newline}
-use Rattle.csplit_core.specs.Operand.{Operand, Line}
-use Rattle.csplit_core.specs.Planned.{plan}
-use Rattle.csplit_core.specs.Section.{Section, whole_sections, settled_sections}
+use Rattle.ports_core.specs.{Agreed.AgreeOn, Part.IsBeginning}
+use Rattle.csplit_core.specs.{Input.newline, Operand.{Operand, Line}, Planned.plan, Section.{Section, whole_sections, settled_sections}}
 
 -- lines that may still come: each is of bytes, ends with a newline and has no other
 abbrev pub CanCome : List Line → Type 0

@@ -1,15 +1,14 @@
 -- What `csplit` makes of an input (POSIX.1-2017, XCU csplit).
 use Rattle.std.specs.Prelude.{ℕ, Bool, true, false, not, ◌&&◌, List, [], ◌++◌, Option, Some, None, if◌then◌else◌}
-use Rattle.ports_core.specs.Part.{Part}
-use Rattle.ports_core.specs.Work.{Work, Means}
-use Rattle.ports_core.specs.declared.verdict.Verdict.{Verdict}
-use Rattle.ports_core.specs.declared.verdict.Verdict.TheVariants.{NoMatch, Range}
-use Rattle.csplit_core.specs.Operand.{Operand, Line, is_endless, is_number}
-use Rattle.csplit_core.specs.Plan.{Ending, used_up, missed, above, below}
-use Rattle.csplit_core.specs.Planned.{Plan, plan}
-use Rattle.csplit_core.specs.Section.{settled_sections, whole_sections, bytes_of, is_final, waiting_lines}
-use Rattle.csplit_core.specs.Output.{Style, part_of, sizes_wanted}
-use Rattle.csplit_core.specs.Input.{all_lines, complete_lines, open_line}
+use Rattle.ports_core.specs.{Part.Part, Work.{Work, Means}, declared.verdict.Verdict.{Verdict, TheVariants.{NoMatch, Range}}}
+use Rattle.csplit_core.specs.{
+  Operand.{Operand, Line, is_endless, is_number},
+  Plan.{Ending, used_up, missed, above, below},
+  Planned.{Plan, plan},
+  Section.{settled_sections, whole_sections, bytes_of, is_final, waiting_lines},
+  Output.{Style, part_of, sizes_wanted},
+  Input.{all_lines, complete_lines, open_line},
+}
 
 -- what is written of complete lines, where more may follow, and of all lines
 abbrev pub settled_of : Style → List Operand → List Line → Part

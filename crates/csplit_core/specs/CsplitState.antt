@@ -1,16 +1,8 @@
 -- What contracts see of the stage that takes in bytes, and what its calls do.
 use Rattle.std.specs.Prelude.{◌≡◌, ◌≢◌, ℕ, ◌+◌, ◌<◌, ◌≤◌, ◌^◌, true, List, [], length, IsTrue}
 use Rattle.seg_core.specs.Line.{delimiters, first_lines}
-use Rattle.ports_core.specs.FileWriter.{OwnsFiles, IsManner, IsReady as CanWrite, manner_in}
-use Rattle.ports_core.specs.Slot.{Slot, is_writable}
-use Rattle.ports_core.specs.declared.file_writer.Keeps.TheVariants.{All}
-use Rattle.ports_core.specs.Work.{Work}
-use Rattle.ports_core.specs.Engine.{Terms}
-use Rattle.csplit_core.specs.Csplit.{csplit_work}
-use Rattle.csplit_core.specs.Cutter.{CutterState, IsSound, Stands, load}
-use Rattle.csplit_core.specs.Output.{manner_of}
-use Rattle.csplit_core.specs.Input.{newline, open_line}
-use Rattle.csplit_core.specs.declared.progress.Turn.TheVariants.{Below}
+use Rattle.ports_core.specs.{FileWriter.{OwnsFiles, IsManner, IsReady as CanWrite, manner_in}, Slot.{Slot, is_writable}, declared.file_writer.Keeps.TheVariants.All, Work.Work, Engine.Terms}
+use Rattle.csplit_core.specs.{Csplit.csplit_work, Cutter.{CutterState, IsSound, Stands, load}, Output.manner_of, Input.{newline, open_line}, declared.progress.Turn.TheVariants.Below}
 
 pub record CsplitState : Type 0 where
   pub cutter : CutterState

@@ -1,23 +1,19 @@
 -- What contracts see of the cutter of lines, and what its calls do.
-use Rattle.std.specs.Prelude.{◌≡◌, ◌⊎◌, ℕ, ◌+◌, ◌-◌, ◌≤◌, max, Bool, true, false, List, [], ◌∷◌, ◌++◌, length, map, Option, Some, None}
-use Rattle.std.specs.List.{flat_map}
+use Rattle.std.specs.{Prelude.{◌≡◌, ◌⊎◌, ℕ, ◌+◌, ◌-◌, ◌≤◌, max, Bool, true, false, List, [], ◌∷◌, ◌++◌, length, map, Option, Some, None}, List.flat_map}
 use Rattle.bre_core.specs.Pattern.{Pattern}
-use Rattle.seg_core.specs.Line.{line_count, after_lines, first_lines}
-use Rattle.seg_core.specs.Window.{Window}
-use Rattle.ports_core.specs.Draft.{Draft}
-use Rattle.ports_core.specs.FileWriter.{WriterState, Writes, seen_writer, size_of}
-use Rattle.csplit_core.specs.Input.{newline, all_lines}
-use Rattle.csplit_core.specs.Measure.{Fits}
-use Rattle.csplit_core.specs.Operand.{Target, Number, Search, Operand, Line, is_kept, most_held}
-use Rattle.csplit_core.specs.Output.{Style, manner_of, opening_of, file_in}
-use Rattle.csplit_core.specs.Plan.{State, start, Step, Ending, Runs}
-use Rattle.csplit_core.specs.Planned.{plan}
-use Rattle.csplit_core.specs.Progress.{state_of, EndsHere, WillMove}
-use Rattle.csplit_core.specs.Section.{section_of, lines_between, is_last_kept, settled_end, is_final, most_waiting, bytes_of}
-use Rattle.csplit_core.specs.declared.line_cutter.LineCutter.{LineCutter}
-use Rattle.csplit_core.specs.declared.progress.Progress.{Progress}
-use Rattle.csplit_core.specs.declared.progress.Turn.{Turn}
-use Rattle.csplit_core.specs.declared.progress.Turn.TheVariants.{UsedUp, Missed, Above, Below, Cuts}
+use Rattle.seg_core.specs.{Line.{line_count, after_lines, first_lines}, Window.Window}
+use Rattle.ports_core.specs.{Draft.Draft, FileWriter.{WriterState, Writes, seen_writer, size_of}}
+use Rattle.csplit_core.specs.{
+  Input.{newline, all_lines},
+  Measure.Fits,
+  Operand.{Target, Number, Search, Operand, Line, is_kept, most_held},
+  Output.{Style, manner_of, opening_of, file_in},
+  Plan.{State, start, Step, Ending, Runs},
+  Planned.plan,
+  Progress.{state_of, EndsHere, WillMove},
+  Section.{section_of, lines_between, is_last_kept, settled_end, is_final, most_waiting, bytes_of},
+  declared.{line_cutter.LineCutter.LineCutter, progress.{Progress.Progress, Turn.{Turn, TheVariants.{UsedUp, Missed, Above, Below, Cuts}}}},
+}
 
 pub record CutterState : Type 0 where
   pub operands : List Operand

@@ -1,7 +1,6 @@
 -- What steps say of the numbers alone, by which a plan has no more steps than there are lines for.
 use Rattle.std.specs.Prelude.{◌≡◌, ℕ, ◌+◌, ◌*◌, ◌<◌, ◌≤◌, List, [], ◌∷◌}
-use Rattle.csplit_core.specs.Operand.{Target, Number, Search, Operand}
-use Rattle.csplit_core.specs.Plan.{State}
+use Rattle.csplit_core.specs.{Operand.{Target, Number, Search, Operand}, Plan.State}
 
 -- a cut is the next multiple of a line number, or a line after the one before was matched
 abbrev pub Moves : ℕ → State → Target → (matched cut : ℕ) → Type 0

@@ -1,13 +1,12 @@
 -- What is asked of `csplit`: its operands, and the lines as the operands see them (POSIX.1-2017, XCU csplit). A pattern
 -- is seen as its tree.
 use Rattle.std.specs.Prelude.{ℕ, ◌+◌, ◌-◌, Bool, true, false, List, [], nat_lt, get_or}
-pub use Rattle.operand_core.specs.declared.operand.Offset.{Offset}
-pub use Rattle.operand_core.specs.declared.operand.Offset.TheVariants.{Plus, Minus}
-pub use Rattle.operand_core.specs.declared.operand.Target.{Target}
-pub use Rattle.operand_core.specs.declared.operand.Target.TheVariants.{Number, Search}
-pub use Rattle.operand_core.specs.declared.operand.Times.{Times}
-pub use Rattle.operand_core.specs.declared.operand.Times.TheVariants.{Count, Endless}
-pub use Rattle.operand_core.specs.declared.operand.Operand.{Operand}
+pub use Rattle.operand_core.specs.declared.operand.{
+  Offset.{Offset, TheVariants.{Plus, Minus}},
+  Target.{Target, TheVariants.{Number, Search}},
+  Times.{Times, TheVariants.{Count, Endless}},
+  Operand.Operand,
+}
 
 -- a line, with a mark for each operand: whether the line contains the operand's pattern
 pub record Line : Type 0 where

@@ -1,16 +1,13 @@
 -- What `csplit` writes of sections: a file for each that is kept, and its size on standard output (POSIX.1-2017, XCU
 -- csplit; `elide` is GNU's).
-use Rattle.std.specs.Prelude.{true, Bool, ℕ, List, map, if◌then◌else◌}
-use Rattle.std.specs.List.{flat_map}
-use Rattle.ports_core.specs.Draft.{Manner, Share, share, made_of, part_of as part_by}
+use Rattle.std.specs.{Prelude.{true, Bool, ℕ, List, map, if◌then◌else◌}, List.flat_map}
+use Rattle.ports_core.specs.{
+  Draft.{Manner, Share, share, made_of, part_of as part_by},
+  Name.{Naming, name_at},
+  declared.{numbering.Numbering.TheVariants.Formatted, file_writer.Opening.{Opening, TheVariants.{Never, Late, AtOnce}}, slot.State.{State, TheVariants.{Open, Closed}}},
+  Part.{Part, Output, gets_none, gets_lines},
+}
 pub use Rattle.ports_core.specs.Draft.{size_of_file}
-use Rattle.ports_core.specs.Name.{Naming, name_at}
-use Rattle.ports_core.specs.declared.numbering.Numbering.TheVariants.{Formatted}
-use Rattle.ports_core.specs.Part.{Part, Output, gets_none, gets_lines}
-use Rattle.ports_core.specs.declared.file_writer.Opening.{Opening}
-use Rattle.ports_core.specs.declared.file_writer.Opening.TheVariants.{Never, Late, AtOnce}
-use Rattle.ports_core.specs.declared.slot.State.{State}
-use Rattle.ports_core.specs.declared.slot.State.TheVariants.{Open, Closed}
 pub use Rattle.operand_core.specs.Style.{Style}
 use Rattle.csplit_core.specs.Section.{Section, bytes_of}
 

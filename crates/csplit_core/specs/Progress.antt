@@ -1,11 +1,11 @@
 -- What contracts see of where a run stands, and of what the next operand does.
 use Rattle.std.specs.Prelude.{◌≡◌, ℕ, ◌-◌, ◌<◌, ◌≤◌, ◌^◌, min, Bool, List, [], ◌∷◌, length, drop}
-use Rattle.csplit_core.specs.Operand.{Operand, Line}
-use Rattle.csplit_core.specs.Plan.{State, Ending, used_up, missed, above, below, Runs}
-use Rattle.csplit_core.specs.Measure.{Moves}
-use Rattle.csplit_core.specs.declared.progress.Progress.{Progress}
-use Rattle.csplit_core.specs.declared.progress.Turn.{Turn}
-use Rattle.csplit_core.specs.declared.progress.Turn.TheVariants.{UsedUp, Missed, Above, Below}
+use Rattle.csplit_core.specs.{
+  Operand.{Operand, Line},
+  Plan.{State, Ending, used_up, missed, above, below, Runs},
+  Measure.Moves,
+  declared.progress.{Progress.Progress, Turn.{Turn, TheVariants.{UsedUp, Missed, Above, Below}}},
+}
 
 abbrev pub state_of : List Operand → Progress → State
 state_of operands progress = record {

@@ -1,9 +1,7 @@
 -- The sections of a plan: one for each step, and one where the plan ends.
 use Rattle.std.specs.Prelude.{ℕ, ◌-◌, suc, Bool, true, false, List, [], ◌∷◌, ◌++◌, length, map, take, drop, if◌then◌else◌}
 use Rattle.seg_core.specs.Line.{joined}
-use Rattle.csplit_core.specs.Operand.{Line, is_kept, most_held}
-use Rattle.csplit_core.specs.Plan.{Step, Ending, used_up, missed, above, below}
-use Rattle.csplit_core.specs.Planned.{Plan}
+use Rattle.csplit_core.specs.{Operand.{Line, is_kept, most_held}, Plan.{Step, Ending, used_up, missed, above, below}, Planned.Plan}
 
 pub record Section : Type 0 where
   -- it is kept, and not skipped

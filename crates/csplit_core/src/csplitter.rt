@@ -1,19 +1,23 @@
 //! The stage of `csplit`: from bytes, in pieces of any length, to the lines that are cut.
-ghost use Rattle.std.specs.Prelude.{◌≡◌, ◌≢◌, ◌+◌, ◌-◌, ◌^◌, ◌<◌, ◌≤◌, ◌++◌, ℕ, List, [], length, min, true, IsTrue, IfErr, IfOk, OnOk};
+ghost use Rattle.std.specs.Prelude.{◌≡◌, ◌≢◌, ◌+◌, ◌-◌, ◌^◌, ◌<◌, ◌≤◌, ◌++◌, List, [], length, min, true, IsTrue, IfErr, IfOk, OnOk};
 ghost use Rattle.seg_core.specs.Line.{delimiters, ends_with};
-ghost use Rattle.ports_core.specs.Guard.{HoldsIn};
-ghost use Rattle.ports_core.specs.Part.{OutputsAt, StoppedBetween, nothing};
-ghost use Rattle.ports_core.specs.Slot.{Slot, is_writable};
-ghost use Rattle.ports_core.specs.Swept.{AreThere, HasNoFiles};
-ghost use Rattle.csplit_core.specs.Csplit.{csplit_work, settled_by};
-ghost use Rattle.csplit_core.specs.Output.{manner_of, sizes_wanted};
-ghost use Rattle.csplit_core.specs.inner.Cutter.{Closes, Passes, IsLine, Takes};
-ghost use Rattle.csplit_core.specs.CsplitState.{Holds, IsReady, Owns, terms, files, work};
-ghost use Rattle.csplit_core.specs.Cutter.{IsSound, load};
-ghost use Rattle.ports_core.specs.Turn.{fault_in};
-ghost use Rattle.csplit_core.specs.Input.{newline};
-ghost use Rattle.csplit_core.specs.laws.InputLaws.{lawful};
-ghost use Rattle.ports_core.specs.FileWriter.{Breaks, IsReady as CanWrite};
+ghost use Rattle.ports_core.specs.{
+  Guard.HoldsIn,
+  Part.{OutputsAt, StoppedBetween, nothing},
+  Slot.{Slot, is_writable},
+  Swept.{AreThere, HasNoFiles},
+  Turn.fault_in,
+  FileWriter.{Breaks, IsReady as CanWrite},
+};
+ghost use Rattle.csplit_core.specs.{
+  Csplit.{csplit_work, settled_by},
+  Output.{manner_of, sizes_wanted},
+  inner.Cutter.{Closes, Passes, Takes},
+  CsplitState.{Holds, IsReady, Owns, terms, files, work},
+  Cutter.{IsSound, load},
+  Input.newline,
+  laws.InputLaws.lawful,
+};
 ghost use Rattle.csplit_core.specs.declared.progress.Turn.TheVariants as turn_is;
 
 use crate::line_cutter::LineCutter;
@@ -25,8 +29,8 @@ use std::alloc::Global;
 use std::marker::Model;
 
 /// Cuts its input into sections, each in a file of its own, where its lines match (POSIX.1-2017, XCU csplit). One file is
-/// open at a time. It takes memory for the lines that wait, as many as the offset of the next pattern goes back, for the
-/// line that lacks its newline, and for names.
+/// open at a time. It takes memory for the lines that wait, as many as the offset of the next pattern goes back, and
+/// again for those while they are cut off; for the line that lacks its newline; for a pattern's matcher; and for names.
 #[derive(Drop)]
 pub struct Csplitter<'o> {
     cutter: LineCutter<'o>,
@@ -38,8 +42,7 @@ pub struct Csplitter<'o> {
 
 impl<'o> Model for Csplitter<'o> {
     ghost use Rattle.bre_core.specs.Code.{pattern_code};
-    ghost use Rattle.csplit_core.specs.CsplitState.{CsplitState};
-    ghost use Rattle.csplit_core.specs.Cutter.{seen};
+    ghost use Rattle.csplit_core.specs.{CsplitState.CsplitState, Cutter.seen};
     ghost use Rattle.std.specs.Coded.{codes};
 
     ghost Value = { CsplitState };

@@ -1,7 +1,6 @@
 //! How sections are made into files.
 ghost use Rattle.std.specs.Prelude.{◌≡◌, IfErr, IfOk};
-ghost use Rattle.csplit_core.specs.Output.{opening_of as opens};
-ghost use Rattle.csplit_core.specs.inner.Cutter.{new_for, tells_by};
+ghost use Rattle.csplit_core.specs.{Output.opening_of as opens, inner.Cutter.{new_for, tells_by}};
 ghost use Rattle.ports_core.specs.FileWriter.{seen_writer};
 
 use crate::Style;

@@ -1,13 +1,15 @@
 //! Laws of the definitions, with no code: each stands on the contract of a function whose body is empty.
 ghost use Rattle.std.specs.Prelude.{◌≡◌, ◌≤◌, ◌++◌, Bool, List, false, length, ℕ};
-ghost use Rattle.csplit_core.specs.Agreed.{IsAgreed, settled_outputs, whole_outputs};
-ghost use Rattle.csplit_core.specs.Csplit.{settled_by, whole_by};
-ghost use Rattle.csplit_core.specs.Operand.{Line};
-ghost use Rattle.csplit_core.specs.Output.{Style, size_of_file};
-ghost use Rattle.csplit_core.specs.Place.{ArePlaced, IsUndecided, place_of};
-ghost use Rattle.csplit_core.specs.Plan.{Ending, Runs, State, Step, start};
-ghost use Rattle.csplit_core.specs.Planned.{plan};
-ghost use Rattle.csplit_core.specs.Section.{is_final, lines_in, most_waiting, settled_sections, waiting_lines, whole_sections};
+ghost use Rattle.csplit_core.specs.{
+  Agreed.{IsAgreed, settled_outputs, whole_outputs},
+  Csplit.{settled_by, whole_by},
+  Operand.Line,
+  Output.{Style, size_of_file},
+  Place.{ArePlaced, IsUndecided, place_of},
+  Plan.{Ending, Runs, State, Step, start},
+  Planned.plan,
+  Section.{is_final, lines_in, most_waiting, settled_sections, waiting_lines, whole_sections},
+};
 ghost use Rattle.operand_core.specs.declared.operand.Operand.{Operand};
 ghost use Rattle.ports_core.specs.Part.{Begins, lines_for};
 

@@ -2,18 +2,15 @@
 ghost use Rattle.std.specs.Prelude.{◌≡◌, ◌≢◌, ◌⊎◌, ◌+◌, ◌-◌, ◌<◌, ◌≤◌, ◌^◌, ◌++◌, List, ℕ, [], length, drop, take, Some, None, IfOk, IfErr, IfSome, IfNone, OnOk, IsTrue, true, false};
 ghost use Rattle.bre_core.specs.Pattern.{Pattern};
 ghost use Rattle.seg_core.specs.Line.{delimiters, ends_with};
-ghost use Rattle.ports_core.specs.Slot.{is_writable};
-ghost use Rattle.csplit_core.specs.Csplit.{verdict_of};
-ghost use Rattle.csplit_core.specs.Plan.{above, missed};
-ghost use Rattle.csplit_core.specs.Planned.{plan};
-ghost use Rattle.ports_core.specs.Swept.{AreThere};
-ghost use Rattle.csplit_core.specs.Cutter.{AimHolds, IsFit, IsSound, load, most_by, pattern_by, seen, state_in, suppress_in};
-ghost use Rattle.csplit_core.specs.inner.Cutter.{AreClear, Clears, CutAt, CutsAll, CutsOn, EndsAll, GoesOn, IsJudged, Opens, Holds, IsFound, IsLine, IsNextFound, IsNoCut, IsWhole, PassesClear, PassesCut, PassesOver, Spread, StopsAt, Stretches, Takes, Tries, TriesNext, WillCut, AreSeen, MovesOn, Turns};
-ghost use Rattle.csplit_core.specs.Input.{all_lines, newline, without_newline};
-ghost use Rattle.csplit_core.specs.Measure.{Fits};
-ghost use Rattle.csplit_core.specs.Operand.{Line};
-ghost use Rattle.ports_core.specs.Turn.{fault_in};
-ghost use Rattle.ports_core.specs.FileWriter.{IsReady, size_of};
+ghost use Rattle.ports_core.specs.{Slot.is_writable, Swept.AreThere, Turn.fault_in, FileWriter.{IsReady, size_of}};
+ghost use Rattle.csplit_core.specs.{
+  Csplit.verdict_of,
+  Plan.{above, missed},
+  Planned.plan,
+  Cutter.{AimHolds, IsFit, IsSound, load, most_by, pattern_by, seen, state_in, suppress_in},
+  inner.Cutter.{AreClear, Clears, CutAt, CutsAll, CutsOn, EndsAll, GoesOn, IsJudged, Opens, Holds, IsFound, IsLine, IsNoCut, IsWhole, PassesClear, PassesCut, PassesOver, Spread, StopsAt, Stretches, Takes, Tries, TriesNext, WillCut},
+  Input.{all_lines, newline, without_newline},
+};
 ghost use Rattle.csplit_core.specs.declared.progress.Turn.TheVariants as turn_is;
 
 use crate::files::{opening_of, writer_of};

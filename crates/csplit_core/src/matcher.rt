@@ -1,8 +1,7 @@
 //! Matching lines with the pattern that is searched for.
 ghost use Rattle.std.specs.Prelude.{◌≡◌, ◌≤◌, IfOk, IfErr, length, take};
 ghost use Rattle.bre_core.specs.Search.{contains};
-ghost use Rattle.csplit_core.specs.Input.{without_newline};
-ghost use Rattle.csplit_core.specs.inner.Cutter.{AreClear, IsLine, IsWhole};
+ghost use Rattle.csplit_core.specs.{Input.without_newline, inner.Cutter.{AreClear, IsLine, IsWhole}};
 
 use ports_core::Fault;
 use scan_core::{Bre, Scan};
@@ -19,8 +18,7 @@ pub struct Matcher<'o> {
 
 impl<'o> Model for Matcher<'o> {
     ghost use Rattle.std.specs.Prelude.{◌≡◌};
-    ghost use Rattle.bre_core.specs.Code.{pattern_code};
-    ghost use Rattle.bre_core.specs.Pattern.{Pattern, positions_of};
+    ghost use Rattle.bre_core.specs.{Code.pattern_code, Pattern.{Pattern, positions_of}};
 
     ghost Value = { Pattern };
 

@@ -1,7 +1,6 @@
 //! What the next operand needs.
 ghost use Rattle.std.specs.Prelude.{◌≡◌, [], drop, IfOk, IfErr, option_map};
-ghost use Rattle.csplit_core.specs.Cutter.{kept_next, most_next, next_of, pattern_next};
-ghost use Rattle.csplit_core.specs.Input.{newline};
+ghost use Rattle.csplit_core.specs.{Cutter.{kept_next, most_next, next_of, pattern_next}, Input.newline};
 
 use crate::matcher::Matcher;
 use crate::{Offset, Operand, Target};

@@ -1,10 +1,6 @@
 //! Where a run stands, and what its next operand does.
-ghost use Rattle.std.specs.Prelude.{◌≡◌, ◌<◌, ◌≤◌, ◌+◌, ◌-◌, ◌^◌, ◌∷◌, drop, min, Bool, List};
-ghost use Rattle.csplit_core.specs.Measure.{Fits};
-ghost use Rattle.csplit_core.specs.Operand.{Line, has_more, moved};
-ghost use Rattle.csplit_core.specs.Plan.{line_after, search_line, state_after};
-ghost use Rattle.csplit_core.specs.inner.Cutter.{AreSeen, FallsAt, MovesOn, Turns};
-ghost use Rattle.csplit_core.specs.Progress.{state_of};
+ghost use Rattle.std.specs.Prelude.{◌≡◌, ◌<◌, ◌≤◌, ◌-◌, ◌^◌, ◌∷◌, drop, min, List};
+ghost use Rattle.csplit_core.specs.{Operand.{Line, has_more, moved}, Plan.{line_after, search_line, state_after}, inner.Cutter.{AreSeen, FallsAt, MovesOn, Turns}, Progress.state_of};
 ghost use Rattle.operand_core.specs.declared.operand.Operand.{Operand};
 
 use crate::{Offset, Operand, Target, Times};

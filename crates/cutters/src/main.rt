@@ -2,11 +2,8 @@
 #![tactic(auto)]
 
 ghost use Rattle.std.specs.Prelude.{◌≡◌, [], false, IfOk, map, string_bytes};
-ghost use Rattle.ports_core.specs.declared.fault.Fault.{Fault};
-ghost use Rattle.ports_core.specs.Slot.{streams};
-ghost use Rattle.ports_core.specs.Source.{IsFresh};
-ghost use Rattle.tools_core.specs.Outcome.{RefusesFor};
-ghost use Rattle.tools_core.specs.Program.{RanAs};
+ghost use Rattle.ports_core.specs.{declared.fault.Fault.Fault, Slot.streams, Source.IsFresh};
+ghost use Rattle.tools_core.specs.{Outcome.RefusesFor, Program.RanAs};
 
 use ports_core::{
     Calling, DirIn, DirOut, Fault, InputFiles, Reason, Speaker, Tool, say, write_whole,

@@ -1,23 +1,25 @@
 -- What all continuations agree on, of heads and tails, and where the bytes of an input go.
-use Rattle.std.proofs.lemmas.Grind.{common_steps}
-use Rattle.std.proofs.Common.{◌≡◌, ◌≢◌, ℕ, ◌+◌, ◌-◌, ◌<◌, ◌≤◌, zero, suc, List, [], ◌∷◌, ◌++◌, length, drop, replicate, Bool, true, false, cond, inl, inr, refl, sym, ◌∙◌, ap, subst, arith, append_assoc, length-append, rules}
-use Rattle.std.proofs.lemmas.Bool.{cases_lt, lt-ltb, le-ltb, eq-eqb, ne_eqb}
-use Rattle.std.proofs.lemmas.List.{append-nil, drop-append-le, length-replicate}
-use Rattle.std.proofs.Math.Seq.{drop-append_seam}
-use Rattle.seg_core.specs.Line.{delimiters, ends_with}
-use Rattle.seg_core.proofs.LinesOf.{lines_of-append, joined-lines_of}
-use Rattle.seg_core.proofs.LineCounts.{line_count-closed, ends_with-append}
-use Rattle.ports_core.specs.Part.{IsBeginning, nothing, only_out}
-use Rattle.ports_core.specs.Agreed.{CanCome, IsAgreed, IsUndecided, Spot, spot, spots_from, output_at, ArePlaced}
-use Rattle.ports_core.proofs.AgreedLemmas.{none_comes, one_comes, copies_come, other, other_differs, other_comes, agreed_now, beginning_short, common, spot_in, spot_past, some_spot, nothing_waits, IsStretch, stretch_placed}
-use Rattle.seg_core.specs.declared.unit.Unit.{Unit as Counted}
-use Rattle.seg_core.specs.declared.unit.Unit.TheVariants.{Lines, Bytes}
-use Rattle.ends_core.specs.Ends.{size, measure, first_of, last_of, but_last_of, head_of, tail_of, after_of}
-use Rattle.ends_core.specs.laws.EndsLaws.{measure-append, first_of-append, first_of-short, first_of-full, first_then_after, ends_together, but_last_of-append}
+use Rattle.std.proofs.{
+  lemmas.{Grind.common_steps, Bool.{cases_lt, lt-ltb, le-ltb, eq-eqb, ne_eqb}, List.{append-nil, drop-append-le, length-replicate}},
+  Common.{◌≡◌, ◌≢◌, ℕ, ◌+◌, ◌-◌, ◌<◌, ◌≤◌, zero, suc, List, [], ◌∷◌, ◌++◌, length, drop, replicate, Bool, true, false, cond, inl, inr, refl, sym, ◌∙◌, ap, subst, arith, append_assoc, length-append, rules},
+  Math.Seq.drop-append_seam,
+}
+use Rattle.seg_core.{
+  specs.{Line.{delimiters, ends_with}, declared.unit.Unit.{Unit as Counted, TheVariants.{Lines, Bytes}}},
+  proofs.{LinesOf.{lines_of-append, joined-lines_of}, LineCounts.{line_count-closed, ends_with-append}},
+}
+use Rattle.ports_core.{
+  specs.{Part.{IsBeginning, nothing, only_out}, Agreed.{CanCome, IsAgreed, IsUndecided, Spot, spot, spots_from, output_at, ArePlaced}},
+  proofs.AgreedLemmas.{none_comes, one_comes, copies_come, other, other_differs, other_comes, agreed_now, beginning_short, common, spot_in, spot_past, some_spot, nothing_waits, IsStretch, stretch_placed},
+}
+use Rattle.ends_core.specs.{
+  Ends.{size, measure, first_of, last_of, but_last_of, head_of, tail_of, after_of},
+  laws.EndsLaws.{measure-append, first_of-append, first_of-short, first_of-full, first_then_after, ends_together, but_last_of-append},
+  Head.{head_work, head_waiting},
+  Tail.{tail_work, tail_waiting},
+  Place.{head_spots, tail_spots},
+}
 use Rattle.ends_core.proofs.KeptLemmas.{measure-delimiters, last_is_drop, last_is_small}
-use Rattle.ends_core.specs.Head.{head_work, head_waiting}
-use Rattle.ends_core.specs.Tail.{tail_work, tail_waiting}
-use Rattle.ends_core.specs.Place.{head_spots, tail_spots}
 use Rattle.ends_core.specs.laws.WorkLaws as law
 
 -- Some continuations
@@ -220,7 +222,9 @@ apart {delim} byte {unit} (suc k) {x} = record {
 
 last_longest : {delim : ℕ} {unit : Counted} {n : ℕ} {x : List ℕ} → Apart delim unit n x → (place : ℕ) → place < 1
     → (y : List ℕ) × (z : List ℕ) × CanCome y × CanCome z
-    × ((bytes : List ℕ) → IsBeginning bytes (output_at ((tail_work delim unit false n).whole (x ++ y)) place) → IsBeginning bytes (output_at ((tail_work delim unit false n).whole (x ++ z)) place) → length bytes ≤ length (output_at nothing place))
+    × ((bytes : List ℕ) → IsBeginning bytes (output_at ((tail_work delim unit false n).whole (x ++ y)) place)
+    → IsBeginning bytes (output_at ((tail_work delim unit false n).whole (x ++ z)) place)
+    → length bytes ≤ length (output_at nothing place))
 last_longest apart zero less = grind (arith, common_steps)
 last_longest apart (suc place) less = search rules
 

@@ -1,44 +1,40 @@
 -- Lemmas on the stage of `head` and `tail`, and on what it uses.
-use Rattle.std.proofs.lemmas.Grind.{common_steps}
+use Rattle.std.proofs.lemmas.{
+  Grind.common_steps,
+  Option.none-some,
+  Bool.{false≢true, leb-false, cases_lt, le-leb, lt-leb, leb-true},
+  List.{take_all, nil_from_length, append-nil, append_cancel_left, take-append-drop, take-append-le, take_at, length-drop, length-take, Elements.All-replicate},
+}
 use Rattle.std.proofs.Common.{◌≡◌, ℕ, ◌+◌, ◌-◌, ◌<◌, ◌≤◌, ◌&&◌, not, List, [], ◌∷◌, ◌++◌, ◌⊎◌, length, Bool, true, false, IsTrue, Ok, Err, Result, OnOk, nat_le, inl, inr, None, refl, sym, ◌∙◌, ap, subst, arith, length-append, ◌↔◌, replicate, lit<, zero, suc, take, drop, rules}
-use Rattle.std.proofs.lemmas.Option.{none-some}
-use Rattle.std.proofs.lemmas.Bool.{false≢true, leb-false, cases_lt, le-leb, lt-leb, leb-true}
-use Rattle.std.proofs.lemmas.List.{take_all, nil_from_length, append-nil, append_cancel_left, take-append-drop, take-append-le, take_at, length-drop, length-take}
-use Rattle.std.proofs.lemmas.List.Elements.{All-replicate}
-use Rattle.ports_core.specs.Slot.{Slot, is_writable, with_written, told_of}
-use Rattle.ports_core.specs.Source.{Source}
-use Rattle.ports_core.specs.Part.{Part, OutputsAt, StoppedBetween, gets_bytes, only_out}
-use Rattle.ports_core.proofs.PartLemmas.{out_more}
-use Rattle.ports_core.specs.Work.{Work, Means, Needs, on_output, IsNeeded, IsSettled, IsSpare}
-use Rattle.ports_core.specs.Engine.{EndsThere, IsMetThere, Loads, TakesIn, TookIn, PutsOut, CutsOff, IsMet, cut, judged, MayGet}
-use Rattle.ports_core.specs.declared.fault.Fault.{Fault}
-use Rattle.ports_core.specs.declared.fault.Fault.TheVariants as fault_is
-use Rattle.ports_core.specs.declared.verdict.Verdict.{Verdict}
-use Rattle.ports_core.specs.declared.verdict.Verdict.TheVariants.{Changed}
-use Rattle.seg_core.specs.declared.unit.Unit.{Unit as Counted}
-use Rattle.seg_core.specs.declared.unit.Unit.TheVariants.{Bytes, Lines}
-use Rattle.ends_core.specs.declared.ends.Ends.{Ends}
-use Rattle.ends_core.specs.declared.front.Front.{Front}
-use Rattle.ends_core.specs.declared.ends.Ends.TheVariants.{First, ButLast, FromNth, Last}
-use Rattle.ends_core.specs.Ends.{measure, first_of, after_of, last_of}
-use Rattle.ends_core.specs.Head.{head_work, IsDone, ahead_of}
-use Rattle.ends_core.specs.Stage.{Stretch, the_first, the_last, keeps, front_in, work_in, stretch_of, delim_of, unit_of, count_of, left_of, waiting_of, waiting, past_in, past_of, may_lack, least_of, missing_of, work, Holds, terms, is_done, all_but_last}
-use Rattle.ends_core.specs.inner.Stage.{EndsBadly, changed, stopped, IsSilent, passed, due, due_at_end, left_waiting, is_full, unused_of, FullLacksNone, SameAsked, piece_for, wanted_by}
-use Rattle.ends_core.specs.declared.kept.Kept.{Kept}
-use Rattle.ends_core.specs.Kept.{held_of, most_of, delim_of as kept_delim, unit_of as kept_unit}
-use Rattle.ports_core.specs.Inputs.{PassesOver}
-use Rattle.ports_core.proofs.LoadLemmas.{passes_so}
-use Rattle.ends_core.specs.inner.Kept.{Stops}
-use Rattle.ends_core.specs.Shown.{changed_below}
-use Rattle.ends_core.specs.laws.WorkLaws.{full_head, enough_came, fewer_came, complete_came}
-use Rattle.ends_core.specs.laws.EndsLaws.{ends_together, first_then_after, measure-append, first_of-append, first_of-short, after_of-append, last_of-append, but_last_of-append, first_of-full}
+use Rattle.ports_core.specs.{
+  Slot.{Slot, is_writable, with_written, told_of},
+  Source.Source,
+  Part.{Part, OutputsAt, StoppedBetween, gets_bytes, only_out},
+  Work.{Work, Means, Needs, on_output, IsNeeded, IsSettled, IsSpare},
+  Engine.{EndsThere, IsMetThere, Loads, TakesIn, TookIn, PutsOut, CutsOff, IsMet, cut, judged, MayGet},
+  declared.{fault.Fault.Fault, verdict.Verdict.{Verdict, TheVariants.Changed}},
+  Inputs.PassesOver,
+  Guard.{GuardState, HoldsIn},
+}
+use Rattle.ports_core.proofs.{PartLemmas.out_more, LoadLemmas.passes_so, SpareLemmas.all_used}
+use Rattle.seg_core.{
+  specs.{declared.unit.Unit.{Unit as Counted, TheVariants.{Bytes, Lines}}, Line.delimiters},
+  proofs.{Delimiters.{delimiters-le-length, delimiters-take-add, delimiters-take-le}, FirstLines.delimiters-first_lines},
+}
+use Rattle.ends_core.specs.{
+  declared.{ends.Ends.{Ends, TheVariants.{First, ButLast, FromNth, Last}}, front.Front.Front, kept.Kept.Kept},
+  Ends.{measure, first_of, after_of, last_of},
+  Head.{head_work, IsDone, ahead_of},
+  Stage.{Stretch, the_first, the_last, keeps, front_in, work_in, stretch_of, delim_of, unit_of, count_of, left_of, waiting_of, waiting, past_in, past_of, may_lack, least_of, missing_of, work, Holds, terms, is_done, all_but_last},
+  inner.{Stage.{EndsBadly, changed, stopped, IsSilent, passed, due, due_at_end, left_waiting, is_full, unused_of, FullLacksNone, SameAsked, piece_for, wanted_by}, Kept.Stops},
+  Kept.{held_of, most_of, delim_of as kept_delim, unit_of as kept_unit},
+  Shown.changed_below,
+  laws.WorkLaws.{full_head, enough_came, fewer_came, complete_came},
+  laws.EndsLaws.{ends_together, first_then_after, measure-append, first_of-append, first_of-short, after_of-append, last_of-append, but_last_of-append, first_of-full},
+}
 use Rattle.ends_core.proofs.KeptLemmas.{measure-delimiters, first_of-more, but_last_grows, first_of-nil, after-past, stays}
+use Rattle.ports_core.specs.declared.fault.Fault.TheVariants as fault_is
 use Rattle.ends_core.proofs.KeptLemmas as stop
-use Rattle.ports_core.specs.Guard.{GuardState, HoldsIn}
-use Rattle.ports_core.proofs.SpareLemmas.{all_used}
-use Rattle.seg_core.specs.Line.{delimiters}
-use Rattle.seg_core.proofs.Delimiters.{delimiters-le-length, delimiters-take-add, delimiters-take-le}
-use Rattle.seg_core.proofs.FirstLines.{delimiters-first_lines}
 
 -- what is a function of what was asked for is the same where the same was asked for
 same_for : {A : Type 0} (f : Stretch → ℕ → Counted → ℕ → A) {old new : Ends} → SameAsked old new

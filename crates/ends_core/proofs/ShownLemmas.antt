@@ -1,21 +1,17 @@
 -- `head` and `tail` of an input that shows its bytes: they are lawful, and where the text that was shown comes, they end as
 -- those that know nothing of it do.
 use Rattle.std.proofs.Common.{◌≡◌, ℕ, ◌≤◌, suc, List, length, drop, None, true, false, sym, ◌∙◌, ap, arith, length-append}
-use Rattle.seg_core.specs.declared.unit.Unit.{Unit as Counted}
-use Rattle.seg_core.specs.declared.unit.Unit.TheVariants.{Bytes}
-use Rattle.ports_core.specs.Agreed.{ArePlaced}
-use Rattle.ports_core.specs.Part.{only_out}
-use Rattle.ports_core.specs.Work.{IsLawful}
-use Rattle.ports_core.proofs.AgreedLemmas.{stretch_placed}
-use Rattle.ends_core.specs.Ends.{last_of, but_last_of}
-use Rattle.ends_core.specs.Head.{head_work}
-use Rattle.ends_core.specs.Tail.{tail_work}
-use Rattle.ends_core.specs.Shown.{changed_below, head_shown, place_of, tail_shown}
-use Rattle.ends_core.specs.Place.{head_spots, tail_spots}
-use Rattle.ends_core.specs.laws.EndsLaws.{ends_together}
-use Rattle.ends_core.specs.laws.WorkLaws.{enough_came, head_lawful_below, tail_lawful_by}
-use Rattle.ends_core.proofs.KeptLemmas.{but_last_is_take, last_is_drop}
-use Rattle.ends_core.proofs.AgreedLemmas.{head_stretch, tail_stretch}
+use Rattle.seg_core.specs.declared.unit.Unit.{Unit as Counted, TheVariants.Bytes}
+use Rattle.ports_core.{specs.{Agreed.ArePlaced, Part.only_out, Work.IsLawful}, proofs.AgreedLemmas.stretch_placed}
+use Rattle.ends_core.specs.{
+  Ends.{last_of, but_last_of},
+  Head.head_work,
+  Tail.tail_work,
+  Shown.{changed_below, head_shown, place_of, tail_shown},
+  Place.{head_spots, tail_spots},
+  laws.{EndsLaws.ends_together, WorkLaws.{enough_came, head_lawful_below, tail_lawful_by}},
+}
+use Rattle.ends_core.proofs.{KeptLemmas.{but_last_is_take, last_is_drop}, AgreedLemmas.{head_stretch, tail_stretch}}
 
 pub head_shown_lawful : (delim : ℕ) (unit : Counted) (n : ℕ) (text : List ℕ) → IsLawful (head_shown delim unit n text)
 head_shown_lawful delim unit n text = head_lawful_below 0 Bytes (place_of delim unit n text) (omega arith)

@@ -1,16 +1,9 @@
 -- `head` of all but the last, and `tail` of the last, where an input shows its bytes before they are read: they end where
 -- those of the text end that was shown. So nothing waits. What comes may be another text.
 use Rattle.std.specs.Prelude.{◌≡◌, ℕ, ◌-◌, zero, suc, nat_lt, Bool, true, false, Option, Some, None, List, length, if◌then◌else◌}
-use Rattle.seg_core.specs.declared.unit.Unit.{Unit as Counted}
-use Rattle.seg_core.specs.declared.unit.Unit.TheVariants.{Bytes}
-use Rattle.ports_core.specs.Source.{Content}
-use Rattle.ports_core.specs.Work.{Work}
-use Rattle.ports_core.specs.declared.verdict.Verdict.{Verdict}
-use Rattle.ports_core.specs.declared.verdict.Verdict.TheVariants.{Changed}
-use Rattle.ends_core.specs.declared.find.Found.{Found}
-use Rattle.ends_core.specs.Ends.{last_of}
-use Rattle.ends_core.specs.Head.{head_work}
-use Rattle.ends_core.specs.Tail.{tail_work}
+use Rattle.seg_core.specs.declared.unit.Unit.{Unit as Counted, TheVariants.Bytes}
+use Rattle.ports_core.specs.{Source.Content, Work.Work, declared.verdict.Verdict.{Verdict, TheVariants.Changed}}
+use Rattle.ends_core.specs.{declared.find.Found.Found, Ends.last_of, Head.head_work, Tail.tail_work}
 
 -- an input that ends with fewer than n bytes has changed since it was shown
 abbrev pub changed_below : ℕ → List ℕ → Option Verdict

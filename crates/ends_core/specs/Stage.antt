@@ -1,17 +1,15 @@
 -- The one stage of `head` and `tail`, as contracts see it.
 use Rattle.std.specs.Prelude.{◌≡◌, ℕ, ◌+◌, ◌-◌, ◌<◌, ◌≤◌, min, Bool, true, false, List, [], length, IsTrue}
-use Rattle.ports_core.specs.Work.{Work}
-use Rattle.ports_core.specs.Slot.{is_writable}
-use Rattle.ports_core.specs.Engine.{Terms}
-use Rattle.seg_core.specs.declared.unit.Unit.{Unit as Counted}
-use Rattle.seg_core.specs.declared.unit.Unit.TheVariants.{Lines, Bytes}
-use Rattle.ends_core.specs.declared.ends.Ends.{Ends}
-use Rattle.ends_core.specs.declared.ends.Ends.TheVariants.{First, ButLast, FromNth, Last}
-use Rattle.ends_core.specs.Ends.{first_of, measure}
-use Rattle.ends_core.specs.Head.{head_work, IsDone}
-use Rattle.ends_core.specs.Tail.{tail_work}
-use Rattle.ends_core.specs.Shown.{changed_below}
-use Rattle.ends_core.specs.Kept.{held_of, most_of, may_lack_of, delim_of as kept_delim, unit_of as kept_unit}
+use Rattle.ports_core.specs.{Work.Work, Slot.is_writable, Engine.Terms}
+use Rattle.seg_core.specs.declared.unit.Unit.{Unit as Counted, TheVariants.{Lines, Bytes}}
+use Rattle.ends_core.specs.{
+  declared.ends.Ends.{Ends, TheVariants.{First, ButLast, FromNth, Last}},
+  Ends.{first_of, measure},
+  Head.{head_work, IsDone},
+  Tail.tail_work,
+  Shown.changed_below,
+  Kept.{held_of, most_of, may_lack_of, delim_of as kept_delim, unit_of as kept_unit},
+}
 
 -- which part of an input is written
 pub data Stretch : Type 0 where

@@ -1,7 +1,6 @@
 //! Where the last lines or bytes of an input begin, in what it shows before it is read.
 ghost use Rattle.std.specs.Prelude.{◌≡◌, ◌<◌, true, length, Some, None, IsTrue, IfSome, IfNone};
-ghost use Rattle.ports_core.specs.Source.{count_shown, is_readable, source_at};
-ghost use Rattle.ports_core.specs.Inputs.{HasLooked};
+ghost use Rattle.ports_core.specs.{Source.{count_shown, is_readable, source_at}, Inputs.HasLooked};
 ghost use Rattle.ends_core.specs.Shown.{SeenLast};
 
 use crate::Unit;

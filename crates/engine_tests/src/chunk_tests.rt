@@ -1,10 +1,7 @@
 //! Chunks of an input, and one turn of its lines, row by row.
-ghost use Rattle.std.specs.Prelude.{◌≡◌, ◌≤◌, ◌<◌, [], length, IfOk, IfSome, IsTrue};
-ghost use Rattle.ports_core.specs.Guard.{HoldsIn};
-ghost use Rattle.ports_core.specs.Slot.{is_writable};
-ghost use Rattle.split_core.specs.Split.{TellsNoSizes};
-ghost use Rattle.split_core.specs.Alike.{as_if};
-ghost use Rattle.split_core.specs.Ways.{Ready, terms};
+ghost use Rattle.std.specs.Prelude.{◌≤◌, ◌<◌, [], length, IfOk, IfSome, IsTrue};
+ghost use Rattle.ports_core.specs.{Guard.HoldsIn, Slot.is_writable};
+ghost use Rattle.split_core.specs.{Split.TellsNoSizes, Alike.as_if, Ways.{Ready, terms}};
 
 use crate::play::{Step, close, feed, has_files, play};
 use mem_core::MemOut;

@@ -3,10 +3,8 @@
 ghost use Rattle.std.specs.Prelude.{◌≡◌, [], ◌∷◌, Some, drop, codes, true, false, IfOk};
 ghost use Rattle.watch_core.specs.Edits.{append, truncate, replace, remove, edited_by, empty_world, seen_in};
 ghost use Rattle.mem_core.specs.MemWatchState.{seen};
-ghost use Rattle.follow_core.specs.Followed.{followed};
+ghost use Rattle.follow_core.specs.{Followed.followed, Look.{unopened, unread}, inner.Placing.looks_after};
 ghost use Rattle.ends_core.specs.Ends.{tail_of};
-ghost use Rattle.follow_core.specs.Look.{unopened, unread};
-ghost use Rattle.follow_core.specs.inner.Placing.{looks_after};
 
 use ends_core::Unit;
 use follow_core::{Follow, Limits, Start, follow_files};

@@ -1,8 +1,7 @@
 //! What stands before a tail that counts from the front, or before one chunk, is passed over, in texts that are longer than a
 //! read.
 ghost use Rattle.std.specs.Prelude.{[], List};
-ghost use Rattle.ports_core.specs.Guard.{HoldsIn};
-ghost use Rattle.ports_core.specs.Slot.{Slot};
+ghost use Rattle.ports_core.specs.{Guard.HoldsIn, Slot.Slot};
 
 use crate::chunk_tests::{CHANGED, LINES as LINES_OF_THREE, THREE, open as open_chunks};
 use crate::play::{Step, play};

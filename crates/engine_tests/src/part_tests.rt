@@ -1,7 +1,6 @@
 //! Cutting into parts that follow one another: what each file gets, row by row, and each short text, cut into
 //! pieces in each way, beside the plain program.
-ghost use Rattle.std.specs.Prelude.{◌≡◌, ◌<◌, ◌≤◌, false, length, IfOk};
-ghost use Rattle.seg_core.specs.Cut.{most};
+ghost use Rattle.std.specs.Prelude.{◌≡◌, ◌≤◌, false, length, IfOk};
 ghost use Rattle.split_core.specs.Ways.{Ready};
 
 use crate::part_plain::plain_parts;

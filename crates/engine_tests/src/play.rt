@@ -3,8 +3,7 @@ ghost use Rattle.std.specs.Prelude.{◌≡◌, ◌≤◌, [], false, length, IfO
 ghost use Rattle.ends_core.specs.Stage.{Holds};
 ghost use Rattle.ports_core.specs.Guard.{HoldsIn};
 ghost use Rattle.seg_core.specs.Cut.{IsPositive};
-ghost use Rattle.split_core.specs.Split.{HasNames};
-ghost use Rattle.split_core.specs.Ways.{Ready};
+ghost use Rattle.split_core.specs.{Split.HasNames, Ways.Ready};
 
 use crate::ends_plain::{Asked, Side};
 use ends_core::{Ends, Head, Tail};

@@ -1,7 +1,6 @@
 //! Whole runs over memory, which no clause can show to succeed: the outputs, messages and status.
 ghost use Rattle.std.specs.Prelude.{◌≡◌, ◌<◌, false, IfOk, OnOk};
-ghost use Rattle.ports_core.specs.Slot.{streams};
-ghost use Rattle.ports_core.specs.Source.{IsFresh};
+ghost use Rattle.ports_core.specs.{Slot.streams, Source.IsFresh};
 ghost use Rattle.tee_core.specs.Outputs.{IsReady};
 
 use crate::play::has_files;

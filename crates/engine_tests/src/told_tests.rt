@@ -3,8 +3,7 @@
 ghost use Rattle.std.specs.Prelude.{◌≡◌, ◌≤◌, false, length, IfOk, IsTrue};
 ghost use Rattle.ports_core.specs.Slot.{is_writable};
 ghost use Rattle.seg_core.specs.Cut.{IsPositive};
-ghost use Rattle.split_core.specs.Split.{HasNames};
-ghost use Rattle.split_core.specs.Ways.{Ready};
+ghost use Rattle.split_core.specs.{Split.HasNames, Ways.Ready};
 
 use crate::play::{Step, close, feed, has_files, play};
 use crate::test_texts::{DELIMITERS, Short, short_texts};

@@ -1,23 +1,21 @@
 -- That looks don't matter.
-use Rattle.std.proofs.lemmas.Grind.{common_steps}
-use Rattle.std.proofs.Math.Seq.{drop-append_seam as drop_front}
-use Rattle.std.proofs.Common.{◌≡◌, ℕ, Bool, true, false, List, [], ◌∷◌, ◌++◌, length, Some, refl, sym, ◌∙◌, ap, arith, length-append, if◌then◌else◌, ◌⊎◌, inl, inr, ◌<◌, take, Option, None, subst, bytes_eq, rules}
-use Rattle.std.proofs.lemmas.List.{append-nil, get_or_append_left}
-use Rattle.std.proofs.lemmas.Bool.{eq-eqb, le-leb, false≢true}
-use Rattle.ports_core.specs.Part.{IsBeginning}
-use Rattle.watch_core.specs.Snapshot.{Snapshot}
-use Rattle.follow_core.specs.Version.{Version, Entry, version, gap, version_in, entries_led, entries_later, is_file, entries_at_look, entries_of}
-use Rattle.follow_core.specs.Gain.{file_of, gain_between, gains_later, last_from, gains_after}
-use Rattle.std.proofs.lemmas.Slice.Eq.{bytes_eq-Decides}
-use Rattle.ports_core.proofs.InputsLemmas.{changed_elsewhere}
-use Rattle.ports_core.proofs.SlotLemmas.{length-changed_at}
-use Rattle.ports_core.proofs.PartLemmas.{begins_itself, begins_trans}
-use Rattle.watch_core.specs.Edits.{Edit, append, truncate, replace, remove, end, bar, World, led_to, with_file, edited, edited_by, seen_in, snapshots_from, snapshots_of}
-use Rattle.follow_core.specs.Run.{AreKept, name_text}
-use Rattle.follow_core.specs.Placing.{all_edits, IsUncut, AreSeen, AllSeen}
-use Rattle.follow_core.proofs.RunLemmas.{text_is_gains}
-use Rattle.follow_core.proofs.LookLemmas.{look_leaves}
-use Rattle.watch_core.proofs.WorldLemmas.{append_leads, append_grows}
+use Rattle.std.proofs.{
+  lemmas.{Grind.common_steps, List.{append-nil, get_or_append_left}, Bool.{eq-eqb, le-leb, false≢true}, Slice.Eq.bytes_eq-Decides},
+  Math.Seq.drop-append_seam as drop_front,
+  Common.{◌≡◌, ℕ, Bool, true, false, List, [], ◌∷◌, ◌++◌, length, Some, refl, sym, ◌∙◌, ap, arith, length-append, if◌then◌else◌, ◌⊎◌, inl, inr, ◌<◌, take, Option, None, subst, bytes_eq, rules},
+}
+use Rattle.ports_core.{specs.Part.IsBeginning, proofs.{InputsLemmas.changed_elsewhere, SlotLemmas.length-changed_at, PartLemmas.{begins_itself, begins_trans}}}
+use Rattle.watch_core.{
+  specs.{Snapshot.Snapshot, Edits.{Edit, append, truncate, replace, remove, end, bar, World, led_to, with_file, edited, edited_by, seen_in, snapshots_from, snapshots_of}},
+  proofs.WorldLemmas.{append_leads, append_grows},
+}
+use Rattle.follow_core.{
+  specs.Version.{Version, Entry, version, gap, version_in, entries_led, entries_later, is_file, entries_at_look, entries_of},
+  specs.Gain.{file_of, gain_between, gains_later, last_from, gains_after},
+  specs.Run.{AreKept, name_text},
+  specs.Placing.{all_edits, IsUncut, AreSeen, AllSeen},
+  proofs.{RunLemmas.text_is_gains, LookLemmas.look_leaves},
+}
 
 -- a look more with_file no text
 
@@ -33,7 +31,8 @@ pub inside : (file : ℕ) (first : List ℕ) {middle last : List ℕ} → IsBegi
     (version (record { file = file; contents = middle }))
     ++ gain_between (version (record { file = file; contents = middle }))
     (version (record { file = file; contents = last }))
-    ≡ gain_between (version (record { file = file; contents = first })) (version (record { file = file; contents = last }))
+    ≡ gain_between (version (record { file = file; contents = first }))
+    (version (record { file = file; contents = last }))
 inside file first {middle} {last} (some, is) (more, is_more) = grind (arith, common_steps, grown)
 
 pub led_same : (snapshot : Snapshot) (file : ℕ) → entries_led snapshot (Some file) (Some file) ≡ []
@@ -253,7 +252,9 @@ from_first : (start : List ℕ → List ℕ) (by_name : Bool) (name : List ℕ) 
     → Sound world → AllSeen groups → (led : Option ℕ) → led_to world.links name ≡ led
     → gains_after start [] (entries_led (seen_in world) None led
     ++ entries_later by_name name led (snapshots_from world groups))
-    ≡ gains_after start [] (entries_led (seen_in world) None led ++ entries_later by_name name led (snapshots_from world (singles (all_edits groups))))
+    ≡ gains_after start []
+    (entries_led (seen_in world) None led
+    ++ entries_later by_name name led (snapshots_from world (singles (all_edits groups))))
 from_first start by_name name {world} groups sound seen None is = refines groups seen world gap (record { sound = sound; leads = λ _. is; matches = tt })
 from_first start by_name name {world} groups sound seen (Some file) is = grind (arith, common_steps, refines)
 

@@ -1,40 +1,38 @@
 -- What calls in a look give, one after another
-use Rattle.std.proofs.lemmas.Grind.{common_steps}
-use Rattle.std.proofs.Common.{subst₂, ◌≡◌, ℕ, Bool, List, [], ◌∷◌, ◌++◌, ◌⊎◌, inl, inr, ◌∙◌, ap, subst, ◌+◌, ◌<◌, length, take, true, false, Some, None, Option, refl, sym, arith, append_assoc, ◌-◌, ◌≤◌, drop, nat_lt, option_map, suc, zero, IsTrue, is_some, rules}
-use Rattle.ports_core.specs.Slot.{Slot, is_open, changed_at}
-use Rattle.ports_core.specs.Message.{PrintsOn}
-use Rattle.follow_core.specs.Sharing.{CameTo, CanPrint}
-use Rattle.follow_core.specs.Telling.{Tells}
-use Rattle.std.proofs.lemmas.List.{append-nil, take-append-le, take-append-drop, take_all, length-drop, length-take-le, drop-drop as drop_drop}
-use Rattle.std.proofs.Math.Seq.{take-add}
-use Rattle.std.proofs.Math.Bool.{and-false}
-use Rattle.ports_core.specs.declared.fault.Fault.{Fault}
-use Rattle.follow_core.specs.Printing.{PrinterState, broke as short_broke, no_room}
-use Rattle.std.proofs.lemmas.Bool.Decides.{nat_tests}
-use Rattle.follow_core.specs.declared.notice.Notice.TheVariants.{Truncated}
-use Rattle.follow_core.specs.inner.Giving.{IsFront, AreGiven, ArePut, BrokeAt, Came, CanGoOn, Copies, Ends, FailsToRead, Follows, IfBroke, Keeps, HoldsMany, IsPast, Noted, Puts, Starts, WereFound, change_between, fault_by, notes_past, over_by}
-use Rattle.follow_core.specs.declared.visitor.Stop.{Stop}
-use Rattle.follow_core.specs.Standing.{IsLong}
-use Rattle.follow_core.specs.Reading.{AllGive, AreRead, IsRead, IsWhole, none_read, one_more}
-use Rattle.follow_core.specs.Event.{Begins, begins_none, Event, all_but, bytes_in, gives, notes}
-use Rattle.follow_core.specs.Look.{Fate, sound, unmeasured, unsought, unread, failed_by}
-use Rattle.follow_core.proofs.EventLemmas.{begins_after, begins_all, begins_bytes, begins_more, bytes-append, lines-append}
-use Rattle.watch_core.specs.declared.watch.Broken.{Broken}
-use Rattle.watch_core.specs.declared.watch.Broken.TheVariants.{Len, Read}
-use Rattle.watch_core.specs.Watched.{GaveFrom, Watched, breaks, no_name, Finds, Reopens, is_readable, is_watchable, open_contents, opens, watched_at}
-use Rattle.follow_core.specs.declared.visitor.Stop.TheVariants.{Broke, Over}
-use Rattle.std.proofs.lemmas.Bool.{and_parts, false≢true}
-use Rattle.ports_core.proofs.InputsLemmas.{changed_elsewhere}
-use Rattle.ports_core.proofs.SlotLemmas.{changed_at-again, length-changed_at, changed_there}
-use Rattle.follow_core.specs.inner.Visits.{KeepsOthers}
-use Rattle.watch_core.proofs.NameLemmas.{broke_so, watchable_within}
-use Rattle.follow_core.specs.Notice.{notice_of}
-use Rattle.watch_core.specs.Snapshot.{Snapshot, Found, holds_many, latest, reads_as}
-use Rattle.watch_core.specs.declared.watch.Seen.{Seen}
-use Rattle.follow_core.specs.declared.notice.Notice.{Notice}
-use Rattle.follow_core.specs.Version.{held_at}
+use Rattle.std.proofs.{
+  lemmas.{Grind.common_steps, List.{append-nil, take-append-le, take-append-drop, take_all, length-drop, length-take-le, drop-drop as drop_drop}, Bool.{and_parts, false≢true, Decides.nat_tests}},
+  Common.{subst₂, ◌≡◌, ℕ, Bool, List, [], ◌∷◌, ◌++◌, ◌⊎◌, inl, inr, ◌∙◌, ap, subst, ◌+◌, ◌<◌, length, take, true, false, Some, None, Option, refl, sym, arith, append_assoc, ◌-◌, ◌≤◌, drop, nat_lt, option_map, suc, zero, IsTrue, is_some, rules},
+  Math.{Seq.take-add, Bool.and-false},
+}
+use Rattle.ports_core.{
+  specs.{Slot.{Slot, is_open, changed_at}, Message.PrintsOn, declared.fault.Fault.Fault},
+  proofs.{InputsLemmas.changed_elsewhere, SlotLemmas.{changed_at-again, length-changed_at, changed_there}},
+}
+use Rattle.follow_core.specs.{
+  Sharing.{CameTo, CanPrint},
+  Telling.Tells,
+  Printing.{PrinterState, broke as short_broke, no_room},
+  declared.{notice.Notice.{Notice, TheVariants.Truncated}, visitor.Stop.{Stop, TheVariants.{Broke, Over}}},
+  inner.Giving.{IsFront, AreGiven, ArePut, BrokeAt, Came, CanGoOn, Copies, Ends, FailsToRead, Follows, IfBroke, Keeps, HoldsMany, IsPast, Noted, Puts, Starts, WereFound, change_between, fault_by, notes_past, over_by},
+  inner.Visits.KeepsOthers,
+  Standing.IsLong,
+  Reading.{AllGive, AreRead, IsRead, IsWhole, none_read, one_more},
+  Event.{Begins, begins_none, Event, all_but, bytes_in, gives, notes},
+  Look.{Fate, sound, unmeasured, unsought, unread, failed_by},
+  Notice.notice_of,
+  Version.held_at,
+}
+use Rattle.follow_core.proofs.{
+  EventLemmas.{begins_after, begins_all, begins_bytes, begins_more, bytes-append, lines-append},
+  CallLemmas.{no_failure, tells_state, no_memory, wrote_text, wrote_line, came_none, came_after, puts_after, puts_nothing},
+}
+use Rattle.watch_core.{
+  specs.declared.watch.{Broken.{Broken, TheVariants.{Len, Read}}, Seen.Seen},
+  specs.Watched.{NameBreaks, GaveFrom, Watched, breaks, no_name, Finds, Reopens, is_readable, is_watchable, open_contents, opens, watched_at},
+  specs.Snapshot.{Snapshot, Found, holds_many, latest, reads_as},
+  proofs.NameLemmas.{broke_so, watchable_within},
+}
 use Rattle.ports_core.specs.declared.fault.Fault.TheVariants as fault
-use Rattle.follow_core.proofs.CallLemmas.{no_failure, tells_state, no_memory, wrote_text, wrote_line, came_none, came_after, puts_after, puts_nothing}
 
 -- events that are given
 
@@ -390,24 +388,26 @@ opened_led {snapshot} {old} {place} can reopens is t = ap (λ those. (watched_at
 -- a call failed on the names as they were
 pub broke_at : {place : ℕ} {old now new : List Watched} {fate : Fate} {why : Fault} (how : Option ℕ → Broken)
     → failed_by fate None ≡ Some (how (watched_at old place).opened)
-    → now ≡ old → why ≡ fault_by place fate → new ≡ changed_at place (breaks how) now → BrokeAt place old new fate why
-broke_at {place} {old} {fate} how is same fault broken = record {
+    → now ≡ old → why ≡ fault_by place fate → NameBreaks how place now new → BrokeAt place old new fate why
+broke_at {place} {old} {fate} how is same fault (reason, broken) = record {
   broke = ap is_some is;
   fault_is = fault;
-  names = broken ∙ ap (changed_at place (breaks how)) same ∙ sym (broke_so old place how refl)
-      ∙ ap (λ failed. changed_at place (λ watched. record watched { opened = None; failed = failed }) old) (sym is);
+  reason = reason;
+  names = broken ∙ ap (changed_at place (breaks reason how)) same ∙ sym (broke_so reason old place how refl)
+      ∙ ap (λ failed. changed_at place (λ watched. record watched { opened = None; failed = failed; reason = reason }) old) (sym is);
 }
 
 -- a file of it was opened before
 pub broke_opened : {place : ℕ} (file : Option ℕ) {old mid new : List Watched} {fate : Fate} {why : Fault}
     → mid ≡ changed_at place (opens file) old
     → BrokeAt place mid new fate why → BrokeAt place old new fate why
-broke_opened {place} file {old} {fate} opened broke = record {
-  broke = broke.broke;
-  fault_is = broke.fault_is;
-  names = broke.names ∙ ap (changed_at place (λ watched. record watched { opened = None; failed = failed_by fate None })) opened
-      ∙ changed_at-again place (opens file) (λ watched. record watched { opened = None; failed = failed_by fate None }) old;
-}
+broke_opened {place} file {old} {fate} opened broke =
+    let change : Watched → Watched = λ watched. record watched { opened = None; failed = failed_by fate None; reason = broke.reason } in record {
+      broke = broke.broke;
+      fault_is = broke.fault_is;
+      reason = broke.reason;
+      names = broke.names ∙ ap (changed_at place change) opened ∙ changed_at-again place (opens file) change old;
+    }
 
 -- calls that follow one another on the watch: a file was opened, and then a call on it kept the names, or broke this one
 pub follows_from : {told : Bool} {led file : Option ℕ} (place : ℕ) (old : List Watched) {mid : List Watched}
@@ -514,7 +514,7 @@ module _ {told_in told : Bool} {snapshot : Snapshot} {name : List ℕ} {from pla
       → (told_in ≡ true → len ≡ length (open_contents snapshot (watched_at watched place)))
       → Copied told_in told snapshot (open_contents snapshot (watched_at watched place))
       (watched_at watched place).opened (watched_at watched place).name from name printer slots after slots_new at None
-      → now ≡ watched → why ≡ fault.Read place → watched_new ≡ changed_at place (breaks (λ file. Read file at)) now
+      → now ≡ watched → why ≡ fault.Read place → NameBreaks (λ file. Read file at) place now watched_new
       → snapshot.breaks ≡ true
       → Copies told_in told snapshot from place name watched printer slots watched_new after slots_new
       (Some (Broke why))
@@ -562,7 +562,7 @@ module _ {told_in told : Bool} {snapshot : Snapshot} {name : List ℕ} {from pla
 module _ {told_in told seeks : Bool} {snapshot : Snapshot} {start : List ℕ → List ℕ} {place : ℕ} {name : List ℕ}
     {watched : List Watched} {printer : PrinterState} {slots : List Slot} where
   pub starts_unmeasured : {watched_new : List Watched} {why : Fault} → why ≡ fault.Read place
-      → watched_new ≡ changed_at place (breaks (λ file. Len file)) watched → snapshot.breaks ≡ true
+      → NameBreaks (λ file. Len file) place watched watched_new → snapshot.breaks ≡ true
       → Starts told_in told seeks snapshot start place name watched printer slots watched_new printer slots
       (Some (Broke why))
   starts_unmeasured fault broken can = record {

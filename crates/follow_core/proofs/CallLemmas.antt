@@ -1,27 +1,26 @@
 -- What a call on a name gives, by what the calls in it give: bytes under headers, and lines; the open file, and where the name leads.
-use Rattle.std.proofs.lemmas.Grind.{common_steps}
-use Rattle.std.proofs.Common.{◌≡◌, ℕ, Bool, List, [], ◌∷◌, ◌++◌, inl, inr, ◌∙◌, ap, subst, ◌+◌, ◌<◌, length, take, true, false, not, if◌then◌else◌, Some, None, Option, refl, sym, arith, append_assoc, length-append, bytes_eq, is_none, rules}
-use Rattle.ports_core.specs.Slot.{Slot, with_written, with_broken, told_of}
-use Rattle.ports_core.specs.Message.{OnError, SaysFor, SaysOn}
-use Rattle.ports_core.specs.Text.{line_of, message_of}
-use Rattle.ports_core.specs.declared.calling.Calling.{Calling}
-use Rattle.ports_core.specs.declared.calling.Calling.TheVariants.{Cutters, OwnName}
-use Rattle.ports_core.specs.declared.reason.Reason.{Reason}
-use Rattle.ports_core.proofs.MessageLemmas.{printed_open}
-use Rattle.follow_core.specs.Sharing.{CameTo, WroteBy}
-use Rattle.follow_core.specs.Telling.{IsFailure, Tells, TellsAll, failure_text, tail_by}
-use Rattle.std.proofs.lemmas.List.{append-nil, take-append-le}
-use Rattle.std.proofs.Math.Seq.{take-append-add}
-use Rattle.std.proofs.Math.Bool.{and-false}
-use Rattle.ports_core.specs.Write.{BrokeAfter}
-use Rattle.ports_core.specs.Text.{header_of}
-use Rattle.ports_core.specs.declared.fault.Fault.{Fault}
-use Rattle.ports_core.proofs.WriteLemmas.{broke_later, none_written, written_both}
-use Rattle.follow_core.specs.Followed.{has_header, is_empty, is_last}
-use Rattle.follow_core.specs.Printing.{PrinterState, Short, broke as short_broke, no_room}
-use Rattle.follow_core.specs.inner.Giving.{IsFront, ArePut, Came, Puts, printer_under, text_under}
-use Rattle.follow_core.specs.Notice.{notice_of}
-use Rattle.follow_core.specs.declared.notice.Notice.{Notice}
+use Rattle.std.proofs.{
+  lemmas.{Grind.common_steps, List.{append-nil, take-append-le}},
+  Common.{◌≡◌, ℕ, Bool, List, [], ◌∷◌, ◌++◌, inl, inr, ◌∙◌, ap, subst, ◌+◌, ◌<◌, length, take, true, false, not, if◌then◌else◌, Some, None, Option, refl, sym, arith, append_assoc, length-append, bytes_eq, is_none, rules},
+  Math.{Seq.take-append-add, Bool.and-false},
+}
+use Rattle.ports_core.specs.{
+  Slot.{Slot, with_written, with_broken, told_of},
+  Message.{OnError, SaysFor, SaysOn},
+  Text.{line_of, message_of, header_of},
+  declared.{calling.Calling.{Calling, TheVariants.{Cutters, OwnName}}, reason.Reason.Reason, fault.Fault.Fault},
+  Write.BrokeAfter,
+}
+use Rattle.ports_core.proofs.{MessageLemmas.printed_open, WriteLemmas.{broke_later, none_written, written_both}}
+use Rattle.follow_core.specs.{
+  Sharing.{CameTo, WroteBy},
+  Telling.{IsFailure, Tells, TellsAll, failure_text, tail_by},
+  Followed.{has_header, is_empty, is_last},
+  Printing.{PrinterState, Short, broke as short_broke, no_room},
+  inner.Giving.{IsFront, ArePut, Came, Puts, printer_under, text_under},
+  Notice.notice_of,
+  declared.notice.Notice.Notice,
+}
 use Rattle.ports_core.specs.declared.fault.Fault.TheVariants as fault
 
 -- lines that following says, one after another
@@ -76,7 +75,7 @@ pub short_more : {told : Bool} {text : List ℕ} (more : List ℕ) {old new : Li
     → Short told text old new why → Short told (text ++ more) old new why
 short_more {told} {text} more {old} (short_broke n cut) = short_broke n (record {
   within = let a : length (text ++ more) ≡ length text + length more = length-append text more in let b : n < length text = cut.within in omega arith;
-  slots = cut.slots ∙ ap (λ bytes. with_broken 0 (with_written 0 (told_of told bytes) old)) (sym (take-append-le n text more (let b : n < length text = cut.within in omega arith)));
+  slots = (cut.slots.0, cut.slots.1 ∙ ap (λ bytes. with_broken cut.slots.0 0 (with_written 0 (told_of told bytes) old)) (sym (take-append-le n text more (let b : n < length text = cut.within in omega arith))));
 })
 short_more {told} {text} more {old} (no_room n within is) = no_room n (let a : length (text ++ more) ≡ length text + length more = length-append text more in omega (arith, within)) (is ∙ ap (λ bytes. with_written 0 (told_of told bytes) old) (sym (take-append-le n text more within)))
 
@@ -92,12 +91,15 @@ itself name = search rules
 in_two : (printer : PrinterState) (opened : Bool) (name first second : List ℕ)
     → (text_under printer opened name first ++ text_under (printer_under printer opened name first) false name second
     ≡ text_under printer opened name (first ++ second))
-    × (printer_under (printer_under printer opened name first) false name second ≡ printer_under printer opened name (first ++ second))
+    × (printer_under (printer_under printer opened name first) false name second
+    ≡ printer_under printer opened name (first ++ second))
 in_two printer opened name first second = by printer.headers opened first (is_last name printer.last) refl where
   by : (headers opened : Bool) (first : List ℕ) (last : Bool) → is_last name printer.last ≡ last
       → let before : PrinterState = record { calling = printer.calling; headers = headers; last = printer.last } in
-      (text_under before opened name first ++ text_under (printer_under before opened name first) false name second ≡ text_under before opened name (first ++ second))
-      × (printer_under (printer_under before opened name first) false name second ≡ printer_under before opened name (first ++ second))
+      (text_under before opened name first ++ text_under (printer_under before opened name first) false name second
+      ≡ text_under before opened name (first ++ second))
+      × (printer_under (printer_under before opened name first) false name second
+      ≡ printer_under before opened name (first ++ second))
   by false opened first last is = (refl, refl)
   by true true first last is = rw (itself name, and-false (not (is_empty second))) (append_assoc _ first second, refl)
   by true false [] last is = (refl, refl)

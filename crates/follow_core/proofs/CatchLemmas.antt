@@ -1,30 +1,31 @@
 -- What a call on a name gives: what came to the open file, and where the name leads.
-use Rattle.std.proofs.Common.{◌≡◌, ℕ, Bool, List, [], ◌∷◌, ◌++◌, ◌⊎◌, inl, inr, ◌∙◌, ap, subst, length, true, false, not, if◌then◌else◌, Some, None, Option, refl, sym, arith, ◌-◌, drop, nat_lt, Result, Ok, Err, ◌==◌, nat_le, IsTrue, map, IfOk, is_some, rules}
-use Rattle.ports_core.specs.Slot.{Slot, changed_at}
-use Rattle.ports_core.specs.declared.fault.Fault.{Fault}
-use Rattle.follow_core.specs.Printing.{PrinterState}
-use Rattle.follow_core.specs.inner.Giving.{Adds, Copies, Ends, Follows, IfBroke, Keeps, Leads, FromEither, FromFront, HoldsMany, IsPast, Noted, ReadsOf, ToldLed, ToldShort, WereFound, change_between, notes_past, stop_in}
-use Rattle.follow_core.specs.declared.visitor.Stop.{Stop}
-use Rattle.follow_core.specs.Share.{Due, came_before, due_later, given_by, is_kept, led_before, left_from}
-use Rattle.follow_core.specs.Event.{Event, all_but, events_later, gives, notes, notes_in}
-use Rattle.follow_core.specs.Look.{Fate, sound, unled, unopened, unmeasured, unsought, unread, can_meet}
-use Rattle.watch_core.specs.declared.watch.Broken.TheVariants.{Len, Look, Open}
-use Rattle.watch_core.specs.Watched.{Watched, breaks, is_watchable, open_contents, opens, watched_at}
-use Rattle.follow_core.specs.declared.visitor.Stop.TheVariants.{Broke, Over}
-use Rattle.std.proofs.lemmas.Bool.{le-leb, false≢true, eqb-true, eq-eqb}
-use Rattle.follow_core.specs.declared.notice.Notice.TheVariants.{Appeared, Inaccessible, Replaced, Truncated}
-use Rattle.watch_core.specs.Snapshot.{Snapshot, Found, holds_many, leads_to, opens_as}
-use Rattle.follow_core.specs.declared.notice.Notice.{Notice}
-use Rattle.follow_core.specs.Version.{Entry, version, gap, version_in, entries_at_look, entries_led, entries_open, held_at, is_same, open_after_look}
-use Rattle.follow_core.specs.Gain.{file_of, last_from}
-use Rattle.std.proofs.lemmas.Bool.Decides.{nat_tests}
-use Rattle.std.proofs.lemmas.Option.{none-some, same_Some}
-use Rattle.std.proofs.lemmas.Result.{IfOk-weaker}
-use Rattle.follow_core.specs.Reading.{IsSeen, LeftOpen}
-use Rattle.follow_core.specs.Standing.{IsLong, StandsAt}
-use Rattle.follow_core.proofs.RunLemmas.{last_from-append}
+use Rattle.std.proofs.{
+  Common.{◌≡◌, ℕ, Bool, List, [], ◌∷◌, ◌++◌, ◌⊎◌, inl, inr, ◌∙◌, ap, subst, length, true, false, not, if◌then◌else◌, Some, None, Option, refl, sym, arith, ◌-◌, drop, nat_lt, Result, Ok, Err, ◌==◌, nat_le, IsTrue, map, IfOk, is_some, rules},
+  lemmas.{Bool.{le-leb, false≢true, eqb-true, eq-eqb, Decides.nat_tests}, Option.{none-some, same_Some}, Result.IfOk-weaker},
+}
+use Rattle.ports_core.specs.{Slot.{Slot, changed_at}, declared.fault.Fault.Fault}
+use Rattle.follow_core.specs.{
+  Printing.PrinterState,
+  inner.Giving.{Adds, Copies, Ends, Follows, IfBroke, Keeps, Leads, FromEither, FromFront, HoldsMany, IsPast, Noted, ReadsOf, ToldLed, ToldShort, WereFound, change_between, notes_past, stop_in},
+  declared.{visitor.Stop.{Stop, TheVariants.{Broke, Over}}, notice.Notice.{Notice, TheVariants.{Appeared, Inaccessible, Replaced, Truncated}}},
+  Share.{Due, came_before, due_later, given_by, is_kept, led_before, left_from},
+  Event.{Event, all_but, events_later, gives, notes, notes_in},
+  Look.{Fate, sound, unled, unopened, unmeasured, unsought, unread, can_meet},
+  Version.{Entry, version, gap, version_in, entries_at_look, entries_led, entries_open, held_at, is_same, open_after_look},
+  Gain.{file_of, last_from},
+  Reading.{IsSeen, LeftOpen},
+  Standing.{IsLong, StandsAt},
+}
+use Rattle.follow_core.proofs.{
+  RunLemmas.last_from-append,
+  CallGivesLemmas.{broke_at, broke_first, contents_open, due_as, due_by, follows_from, follows_stop, found_as, found_both, found_from, goes_after, if_broke, is_held, noted_as, noted_found, nothing_due, opened_there, opens_same, stops_early, untold},
+}
+use Rattle.watch_core.specs.{
+  declared.watch.Broken.TheVariants.{Len, Look, Open},
+  Watched.{NameBreaks, Watched, is_watchable, open_contents, opens, watched_at},
+  Snapshot.{Snapshot, Found, holds_many, leads_to, opens_as},
+}
 use Rattle.ports_core.specs.declared.fault.Fault.TheVariants as fault
-use Rattle.follow_core.proofs.CallGivesLemmas.{broke_at, broke_first, contents_open, due_as, due_by, follows_from, follows_stop, found_as, found_both, found_from, goes_after, if_broke, is_held, noted_as, noted_found, nothing_due, opened_there, opens_same, stops_early, untold}
 
 -- what came to the open file
 
@@ -46,7 +47,8 @@ caught snapshot (version v) {file} stands long =
       by : (test : Bool)
           → (if test then notes Truncated ∷ [] else [])
           ++ gives (drop (if test then 0 else length v.contents) held) ∷ []
-          ≡ (map (λ notice. notes notice) (if not test then [] else Truncated ∷ []) ++ gives (if not test then drop (length v.contents) held else held) ∷ []) ++ []
+          ≡ (map (λ notice. notes notice) (if not test then [] else Truncated ∷ [])
+          ++ gives (if not test then drop (length v.contents) held else held) ∷ []) ++ []
       by true = refl
       by false = refl
 
@@ -98,7 +100,7 @@ module _ {told_in told : Bool} {snapshot : Snapshot} {place : ℕ} {name : List 
 
   pub adds_unmeasured : {file : ℕ} {watched_new : List Watched} {why : Fault}
       → (watched_at watched place).opened ≡ Some file → why ≡ fault.Read place
-      → watched_new ≡ changed_at place (breaks (λ file. Len file)) watched → snapshot.breaks ≡ true
+      → NameBreaks (λ file. Len file) place watched watched_new → snapshot.breaks ≡ true
       → Adds told_in told snapshot place name position watched printer slots watched_new printer slots (Err (Broke why))
   adds_unmeasured is fault broken can = record {
     fate = unmeasured (watched_at watched place).opened;
@@ -175,7 +177,8 @@ module _ {told_in told : Bool} {snapshot : Snapshot} {place : ℕ} {name : List 
     due : (last : Entry) → StandsAt last opened position → len ≡ length (held_at snapshot opened)
         → (notes_past position len ++ gives (drop from contents) ∷ []
         ≡ events_later last (entries_open snapshot opened))
-        × (notes_past position len ++ all_but (length contents - copies.at) (gives (drop from contents) ∷ []) ≡ all_but (left_from snapshot opened copies.at) (events_later last (entries_open snapshot opened)))
+        × (notes_past position len ++ all_but (length contents - copies.at) (gives (drop from contents) ∷ [])
+        ≡ all_but (left_from snapshot opened copies.at) (events_later last (entries_open snapshot opened)))
     due last stands size =
         let all = ap (λ those. notes_past position len ++ gives (drop from those) ∷ []) holds
         ∙ ap (λ n. notes_past position len ++ gives (drop n (held_at snapshot opened)) ∷ []) begins ∙ caught_open snapshot last is stands size in (
@@ -223,7 +226,8 @@ change_led : (snapshot : Snapshot) (last : Entry) (led : Option ℕ) {opened : O
     → opened ≡ file_of last
     → change_between opened led ≡ Some change
     → (events_later last (entries_led snapshot opened led) ≡ notes change ∷ all_held snapshot led)
-    × (last_from last (entries_led snapshot opened led) ≡ last_from (fresh led) (entries_open snapshot led)) × (is_same led opened ≡ false)
+    × (last_from last (entries_led snapshot opened led) ≡ last_from (fresh led) (entries_open snapshot led))
+    × (is_same led opened ≡ false)
 change_led snapshot gap None here is = let none = rw here at is in absurd (cc)
 change_led snapshot gap (Some file) {change} here is = let found : Appeared ≡ change = cc (rw here at is) in rw here (ap (λ those. notes those ∷ gives (snapshot.holds file) ∷ []) found, refl, refl)
 change_led snapshot (version v) None {change} here is = let found : Inaccessible ≡ change = cc (rw here at is) in (ap (λ those. notes those ∷ []) found, refl, refl)
@@ -312,7 +316,7 @@ module _ {told_in told by_name : Bool} {snapshot : Snapshot} {led : Option ℕ} 
   -- ways out of following a name
 
   pub leads_unled : {watched_new : List Watched} {why : Fault} → why ≡ fault.Open place
-      → watched_new ≡ changed_at place (breaks (λ file. Look)) watched → snapshot.breaks ≡ true
+      → NameBreaks (λ file. Look) place watched watched_new → snapshot.breaks ≡ true
       → Leads told_in told by_name snapshot led place name position watched printer slots watched_new printer slots
       (Err (Broke why))
   leads_unled fault broken can = record {
@@ -367,7 +371,7 @@ module _ {told_in told by_name : Bool} {snapshot : Snapshot} {led : Option ℕ} 
       → ToldLed by_name snapshot (watched_at watched place).name (watched_at watched place).opened change
       → Ends told_in (Noted (λ notice. notice ≡ change)) told false printer name
       (notes change ∷ []) before slots printer mid None → now ≡ watched → why ≡ fault.Open place
-      → watched_new ≡ changed_at place (breaks (λ file. Open)) now → snapshot.breaks ≡ true
+      → NameBreaks (λ file. Open) place now watched_new → snapshot.breaks ≡ true
       → Leads told_in told by_name snapshot led place name position watched printer slots watched_new printer mid
       (Err (Broke why))
   leads_unopened {change} {why} changed seen line same fault broken can = record {
@@ -447,8 +451,11 @@ module _ {told_in told by_name : Bool} {snapshot : Snapshot} {led : Option ℕ} 
     dues : (last : Entry) → StandsAt last (watched_at watched place).opened position → told_in ≡ true
         → (notes change ∷ events_later (fresh now_open) (entries_open snapshot now_open)
         ≡ events_later last (entries_led snapshot (watched_at watched place).opened led))
-        × IfBroke (stop_in result) (notes change ∷ came_before snapshot adds.fate (events_later (fresh now_open) (entries_open snapshot now_open))
-        ≡ led_before snapshot adds.fate (events_later last (entries_led snapshot (watched_at watched place).opened led)))
+        × IfBroke (stop_in result)
+        (notes change ∷ came_before snapshot adds.fate
+        (events_later (fresh now_open) (entries_open snapshot now_open))
+        ≡ led_before snapshot adds.fate
+        (events_later last (entries_led snapshot (watched_at watched place).opened led)))
     dues last stands t =
         let held = fresh_dues snapshot now_open ∙ ap (all_held snapshot) (is t) in
         let due = (change_led snapshot last led stands.file (changed t)).0 in (

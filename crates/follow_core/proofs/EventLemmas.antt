@@ -1,12 +1,13 @@
 -- Lists of events: what is in two of them, what entries give, and beginnings.
-use Rattle.std.proofs.Common.{◌≡◌, ℕ, List, [], ◌∷◌, ◌++◌, refl, sym, ◌∙◌, ap, append_assoc, map}
-use Rattle.std.proofs.lemmas.List.{append-nil}
-use Rattle.follow_core.specs.declared.notice.Notice.{Notice}
-use Rattle.follow_core.specs.Event.{Begins, begins_none, begins_within, begins_on, Event, bytes_in, events_between, events_later, gives, lines_in, notes}
-use Rattle.follow_core.specs.Gain.{gain_between, gains_later, last_from}
-use Rattle.follow_core.specs.Notice.{notice_of, notices_between}
-use Rattle.follow_core.specs.inner.Giving.{IsFront}
-use Rattle.follow_core.specs.Version.{Entry, gap, version}
+use Rattle.std.proofs.{Common.{◌≡◌, ℕ, List, [], ◌∷◌, ◌++◌, refl, sym, ◌∙◌, ap, append_assoc, map}, lemmas.List.append-nil}
+use Rattle.follow_core.specs.{
+  declared.notice.Notice.Notice,
+  Event.{Begins, begins_none, begins_within, begins_on, Event, bytes_in, events_between, events_later, gives, lines_in, notes},
+  Gain.{gain_between, gains_later, last_from},
+  Notice.{notice_of, notices_between},
+  inner.Giving.IsFront,
+  Version.{Entry, gap, version},
+}
 
 pub bytes-append : (events more : List Event) → bytes_in (events ++ more) ≡ bytes_in events ++ bytes_in more
 bytes-append [] more = refl

@@ -1,29 +1,30 @@
 -- A look at all names: at one after another, one look more, and one that was stopped; and one look after another.
-use Rattle.std.proofs.Common.{◌≡◌, ℕ, zero, suc, ◌<◌, ◌≤◌, ◌+◌, Bool, true, false, ◌||◌, List, [], ◌∷◌, ◌++◌, length, take, set, replicate, get_or, slice_index_or, refl, sym, ◌∙◌, ap, subst, arith, append_assoc, inl, inr, ◌⊎◌, Option, Some, subst₂, Err, Ok, None, is_some, rules}
-use Rattle.std.proofs.Math.Bool.{or-false}
-use Rattle.std.proofs.lemmas.Bool.{cases_eq, cases_lt, false≢true}
-use Rattle.std.proofs.lemmas.List.{append-nil, get_or-map, get_or-set_other, get_or-set_same, length-append, length-map, length-replicate, length-set, length-take-le, get_or_past}
-use Rattle.std.proofs.Math.Seq.{get_or-append_seam, map-set_same, take-suc}
-use Rattle.ports_core.specs.Slot.{Slot, changed_at}
-use Rattle.follow_core.specs.FollowState.{AllReady, Begun, up_to}
-use Rattle.follow_core.specs.Followed.{last_header_from, messages_of, share_text, text_from}
-use Rattle.follow_core.specs.Look.{Fate, Look, Ways, failed_in, fate_at, is_dropped, sound}
-use Rattle.follow_core.specs.Share.{BeginsShare, Share, lines_of, share_by, share_of, shares_at_look_from}
-use Rattle.follow_core.specs.inner.Visits.{KeepsOthers, Opened, Stopped, Visited, VisitedTo, Visits}
-use Rattle.follow_core.specs.Printing.{PrinterState}
-use Rattle.follow_core.specs.Reading.{AreAtLook, IsGiven, names_more, no_names}
-use Rattle.follow_core.specs.Sharing.{AllShared, AllShort, Wrote}
-use Rattle.follow_core.specs.inner.Giving.{IsFront, Shared}
-use Rattle.follow_core.specs.Standing.{AllStand, CanVisit, NameState, Stands, StandsAmong, no_state, state_at, texts, IsWatched}
-use Rattle.follow_core.proofs.CallLemmas.{wrote_after, wrote_by, wrote_none}
-use Rattle.follow_core.proofs.CallGivesLemmas.{none_of}
-use Rattle.ports_core.specs.declared.fault.Fault.{Fault}
-use Rattle.watch_core.specs.Snapshot.{Snapshot}
-use Rattle.watch_core.specs.Watched.{Watched, opens, watched_at}
-use Rattle.follow_core.specs.declared.name.Standing.{Standing}
-use Rattle.follow_core.specs.declared.name.Standing.TheVariants.{New, Followed, Left}
-use Rattle.follow_core.proofs.LookLemmas.{broken_sound, unbroken_in}
-use Rattle.follow_core.proofs.RunLemmas.{failed-append, last-append, messages-append, text-append}
+use Rattle.std.proofs.{
+  Common.{◌≡◌, ℕ, zero, suc, ◌<◌, ◌≤◌, ◌+◌, Bool, true, false, ◌||◌, List, [], ◌∷◌, ◌++◌, length, take, set, replicate, get_or, slice_index_or, refl, sym, ◌∙◌, ap, subst, arith, append_assoc, inl, inr, ◌⊎◌, Option, Some, subst₂, Err, Ok, None, is_some, rules},
+  Math.{Bool.or-false, Seq.{get_or-append_seam, map-set_same, take-suc}},
+  lemmas.Bool.{cases_eq, cases_lt, false≢true},
+  lemmas.List.{append-nil, get_or-map, get_or-set_other, get_or-set_same, length-append, length-map, length-replicate, length-set, length-take-le, get_or_past},
+}
+use Rattle.ports_core.specs.{Slot.{Slot, changed_at}, declared.fault.Fault.Fault}
+use Rattle.follow_core.specs.{
+  FollowState.{AllReady, Begun, up_to},
+  Followed.{last_header_from, messages_of, share_text, text_from},
+  Look.{Fate, Look, Ways, failed_in, fate_at, is_dropped, sound},
+  Share.{BeginsShare, Share, lines_of, share_by, share_of, shares_at_look_from},
+  inner.{Visits.{KeepsOthers, Opened, Stopped, Visited, VisitedTo, Visits}, Giving.{IsFront, Shared}},
+  Printing.PrinterState,
+  Reading.{AreAtLook, IsGiven, names_more, no_names},
+  Sharing.{AllShared, AllShort, Wrote},
+  Standing.{AllStand, CanVisit, NameState, Stands, StandsAmong, no_state, state_at, texts, IsWatched},
+  declared.name.Standing.{Standing, TheVariants.{New, Followed, Left}},
+}
+use Rattle.follow_core.proofs.{
+  CallLemmas.{wrote_after, wrote_by, wrote_none},
+  CallGivesLemmas.none_of,
+  LookLemmas.{broken_sound, unbroken_in},
+  RunLemmas.{failed-append, last-append, messages-append, text-append},
+}
+use Rattle.watch_core.specs.{Snapshot.Snapshot, Watched.{Watched, opens, watched_at}}
 
 -- A look at one name after another.
 
@@ -146,7 +147,8 @@ pub visited_more : {told_in told : Bool} {ways : Ways} {looks : List Look} {snap
     {printer mid after : PrinterState} {old slots new : List Slot} {watched watched_new : List Watched}
     {before failed : Bool} → place < length now
     → Visits told_in told ways snapshot (ways.first + place)
-    (state_at now place).text (state_at now place).standing watched mid slots one.standing watched_new after new (Ok failed)
+    (state_at now place).text (state_at now place).standing watched mid slots one.standing watched_new after new
+    (Ok failed)
     → one.text ≡ (state_at now place).text
     → VisitedTo told_in told ways looks snapshot place names printer old mid slots watched now before
     → VisitedTo told_in told ways looks snapshot (place + 1) names printer old after new watched_new (set now place one)

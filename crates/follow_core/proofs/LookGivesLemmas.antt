@@ -1,42 +1,38 @@
 -- What the outputs have of a look at a name
-use Rattle.follow_core.specs.Standing.{StandsAt, CanVisit, IsFollowed, IsLong, IsLeft, IsMissed, Stands}
-use Rattle.follow_core.proofs.CallLemmas.{came_none, failure_said, wrote_after, wrote_line}
-use Rattle.follow_core.proofs.CallGivesLemmas.{broke_at, contents_open, found_as, found_both, found_from, goes_after, held_many, if_broke, keeps_others, none_of, nothing_due, opened_led, opened_there, some_of}
-use Rattle.follow_core.proofs.CatchLemmas.{FromFrontOr, LooksAgain, long_by, ToldAgain, at_look}
-use Rattle.std.proofs.Common.{◌⊎◌, ◌≡◌, ◌<◌, ◌+◌, arith, zero, suc, ℕ, Bool, true, false, not, List, [], ◌∷◌, ◌++◌, length, Option, Some, None, refl, sym, ◌∙◌, ap, if◌then◌else◌, subst, inl, inr, ◌&&◌, Result, Ok, Err, IsTrue, IfOk, subst₂, is_none, is_some}
-use Rattle.std.proofs.lemmas.List.{append-nil, map-append}
-use Rattle.std.proofs.Math.Bool.{and-false}
-use Rattle.watch_core.specs.Snapshot.{Snapshot, Found, latest, opens_as}
-use Rattle.follow_core.specs.declared.notice.Notice.{Notice}
-use Rattle.follow_core.specs.Reading.{AreAtLook, AreFound, IsFound, IsGiven, IsMissing, IsTold, LeftOpen, NoneBreaks, StartsIn, looks_more, names_more, no_looks}
-use Rattle.watch_core.specs.declared.watch.Broken.{Broken}
+use Rattle.follow_core.specs.{
+  Standing.{StandsAt, CanVisit, IsFollowed, IsLong, IsLeft, IsMissed, Stands},
+  declared.{notice.Notice.Notice, visitor.Stop.{Stop, TheVariants.{Broke, Over}}, name.Standing.{Standing, TheVariants.{New, Followed, Left}}},
+  Reading.{AreAtLook, AreFound, IsFound, IsGiven, IsMissing, IsTold, LeftOpen, NoneBreaks, StartsIn, looks_more, names_more, no_looks},
+  Event.{Event, bytes_in, gives, lines_in},
+  Version.{Entry, gap, entries_at_look, entries_led, held_at, open_after_later, open_after_look, version},
+  Gain.{file_of, last_from, last_of, gains_after},
+  inner.{Giving.{Anywhere, BrokeAt, Came, Nothing, WereFound, Ends, Follows, IfBroke, Keeps, Shared, Starts, fault_by, is_read, stop_in, text_under}, Visits.{Visits, TellsStop, Visited}},
+  Look.{Fate, Look, Ways, can_meet, entries_in, failed_by, failed_in, fate_at, is_dropped, snapshots, sound, unled, unopened, unmeasured, unsought, unread, is_first},
+  Notice.is_missing,
+  Share.{BeginsShare, Due, Share, due_at, due_later, failure_line, failure_of, given_by, is_kept, is_unopened, led_before, missing_share, no_share, share_by},
+  Printing.PrinterState,
+  Telling.{Tells, failure_text, tail_by},
+}
+use Rattle.follow_core.proofs.{
+  CallLemmas.{came_none, failure_said, wrote_after, wrote_line},
+  CallGivesLemmas.{broke_at, contents_open, found_as, found_both, found_from, goes_after, held_many, if_broke, keeps_others, none_of, nothing_due, opened_led, opened_there, some_of},
+  CatchLemmas.{FromFrontOr, LooksAgain, long_by, ToldAgain, at_look},
+  LookLemmas.{first_last, last_file, looked_last, failed_more, failed_sound, broken_sound, broken_more, seeing, IsDue},
+}
+use Rattle.std.proofs.{
+  Common.{◌⊎◌, ◌≡◌, ◌<◌, ◌+◌, arith, zero, suc, ℕ, Bool, true, false, not, List, [], ◌∷◌, ◌++◌, length, Option, Some, None, refl, sym, ◌∙◌, ap, if◌then◌else◌, subst, inl, inr, ◌&&◌, Result, Ok, Err, IsTrue, IfOk, subst₂, is_none, is_some},
+  lemmas.{List.{append-nil, map-append}, Bool.false≢true, Result.IfOk-weaker},
+  Math.Bool.and-false,
+}
+use Rattle.watch_core.{
+  specs.{Snapshot.{Snapshot, Found, latest, opens_as}, declared.watch.Broken.Broken, Watched.{NameBreaks, Reopens, Watched, is_watchable, no_name, open_contents, opens, watched_at}},
+  proofs.NameLemmas.{latest-last, watchable_within},
+}
+use Rattle.ports_core.{
+  specs.{Slot.{Slot, changed_at}, Text.message_of, Message.{OnError, SaysOn}, declared.{reason.Reason.Reason, fault.Fault.{Fault, TheVariants.Open}}},
+  proofs.SlotLemmas.changed_there,
+}
 use Rattle.watch_core.specs.declared.watch.Broken.TheVariants as broken
-use Rattle.follow_core.specs.Event.{Event, bytes_in, gives, lines_in}
-use Rattle.follow_core.specs.Version.{Entry, gap, entries_at_look, entries_led, held_at, open_after_later, open_after_look, version}
-use Rattle.follow_core.specs.Gain.{file_of, last_from, last_of, gains_after}
-use Rattle.follow_core.specs.inner.Giving.{Anywhere, BrokeAt, Came, Nothing, WereFound, Ends, Follows, IfBroke, Keeps, Shared, Starts, fault_by, is_read, stop_in, text_under}
-use Rattle.follow_core.specs.Look.{Fate, Look, Ways, can_meet, entries_in, failed_by, failed_in, fate_at, is_dropped, snapshots, sound, unled, unopened, unmeasured, unsought, unread, is_first}
-use Rattle.follow_core.specs.Notice.{is_missing}
-use Rattle.follow_core.specs.Share.{BeginsShare, Due, Share, due_at, due_later, failure_line, failure_of, given_by, is_kept, is_unopened, led_before, missing_share, no_share, share_by}
-use Rattle.ports_core.specs.Slot.{Slot, changed_at}
-use Rattle.ports_core.specs.Text.{message_of}
-use Rattle.ports_core.specs.Message.{OnError, SaysOn}
-use Rattle.ports_core.specs.declared.reason.Reason.{Reason}
-use Rattle.ports_core.specs.declared.fault.Fault.{Fault}
-use Rattle.ports_core.specs.declared.fault.Fault.TheVariants.{Open}
-use Rattle.follow_core.specs.declared.visitor.Stop.TheVariants.{Broke, Over}
-use Rattle.follow_core.specs.inner.Visits.{Visits, TellsStop, Visited}
-use Rattle.follow_core.specs.Printing.{PrinterState}
-use Rattle.follow_core.specs.Telling.{Tells, failure_text, tail_by}
-use Rattle.follow_core.specs.declared.visitor.Stop.{Stop}
-use Rattle.std.proofs.lemmas.Bool.{false≢true}
-use Rattle.watch_core.proofs.NameLemmas.{latest-last, watchable_within}
-use Rattle.ports_core.proofs.SlotLemmas.{changed_there}
-use Rattle.watch_core.specs.Watched.{Reopens, Watched, breaks, is_watchable, no_name, open_contents, opens, watched_at}
-use Rattle.follow_core.specs.declared.name.Standing.{Standing}
-use Rattle.follow_core.specs.declared.name.Standing.TheVariants.{New, Followed, Left}
-use Rattle.std.proofs.lemmas.Result.{IfOk-weaker}
-use Rattle.follow_core.proofs.LookLemmas.{first_last, last_file, looked_last, failed_more, failed_sound, broken_sound, broken_more, seeing, IsDue}
 
 -- The outputs have what the look gives for the name, by how the name came through it, and by which call it broke. Where the files
 -- don't tell their bytes, they have something.
@@ -193,10 +189,11 @@ opened_now : (place : ℕ) {file : Option ℕ} (old : List Watched) {new : List 
 opened_now place old is can = ap (λ those. watched_at those place) is ∙ opened_there old place can
 
 broken_now : (place : ℕ) (old : List Watched) {new : List Watched} {fate : Fate} {why : Fault}
-    → BrokeAt place old new fate why → IsTrue (is_watchable old place)
-    → watched_at new place ≡ record (watched_at old place) { opened = None; failed = failed_by fate None }
-broken_now place old {fate} is can = ap (λ those. watched_at those place) is.names
-    ∙ changed_there no_name place (λ watched. record watched { opened = None; failed = failed_by fate None }) old (watchable_within old place can)
+    (broke : BrokeAt place old new fate why) → IsTrue (is_watchable old place)
+    → watched_at new place
+    ≡ record (watched_at old place) { opened = None; failed = failed_by fate None; reason = broke.reason }
+broken_now place old {fate} broke can = ap (λ those. watched_at those place) broke.names
+    ∙ changed_there no_name place (λ watched. record watched { opened = None; failed = failed_by fate None; reason = broke.reason }) old (watchable_within old place can)
 
 none_there : (failed : Option Broken) → is_none failed ≡ true → failed ≡ None
 none_there None is = refl
@@ -270,7 +267,8 @@ module _ {told_in told : Bool} {ways : Ways} {snapshot : Snapshot} {place : ℕ}
       → BrokeAt place old new fate why
       → ((looks : List Look) → Stands told_in ways looks place name (watched_at old place) standing
       → (is_dropped place looks ≡ false)
-      × Looked told_in told ways looks snapshot name printer slots after slots_new true fate × (can_meet (is_first looks) ways.by_name ways.seeks fate ≡ true))
+      × Looked told_in told ways looks snapshot name printer slots after slots_new true fate
+      × (can_meet (is_first looks) ways.by_name ways.seeks fate ≡ true))
       → Visits told_in told ways snapshot place name standing old printer slots Left new after slots_new (Ok true)
   drops fate why named can broke gave = visits_by Left _ broke.names tt (λ looks stands.
       let (kept, looked, met) = gave looks stands in
@@ -376,7 +374,7 @@ pub first_unopened : {told_in told : Bool} {ways : Ways} {snapshot : Snapshot} {
     {printer : PrinterState}
     {slots slots_new : List Slot} {old new : List Watched} {why : Fault} {now : Standing} {result : Result Bool Fault}
     → (watched_at old place).name ≡ name → IsTrue (is_watchable old place)
-    → why ≡ Open place → new ≡ changed_at place (breaks (λ file. broken.Open)) old → snapshot.breaks ≡ true
+    → why ≡ Open place → NameBreaks (λ file. broken.Open) place old new → snapshot.breaks ≡ true
     → TellsStop told printer.calling name slots now slots_new (Broke why) result
     → Visits told_in told ways snapshot place name New old printer slots now new printer slots_new result
 first_unopened {place} {name} {old} {why} named can is broke fails (tells, left, says) =

@@ -1,22 +1,26 @@
 -- A look at a name: what it gives, from where the looks before left it, what is told of it, and how it stands then.
-use Rattle.follow_core.specs.Standing.{BrokeIn, StandsAt}
-use Rattle.follow_core.proofs.CallGivesLemmas.{none_of}
-use Rattle.follow_core.proofs.CatchLemmas.{at_look}
-use Rattle.follow_core.proofs.EventLemmas.{bytes_later, events-append}
-use Rattle.std.proofs.Common.{◌≡◌, ℕ, ◌==◌, Bool, true, false, List, [], ◌∷◌, ◌++◌, length, Option, Some, None, refl, sym, ◌∙◌, ap, if◌then◌else◌, subst, append_assoc, ◌&&◌, eqb-true, rules}
-use Rattle.std.proofs.lemmas.List.{append-nil, map-append}
-use Rattle.std.proofs.Math.Bool.{and-false, and-true}
-use Rattle.watch_core.specs.Snapshot.{Snapshot}
-use Rattle.watch_core.specs.declared.watch.Broken.{Broken}
-use Rattle.follow_core.specs.Event.{bytes_in, events_later}
-use Rattle.follow_core.specs.Version.{Entry, gap, version_in, entries_at_look, entries_led, entries_later, entries_open, held_at, open_after, open_after_later, open_after_look}
-use Rattle.follow_core.specs.Gain.{file_of, last_from, last_of, gains_later, gains_after}
-use Rattle.follow_core.specs.Look.{Fate, Look, Ways, can_meet, are_met, entries_in, failed_by, failed_in, fate_at, is_dropped, snapshots, sound, unled, unopened, unmeasured, unsought, unread, is_first}
-use Rattle.follow_core.specs.Run.{AreKept, name_text}
-use Rattle.follow_core.specs.Notice.{is_missing}
-use Rattle.follow_core.specs.Share.{Due, due_at, gain, gains_from, opened_in}
-use Rattle.follow_core.proofs.RunLemmas.{gains-append, last_from-append, text_goes_on, text_is_gains, entries-append}
-use Rattle.std.proofs.lemmas.Bool.{and_parts}
+use Rattle.follow_core.specs.{
+  Standing.{BrokeIn, StandsAt},
+  Event.{bytes_in, events_later},
+  Version.{Entry, gap, version_in, entries_at_look, entries_led, entries_later, entries_open, held_at, open_after, open_after_later, open_after_look},
+  Gain.{file_of, last_from, last_of, gains_later, gains_after},
+  Look.{Fate, Look, Ways, can_meet, are_met, entries_in, failed_by, failed_in, fate_at, is_dropped, snapshots, sound, unled, unopened, unmeasured, unsought, unread, is_first},
+  Run.{AreKept, name_text},
+  Notice.is_missing,
+  Share.{Due, due_at, gain, gains_from, opened_in},
+}
+use Rattle.follow_core.proofs.{
+  CallGivesLemmas.none_of,
+  CatchLemmas.at_look,
+  EventLemmas.{bytes_later, events-append},
+  RunLemmas.{gains-append, last_from-append, text_goes_on, text_is_gains, entries-append},
+}
+use Rattle.std.proofs.{
+  Common.{◌≡◌, ℕ, ◌==◌, Bool, true, false, List, [], ◌∷◌, ◌++◌, length, Option, Some, None, refl, sym, ◌∙◌, ap, if◌then◌else◌, subst, append_assoc, ◌&&◌, eqb-true, rules},
+  lemmas.{List.{append-nil, map-append}, Bool.and_parts},
+  Math.Bool.{and-false, and-true},
+}
+use Rattle.watch_core.specs.{Snapshot.Snapshot, declared.watch.Broken.Broken}
 
 -- what a look gives for a name, from where the looks before left it
 

@@ -1,38 +1,33 @@
 -- Looks at all names, one after another
-use Rattle.std.proofs.Common.{◌≡◌, ℕ, zero, suc, ◌<◌, ◌≤◌, ◌+◌, ◌-◌, Bool, true, false, IsTrue, if◌then◌else◌, ◌||◌, List, [], ◌∷◌, ◌++◌, length, take, slice_index_or, refl, sym, ◌∙◌, ap, subst, arith, inl, inr, ◌⊎◌, Option, Some, subst₂, Err, not, ◌&&◌, map, Ok, Result, None, is_some, rules}
-use Rattle.std.proofs.Math.Bool.{or-false as or_none, and-false as and_none}
-use Rattle.std.proofs.lemmas.Bool.{or_parts, cases_lt, and_parts, false≢true, not-true}
-use Rattle.std.proofs.lemmas.List.{append-nil, get_or-map, length-append, length-map, take_all, get_or-append-add, get_or_append_left, map-append, take-append-le}
-use Rattle.std.proofs.Math.Seq.{take-append_seam}
-use Rattle.ports_core.specs.Slot.{Slot, adds}
-use Rattle.follow_core.specs.FollowState.{AllReady, Begun, CanLook, FollowState, Holds, IsCause, IsOther, LooksOn, StandsIn, StopsOn, goes_on_at, is_alive, is_alive_from, new_state, nothing, lacks_memory, output_broke, Halted, SawOrNot, opened_follow}
-use Rattle.follow_core.specs.Followed.{any_failed}
-use Rattle.follow_core.specs.Look.{Look, Ways, snapshots, ways_of}
-use Rattle.follow_core.specs.Share.{shares_at_look_from, shares_of}
-use Rattle.follow_core.specs.inner.Visits.{StandFrom, VisitedTo, VisitsAll, any_goes_on, goes_on_as, AddsSome, Begins, MakesLook, LookedAll}
-use Rattle.follow_core.specs.Printing.{PrinterState, Short}
-use Rattle.follow_core.specs.Reading.{AreAtLook, looks_more, no_looks}
-use Rattle.follow_core.specs.Sharing.{CanPrint}
-use Rattle.follow_core.specs.inner.Giving.{IsFront, HasStopped}
-use Rattle.follow_core.specs.Standing.{AllStand, CanVisit, NoneGoesOn, NameState, Stands, no_state, state_at, texts, AreWatched, IsFollowed, IsWatched}
-use Rattle.follow_core.proofs.CallLemmas.{no_memory}
-use Rattle.ports_core.specs.declared.fault.Fault.{Fault}
-use Rattle.watch_core.specs.Snapshot.{Snapshot, latest}
-use Rattle.watch_core.specs.Watched.{Watched, watched_at, added, no_name}
-use Rattle.follow_core.specs.declared.name.Standing.{Standing}
-use Rattle.follow_core.specs.declared.name.Standing.TheVariants.{New, Followed, Left}
-use Rattle.follow_core.proofs.LookLemmas.{last_file}
-use Rattle.follow_core.proofs.RunLemmas.{failed-append, shares_more}
-use Rattle.follow_core.specs.declared.follow.Stage.{Stage}
-use Rattle.follow_core.specs.declared.follow.Stage.TheVariants.{Fresh, Looking, Over}
-use Rattle.follow_core.specs.Version.{open_after}
-use Rattle.watch_core.proofs.NameLemmas.{latest-last}
-use Rattle.follow_core.specs.declared.start.Start.{Start}
-use Rattle.ports_core.specs.declared.calling.Calling.{Calling}
-use Rattle.follow_core.specs.Ending.{AreMost, FollowEndsAs, FollowEndsBy, is_over, until_over, Made, StoppedIn, seen_first}
+use Rattle.std.proofs.{
+  Common.{◌≡◌, ℕ, zero, suc, ◌<◌, ◌≤◌, ◌+◌, ◌-◌, Bool, true, false, IsTrue, if◌then◌else◌, ◌||◌, List, [], ◌∷◌, ◌++◌, length, take, slice_index_or, refl, sym, ◌∙◌, ap, subst, arith, inl, inr, ◌⊎◌, Option, Some, subst₂, Err, not, ◌&&◌, map, Ok, Result, None, is_some, rules},
+  Math.{Bool.{or-false as or_none, and-false as and_none}, Seq.take-append_seam},
+  lemmas.Bool.{or_parts, cases_lt, and_parts, false≢true, not-true},
+  lemmas.List.{append-nil, get_or-map, length-append, length-map, take_all, get_or-append-add, get_or_append_left, map-append, take-append-le},
+}
+use Rattle.ports_core.specs.{Slot.{Slot, adds}, declared.{fault.Fault.Fault, calling.Calling.Calling}}
+use Rattle.follow_core.specs.{
+  FollowState.{AllReady, Begun, CanLook, FollowState, Holds, IsCause, IsOther, LooksOn, StandsIn, StopsOn, goes_on_at, is_alive, is_alive_from, new_state, nothing, lacks_memory, output_broke, Halted, SawOrNot, opened_follow},
+  Followed.any_failed,
+  Look.{Look, Ways, snapshots, ways_of},
+  Share.{shares_at_look_from, shares_of},
+  inner.{Visits.{StandFrom, VisitedTo, VisitsAll, any_goes_on, goes_on_as, AddsSome, Begins, MakesLook, LookedAll}, Giving.{IsFront, HasStopped}},
+  Printing.{PrinterState, Short},
+  Reading.{AreAtLook, looks_more, no_looks},
+  Sharing.CanPrint,
+  Standing.{AllStand, CanVisit, NoneGoesOn, NameState, Stands, no_state, state_at, texts, AreWatched, IsFollowed, IsWatched},
+  declared.{name.Standing.{Standing, TheVariants.{New, Followed, Left}}, follow.Stage.{Stage, TheVariants.{Fresh, Looking, Over}}, start.Start.Start},
+  Version.open_after,
+  Ending.{AreMost, FollowEndsAs, FollowEndsBy, is_over, until_over, Made, StoppedIn, seen_first},
+}
+use Rattle.follow_core.proofs.{
+  CallLemmas.no_memory,
+  LookLemmas.last_file,
+  RunLemmas.{failed-append, shares_more},
+  FollowLemmas.{nothing_shared, all_both, text_there, same_length, unbroken_watched, watched_there},
+}
+use Rattle.watch_core.{specs.{Snapshot.{Snapshot, latest}, Watched.{Watched, watched_at, added, no_name}}, proofs.NameLemmas.latest-last}
 use Rattle.ports_core.specs.declared.fault.Fault.TheVariants as fault
-use Rattle.ports_core.specs.declared.reason.Reason.{Reason}
-use Rattle.follow_core.proofs.FollowLemmas.{nothing_shared, all_both, text_there, same_length, unbroken_watched, watched_there}
 
 -- A look at all names more, and one that was stopped.
 
@@ -668,15 +663,15 @@ until_last {process} {shows} {now} {made} {count} {seen} is below found gone sam
 
 -- a whole run
 
-pub ends_by : {told_in told : Bool} {breaks_for : ℕ → Reason → Bool} {calling : Calling} {ways : Ways} {headers : Bool}
+pub ends_by : {told_in told : Bool} {calling : Calling} {ways : Ways} {headers : Bool}
     {names : List (List ℕ)} {count : ℕ} {shows : ℕ → Snapshot} {first : List Slot} {seen : List Snapshot}
     {watched : List Watched} {new : List Slot} {status : ℕ}
     (process : Option ℕ) (most : ℕ) → AreMost told_in process shows count most
-    → FollowEndsAs told_in told breaks_for calling ways headers names most shows first seen watched new status
-    → FollowEndsBy process told_in told breaks_for calling ways headers names count shows first seen watched new status
+    → FollowEndsAs told_in told calling ways headers names most shows first seen watched new status
+    → FollowEndsBy process told_in told calling ways headers names count shows first seen watched new status
 ends_by (Some process) most are ends = (most, are, ends)
-ends_by {told_in} {told} {breaks_for} {calling} {ways} {headers} {names} {count} {shows} {first} {seen} {watched} {new} {status} None most are ends =
-    subst (λ n. FollowEndsAs told_in told breaks_for calling ways headers names n shows first seen watched new status) (no_fewer (cases_lt most count)) ends where
+ends_by {told_in} {told} {calling} {ways} {headers} {names} {count} {shows} {first} {seen} {watched} {new} {status} None most are ends =
+    subst (λ n. FollowEndsAs told_in told calling ways headers names n shows first seen watched new status) (no_fewer (cases_lt most count)) ends where
       no_fewer : (most < count) ⊎ (count ≤ most) → most ≡ count
       no_fewer (inl fewer) = absurd (false≢true (are.found fewer).2)
       no_fewer (inr all) = let within = are.within in omega (arith, all, within)

@@ -1,17 +1,20 @@
 -- The text of a name goes on by what each entry adds, and all that is written by what one look more gives.
-use Rattle.std.proofs.lemmas.Grind.{common_steps}
-use Rattle.std.proofs.Math.Seq.{drop-append_seam as drop_front}
-use Rattle.std.proofs.Common.{◌≡◌, ℕ, Bool, true, false, List, [], ◌∷◌, ◌++◌, length, drop, refl, sym, ◌∙◌, ap, append_assoc, if◌then◌else◌, append-nil, Option, ◌||◌, arith, is_some}
-use Rattle.std.specs.List.{onto_first}
+use Rattle.std.{
+  proofs.lemmas.Grind.common_steps,
+  proofs.Math.{Seq.drop-append_seam as drop_front, Bool.or_assoc},
+  proofs.Common.{◌≡◌, ℕ, Bool, true, false, List, [], ◌∷◌, ◌++◌, length, drop, refl, sym, ◌∙◌, ap, append_assoc, if◌then◌else◌, append-nil, Option, ◌||◌, arith, is_some},
+  specs.List.onto_first,
+}
 use Rattle.ports_core.specs.Part.{IsBeginning}
-use Rattle.follow_core.specs.Version.{Version, Entry, version, gap, entries_of, entries_later, entries_at_look, open_after_look, open_after_later, open_after}
-use Rattle.follow_core.specs.Run.{goes_on, runs_of, last_contents, whole_text, begun_text, name_text, KeptFrom, AreKept}
-use Rattle.follow_core.specs.Gain.{gain_between, gains_later, last_from, gains_after}
-use Rattle.std.proofs.Math.Bool.{or_assoc}
+use Rattle.follow_core.specs.{
+  Version.{Version, Entry, version, gap, entries_of, entries_later, entries_at_look, open_after_look, open_after_later, open_after},
+  Run.{goes_on, runs_of, last_contents, whole_text, begun_text, name_text, KeptFrom, AreKept},
+  Gain.{gain_between, gains_later, last_from, gains_after},
+  Look.{Ways, Look},
+  Share.{Share, lines_of, shares_of, shares_from, shares_at_look},
+  Followed.{text_from, share_text, header_after, last_header_from, messages_of, any_failed},
+}
 use Rattle.watch_core.specs.Snapshot.{Snapshot}
-use Rattle.follow_core.specs.Look.{Ways, Look}
-use Rattle.follow_core.specs.Share.{Share, lines_of, shares_of, shares_from, shares_at_look}
-use Rattle.follow_core.specs.Followed.{text_from, share_text, header_after, last_header_from, messages_of, any_failed}
 
 -- the run that a version begins, and what comes after it
 record Begun (v : Version) (entries : List Entry) : Type 0 where

@@ -1,19 +1,16 @@
 -- Where the first look begins to write: blocks that are read, and the lines in them.
-use Rattle.std.proofs.lemmas.Grind.{common_steps}
-use Rattle.std.proofs.Common.{◌≡◌, ℕ, ◌+◌, ◌-◌, ◌<◌, ◌≤◌, List, ◌++◌, length, take, drop, Bool, true, sym, ◌∙◌, ap, arith, min}
-use Rattle.std.proofs.Math.Seq.{take-add, take-append-add}
-use Rattle.std.proofs.lemmas.List.{length-take, drop-drop, take-take, drop-append-le}
-use Rattle.std.proofs.lemmas.Slice.{take-put_mid}
+use Rattle.std.proofs.{
+  lemmas.{Grind.common_steps, List.{length-take, drop-drop, take-take, drop-append-le}, Slice.take-put_mid},
+  Common.{◌≡◌, ℕ, ◌+◌, ◌-◌, ◌<◌, ◌≤◌, List, ◌++◌, length, take, drop, Bool, true, sym, ◌∙◌, ap, arith, min},
+  Math.Seq.{take-add, take-append-add},
+}
 use borrow.Rule.Slice.PartMut.{put_mid}
-use Rattle.watch_core.specs.Snapshot.{Snapshot, latest}
-use Rattle.watch_core.specs.Watched.{Watched, GaveFrom, open_contents, watched_at}
-use Rattle.seg_core.specs.Line.{EndsAt, FallsShort, after_lines, delimiters, joined}
-use Rattle.seg_core.proofs.LinesOf.{joined-lines_of}
-use Rattle.seg_core.proofs.FirstLines.{EndsAt-enough, EndsAt-rest}
-use Rattle.seg_core.proofs.EndLines.{after_lines-append, after_lines-past}
-use Rattle.ends_core.specs.laws.EndsLaws.{after_of-append}
-use Rattle.ends_core.proofs.FindLemmas.{block_then}
-use Rattle.seg_core.specs.declared.unit.Unit.TheVariants.{Lines}
+use Rattle.watch_core.specs.{Snapshot.{Snapshot, latest}, Watched.{Watched, GaveFrom, open_contents, watched_at}}
+use Rattle.seg_core.{
+  specs.{Line.{EndsAt, FallsShort, after_lines, delimiters, joined}, declared.unit.Unit.TheVariants.Lines},
+  proofs.{LinesOf.joined-lines_of, FirstLines.{EndsAt-enough, EndsAt-rest}, EndLines.{after_lines-append, after_lines-past}},
+}
+use Rattle.ends_core.{specs.laws.EndsLaws.after_of-append, proofs.FindLemmas.block_then}
 
 -- filling a block of a watched file, read by read
 

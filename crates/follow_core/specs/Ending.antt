@@ -1,23 +1,22 @@
 -- How a run of following ends, by what its looks saw.
 use Rattle.std.specs.Prelude.{◌≡◌, ◌<◌, ◌≤◌, ◌+◌, ◌++◌, ◌∷◌, ℕ, zero, suc, Bool, true, false, IsTrue, List, [], length, take, Option, Some, None, if◌then◌else◌}
-use Rattle.ports_core.specs.Message.{IsWhy, SaysOn, TellsOn, output_named}
-use Rattle.ports_core.specs.Slot.{Slot}
-use Rattle.ports_core.specs.Text.{message_of, status_after}
-use Rattle.ports_core.specs.declared.calling.Calling.{Calling}
-use Rattle.ports_core.specs.declared.calling.Calling.TheVariants.{OwnName}
-use Rattle.ports_core.specs.declared.reason.Reason.{Reason}
-use Rattle.ports_core.specs.declared.fault.Fault.{Fault}
-use Rattle.ports_core.specs.declared.fault.Fault.TheVariants.{Memory}
-use Rattle.watch_core.specs.Snapshot.{Snapshot, forgiving}
-use Rattle.watch_core.specs.Watched.{Watched}
-use Rattle.follow_core.specs.Followed.{Followed, made_of}
-use Rattle.follow_core.specs.FollowState.{Halted, SawOrNot, is_alive}
-use Rattle.follow_core.specs.Look.{Look, Ways, snapshots}
-use Rattle.follow_core.specs.Reading.{AreFound}
-use Rattle.follow_core.specs.Share.{Share, shares_of}
-use Rattle.follow_core.specs.Sharing.{Wrote}
-use Rattle.follow_core.specs.Standing.{AreWatched, NoneGoesOn}
-use Rattle.follow_core.specs.Telling.{tail_by}
+use Rattle.ports_core.specs.{
+  Message.{SaysOn, TellsOn, output_reason},
+  Slot.Slot,
+  Text.{message_of, status_after},
+  declared.{calling.Calling.{Calling, TheVariants.OwnName}, reason.Reason.Reason, fault.Fault.{Fault, TheVariants.Memory}},
+}
+use Rattle.watch_core.specs.{Snapshot.{Snapshot, forgiving}, Watched.Watched}
+use Rattle.follow_core.specs.{
+  Followed.{Followed, made_of},
+  FollowState.{Halted, SawOrNot, is_alive},
+  Look.{Look, Ways, snapshots},
+  Reading.AreFound,
+  Share.{Share, shares_of},
+  Sharing.Wrote,
+  Standing.{AreWatched, NoneGoesOn},
+  Telling.tail_by,
+}
 
 -- What each look of a run shows. Where `tail` was called by its own name and follows names, a name that is there but
 -- can't be opened or read counts as missing, and no call on a name fails.
@@ -76,9 +75,8 @@ pub record AreMost (told_in : Bool) (process : Option ℕ) (shows : ℕ → Snap
 -- come, and the outputs have exactly what they give; or a look was stopped, and the outputs have all of the looks
 -- before it, a beginning of it, and the message, but of a reader that is gone where none is due; or there was no memory
 -- to begin, and no look was made.
-pub data FollowEndsAs (told_in told : Bool) (breaks_for : ℕ → Reason → Bool) (calling : Calling) (ways : Ways)
-    (headers : Bool) (names : List (List ℕ)) (count : ℕ) (shows : ℕ → Snapshot) (first : List Slot)
-    (seen : List Snapshot)
+pub data FollowEndsAs (told_in told : Bool) (calling : Calling) (ways : Ways) (headers : Bool)
+    (names : List (List ℕ)) (count : ℕ) (shows : ℕ → Snapshot) (first : List Slot) (seen : List Snapshot)
     (watched : List Watched) (new : List Slot) (status : ℕ) : Type 0 where
   looked : (looks : List Look) (shares : List Share) → seen ≡ snapshots looks → AreWatched ways looks names watched
       → Made told_in ways names shows looks → length looks ≤ count
@@ -86,24 +84,22 @@ pub data FollowEndsAs (told_in told : Bool) (breaks_for : ℕ → Reason → Boo
       × NoneGoesOn ways watched)
       → (told_in ≡ true → shares ≡ shares_of ways names looks) → AreFound ways names looks shares
       → Leaves told calling (made_of headers shares) first new status
-      → FollowEndsAs told_in told breaks_for calling ways headers names count shows first seen watched new status
-  stopped : (mid : List Slot) (fault : Fault) (why : Reason)
+      → FollowEndsAs told_in told calling ways headers names count shows first seen watched new status
+  stopped : (mid : List Slot) (fault : Fault)
       → StoppedIn told_in told calling ways headers names count shows first seen watched mid fault
-      → IsWhy breaks_for fault why → TellsOn told (tail_by calling) why fault (output_named mid fault) mid new
-      → status ≡ status_after fault calling why
-      → FollowEndsAs told_in told breaks_for calling ways headers names count shows first seen watched new status
+      → TellsOn told (tail_by calling) fault mid new → status ≡ status_after fault calling (output_reason mid fault)
+      → FollowEndsAs told_in told calling ways headers names count shows first seen watched new status
   no_room : (why : Reason) → seen ≡ [] → watched ≡ []
       → SaysOn told (tail_by calling) why (message_of Memory []) first new
-      → status ≡ 1 → FollowEndsAs told_in told breaks_for calling ways headers names count shows first seen watched new
+      → status ≡ 1 → FollowEndsAs told_in told calling ways headers names count shows first seen watched new
       status
 
 -- a run that ends once this process is gone, where one is waited for
-abbrev pub FollowEndsBy : Option ℕ → (told_in told : Bool) → (ℕ → Reason → Bool) → Calling → Ways → Bool
-    → List (List ℕ) → (count : ℕ) → (ℕ → Snapshot) → List Slot → List Snapshot → List Watched → List Slot
+abbrev pub FollowEndsBy : Option ℕ → (told_in told : Bool) → Calling → Ways → Bool → List (List ℕ) → (count : ℕ)
+    → (ℕ → Snapshot) → List Slot → List Snapshot → List Watched → List Slot
     → (status : ℕ) → Type 0
-FollowEndsBy None told_in told breaks_for calling ways headers names count shows first seen watched new status =
-    FollowEndsAs told_in told breaks_for calling ways headers names count shows first seen watched new status
-FollowEndsBy (Some process) told_in told breaks_for calling ways headers names count shows first seen watched new
-    status =
+FollowEndsBy None told_in told calling ways headers names count shows first seen watched new status =
+    FollowEndsAs told_in told calling ways headers names count shows first seen watched new status
+FollowEndsBy (Some process) told_in told calling ways headers names count shows first seen watched new status =
     (most : ℕ) × AreMost told_in (Some process) shows count most
-    × FollowEndsAs told_in told breaks_for calling ways headers names most shows first seen watched new status
+    × FollowEndsAs told_in told calling ways headers names most shows first seen watched new status

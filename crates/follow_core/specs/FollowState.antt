@@ -1,23 +1,18 @@
 -- Following: its names and how they stand, from one look to the next.
 use Rattle.std.specs.Prelude.{◌≡◌, ◌⊎◌, ◌<◌, ◌∷◌, ◌++◌, ◌+◌, ℕ, Bool, true, false, not, ◌&&◌, ◌||◌, List, [], length, map, take, slice_index_or, is_some}
-use Rattle.ports_core.specs.Slot.{Slot, Rose}
-use Rattle.ports_core.specs.declared.calling.Calling.{Calling}
-use Rattle.ports_core.specs.declared.fault.Fault.{Fault}
-use Rattle.ports_core.specs.declared.fault.Fault.TheVariants.{Failed, Memory, Write}
-use Rattle.watch_core.specs.Snapshot.{Snapshot}
-use Rattle.watch_core.specs.Watched.{Watched, watched_at}
-use Rattle.follow_core.specs.declared.follow.Stage.{Stage}
-use Rattle.follow_core.specs.declared.follow.Stage.TheVariants.{Fresh, Looking, Over}
-use Rattle.follow_core.specs.declared.name.Standing.TheVariants.{New}
-use Rattle.follow_core.specs.declared.start.Start.{Start}
-use Rattle.follow_core.specs.Sharing.{CanPrint, AllShared, AllShort}
-use Rattle.follow_core.specs.Followed.{any_failed}
-use Rattle.follow_core.specs.Look.{Fate, Look, Ways, is_dropped, snapshots, ways_of}
-use Rattle.follow_core.specs.Share.{BeginsShare, Share, share_of, shares_at_look_from, shares_of}
-use Rattle.follow_core.specs.Printing.{PrinterState, fresh_printer}
-use Rattle.follow_core.specs.Reading.{AreAtLook, AreFound, IsBegun}
-use Rattle.follow_core.specs.Standing.{AllStand, AreWatched, CanVisit, NameState, state_at, texts}
-use Rattle.follow_core.specs.Version.{open_after}
+use Rattle.ports_core.specs.{Slot.{Slot, Rose}, declared.{calling.Calling.Calling, fault.Fault.{Fault, TheVariants.{Failed, Memory, Write}}}}
+use Rattle.watch_core.specs.{Snapshot.Snapshot, Watched.{Watched, watched_at}}
+use Rattle.follow_core.specs.{
+  declared.{follow.Stage.{Stage, TheVariants.{Fresh, Looking, Over}}, name.Standing.TheVariants.New, start.Start.Start},
+  Sharing.{CanPrint, AllShared, AllShort},
+  Followed.any_failed,
+  Look.{Fate, Look, Ways, is_dropped, snapshots, ways_of},
+  Share.{BeginsShare, Share, share_of, shares_at_look_from, shares_of},
+  Printing.{PrinterState, fresh_printer},
+  Reading.{AreAtLook, AreFound, IsBegun},
+  Standing.{AllStand, AreWatched, CanVisit, NameState, state_at, texts},
+  Version.open_after,
+}
 
 pub record FollowState : Type 0 where
   pub by_name : Bool

@@ -1,7 +1,6 @@
 -- What each entry adds to the text of a name, by the one before it.
 use Rattle.std.specs.Prelude.{ℕ, List, [], ◌∷◌, ◌++◌, Option, Some, None, length, drop, if◌then◌else◌}
-use Rattle.follow_core.specs.Version.{Entry, version, gap}
-use Rattle.follow_core.specs.Run.{goes_on}
+use Rattle.follow_core.specs.{Version.{Entry, version, gap}, Run.goes_on}
 
 abbrev pub gain_between : Entry → Entry → List ℕ
 gain_between (version v) (version w) = if goes_on v w then drop (length v.contents) w.contents else w.contents

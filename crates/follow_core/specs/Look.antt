@@ -1,13 +1,10 @@
 -- The looks that were made, and how each name came through them.
 use Rattle.std.specs.Prelude.{is_some, ℕ, Bool, true, false, not, ◌&&◌, ◌||◌, List, [], ◌∷◌, Option, Some, None, map, slice_index_or}
 use Rattle.ends_core.specs.Ends.{tail_of}
-use Rattle.seg_core.specs.declared.unit.Unit.{Unit}
-use Rattle.seg_core.specs.declared.unit.Unit.TheVariants.{Lines, Bytes}
-use Rattle.watch_core.specs.Snapshot.{Snapshot}
-use Rattle.watch_core.specs.declared.watch.Broken.{Broken}
+use Rattle.seg_core.specs.declared.unit.Unit.{Unit, TheVariants.{Lines, Bytes}}
+use Rattle.watch_core.specs.{Snapshot.Snapshot, declared.watch.Broken.Broken}
+use Rattle.follow_core.specs.{declared.start.Start.Start, Version.{Entry, entries_of}}
 use Rattle.watch_core.specs.declared.watch.Broken.TheVariants as broken
-use Rattle.follow_core.specs.declared.start.Start.{Start}
-use Rattle.follow_core.specs.Version.{Entry, entries_of}
 
 -- how a name came through a look: soundly, or by which call it broke
 pub data Fate : Type 0 where

@@ -1,8 +1,7 @@
 -- Looks that are placed among edits.
 use Rattle.std.specs.Prelude.{◌≡◌, ℕ, Bool, false, List, [], ◌∷◌, ◌++◌, bytes_eq}
 use Rattle.watch_core.specs.Edits.{Edit, append, truncate, replace, remove, end, bar, snapshots_of}
-use Rattle.follow_core.specs.Version.{Entry, entries_of}
-use Rattle.follow_core.specs.Run.{name_text, AreKept}
+use Rattle.follow_core.specs.{Version.{Entry, entries_of}, Run.{name_text, AreKept}}
 
 -- the edits before all looks, where each list of them is followed by a look
 abbrev pub all_edits : List (List Edit) → List Edit

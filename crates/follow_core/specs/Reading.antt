@@ -1,12 +1,13 @@
 -- What comes of a name whatever is watched, also where files don't tell their bytes: what the calls on it found.
 use Rattle.std.specs.Prelude.{◌≡◌, ◌⊎◌, ◌<◌, ◌≤◌, ◌+◌, ℕ, true, false, not, ◌&&◌, List, [], ◌∷◌, ◌++◌, Option, Some, None, is_some, length}
 use Rattle.watch_core.specs.Snapshot.{Snapshot, Found, latest, holds_many, leads_to, opens_as, reads_as}
-use Rattle.follow_core.specs.declared.notice.Notice.{Notice}
-use Rattle.follow_core.specs.declared.notice.Notice.TheVariants.{Truncated, Replaced, Inaccessible, Appeared}
-use Rattle.follow_core.specs.Event.{Begins, Event, gives, notes}
-use Rattle.follow_core.specs.Look.{Fate, Look, Ways, sound, unread, fate_at, is_dropped, is_first, snapshots}
-use Rattle.follow_core.specs.Share.{Share, failure_of, is_unopened, missing_share, no_share}
-use Rattle.follow_core.specs.Version.{is_file}
+use Rattle.follow_core.specs.{
+  declared.notice.Notice.{Notice, TheVariants.{Truncated, Replaced, Inaccessible, Appeared}},
+  Event.{Begins, Event, gives, notes},
+  Look.{Fate, Look, Ways, sound, unread, fate_at, is_dropped, is_first, snapshots},
+  Share.{Share, failure_of, is_unopened, missing_share, no_share},
+  Version.is_file,
+}
 
 -- reads of this file, each from where the one before it ended, gave these bytes, from one place on up to another
 pub data AreRead (snapshot : Snapshot) (name : List ℕ) (file : Option ℕ) (from : ℕ) : List ℕ → ℕ → Type 0 where

@@ -1,14 +1,15 @@
 -- What one look gives for one name.
 use Rattle.std.specs.Prelude.{◌≡◌, ℕ, ◌+◌, ◌-◌, Bool, true, false, not, is_some, ◌&&◌, List, [], ◌∷◌, ◌++◌, Option, Some, None, length, if◌then◌else◌}
-use Rattle.ports_core.specs.declared.fault.Fault.{Fault}
-use Rattle.ports_core.specs.declared.fault.Fault.TheVariants.{Open, Read}
+use Rattle.ports_core.specs.declared.fault.Fault.{Fault, TheVariants.{Open, Read}}
 use Rattle.watch_core.specs.Snapshot.{Snapshot}
-use Rattle.follow_core.specs.Event.{Begins, Event, all_but, bytes_in, events_later, gives, lines_in, notes_in}
-use Rattle.follow_core.specs.Gain.{gains_after, last_from, last_of}
-use Rattle.follow_core.specs.Notice.{is_missing}
-use Rattle.follow_core.specs.Version.{Entry, entries_led, entries_open, held_at, is_same, open_after, open_after_look}
-use Rattle.follow_core.specs.Telling.{failure_text}
-use Rattle.follow_core.specs.Look.{Look, Ways, Fate, sound, unled, unopened, unmeasured, unsought, unread, fate_at, is_dropped, is_first, entries_in, snapshots}
+use Rattle.follow_core.specs.{
+  Event.{Begins, Event, all_but, bytes_in, events_later, gives, lines_in, notes_in},
+  Gain.{gains_after, last_from, last_of},
+  Notice.is_missing,
+  Version.{Entry, entries_led, entries_open, held_at, is_same, open_after, open_after_look},
+  Telling.failure_text,
+  Look.{Look, Ways, Fate, sound, unled, unopened, unmeasured, unsought, unread, fate_at, is_dropped, is_first, entries_in, snapshots},
+}
 
 pub record Share : Type 0 where
   pub name : List ℕ

@@ -1,14 +1,13 @@
 -- How a name stands between two looks.
 use Rattle.std.specs.Prelude.{◌≡◌, ◌<◌, ◌≤◌, ◌+◌, ℕ, Bool, true, false, List, [], Option, Some, None, ◌⊎◌, length, map, slice_index_or, is_some}
-use Rattle.watch_core.specs.declared.watch.Broken.{Broken}
-use Rattle.watch_core.specs.Snapshot.{Snapshot, latest}
-use Rattle.watch_core.specs.Watched.{Watched, added, watched_at}
-use Rattle.follow_core.specs.declared.name.Standing.{Standing}
-use Rattle.follow_core.specs.declared.name.Standing.TheVariants.{New, Followed, Left}
-use Rattle.follow_core.specs.Gain.{file_of, last_of, seen_length}
-use Rattle.follow_core.specs.Look.{Look, Ways, are_met, entries_in, failed_in, is_dropped, is_first, snapshots}
-use Rattle.follow_core.specs.Reading.{LeftOpen}
-use Rattle.follow_core.specs.Version.{Entry, open_after}
+use Rattle.watch_core.specs.{declared.watch.Broken.Broken, Snapshot.{Snapshot, latest}, Watched.{Watched, added, watched_at}}
+use Rattle.follow_core.specs.{
+  declared.name.Standing.{Standing, TheVariants.{New, Followed, Left}},
+  Gain.{file_of, last_of, seen_length},
+  Look.{Look, Ways, are_met, entries_in, failed_in, is_dropped, is_first, snapshots},
+  Reading.LeftOpen,
+  Version.{Entry, open_after},
+}
 
 pub record NameState : Type 0 where
   pub text : List ℕ

@@ -1,16 +1,14 @@
 -- What following says on standard error: notices, and the messages of calls that failed.
 use Rattle.std.specs.Prelude.{◌≡◌, ◌⊎◌, ℕ, Bool, List, [], ◌∷◌}
-use Rattle.ports_core.specs.Slot.{Slot}
-use Rattle.ports_core.specs.Text.{line_of, message_of}
-use Rattle.ports_core.specs.declared.calling.Calling.{Calling}
-use Rattle.ports_core.specs.declared.calling.Calling.TheVariants.{Cutters}
-use Rattle.ports_core.specs.declared.calling.Speaker.{Speaker}
-use Rattle.ports_core.specs.declared.fault.Fault.{Fault}
-use Rattle.ports_core.specs.declared.reason.Reason.{Reason}
-use Rattle.ports_core.specs.declared.reason.Reason.TheVariants.{Other}
-use Rattle.ports_core.specs.Message.{Prints}
-use Rattle.ports_core.specs.declared.tool.Tool.TheVariants.{Tail}
-use Rattle.ports_core.specs.declared.fault.Fault.TheVariants.{Memory, Open, Read}
+use Rattle.ports_core.specs.{
+  Slot.Slot,
+  Text.{line_of, message_of},
+  declared.calling.{Calling.{Calling, TheVariants.Cutters}, Speaker.Speaker},
+  declared.fault.Fault.{Fault, TheVariants.{Memory, Open, Read}},
+  declared.reason.Reason.{Reason, TheVariants.Other},
+  declared.tool.Tool.TheVariants.Tail,
+  Message.Prints,
+}
 
 -- `tail`, called so
 abbrev pub tail_by : Calling → Speaker

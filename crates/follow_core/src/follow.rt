@@ -1,13 +1,14 @@
 //! Following: looks at names, one after another.
 ghost use Rattle.std.specs.Prelude.{◌≡◌, ◌<◌, ◌≤◌, ◌+◌, ◌^◌, ◌∷◌, ◌++◌, [], ℕ, Bool, List, true, false, length, map, Err, IfOk, IfErr, OnOk};
-ghost use Rattle.ports_core.specs.Slot.{Slot};
-ghost use Rattle.ports_core.specs.declared.calling.Calling.{Calling};
+ghost use Rattle.ports_core.specs.{Slot.Slot, declared.calling.Calling.Calling};
 ghost use Rattle.watch_core.specs.Watched.{Watched, watched_at};
-ghost use Rattle.follow_core.specs.Sharing.{HasError};
-ghost use Rattle.follow_core.specs.inner.Visits.{AddsSome, Begins, CanBegin, MakesLook};
-ghost use Rattle.follow_core.specs.FollowState.{CanLook, FollowState, Holds, IsCause, IsOther, LooksOn, SawOrNot, StopsOn, is_alive, opened_follow};
-ghost use Rattle.follow_core.specs.Look.{Look, Ways};
-ghost use Rattle.follow_core.specs.Standing.{NoneGoesOn, texts};
+ghost use Rattle.follow_core.specs.{
+  Sharing.HasError,
+  inner.Visits.{AddsSome, Begins, CanBegin, MakesLook},
+  FollowState.{CanLook, FollowState, Holds, IsCause, IsOther, LooksOn, SawOrNot, StopsOn, is_alive, opened_follow},
+  Look.{Look, Ways},
+  Standing.{NoneGoesOn, texts},
+};
 
 use crate::name::{Name, add_all, any_goes_on, new_names, visit_all};
 use crate::start::Start;

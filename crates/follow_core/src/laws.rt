@@ -1,17 +1,19 @@
 //! Laws of the definitions, with no code: each stands on the contract of a function whose body is empty.
 ghost use Rattle.std.specs.Prelude.{◌≡◌, ◌<◌, ◌+◌, ◌++◌, ◌∷◌, [], ◌||◌, ℕ, List, Bool, None, length};
 ghost use Rattle.watch_core.specs.Edits.{Edit};
-ghost use Rattle.follow_core.specs.Version.{Entry};
-ghost use Rattle.follow_core.specs.Run.{AreKept, name_text};
-ghost use Rattle.follow_core.specs.Gain.{gains_after};
-ghost use Rattle.follow_core.specs.Look.{Look, Ways, entries_in, failed_in};
-ghost use Rattle.follow_core.specs.Reading.{AreFound, NoneBreaks};
-ghost use Rattle.follow_core.specs.Share.{Share, gain, gains_from, shares_at_look};
-ghost use Rattle.follow_core.specs.Followed.{any_failed, followed, last_header, messages_of, text_from};
-ghost use Rattle.follow_core.specs.Placing.{Agree};
-ghost use Rattle.follow_core.specs.Notice.{notice_of};
-ghost use Rattle.follow_core.specs.Telling.{IsFailure};
-ghost use Rattle.follow_core.specs.declared.notice.Notice.{Notice};
+ghost use Rattle.follow_core.specs.{
+  Version.Entry,
+  Run.{AreKept, name_text},
+  Gain.gains_after,
+  Look.{Look, Ways, entries_in, failed_in},
+  Reading.{AreFound, NoneBreaks},
+  Share.{Share, gain, gains_from, shares_at_look},
+  Followed.{any_failed, followed, last_header, messages_of, text_from},
+  Placing.Agree,
+  Notice.notice_of,
+  Telling.IsFailure,
+  declared.notice.Notice.Notice,
+};
 
 /// What one look more gives. The text and the messages are those before and then that look's, in the order of the names; the
 /// status is 1 where it was before or a name fails in that look.

@@ -1,13 +1,13 @@
 //! Names that are followed.
-ghost use Rattle.std.specs.Prelude.{◌≡◌, ◌<◌, ◌≤◌, ◌+◌, ◌^◌, ◌++◌, ℕ, List, length, map, string_bytes, IfOk, IfErr, OnOk};
-ghost use Rattle.watch_core.specs.Snapshot.{latest};
-ghost use Rattle.watch_core.specs.Watched.{added, watched_at};
-ghost use Rattle.follow_core.specs.Sharing.{CanPrint};
-ghost use Rattle.follow_core.specs.inner.Giving.{CanGoOn, over_in};
-ghost use Rattle.follow_core.specs.FollowState.{AllReady, new_state};
-ghost use Rattle.follow_core.specs.Look.{Look, ways_of};
-ghost use Rattle.follow_core.specs.inner.Visits.{AddsSome, any_goes_on, goes_on_as, Visits, VisitsAll};
-ghost use Rattle.follow_core.specs.Standing.{AllStand, CanVisit, NameState, texts};
+ghost use Rattle.std.specs.Prelude.{◌≡◌, ◌<◌, ◌≤◌, ◌+◌, ◌^◌, ◌++◌, ℕ, length, map, string_bytes, IfOk, IfErr, OnOk};
+ghost use Rattle.watch_core.specs.{Snapshot.latest, Watched.{added, watched_at}};
+ghost use Rattle.follow_core.specs.{
+  Sharing.CanPrint,
+  inner.{Giving.{CanGoOn, over_in}, Visits.{AddsSome, any_goes_on, goes_on_as, Visits, VisitsAll}},
+  FollowState.{AllReady, new_state},
+  Look.ways_of,
+  Standing.{CanVisit, NameState, texts},
+};
 
 use crate::start::Start;
 use crate::visitor::Visitor;

@@ -1,12 +1,7 @@
 //! A whole run of following.
-ghost use Rattle.std.specs.Prelude.{◌≡◌, ◌∷◌, [], ℕ, Bool, List, true, length, map, IfErr, IsTrue, OnOk};
-ghost use Rattle.ports_core.specs.Slot.{Slot, streams};
-ghost use Rattle.ports_core.specs.declared.calling.Calling.{Calling};
-ghost use Rattle.follow_core.specs.Sharing.{HasError};
-ghost use Rattle.follow_core.specs.Ending.{AreMost, FollowEndsBy, StoppedIn, is_over, shows_by};
-ghost use Rattle.follow_core.specs.inner.Visits.{LookedAll};
-ghost use Rattle.follow_core.specs.FollowState.{CanLook, Holds};
-ghost use Rattle.follow_core.specs.Look.{Ways, ways_of};
+ghost use Rattle.std.specs.Prelude.{◌≡◌, [], ℕ, Bool, List, true, length, map, IfErr, IsTrue, OnOk};
+ghost use Rattle.ports_core.specs.{Slot.{Slot, streams}, declared.calling.Calling.Calling};
+ghost use Rattle.follow_core.specs.{Sharing.HasError, Ending.{AreMost, FollowEndsBy, StoppedIn, is_over, shows_by}, inner.Visits.LookedAll, FollowState.{CanLook, Holds}, Look.{Ways, ways_of}};
 
 use crate::follow::Follow;
 use crate::start::Start;
@@ -47,7 +42,7 @@ pub fn follow_files<W: Watch, O: Outs>(
     requires unseen { W.seen watch.old ≡ [] }
     requires unwatched { W.watched watch.old ≡ [] }
     requires outputs { O.slots outs.old ≡ streams }
-    ensures { FollowEndsBy limits.process W.told O.told O.breaks_for calling (ways_of 0 by_name start) headers
+    ensures { FollowEndsBy limits.process W.told O.told calling (ways_of 0 by_name start) headers
         (map (λ name. name.now) names.now) limits.looks (shows_by calling by_name (W.shows watch.old))
         (O.slots outs.old) (W.seen watch.new) (W.watched watch.new) (O.slots outs.new) result }
 {

@@ -1,12 +1,9 @@
 //! Where the first look begins to write of a file.
-ghost use Rattle.std.specs.Prelude.{◌≡◌, ◌≤◌, ◌<◌, ◌+◌, ◌-◌, ◌^◌, ℕ, true, false, length, take, drop, IsTrue, IfOk, IfErr, OnOk};
-ghost use Rattle.seg_core.specs.Line.{after_lines};
-ghost use Rattle.seg_core.specs.inner.Lines.{last_lines};
+ghost use Rattle.std.specs.Prelude.{◌≡◌, ◌≤◌, ◌<◌, ◌+◌, ◌^◌, true, length, take, drop, IsTrue, IfOk, IfErr, OnOk};
+ghost use Rattle.seg_core.specs.{Line.after_lines, inner.Lines.last_lines};
 ghost use Rattle.ends_core.specs.Ends.{tail_of};
-ghost use Rattle.watch_core.specs.Snapshot.{latest};
-ghost use Rattle.watch_core.specs.Watched.{is_readable, open_contents, watched_at};
-ghost use Rattle.follow_core.specs.Look.{is_sought};
-ghost use Rattle.follow_core.specs.inner.Giving.{FailsToRead};
+ghost use Rattle.watch_core.specs.{Snapshot.latest, Watched.{is_readable, open_contents, watched_at}};
+ghost use Rattle.follow_core.specs.{Look.is_sought, inner.Giving.FailsToRead};
 
 use ends_core::Unit;
 use ports_core::Fault;

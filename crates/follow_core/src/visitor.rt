@@ -1,19 +1,17 @@
 //! A look at one name: what came to its file is written, and what changed or failed is told.
-ghost use Rattle.std.specs.Prelude.{◌≡◌, ◌≤◌, ◌<◌, ◌-◌, ◌∷◌, [], ℕ, List, Bool, true, false, length, drop, nat_lt, option_map, if◌then◌else◌, IsTrue, IfOk, IfErr, OnOk, Some};
+ghost use Rattle.std.specs.Prelude.{◌≡◌, ◌≤◌, ◌<◌, ◌∷◌, [], ℕ, List, Bool, true, false, length, nat_lt, option_map, if◌then◌else◌, IsTrue, IfOk, IfErr, Some};
 ghost use Rattle.ends_core.specs.Ends.{tail_of};
-ghost use Rattle.ports_core.specs.Slot.{is_open, is_writable, slot_at};
-ghost use Rattle.ports_core.specs.Message.{SaysOn};
-ghost use Rattle.ports_core.specs.Text.{message_of};
-ghost use Rattle.watch_core.specs.Snapshot.{latest};
-ghost use Rattle.watch_core.specs.Watched.{is_readable, is_watchable, open_contents, watched_at};
-ghost use Rattle.follow_core.specs.declared.name.Standing.TheVariants.{New, Followed};
-ghost use Rattle.follow_core.specs.Event.{notes};
-ghost use Rattle.follow_core.specs.Printing.{PrinterState, fresh_printer};
-ghost use Rattle.follow_core.specs.inner.Giving.{Adds, CanGoOn, Copies, Ends, HoldsMany, IsPast, Leads, Noted, Starts, change_between, notes_past, over_in, stop_in};
-ghost use Rattle.follow_core.specs.Sharing.{CanPrint};
-ghost use Rattle.follow_core.specs.inner.Visits.{TellsStop, Visits};
-ghost use Rattle.follow_core.specs.Look.{is_sought, ways_of};
-ghost use Rattle.follow_core.specs.Telling.{tail_by};
+ghost use Rattle.ports_core.specs.{Slot.{is_open, is_writable, slot_at}, Message.SaysOn, Text.message_of};
+ghost use Rattle.watch_core.specs.{Snapshot.latest, Watched.{is_readable, is_watchable, open_contents, watched_at}};
+ghost use Rattle.follow_core.specs.{
+  declared.name.Standing.TheVariants.{New, Followed},
+  Event.notes,
+  Printing.{PrinterState, fresh_printer},
+  inner.{Giving.{Adds, CanGoOn, Copies, Ends, HoldsMany, IsPast, Leads, Noted, Starts, change_between, notes_past, over_in, stop_in}, Visits.{TellsStop, Visits}},
+  Sharing.CanPrint,
+  Look.{is_sought, ways_of},
+  Telling.tail_by,
+};
 
 use crate::name::Standing;
 use crate::notice::{Notice, notice_line};

@@ -1,22 +1,25 @@
 -- Lemmas on inputs in memory: how far one was read, where it breaks off, and what opening one finds.
-use Rattle.std.proofs.Common.{◌≡◌, ℕ, ◌+◌, ◌-◌, ◌<◌, ◌≤◌, max, Bool, true, IsTrue, List, Option, [], ◌∷◌, ◌++◌, Some, None, length, take, drop, get_or, set, eqb, refl, sym, ◌∙◌, ap, subst, arith, length-take, length-drop, take-take, drop-drop, take-add, if◌then◌else◌, leb, not, ◌&&◌, ◌==◌}
-use Rattle.std.proofs.lemmas.List.{drop-take, take-append-drop}
-use Rattle.std.proofs.lemmas.Bool.{cond_both, le-leb, lt-ltb}
-use Rattle.ports_core.specs.Slot.{changed_at}
-use Rattle.ports_core.specs.Source.{Content, Opens, OpensNothing, Source, broke, counted, cut, gets_back, gives, is_readable, missing, no_room, skips, source_of}
-use Rattle.ports_core.specs.declared.fault.Fault.TheVariants as fault
-use Rattle.ports_core.proofs.SourceLemmas.{one_changes, readable_within}
+use Rattle.std.proofs.{
+  Common.{◌≡◌, ℕ, ◌+◌, ◌-◌, ◌<◌, ◌≤◌, max, Bool, true, IsTrue, List, Option, [], ◌∷◌, ◌++◌, Some, None, length, take, drop, get_or, set, eqb, refl, sym, ◌∙◌, ap, subst, arith, length-take, length-drop, take-take, drop-drop, take-add, if◌then◌else◌, leb, not, ◌&&◌, ◌==◌},
+  lemmas.{List.{drop-take, take-append-drop}, Bool.{cond_both, le-leb, lt-ltb}},
+}
+use Rattle.ports_core.{
+  specs.{Slot.changed_at, Source.{Content, Opens, OpensNothing, Source, broke, counted, cut, gets_back, gives, is_readable, missing, no_room, skips, source_of}, declared.reason.Reason.Reason},
+  proofs.SourceLemmas.{one_changes, readable_within},
+}
 use Rattle.mem_core.specs.MemInState.{MemInState, Laid, laid_at, laid_in, breaks_in, content_in, content_of, with_break}
+use Rattle.ports_core.specs.declared.fault.Fault.TheVariants as fault
 
 -- whatever it shows
 
-module _ (shown : Option (List ℕ)) where
+module _ (shown : Option (List ℕ)) (why : Reason) where
   -- the input that an input in memory is seen as
   abbrev pub seen_as : List ℕ → ℕ → Bool → Bool → Bool → ℕ → ℕ → ℕ → Bool → ℕ → Source
   seen_as bytes given breaks_off is_open is_broken asked reached last ended reads = record {
     left = record { bytes = drop given bytes; breaks_off = breaks_off; shown = shown };
     is_open = is_open;
     is_broken = is_broken;
+    reason = why;
     asked = asked;
     taken = take given bytes;
     reached = reached;
@@ -34,7 +37,8 @@ module _ (shown : Option (List ℕ)) where
   -- n bytes more were taken
   goes_on : (bytes : List ℕ) (given n reached asked last reads : ℕ) (breaks_off is_open is_broken ended : Bool)
       → seen_as bytes (given + n) breaks_off is_open is_broken asked reached last ended reads
-      ≡ record (skips n (seen_as bytes given breaks_off is_open is_broken asked reached last ended reads)) { last = last }
+      ≡ record (skips n
+      (seen_as bytes given breaks_off is_open is_broken asked reached last ended reads)) { last = last }
   goes_on bytes given n reached asked last reads breaks_off is_open is_broken ended =
       ap (λ those. record (seen_as bytes (given + n) breaks_off is_open is_broken asked reached last ended reads) { left = record { bytes = those; breaks_off = breaks_off; shown = shown } }) (rest_left bytes given n)
       ∙ ap (λ those. record (skips n (seen_as bytes given breaks_off is_open is_broken asked reached last ended reads)) { taken = those; last = last }) (both_taken bytes given n)
@@ -72,7 +76,7 @@ module _ (shown : Option (List ℕ)) where
       ∙ ap (λ those. set_to those (drop (given - n) (take given bytes) ++ drop given bytes)) (sym (take-take (given - n) given bytes (omega arith)))
       ∙ ap (λ k. set_to (take k (take given bytes)) (drop k (take given bytes) ++ drop given bytes)) (sym at) where
         set_to : List ℕ → List ℕ → Source
-        set_to taken left = record { left = record { bytes = left; breaks_off = breaks_off; shown = shown }; is_open = is_open; is_broken = is_broken; asked = asked; taken = taken; reached = reached; last = last - n; ended = ended; reads = reads }
+        set_to taken left = record { left = record { bytes = left; breaks_off = breaks_off; shown = shown }; is_open = is_open; is_broken = is_broken; reason = why; asked = asked; taken = taken; reached = reached; last = last - n; ended = ended; reads = reads }
 
         between : (bytes : List ℕ) (from given : ℕ) → from ≤ given
             → drop from (take given bytes) ++ drop given bytes ≡ drop from bytes
@@ -122,14 +126,14 @@ still_open (plan ∷ plans) slot content =
 
 -- What an open finds, as the code has it: the new list, its last member and its number by their equations. First a name at which nothing lies.
 pub opened_nothing : {state : MemInState} {sources new : List Source} {files : List Laid} {breaks : List (ℕ × ℕ)}
-    {name : List ℕ} {source : Source} {slot : ℕ}
-    → IsSeen sources files breaks state → laid_at files name ≡ None → new ≡ sources ++ source ∷ [] → source ≡ missing
-    → slot ≡ length sources
+    {name : List ℕ} {source : Source} {slot : ℕ} {why : Reason}
+    → IsSeen sources files breaks state → laid_at files name ≡ None → new ≡ sources ++ source ∷ []
+    → source ≡ missing why → slot ≡ length sources
     → OpensNothing true (laid_in state.files state.breaks) state.sources new name (fault.Open slot)
-opened_nothing {state} {sources} {name} {slot} is none added lacks counts =
-    broke slot (counts ∙ ap (λ (those : MemInState). length those.sources) is)
+opened_nothing {state} {sources} {name} {slot} {why} is none added lacks counts =
+    broke slot why (counts ∙ ap (λ (those : MemInState). length those.sources) is)
     (λ told. ap (content_of state.breaks slot) (ap (λ (those : MemInState). laid_at those.files name) (sym is) ∙ none))
-    (added ∙ ap (λ last. sources ++ last ∷ []) lacks ∙ ap (λ (those : MemInState). those.sources ++ missing ∷ []) is)
+    (added ∙ ap (λ last. sources ++ last ∷ []) lacks ∙ ap (λ (those : MemInState). those.sources ++ missing why ∷ []) is)
 
 -- a name at which a file lies
 pub opened_file : {state : MemInState} {sources new : List Source} {files : List Laid} {breaks : List (ℕ × ℕ)}

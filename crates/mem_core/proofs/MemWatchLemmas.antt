@@ -1,14 +1,17 @@
 -- A watch in memory sees at each look what was planned for it.
-use Rattle.std.proofs.Common.{◌≡◌, ℕ, ◌+◌, ◌-◌, ◌<◌, ◌≤◌, ◌⊎◌, inl, inr, min, zero, suc, Bool, true, false, List, [], ◌∷◌, ◌++◌, Option, Some, None, length, refl, if◌then◌else◌, sym, ◌∙◌, ap, subst, arith, get_or, set, length-append, is_some}
-use Rattle.std.proofs.lemmas.Bool.{cases_lt}
-use Rattle.std.proofs.lemmas.Grind.{common_steps}
-use Rattle.watch_core.specs.Snapshot.{Snapshot, forgiving, latest, waiting, Finding, Found}
-use Rattle.watch_core.specs.Edits.{World, empty_world, held_in, is_one, led_to}
+use Rattle.std.proofs.{
+  Common.{◌≡◌, ℕ, ◌+◌, ◌-◌, ◌<◌, ◌≤◌, ◌⊎◌, inl, inr, min, zero, suc, Bool, true, false, List, [], ◌∷◌, ◌++◌, Option, Some, None, length, refl, if◌then◌else◌, sym, ◌∙◌, ap, subst, arith, get_or, set, length-append, is_some},
+  lemmas.{Bool.cases_lt, Grind.common_steps},
+}
+use Rattle.watch_core.{
+  specs.Snapshot.{Snapshot, forgiving, latest, waiting, Finding, Found},
+  specs.Edits.{World, empty_world, held_in, is_one, led_to},
+  specs.Watched.{Watched, Finds, Reopens, open_contents, opens, watched_at},
+  specs.declared.watch.Seen.Seen,
+  proofs.NameLemmas.{latest-last, name_changes, name_there},
+}
 use Rattle.ports_core.specs.declared.reason.Reason.{Reason}
-use Rattle.watch_core.specs.Watched.{Watched, Finds, Reopens, open_contents, opens, watched_at}
-use Rattle.watch_core.specs.declared.watch.Seen.{Seen}
 use Rattle.mem_core.specs.MemWatchState.{MemWatchState, world_at, seen_by, seen, shown, shows}
-use Rattle.watch_core.proofs.NameLemmas.{latest-last, name_changes, name_there}
 
 pub world_there : (worlds : List World) (n : ℕ) (world : World) → n < length worlds
     → world_at worlds n ≡ get_or worlds n world

@@ -1,7 +1,9 @@
-ghost use Rattle.std.specs.Prelude.{◌≡◌, ◌++◌, ◌∷◌, [], ℕ, ◌+◌, ◌≤◌, ◌<◌, List, Bool, Option, Some, None, true, false, length, option_map, take, drop, map, string_bytes, IsTrue, IfOk, IfErr, IfSome, IfNone, OnOk, OnErr};
-ghost use Rattle.ports_core.specs.Slot.{changed_at};
-ghost use Rattle.ports_core.specs.Source.{Source, Content, source_at, source_of, missing, gives, gets_back, fails, looks, skips, unshown, Gave, BrokeOff, Shows, ShowsAll, ShowsOf, count_shown, holds, cut};
-ghost use Rattle.mem_core.specs.MemInState.{MemInState, Laid, laid_at, laid_in, breaks_in, content_in, content_of, file_of, showing, shown_by, with_break};
+ghost use Rattle.std.specs.Prelude.{◌≡◌, ◌++◌, ◌∷◌, [], ◌+◌, ◌≤◌, ◌<◌, Some, None, true, false, length, option_map, take, drop, map, string_bytes, IsTrue, IfOk, IfErr, IfSome, IfNone, OnOk};
+ghost use Rattle.ports_core.specs.{
+  Slot.changed_at,
+  Source.{Source, source_at, source_of, missing, gives, gets_back, fails, looks, skips, unshown, Gave, BrokeOff, Shows, ShowsAll, ShowsOf, count_shown, holds, cut},
+};
+ghost use Rattle.mem_core.specs.MemInState.{MemInState, Laid, laid_at, laid_in, breaks_in, content_in, file_of, showing, shown_by, with_break};
 
 use crate::failing::{Cause, planned};
 use ports_core::{Fault, Inputs, Reason};
@@ -19,6 +21,8 @@ struct MemSource {
     breaks_off: bool,
     is_open: bool,
     is_broken: bool,
+    /// Why it broke, or couldn't be opened.
+    reason: Reason,
     /// The length of the largest buffer that it was to fill, by a read or a look.
     asked: usize,
     /// How many of the bytes reads gave, also where some of these were given back.
@@ -42,6 +46,7 @@ impl Model for MemSource {
       };
       is_open = s.is_open;
       is_broken = s.is_broken;
+      reason = s.reason;
       asked = s.asked;
       taken = take s.given s.bytes.items;
       reached = s.reached;
@@ -71,6 +76,7 @@ impl MemSource {
             breaks_off: false,
             is_open: true,
             is_broken: false,
+            reason: Reason::Other,
             asked: 0,
             reached: 0,
             last: 0,
@@ -79,8 +85,8 @@ impl MemSource {
         }
     }
 
-    fn missing(alloc: Global) -> Self
-        ensures { result ≡ missing }
+    fn missing(alloc: Global, why: Reason) -> Self
+        ensures { result ≡ missing why }
     {
         MemSource {
             bytes: Vec::new(alloc),
@@ -89,6 +95,7 @@ impl MemSource {
             breaks_off: false,
             is_open: false,
             is_broken: true,
+            reason: why,
             asked: 0,
             reached: 0,
             last: 0,
@@ -98,19 +105,22 @@ impl MemSource {
     }
 
     /// Fills a beginning of the buffer with at most `most` bytes, and returns how many. None where the input breaks
-    /// off.
-    fn read(&mut self, buffer: &mut [u8], most: usize) -> Option<usize>
+    /// off, for this reason.
+    fn read(&mut self, buffer: &mut [u8], most: usize, why: Reason) -> Option<usize>
         requires { 0 < most }
         ensures bound { IfSome result (λ n. n ≤ length buffer.old) }
         ensures gave { IfSome result (Gave self.old.left buffer.old buffer.new) }
         ensures rest { IfSome result (λ n. self.new ≡ gives (length buffer.old) n self.old) }
         ensures broke { IfNone result (BrokeOff self.old.left) }
-        ensures broken { IfNone result (self.new ≡ fails (length buffer.old) self.old) }
+        ensures broken { IfNone result (self.new ≡ fails why (length buffer.old) self.old) }
     {
         self.asked = self.asked.max(buffer.len());
         self.reads = self.reads.saturating_add(1);
         let left = self.bytes.len() - self.given;
         if left == 0 && self.breaks_off && !buffer.is_empty() {
+            if !self.is_broken {
+                self.reason = why;
+            }
             self.is_broken = true;
             self.ended = false;
             return None;
@@ -471,12 +481,11 @@ impl Inputs for MemIn {
 
     ghost told = { true };
 
-    ghost breaks_for = { λ slot why. true };
-
     fn open(&mut self, name: &str) -> Result<usize, Fault> {
         let slot = self.sources.len();
         let Some(file) = find(&self.files, name) else {
-            if keep(&mut self.sources, MemSource::missing(self.alloc)) {
+            let why = planned(&self.causes, slot);
+            if keep(&mut self.sources, MemSource::missing(self.alloc, why)) {
                 return Err(Fault::Open(slot));
             }
             return Err(Fault::Memory);
@@ -491,15 +500,19 @@ impl Inputs for MemIn {
 
     fn read(&mut self, slot: usize, buffer: &mut [u8]) -> Result<usize, Fault> {
         let piece = self.piece;
-        let Some(n) = self.sources[slot].read(buffer, piece) else {
+        let why = planned(&self.causes, slot);
+        let Some(n) = self.sources[slot].read(buffer, piece, why) else {
             return Err(Fault::Read(slot));
         };
         Ok(n)
     }
 
-    /// As it was planned by `breaks_as`.
+    /// As it was planned by `breaks_as`, once it broke.
     fn reason(&self, slot: usize) -> Reason {
-        planned(&self.causes, slot)
+        match self.sources.get(slot) {
+            Some(source) => source.reason,
+            None => Reason::Other,
+        }
     }
 
     /// As many as the text that it shows has.

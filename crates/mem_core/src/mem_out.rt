@@ -1,5 +1,5 @@
-ghost use Rattle.std.specs.Prelude.{◌≡◌, ◌++◌, ◌∷◌, [], ℕ, ◌+◌, ◌≤◌, ◌<◌, List, length, take, replicate, string_bytes, true, false, IsTrue, IfOk, IfErr, IfSome, OnOk, OnErr, OnSome, IfNone};
-ghost use Rattle.ports_core.specs.Slot.{Slot, adds, breaks, closes, removes, opened, unopened, with_lost, streams, slot_at, is_removed};
+ghost use Rattle.std.specs.Prelude.{◌≡◌, [], ◌≤◌, ◌<◌, List, length, take, string_bytes, true, IfOk, IfErr, IfSome, IfNone};
+ghost use Rattle.ports_core.specs.{declared.reason.Reason.TheVariants.Other, Slot.{Slot, adds, breaks, closes, removes, opened, unopened, with_lost, streams, slot_at, is_removed}};
 
 use crate::failing::{Cause, fails, planned};
 use ports_core::{Fault, Mode, Outs, Reason, Slots, State, Unopened};
@@ -14,6 +14,8 @@ struct MemSlot {
     bytes: Vec<u8>,
     state: State,
     is_broken: bool,
+    /// Why it broke, by its first failure.
+    reason: Reason,
 }
 
 impl Model for MemSlot {
@@ -25,11 +27,12 @@ impl Model for MemSlot {
       written = s.bytes.items;
       state = s.state;
       is_broken = s.is_broken;
+      reason = s.reason;
     } };
 }
 
 impl Unopened for MemSlot {
-    ghost unopened = { unopened };
+    ghost unopened = { unopened Other };
 
     fn unopened(alloc: Global, name: String) -> Self {
         MemSlot {
@@ -38,6 +41,7 @@ impl Unopened for MemSlot {
             bytes: Vec::new(alloc),
             state: State::Unopened,
             is_broken: true,
+            reason: Reason::Other,
         }
     }
 }
@@ -52,23 +56,33 @@ impl MemSlot {
             bytes: Vec::new(alloc),
             state: State::Open,
             is_broken: false,
+            reason: Reason::Other,
         }
     }
 
+    /// One whose file couldn't be opened for this reason.
+    fn refused(alloc: Global, name: String, why: Reason) -> Self
+        ensures { result ≡ unopened why (string_bytes name) }
+    {
+        let mut slot = MemSlot::unopened(alloc, name);
+        slot.reason = why;
+        slot
+    }
+
     /// Appends as much of the piece as there is room for, and returns how many bytes that is. None where it has bytes
-    /// and none fits, or where there is no memory.
-    fn append(&mut self, piece: &[u8], room: usize) -> Option<usize>
+    /// and none fits, or where there is no memory: it breaks for this reason.
+    fn append(&mut self, piece: &[u8], room: usize, why: Reason) -> Option<usize>
         ensures within { IfSome result (λ n. n ≤ length piece.now) }
         ensures some { IfSome result (λ n. 0 < length piece.now → 0 < n) }
         ensures added { IfSome result (λ n. self.new ≡ adds (take n piece.now) self.old) }
-        ensures broke { IfNone result (self.new ≡ breaks self.old) }
+        ensures broke { IfNone result (self.new ≡ breaks why self.old) }
     {
         let taken = piece.len().min(room);
         let fits = taken > 0 || piece.is_empty();
         if fits && self.bytes.extend_from_slice(&piece[..taken]).is_ok() {
             return Some(taken);
         }
-        self.break_off();
+        self.break_off(why);
         None
     }
 
@@ -78,18 +92,21 @@ impl MemSlot {
         self.state = State::Closed;
     }
 
-    fn break_off(&mut self)
-        ensures { self.new ≡ breaks self.old }
+    fn break_off(&mut self, why: Reason)
+        ensures { self.new ≡ breaks why self.old }
     {
+        if !self.is_broken {
+            self.reason = why;
+        }
         self.is_broken = true;
     }
 
     /// Closes the output by a close or a removal that fails.
-    fn close_broken(&mut self)
-        ensures { self.new ≡ breaks (closes self.old) }
+    fn close_broken(&mut self, why: Reason)
+        ensures { self.new ≡ breaks why (closes self.old) }
     {
         self.close();
-        self.break_off();
+        self.break_off(why);
     }
 
     fn remove(&mut self)
@@ -123,7 +140,7 @@ pub struct MemOut {
 impl Model for MemOut {
     ghost Value = { List Slot };
 
-    ghost view = { λ m. with_lost (unopened []) m.slots.kept.items m.slots.lost };
+    ghost view = { λ m. with_lost (unopened Other []) m.slots.kept.items m.slots.lost };
 }
 
 impl MemOut {
@@ -162,7 +179,8 @@ impl MemOut {
         Ok(self.limits.push(Limit { slot, bytes })?)
     }
 
-    /// Says why an output breaks, opened already or later, if it does. Of several reasons for one output the first counts.
+    /// Says why an output breaks, opened already or later, if it does. Of several reasons for one output the first counts. One that
+    /// broke already keeps its reason.
     ///
     /// # Errors
     ///
@@ -240,8 +258,6 @@ impl Outs for MemOut {
 
     ghost told = { true };
 
-    ghost breaks_for = { λ slot why. true };
-
     fn open(&mut self, name: &str, mode: Mode) -> Result<usize, Fault> {
         let Some(slot) = self.slots.next(0) else {
             return Err(Fault::Memory);
@@ -250,7 +266,8 @@ impl Outs for MemOut {
             return Err(Fault::Open(slot));
         };
         if fails(&mut self.failing_in) {
-            self.slots.keep(MemSlot::unopened(self.alloc, copy));
+            let why = planned(&self.causes, slot);
+            self.slots.keep(MemSlot::refused(self.alloc, copy, why));
             return Err(Fault::Open(slot));
         }
         if self.slots.keep(MemSlot::opened(self.alloc, copy, mode)) {
@@ -260,22 +277,24 @@ impl Outs for MemOut {
     }
 
     fn write(&mut self, slot: usize, piece: &[u8]) -> Result<usize, Fault> {
+        let why = planned(&self.causes, slot);
         let out = &mut self.slots.kept[slot];
         if fails(&mut self.failing_in) {
-            out.break_off();
+            out.break_off(why);
             return Err(Fault::Write(slot));
         }
         let room = room(&self.limits, slot, out.bytes.len()).min(self.most);
-        let Some(taken) = out.append(piece, room) else {
+        let Some(taken) = out.append(piece, room, why) else {
             return Err(Fault::Write(slot));
         };
         Ok(taken)
     }
 
     fn close(&mut self, slot: usize) -> Result<(), Fault> {
+        let why = planned(&self.causes, slot);
         let out = &mut self.slots.kept[slot];
         if fails(&mut self.failing_in) {
-            out.close_broken();
+            out.close_broken(why);
             return Err(Fault::Write(slot));
         }
         out.close();
@@ -283,9 +302,10 @@ impl Outs for MemOut {
     }
 
     fn remove(&mut self, slot: usize) -> Result<(), Fault> {
+        let why = planned(&self.causes, slot);
         let out = &mut self.slots.kept[slot];
         if fails(&mut self.failing_in) {
-            out.close_broken();
+            out.close_broken(why);
             return Err(Fault::Write(slot));
         }
         out.remove();
@@ -299,9 +319,12 @@ impl Outs for MemOut {
         }
     }
 
-    /// As it was planned by `breaks_as`.
+    /// As it was planned by `breaks_as`, once it broke; `Other` of one for which there was no memory.
     fn reason(&self, slot: usize) -> Reason {
-        planned(&self.causes, slot)
+        match self.slots.kept.get(slot) {
+            Some(out) => out.reason,
+            None => Reason::Other,
+        }
     }
 
     fn name(&self, slot: usize) -> &str {

@@ -1,9 +1,7 @@
-ghost use Rattle.std.specs.Prelude.{◌≡◌, ◌<◌, ◌≤◌, ◌-◌, ◌^◌, ◌∷◌, ◌++◌, [], ℕ, map, length, true, false, string_bytes, IfOk, IfErr, OnOk, IfSome, IfNone, IsTrue, is_some};
-ghost use Rattle.watch_core.specs.Edits.{empty_world, is_barred_in};
-ghost use Rattle.watch_core.specs.Snapshot.{latest};
+ghost use Rattle.std.specs.Prelude.{◌≡◌, ◌<◌, ◌≤◌, ◌^◌, ◌∷◌, ◌++◌, [], map, length, true, false, string_bytes, IfOk, IfErr, OnOk, IfSome, IsTrue, is_some};
+ghost use Rattle.watch_core.specs.{Edits.empty_world, Snapshot.latest, Watched.{Finds, GaveFrom, Watched, added, breaks, is_readable, is_watchable, open_contents, opens, watched_at}};
 ghost use Rattle.mem_core.specs.MemWatchState.{MemWatchState, edit_of, no_looks, seen, shown, shows, with_look, world_at};
 ghost use Rattle.ports_core.specs.Slot.{changed_at};
-ghost use Rattle.watch_core.specs.Watched.{Finds, GaveFrom, Watched, added, breaks, is_readable, is_watchable, open_contents, opens, watched_at};
 
 use crate::Edit;
 use crate::failing::fails;
@@ -20,12 +18,19 @@ struct MemName {
     opened: Option<usize>,
     /// The call by which it broke.
     failed: Option<Broken>,
+    /// Why that failed.
+    reason: Reason,
 }
 
 impl Model for MemName {
     ghost Value = { Watched };
 
-    ghost view = { λ n. record { name = string_bytes n.name; opened = n.opened; failed = n.failed } };
+    ghost view = { λ n. record {
+      name = string_bytes n.name;
+      opened = n.opened;
+      failed = n.failed;
+      reason = n.reason;
+    } };
 }
 
 impl MemName {
@@ -36,6 +41,7 @@ impl MemName {
             name: String::from_str(alloc, name)?,
             opened: None,
             failed: None,
+            reason: Reason::Other,
         })
     }
 
@@ -58,11 +64,12 @@ impl MemName {
         file.is_some()
     }
 
-    fn break_off(&mut self, how: Broken)
-        ensures { self.new ≡ breaks (λ file. how) self.old }
+    fn break_off(&mut self, how: Broken, why: Reason)
+        ensures { self.new ≡ breaks why (λ file. how) self.old }
     {
         self.opened = None;
         self.failed = Some(how);
+        self.reason = why;
     }
 }
 
@@ -157,12 +164,15 @@ impl MemWatch {
         }
     }
 
-    /// Breaks a name off by this call.
+    /// Breaks a name off by this call, for the reason that is planned.
     fn break_off(&mut self, place: usize, how: Broken)
         requires { IsTrue (is_watchable self.old.watched place) }
-        ensures { self.new ≡ record self.old { watched = changed_at place (breaks (λ file. how)) self.old.watched } }
+        ensures { self.new ≡ record self.old {
+          watched = changed_at place (breaks self.old.why (λ file. how)) self.old.watched;
+        } }
     {
-        self.names[place].break_off(how);
+        let why = self.why;
+        self.names[place].break_off(how, why);
     }
 
     /// Plans why calls on names fail that do.
@@ -272,8 +282,6 @@ impl Watch for MemWatch {
 
     ghost watched = { λ watch. watch.watched };
 
-    ghost fails_for = { λ watch place why. true };
-
     ghost told = { true };
 
     fn turn(&mut self) -> Result<(), Fault> {
@@ -340,9 +348,10 @@ impl Watch for MemWatch {
         let Some(name) = self.names.get(place) else {
             return Reason::Other;
         };
-        if name.failed.is_some()
-            || world_in(&self.worlds, self.turns).is_barred(name.name.as_str())
-        {
+        if name.failed.is_some() {
+            return name.reason;
+        }
+        if world_in(&self.worlds, self.turns).is_barred(name.name.as_str()) {
             return self.why;
         }
         Reason::Missing

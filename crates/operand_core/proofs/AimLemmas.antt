@@ -1,28 +1,25 @@
 -- What a word spells and aims at, and how deep counts go.
-use Rattle.std.proofs.Common.{◌≡◌, ℕ, suc, ◌+◌, ◌-◌, take, drop, add-one, ◌<◌, ◌&&◌, Bool, true, false, not, cond, List, [], ◌∷◌, ◌++◌, Option, Some, None, refl, sym, ◌∙◌, ap, arith, rules, ◌≤◌, subst, Result, Ok, Err, zero, inl, inr, append_assoc, append-nil, eq-eqb, ne_eqb, lt-ltb, le-ltb, ◌==◌, ◌≢◌, option_map, length, IfSome, IsErrAnd}
-use Rattle.std.proofs.lemmas.List.{take_rest}
-use Rattle.operand_core.specs.Operand.{Offset, Target, Number, Search, Times}
-use Rattle.operand_core.specs.Word.{is_escape, closing, before_brace, closed_at, searched, offset_of, number, spelling}
-use Rattle.std.proofs.lemmas.Result.{err_from_is_err_and}
-use Rattle.bre_core.specs.Pattern.{Pattern, Reads, depth_of, positions_of, nothing, append, Item, set, front, end, group, repeat, written, written_item, depth_after, depth_of_item}
-use Rattle.bre_core.specs.Refusal.{IsOfText, IsTooLarge}
-use Rattle.bre_core.specs.declared.fault.BreFault.{BreFault}
-use Rattle.bre_core.specs.declared.fault.BreFault.TheVariants.{TooLarge, Memory}
-use Rattle.operand_core.specs.inner.Seen.{seen}
-use Rattle.operand_core.specs.Reading.{line, match, Aimed, aims, fails, aim_of, IsPattern}
-use Rattle.operand_core.specs.Aiming.{refusal_of}
-use Rattle.operand_core.specs.inner.Aiming.{IsAimed, is_target, is_wrong, is_refused, no_memory}
-use Rattle.operand_core.specs.declared.word.Word.{Word}
+use Rattle.std.proofs.{
+  Common.{◌≡◌, ℕ, suc, ◌+◌, ◌-◌, take, drop, add-one, ◌<◌, ◌&&◌, Bool, true, false, not, cond, List, [], ◌∷◌, ◌++◌, Option, Some, None, refl, sym, ◌∙◌, ap, arith, rules, ◌≤◌, subst, Result, Ok, Err, zero, inl, inr, append_assoc, append-nil, eq-eqb, ne_eqb, lt-ltb, le-ltb, ◌==◌, ◌≢◌, option_map, length, IfSome, IsErrAnd},
+  lemmas.{List.take_rest, Result.err_from_is_err_and},
+}
+use Rattle.operand_core.specs.{
+  Operand.{Offset, Target, Number, Search, Times},
+  Word.{is_escape, closing, before_brace, closed_at, searched, offset_of, number, spelling},
+  inner.{Seen.seen, Aiming.{IsAimed, is_target, is_wrong, is_refused, no_memory}},
+  Reading.{line, match, Aimed, aims, fails, aim_of, IsPattern},
+  Aiming.refusal_of,
+  declared.{word.Word.Word, operand_fault.OperandFaultKind.OperandFaultKind},
+}
+use Rattle.bre_core.specs.{
+  Pattern.{Pattern, Reads, depth_of, positions_of, nothing, append, Item, set, front, end, group, repeat, written, written_item, depth_after, depth_of_item},
+  Refusal.{IsOfText, IsTooLarge},
+  declared.{fault.BreFault.{BreFault, TheVariants.{TooLarge, Memory}}, token.{Context.TheVariants.Opening, Token.{Token, TheVariants.{Open, Close, Repeat}}}},
+  Token.ReadsToken,
+}
+use Rattle.bre_core.proofs.{Chains.left_of_way, Existence.one_tree_alone, Tokens.{tokens_decided, end_stuck}}
 use Rattle.operand_core.specs.declared.word.Word.TheVariants as word_is
-use Rattle.operand_core.specs.declared.operand_fault.OperandFaultKind.{OperandFaultKind}
 use Rattle.operand_core.specs.declared.operand_fault.OperandFaultKind.TheVariants as kind
-use Rattle.bre_core.specs.Token.{ReadsToken}
-use Rattle.bre_core.specs.declared.token.Context.TheVariants.{Opening}
-use Rattle.bre_core.specs.declared.token.Token.{Token}
-use Rattle.bre_core.specs.declared.token.Token.TheVariants.{Open, Close, Repeat}
-use Rattle.bre_core.proofs.Chains.{left_of_way}
-use Rattle.bre_core.proofs.Existence.{one_tree_alone}
-use Rattle.bre_core.proofs.Tokens.{tokens_decided, end_stuck}
 
 -- Lemmas on what a word spells.
 

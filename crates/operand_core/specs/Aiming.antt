@@ -1,6 +1,5 @@
 -- What reading one target returns.
-use Rattle.bre_core.specs.declared.fault.BreFault.{BreFault}
-use Rattle.bre_core.specs.declared.fault.BreFault.TheVariants.{Memory}
+use Rattle.bre_core.specs.declared.fault.BreFault.{BreFault, TheVariants.Memory}
 use Rattle.operand_core.specs.declared.operand_fault.OperandFaultKind.{OperandFaultKind}
 use Rattle.operand_core.specs.declared.operand_fault.OperandFaultKind.TheVariants as kind
 

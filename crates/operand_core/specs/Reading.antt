@@ -1,14 +1,12 @@
 -- What a list of words asks of `csplit`: its operands, or the first fault.
 use Rattle.std.specs.Prelude.{◌≡◌, ℕ, ◌+◌, ◌==◌, ◌≤◌, nat_lt, Bool, List, [], ◌∷◌, ◌++◌, Option, Some, None, if◌then◌else◌}
-use Rattle.bre_core.specs.Pattern.{Pattern, Reads, depth_of, positions_of}
-use Rattle.bre_core.specs.Refusal.{IsTooLarge}
-use Rattle.bre_core.specs.declared.fault.BreFault.{BreFault}
-use Rattle.bre_core.specs.declared.fault.BreFault.TheVariants.{TooLarge, Memory}
-use Rattle.operand_core.specs.Operand.{Offset, Target, Number, Search, Times, Count, Operand}
-use Rattle.operand_core.specs.declared.operand_fault.OperandFault.{OperandFault}
-use Rattle.operand_core.specs.declared.operand_fault.OperandFaultKind.{OperandFaultKind}
+use Rattle.bre_core.specs.{Pattern.{Pattern, Reads, depth_of, positions_of}, Refusal.IsTooLarge, declared.fault.BreFault.{BreFault, TheVariants.{TooLarge, Memory}}}
+use Rattle.operand_core.specs.{
+  Operand.{Offset, Target, Number, Search, Times, Count, Operand},
+  declared.operand_fault.{OperandFault.OperandFault, OperandFaultKind.OperandFaultKind},
+  Word.{Spelling, number, search, again, wrong, unescaped, spelling},
+}
 use Rattle.operand_core.specs.declared.operand_fault.OperandFaultKind.TheVariants as kind
-use Rattle.operand_core.specs.Word.{Spelling, number, search, again, wrong, unescaped, spelling}
 
 -- what an operand aims at, its pattern being a text
 pub data Aim : Type 0 where

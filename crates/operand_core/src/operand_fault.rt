@@ -1,7 +1,6 @@
 //! Why operands are refused.
 ghost use Rattle.std.specs.Prelude.{◌≡◌};
-ghost use Rattle.operand_core.specs.Aiming.{refusal_of};
-ghost use Rattle.operand_core.specs.Fault.{number_of_kind};
+ghost use Rattle.operand_core.specs.{Aiming.refusal_of, Fault.number_of_kind};
 ghost use Rattle.operand_core.specs.declared.operand_fault.OperandFaultKind.TheVariants as kind;
 
 use scan_core::BreFault;

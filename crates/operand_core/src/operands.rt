@@ -1,8 +1,6 @@
 //! Reading a list of operands (POSIX.1-2017, XCU csplit, OPERANDS; `{*}` is GNU's).
 ghost use Rattle.std.specs.Prelude.{◌≡◌, ◌≤◌, ◌∷◌, ◌++◌, [], map, length, IfOk, IfErr, OnOk};
-ghost use Rattle.operand_core.specs.Reading.{Asks, IsFault, times_by};
-ghost use Rattle.operand_core.specs.inner.Repeating.{SayTimes, least_by};
-ghost use Rattle.operand_core.specs.Word.{spelling};
+ghost use Rattle.operand_core.specs.{Reading.{Asks, IsFault, times_by}, inner.Repeating.{SayTimes, least_by}, Word.spelling};
 
 use crate::target::read_target;
 use crate::word::{Word, read_word};
@@ -18,8 +16,7 @@ pub struct Operands {
 
 impl Model for Operands {
     ghost use Rattle.bre_core.specs.Code.{pattern_code};
-    ghost use Rattle.std.specs.Coded.{codes};
-    ghost use Rattle.std.specs.Prelude.{List};
+    ghost use Rattle.std.specs.{Coded.codes, Prelude.List};
     ghost use Rattle.operand_core.specs.declared.operand.Operand.{Operand};
 
     ghost Value = { List Operand };

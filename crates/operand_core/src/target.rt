@@ -1,10 +1,6 @@
 //! Where an operand cuts, from the word that says it.
 ghost use Rattle.std.specs.Prelude.{◌≡◌, ◌<◌, ◌++◌, IfOk, length};
-ghost use Rattle.operand_core.specs.inner.Aiming.{IsAimed};
-ghost use Rattle.operand_core.specs.Aiming.{refusal_of};
-ghost use Rattle.operand_core.specs.Reading.{aim_of};
-ghost use Rattle.operand_core.specs.Word.{search, spelling, unescaped};
-ghost use Rattle.operand_core.specs.Word.{number as line_number};
+ghost use Rattle.operand_core.specs.{inner.Aiming.IsAimed, Reading.aim_of, Word.{search, spelling, unescaped, number as line_number}};
 
 use crate::word::{Word, read_word};
 use crate::{Offset, OperandFaultKind, Target};

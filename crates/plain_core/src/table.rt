@@ -2,8 +2,7 @@
 
 ghost use Rattle.std.specs.Prelude.{◌≡◌, ℕ, ◌+◌, ◌<◌, ◌≤◌, [], Bool, suc, length, slice_index_or, false, IfOk, IfErr};
 ghost use Rattle.plain_core.specs.inner.Table.{at, IsTable, leaf, joined, repeats};
-ghost use Rattle.bre_core.specs.Search.{any_below, has_parts, is_at_most};
-ghost use Rattle.bre_core.specs.declared.fault.BreFault.TheVariants.{Memory};
+ghost use Rattle.bre_core.specs.{Search.{any_below, has_parts, is_at_most}, declared.fault.BreFault.TheVariants.Memory};
 
 use bre_core::{BreFault, Token};
 use std::alloc::Global;

@@ -1,10 +1,6 @@
 -- A change of one input leaves all others as they were, and one that takes bytes leaves it as readable as it was.
-use Rattle.std.proofs.Common.{◌≡◌, ℕ, zero, suc, Bool, true, false, Option, List, [], ◌∷◌, ◌++◌, nat_eq, IsTrue, refl, ap, ◌∙◌, sym, arith}
-use Rattle.std.proofs.lemmas.Bool.{false≢true}
-use Rattle.std.proofs.lemmas.Bool.Decides.{nat_tests}
-use Rattle.ports_core.specs.Slot.{changed_at}
-use Rattle.ports_core.specs.Source.{Source, Content, OpensNothing, broke, no_room, missing, gives, looks, skips, is_readable}
-use Rattle.ports_core.specs.declared.fault.Fault.{Fault}
+use Rattle.std.proofs.{Common.{◌≡◌, ℕ, zero, suc, Bool, true, false, Option, List, [], ◌∷◌, ◌++◌, nat_eq, IsTrue, refl, ap, ◌∙◌, sym, arith}, lemmas.Bool.{false≢true, Decides.nat_tests}}
+use Rattle.ports_core.specs.{Slot.changed_at, Source.{Source, Content, OpensNothing, broke, no_room, missing, gives, looks, skips, is_readable}, declared.fault.Fault.Fault}
 
 nat_eq-suc : (a b : ℕ) → nat_eq (suc a) (suc b) ≡ nat_eq a b
 nat_eq-suc a b = grind (arith, nat_tests)
@@ -57,5 +53,5 @@ readable_front (source ∷ old) more zero can = can
 readable_front (source ∷ old) more (suc other) can = readable_front old more other can
 
 pub kept_in_vain : (told : Bool) (laid : ℕ → List ℕ → Option Content) (old new : List Source) (name : List ℕ) (why : Fault) (other : ℕ) → OpensNothing told laid old new name why → IsTrue (is_readable old other) → IsTrue (is_readable new other)
-kept_in_vain told laid old new name why other (broke slot number none is) can = ap (λ (those : List Source). is_readable those other) is ∙ readable_front old (missing ∷ []) other can
+kept_in_vain told laid old new name why other (broke slot reason number none is) can = ap (λ (those : List Source). is_readable those other) is ∙ readable_front old (missing reason ∷ []) other can
 kept_in_vain told laid old new name why other (no_room is) can = ap (λ (those : List Source). is_readable those other) is ∙ can

@@ -1,8 +1,6 @@
 //! The real ports over a folder of their own, which each test makes and removes.
-ghost use Rattle.std.specs.Prelude.{◌≡◌, ◌+◌, ◌++◌, ◌∷◌, [], length, IfOk, IsTrue, OnOk};
-ghost use Rattle.std.specs.List.{AllPass};
-ghost use Rattle.ports_core.specs.Slot.{can_write, is_writable, opened, streams};
-ghost use Rattle.ports_core.specs.Source.{is_readable};
+ghost use Rattle.std.specs.{Prelude.{◌≡◌, ◌+◌, ◌++◌, ◌∷◌, [], length, IfOk, IsTrue, OnOk}, List.AllPass};
+ghost use Rattle.ports_core.specs.{Slot.{can_write, is_writable, opened, streams}, Source.is_readable};
 
 use crate::compare::same;
 use crate::folder::{holds, is_there, make_file, make_folder};

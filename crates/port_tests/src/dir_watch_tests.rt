@@ -1,5 +1,5 @@
 //! The watch over real files, in a folder of its own that each test makes and removes.
-ghost use Rattle.std.specs.Prelude.{◌≡◌, true, IsTrue, IfOk, OnOk};
+ghost use Rattle.std.specs.Prelude.{◌≡◌, IsTrue, IfOk, OnOk};
 ghost use Rattle.watch_core.specs.Watched.{is_readable, is_watchable};
 
 use crate::compare::same;

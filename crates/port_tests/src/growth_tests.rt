@@ -1,9 +1,6 @@
 //! Calls of which `tests/refusals` refuses each growth of memory in turn. Without a refusal both tests of a pair pass; where one
 //! growth is refused, the test `NAME` fails, and `NAME_or_are_refused` passes: the call says so, what was there stays, and the same
 //! call made again has its result.
-ghost use Rattle.std.specs.Prelude.{◌≤◌, length};
-ghost use Rattle.ports_core.specs.Slot.{is_writable};
-
 use crate::compare::same;
 use mem_core::{Edit, MemIn, MemOut, MemWatch};
 use ports_core::{

@@ -1,7 +1,6 @@
 //! Calls that may return `Memory`, made with ample memory, and texts compared with the manual's.
 ghost use Rattle.std.specs.Prelude.{IfOk, IsTrue, OnOk};
-ghost use Rattle.ports_core.specs.Slot.{is_removable};
-ghost use Rattle.ports_core.specs.Source.{is_readable};
+ghost use Rattle.ports_core.specs.{Slot.is_removable, Source.is_readable};
 
 use crate::compare::{same, same_bytes};
 use crate::reading::{Call, ask, broken_input, open_and_ask};

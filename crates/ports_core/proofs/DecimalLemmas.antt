@@ -1,14 +1,12 @@
 -- Numbers in decimal, as the library prints them, filled with zeros.
-use Rattle.std.proofs.lemmas.Grind.{common_steps}
-use Rattle.std.proofs.Common.{◌≡◌, ℕ, ◌+◌, ◌-◌, ◌/◌, ◌%◌, ◌^◌, ◌<◌, ◌≤◌, zero, suc, max, List, [], ◌∷◌, ◌++◌, length, replicate, decimal, refl, sym, ◌∙◌, ap, subst, arith, append_assoc, rules}
-use Rattle.std.proofs.lemmas.List.{length-append}
-use Rattle.std.proofs.lemmas.Fmt.{decimal_by_steps, decimal_is_IsNumeral, decimal_nonempty, length-decimal-le}
-use Rattle.std.proofs.lemmas.Int.Digits.{digits_value-lt}
-use Rattle.ports_core.specs.declared.alphabet.Alphabet.TheVariants.{Digits}
-use Rattle.ports_core.specs.declared.form.Form.{Form}
-use Rattle.ports_core.specs.Name.{decimal_form, digit_count, digits_written, formatted, marked, written, zero_filled}
-use Rattle.ports_core.proofs.CounterLemmas.{more_digits}
-use Rattle.ports_core.proofs.FormLemmas.{below_more, digits_enough, digits_needed}
+use Rattle.std.proofs.{
+  lemmas.{Grind.common_steps, List.length-append, Fmt.{decimal_by_steps, decimal_is_IsNumeral, decimal_nonempty, length-decimal-le}, Int.Digits.digits_value-lt},
+  Common.{◌≡◌, ℕ, ◌+◌, ◌-◌, ◌/◌, ◌%◌, ◌^◌, ◌<◌, ◌≤◌, zero, suc, max, List, [], ◌∷◌, ◌++◌, length, replicate, decimal, refl, sym, ◌∙◌, ap, subst, arith, append_assoc, rules},
+}
+use Rattle.ports_core.{
+  specs.{declared.{alphabet.Alphabet.TheVariants.Digits, form.Form.Form}, Name.{decimal_form, digit_count, digits_written, formatted, marked, written, zero_filled}},
+  proofs.{CounterLemmas.more_digits, FormLemmas.{below_more, digits_enough, digits_needed}},
+}
 
 zeros : (width : ℕ) → written Digits width 0 ≡ replicate width 48
 zeros zero = refl

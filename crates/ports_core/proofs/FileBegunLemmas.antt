@@ -1,39 +1,37 @@
 -- What the writer of files does with what is begun: it has no file yet, gets one, and ends
-use Rattle.std.proofs.lemmas.Grind.{common_steps}
-use Rattle.std.proofs.Common.{◌≡◌, ℕ, ◌+◌, ◌<◌, ◌≤◌, ◌^◌, suc, eqb, Bool, false, IsTrue, List, [], ◌∷◌, ◌++◌, length, map, decimal, Option, Some, None, IfSome, Result, Ok, Err, IfErr, inl, inr, refl, sym, ◌∙◌, ap, subst, arith, rules, append-nil, append_assoc, length-append}
-use Rattle.std.proofs.lemmas.Bool.{cases_lt}
-use Rattle.std.proofs.lemmas.List.{length-map}
-use Rattle.ports_core.specs.Draft.{Manner, AreNamed, Draft, share, files_from, told_before, told_of_files, part_with, part_of, opening_line, size_of_file, output_of, made_of, shares_of, draft_part, with_bytes, with_next, manner_by}
-use Rattle.ports_core.specs.FileWriter.{WriterState, Writes, IsCounted, IsCurrent, IsLast, IsOpenAt, IsReady, IsManner, IsWrite, CanTell, RunsShort, manner_in}
-use Rattle.ports_core.specs.Names.{next_name, has_next, line_next, told_next, OpensNone, no_name}
-use Rattle.ports_core.specs.Part.{File as PartFile, OutputsAt, Begins, IsBeginning, Output, gets_none, gets_bytes, gets_lines, gets_openings, lines_for, writes}
-use Rattle.ports_core.specs.Slot.{Slot, with_written, told_of, changed_at, opened, closes, with_broken, is_writable}
-use Rattle.ports_core.specs.FileWriter.{KeepsFiles, KeepsOrBreaks, Leaves, Goes, paused}
-use Rattle.ports_core.specs.inner.FileWriter.{MakesNone, Made, Appends, TellsSize, CountsOn, files_with}
-use Rattle.ports_core.specs.Turn.{AllClosed, fault_in}
+use Rattle.std.proofs.{
+  lemmas.{Grind.common_steps, Bool.cases_lt, List.length-map},
+  Common.{◌≡◌, ℕ, ◌+◌, ◌<◌, ◌≤◌, ◌^◌, suc, eqb, Bool, false, IsTrue, List, [], ◌∷◌, ◌++◌, length, map, decimal, Option, Some, None, IfSome, Result, Ok, Err, IfErr, inl, inr, refl, sym, ◌∙◌, ap, subst, arith, rules, append-nil, append_assoc, length-append},
+}
+use Rattle.ports_core.specs.{
+  Draft.{Manner, AreNamed, Draft, share, files_from, told_before, told_of_files, part_with, part_of, opening_line, size_of_file, output_of, made_of, shares_of, draft_part, with_bytes, with_next, manner_by},
+  FileWriter.{WriterState, Writes, IsCounted, IsCurrent, IsLast, IsOpenAt, IsReady, IsManner, IsWrite, CanTell, RunsShort, manner_in, KeepsFiles, KeepsOrBreaks, Leaves, Goes, paused},
+  Names.{next_name, has_next, line_next, told_next, OpensNone, no_name},
+  Part.{File as PartFile, OutputsAt, Begins, IsBeginning, Output, gets_none, gets_bytes, gets_lines, gets_openings, lines_for, writes},
+  Slot.{SlotBreaks, Slot, with_written, told_of, changed_at, opened, closes, is_writable},
+  inner.{FileWriter.{MakesNone, Made, Appends, TellsSize, CountsOn, files_with}, Write.Wrote},
+  Turn.{AllClosed, fault_in},
+  declared.fault.Fault.{Fault, TheVariants.Verdict},
+  declared.verdict.Verdict.TheVariants.Suffixes,
+  declared.file_writer.Current.{Current, TheVariants.{File, Unopened, Skipped, Due}},
+  declared.file_writer.Keeps.TheVariants.All,
+  declared.file_writer.Opening.{Opening, TheVariants.{Never, AtOnce}},
+  declared.file_writer.Tells.{Tells, TheVariants.{Nothing, Sizes, Openings}},
+  declared.slot.Mode.TheVariants.Fresh,
+}
+use Rattle.ports_core.proofs.{
+  PartLemmas.{begins_itself, nothing_begins, files_begin_themselves, part_trans},
+  PartSteps.{Becomes, becomes_again, with_last, begun_out, file_begins, file_of, line_begins, out_added, writes_to, opens, falls_wider, close_begins, closes_last, closes_not},
+  OpenLemmas.{IsNextName, opens_not, stops_opening},
+  ShareLemmas.{stopped_part, part_grows, closed_files, ended_files, name_after, open_part, closed_part, none_part},
+  SlotLemmas.length-changed_at,
+  SlotSteps.{KeepsMade, opened_last, writable_within, close_rose, keeps_write, written_writable, keeps_open, writable_before, made_again, opened_writable, made_close, made_break, keeps_close, writable_elsewhere},
+  WriteLemmas.none_written,
+  FileWriterLemmas.{tells_line, reaches_by, reaches_as, made_count, where_well, in_any, leaves_again, leaves_still, at_file, last_file, can_tell, there_same, owned_same, owned_opened, owned_unopened, make_breaks, line_breaks, now_is, file_named, goes_still, never_short, wrote_leaves, appends_leaves, counted_on, none_counted},
+}
 use Rattle.ports_core.specs.inner.Write as short
-use Rattle.ports_core.specs.inner.Write.{Wrote, WritesShort}
-use Rattle.ports_core.specs.declared.fault.Fault.{Fault}
 use Rattle.ports_core.specs.declared.fault.Fault.TheVariants as fault
-use Rattle.ports_core.specs.declared.fault.Fault.TheVariants.{Memory, Verdict}
-use Rattle.ports_core.specs.declared.verdict.Verdict.TheVariants.{Suffixes}
-use Rattle.ports_core.specs.declared.file_writer.Current.{Current}
-use Rattle.ports_core.specs.declared.file_writer.Current.TheVariants.{File, Unopened, Skipped, Due}
-use Rattle.ports_core.specs.declared.file_writer.Keeps.TheVariants.{All}
-use Rattle.ports_core.specs.declared.file_writer.Opening.{Opening}
-use Rattle.ports_core.specs.declared.file_writer.Opening.TheVariants.{Never, AtOnce}
-use Rattle.ports_core.specs.declared.file_writer.Tells.{Tells}
-use Rattle.ports_core.specs.declared.file_writer.Tells.TheVariants.{Nothing, Sizes, Openings}
-use Rattle.ports_core.specs.declared.slot.Mode.TheVariants.{Fresh}
 use Rattle.ports_core.specs.declared.slot.State.TheVariants as state
-use Rattle.ports_core.proofs.PartLemmas.{begins_itself, nothing_begins, files_begin_themselves, part_trans}
-use Rattle.ports_core.proofs.PartSteps.{Becomes, becomes_again, with_last, begun_out, file_begins, file_of, line_begins, out_added, writes_to, opens, falls_wider, close_begins, closes_last, closes_not}
-use Rattle.ports_core.proofs.OpenLemmas.{IsNextName, opens_not, stops_opening}
-use Rattle.ports_core.proofs.ShareLemmas.{stopped_part, part_grows, closed_files, ended_files, name_after, open_part, closed_part, none_part}
-use Rattle.ports_core.proofs.SlotLemmas.{length-changed_at}
-use Rattle.ports_core.proofs.SlotSteps.{KeepsMade, opened_last, writable_within, close_rose, keeps_write, written_writable, keeps_open, writable_before, made_again, opened_writable, made_close, made_break, keeps_close, writable_elsewhere}
-use Rattle.ports_core.proofs.WriteLemmas.{none_written}
-use Rattle.ports_core.proofs.FileWriterLemmas.{tells_line, reaches_by, reaches_as, made_count, where_well, in_any, leaves_again, leaves_still, at_file, last_file, can_tell, there_same, owned_same, owned_opened, owned_unopened, make_breaks, line_breaks, now_is, file_named, goes_still, never_short, wrote_leaves, appends_leaves, counted_on, none_counted}
 
 -- What makes no file
 
@@ -383,7 +381,7 @@ closed_begins output front name bytes = let (rest, is) = closed_told output name
 
 pub close_not : {told : Bool} {writer : WriterState} (slot size : ℕ) {old new : List Slot} {f : Fault}
     → writer.current ≡ File slot size → IsReady writer old → f ≡ fault.Write slot
-    → new ≡ with_broken slot (changed_at slot closes old)
+    → SlotBreaks slot (changed_at slot closes old) new
     → Goes told writer (with_next Never) old new (paused writer) (Some f)
 close_not {told} {writer} slot size {old} {new} is ready which broken = subst (λ f. Goes told writer (with_next Never) old new (paused writer) (Some f)) (sym which) (record {
   leaves = record { naming = refl; tells = refl; keeps = refl; open_alone = λ alone. refl; owns = owns; slots = (let at = at_file is ready in (λ none. absurd (omega (arith, at.0, none)), close_rose slot old new at.1 (writable_within slot old at.1) broken)); output = tt; ready = tt };

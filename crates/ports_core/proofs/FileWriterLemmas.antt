@@ -1,46 +1,41 @@
 -- What the writer of files does: what it writes, whose the outputs are, and which faults come.
-use Rattle.std.proofs.lemmas.Grind.{common_steps}
-use Rattle.std.proofs.Common.{◌≡◌, ℕ, ◌+◌, ◌<◌, ◌≤◌, ◌^◌, zero, suc, eqb, eq-eqb, ne_eqb, Bool, true, ◌||◌, IsTrue, List, [], ◌∷◌, ◌++◌, length, map, take, drop, replicate, decimal, Option, Some, None, IfNone, IfSome, Result, OnOk, IsErrAnd, inl, inr, refl, sym, ◌∙◌, ap, subst, arith, rules, append-nil, length-append}
-use Rattle.std.proofs.lemmas.Bool.{false≢true, cases_lt}
-use Rattle.std.proofs.lemmas.List.{length-map, take-append-drop}
-use Rattle.std.proofs.lemmas.List.Recursion.{or_push}
-use Rattle.std.proofs.Math.Bool.{or-false}
-use Rattle.std.proofs.Math.Seq.{take-append-add, take-append_seam, drop-append_seam}
-use Rattle.ports_core.specs.Draft.{Manner, AreNamed, Draft, share, part_of, output_of, made_of, shares_of, draft_part, with_bytes, manner_by}
-use Rattle.ports_core.specs.FileWriter.{WriterState, Writes, CanCount, IsCounted, IsCurrent, IsLast, IsOpenAt, IsReady, IsManner, CanTell, Breaks, manner_in}
-use Rattle.ports_core.specs.Name.{Naming}
-use Rattle.ports_core.specs.Names.{next_name, line_next, told_next, OpensNone, no_memory, no_line, no_file, no_number, no_name}
-use Rattle.ports_core.specs.Part.{File as PartFile, Part, OutputsAt, Begins, IsBeginning, Output, gets_lines, lines_for, writes}
-use Rattle.ports_core.specs.Slot.{Slot, with_written, told_of, Rose, has_file, slot_at, opened, is_writable}
-use Rattle.ports_core.specs.Swept.{AreThere, is_among}
-use Rattle.ports_core.specs.FileWriter.{At, KeepsFiles, KeepsOrBreaks, Leaves, Reaches, Goes}
-use Rattle.ports_core.specs.inner.FileWriter.{Made, Appends, CountsOn, files_with}
-use Rattle.ports_core.specs.Turn.{AllClosed, InTurn, IsThere, LinesTo, fault_in}
-use Rattle.ports_core.specs.Slot.{KeepsBroken}
-use Rattle.ports_core.specs.Write.{BrokeAfter}
+use Rattle.std.proofs.{
+  lemmas.{Grind.common_steps, Bool.{false≢true, cases_lt}, List.{length-map, take-append-drop, Recursion.or_push}},
+  Common.{◌≡◌, ℕ, ◌+◌, ◌<◌, ◌≤◌, ◌^◌, zero, suc, eqb, eq-eqb, ne_eqb, Bool, true, ◌||◌, IsTrue, List, [], ◌∷◌, ◌++◌, length, map, take, drop, replicate, decimal, Option, Some, None, IfNone, IfSome, Result, OnOk, IsErrAnd, inl, inr, refl, sym, ◌∙◌, ap, subst, arith, rules, append-nil, length-append},
+  Math.{Bool.or-false, Seq.{take-append-add, take-append_seam, drop-append_seam}},
+}
+use Rattle.ports_core.specs.{
+  Draft.{Manner, AreNamed, Draft, share, part_of, output_of, made_of, shares_of, draft_part, with_bytes, manner_by},
+  FileWriter.{WriterState, Writes, CanCount, IsCounted, IsCurrent, IsLast, IsOpenAt, IsReady, IsManner, CanTell, Breaks, manner_in, At, KeepsFiles, KeepsOrBreaks, Leaves, Reaches, Goes},
+  Name.Naming,
+  Names.{next_name, line_next, told_next, OpensNone, no_memory, no_line, no_file, no_number, no_name},
+  Part.{File as PartFile, Part, OutputsAt, Begins, IsBeginning, Output, gets_lines, lines_for, writes},
+  Slot.{Slot, with_written, told_of, Rose, has_file, slot_at, opened, is_writable, KeepsBroken},
+  Swept.{AreThere, is_among},
+  inner.{FileWriter.{Made, Appends, CountsOn, files_with}, Write.{Wrote, WritesShort}},
+  Turn.{AllClosed, InTurn, IsThere, LinesTo, fault_in},
+  Write.BrokeAfter,
+  declared.fault.Fault.{Fault, TheVariants.{Memory, Verdict}},
+  declared.verdict.Verdict.TheVariants.Suffixes,
+  declared.file_writer.Current.{Current, TheVariants.{File, Unopened, Skipped}},
+  declared.file_writer.Keeps.{Keeps, TheVariants.{Open as OpenOne, All}},
+  declared.file_writer.Opening.TheVariants.Never,
+  declared.file_writer.Tells.{Tells, TheVariants.{Nothing, Sizes, Openings}},
+  declared.names.Names.Names,
+  declared.slot.Mode.TheVariants.Fresh,
+}
+use Rattle.ports_core.proofs.{
+  HandedOn.handed_on,
+  PartLemmas.{take_begins_after, files_begin_themselves, part_begins_itself, turn_between, turn_next, turn_last},
+  PartSteps.{Becomes, becomes_again, with_last, halts_here, there_from, line_begins, lines_all, lines_of_last, out_added, writes_to},
+  ShareLemmas.{closed_files, ended_files, name_after, open_part, none_part, still_made, made_or},
+  SlotLemmas.length-changed_at,
+  SlotSteps.{KeepsFiled, KeepsMade, filed_more, filed_same, none_past, file_before, at_end, write_rose, keeps_write, made_write, written_writable, made_short, open_rose, rose_later, keeps_again},
+  SweepLemmas.by_place,
+}
 use Rattle.ports_core.specs.inner.Write as short
-use Rattle.ports_core.specs.inner.Write.{Wrote, WritesShort}
-use Rattle.ports_core.specs.declared.fault.Fault.{Fault}
 use Rattle.ports_core.specs.declared.fault.Fault.TheVariants as fault
-use Rattle.ports_core.specs.declared.fault.Fault.TheVariants.{Memory, Verdict}
-use Rattle.ports_core.specs.declared.verdict.Verdict.TheVariants.{Suffixes}
-use Rattle.ports_core.specs.declared.file_writer.Current.{Current}
-use Rattle.ports_core.specs.declared.file_writer.Current.TheVariants.{File, Unopened, Skipped}
-use Rattle.ports_core.specs.declared.file_writer.Keeps.{Keeps}
-use Rattle.ports_core.specs.declared.file_writer.Keeps.TheVariants.{Open as OpenOne, All}
-use Rattle.ports_core.specs.declared.file_writer.Opening.TheVariants.{Never}
-use Rattle.ports_core.specs.declared.file_writer.Tells.{Tells}
-use Rattle.ports_core.specs.declared.file_writer.Tells.TheVariants.{Nothing, Sizes, Openings}
-use Rattle.ports_core.specs.declared.names.Names.{Names}
-use Rattle.ports_core.specs.declared.slot.Mode.TheVariants.{Fresh}
 use Rattle.ports_core.specs.declared.slot.State.TheVariants as state
-use Rattle.ports_core.proofs.HandedOn.{handed_on}
-use Rattle.ports_core.proofs.PartLemmas.{take_begins_after, files_begin_themselves, part_begins_itself, turn_between, turn_next, turn_last}
-use Rattle.ports_core.proofs.PartSteps.{Becomes, becomes_again, with_last, halts_here, there_from, line_begins, lines_all, lines_of_last, out_added, writes_to}
-use Rattle.ports_core.proofs.ShareLemmas.{closed_files, ended_files, name_after, open_part, none_part, still_made, made_or}
-use Rattle.ports_core.proofs.SlotLemmas.{length-changed_at}
-use Rattle.ports_core.proofs.SlotSteps.{KeepsFiled, KeepsMade, filed_more, filed_same, none_past, file_before, at_end, write_rose, keeps_write, made_write, written_writable, made_short, open_rose, rose_later, keeps_again}
-use Rattle.ports_core.proofs.SweepLemmas.{by_place}
 
 -- Outputs that have a part have another, as a file is opened or standard output gets a line; or a fault stops them in between.
 
@@ -292,7 +287,7 @@ unmade_keeps : {told : Bool} {tells : Tells} {names next : Names} {old new : Lis
     → OpensNone told tells names next old new f → KeepsFiled old new
 unmade_keeps (no_memory same) = rw same (record { same = λ place. refl; within = omega arith })
 unmade_keeps {told} {old = old} (no_line n few has cut) = filed_same (made_short told 0 _ old _ _ (short.broke n cut))
-unmade_keeps {told} {tells} {names} {old = old} (no_file slot kept number few has drew is added) = filed_more kept (made_write 0 (told_of told (line_next tells names)) old _ refl) added
+unmade_keeps {told} {tells} {names} {old = old} (no_file slot kept why number few has drew is added) = filed_more why kept (made_write 0 (told_of told (line_next tells names)) old _ refl) added
 unmade_keeps {told} {tells} {names} {old = old} (no_number few has same) = filed_same (made_write 0 (told_of told (line_next tells names)) old _ same)
 unmade_keeps (no_name few none same) = rw same (record { same = λ place. refl; within = omega arith })
 
@@ -325,9 +320,9 @@ pub make_breaks : (told : Bool) (tells : Tells) {names next : Names} {old new : 
     → Breaks (manner_by names.naming (output_of tells)) old new f
 make_breaks told tells can (no_memory same) = tt
 make_breaks told tells {names} can (no_line n few has cut) = let (out, rose) = line_rose told tells names n can cut in (λ none. out, rose)
-make_breaks told tells {names} {old = old} {new} can (no_file slot kept number few has drew is added) =
+make_breaks told tells {names} {old = old} {new} can (no_file slot kept why number few has drew is added) =
     let size : length (told_next told tells names old) ≡ length old = length-changed_at 0 _ old in
-    rose_later slot old (told_next told tells names old) new (keeps_write 0 _ old _ refl) (open_rose slot kept _ new (number ∙ sym size) added)
+    rose_later slot old (told_next told tells names old) new (keeps_write 0 _ old _ refl) (open_rose slot why kept _ new (number ∙ sym size) added)
 make_breaks told tells can (no_number few has same) = tt
 make_breaks told tells {names} can (no_name few none same) = (names.drawn, few, none)
 

@@ -1,19 +1,16 @@
 -- How many digits a number has, and what is read of one in a form.
-use Rattle.std.proofs.Common.{◌≡◌, ℕ, ◌+◌, ◌-◌, ◌*◌, ◌/◌, ◌%◌, ◌^◌, ◌<◌, ◌≤◌, ◌==◌, ◌||◌, ◌&&◌, zero, suc, not, nat_lt, Bool, true, false, cond, List, [], ◌∷◌, ◌++◌, length, filter, replicate, inl, inr, refl, sym, ◌∙◌, ap, arith, add-mul, mul_assoc, append-nil, append_assoc, length-append, mul-le-mul, pow-suc, div-add-mod', mod-lt}
-use Rattle.std.proofs.Math.Nat.{pow-le-pow_right, pow-succ', pow-zero}
-use Rattle.std.proofs.lemmas.List.Elements.{filter-append}
-use Rattle.std.proofs.lemmas.Bool.{cases_lt, cond_both, ltb-false, ltb-true}
-use Rattle.std.proofs.lemmas.Bool.Decides.{nat_tests}
-use Rattle.std.specs.Str.Parse.{digits_value, digits_value_after}
-use Rattle.std.specs.Char.{digit_value}
-use Rattle.ports_core.specs.declared.alphabet.Alphabet.{Alphabet}
-use Rattle.ports_core.specs.declared.form.Base.{Base}
+use Rattle.std.proofs.{
+  Common.{◌≡◌, ℕ, ◌+◌, ◌-◌, ◌*◌, ◌/◌, ◌%◌, ◌^◌, ◌<◌, ◌≤◌, ◌==◌, ◌||◌, ◌&&◌, zero, suc, not, nat_lt, Bool, true, false, cond, List, [], ◌∷◌, ◌++◌, length, filter, replicate, inl, inr, refl, sym, ◌∙◌, ap, arith, add-mul, mul_assoc, append-nil, append_assoc, length-append, mul-le-mul, pow-suc, div-add-mod', mod-lt},
+  Math.Nat.{pow-le-pow_right, pow-succ', pow-zero},
+  lemmas.{List.Elements.filter-append, Bool.{cases_lt, cond_both, ltb-false, ltb-true, Decides.nat_tests}},
+}
+use Rattle.std.specs.{Str.Parse.{digits_value, digits_value_after}, Char.digit_value}
+use Rattle.ports_core.{
+  specs.declared.{alphabet.Alphabet.Alphabet, form.{Base.Base, Filling.{Filling, TheVariants.{Zeros, BlanksBefore, BlanksAfter}}, Form.Form}},
+  specs.Name.{radix, character, written, alphabet_of, digits_up_to, digit_count, digits_written, filled, formatted, hex_mark, mark_of, marked},
+  proofs.CounterLemmas.{first_digit_small, many_characters, power_positive},
+}
 use Rattle.ports_core.specs.declared.form.Base.TheVariants as base
-use Rattle.ports_core.specs.declared.form.Filling.{Filling}
-use Rattle.ports_core.specs.declared.form.Filling.TheVariants.{Zeros, BlanksBefore, BlanksAfter}
-use Rattle.ports_core.specs.declared.form.Form.{Form}
-use Rattle.ports_core.specs.Name.{radix, character, written, alphabet_of, digits_up_to, digit_count, digits_written, filled, formatted, hex_mark, mark_of, marked}
-use Rattle.ports_core.proofs.CounterLemmas.{first_digit_small, many_characters, power_positive}
 
 -- how many digits a number has
 

@@ -1,13 +1,9 @@
 -- Lemmas on what all engines share.
-use Rattle.std.proofs.lemmas.Grind.{common_steps}
-use Rattle.std.proofs.Common.{◌≡◌, ℕ, ◌+◌, ◌≤◌, ◌<◌, ◌⊎◌, ◌++◌, rules, Bool, false, List, arith, Result, Ok, Err, IfErr, inl, inr, refl}
-use Rattle.ports_core.specs.Slot.{Slot}
-use Rattle.ports_core.specs.Part.{Part, Begins}
-use Rattle.ports_core.specs.Work.{IsLawful}
-use Rattle.ports_core.specs.Engine.{CutsOff, Terms, Finishes, IsCaused, Passes, cut, met}
-use Rattle.ports_core.specs.declared.fault.Fault.{Fault}
-use Rattle.ports_core.specs.declared.fault.Fault.TheVariants.{Failed, TooLong}
-use Rattle.ports_core.proofs.PartLemmas.{stopped_here}
+use Rattle.std.proofs.{lemmas.Grind.common_steps, Common.{◌≡◌, ℕ, ◌+◌, ◌≤◌, ◌<◌, ◌⊎◌, ◌++◌, rules, Bool, false, List, arith, Result, Ok, Err, IfErr, inl, inr, refl}}
+use Rattle.ports_core.{
+  specs.{Slot.Slot, Part.{Part, Begins}, Work.IsLawful, Engine.{CutsOff, Terms, Finishes, IsCaused, Passes, cut, met}, declared.fault.Fault.{Fault, TheVariants.{Failed, TooLong}}},
+  proofs.PartLemmas.stopped_here,
+}
 
 -- an engine that refuses a call changes nothing
 module _ {S : Type 0} (terms : Terms S) (told : Bool) (stage : S) (slots : List Slot)

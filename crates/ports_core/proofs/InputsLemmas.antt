@@ -1,12 +1,12 @@
 -- Lemmas on what reads leave of the inputs of a run.
-use Rattle.std.proofs.lemmas.Grind.{common_steps}
-use Rattle.std.proofs.Common.{◌≡◌, ℕ, ◌≤◌, Bool, true, false, IsTrue, List, [], ◌++◌, take, slice_index_or, arith, sym, refl, ◌<◌, ◌∙◌, ap, append-nil, take-append-drop}
-use Rattle.std.proofs.lemmas.Bool.{and_parts, false≢true, not-true}
-use Rattle.ports_core.specs.Inputs.{AsksAtMost, CameFrom, KeepsOthers, OfContent}
-use Rattle.ports_core.specs.Slot.{changed_at}
-use Rattle.ports_core.specs.Source.{Content, Source, source_at, is_readable, gives, fails, Gave, BrokeOff, IsFresh}
-use Rattle.ports_core.proofs.SlotLemmas.{changed_there, elsewhere, length-changed_at}
-use Rattle.ports_core.proofs.SourceLemmas.{readable_within}
+use Rattle.std.proofs.{
+  lemmas.{Grind.common_steps, Bool.{and_parts, false≢true, not-true}},
+  Common.{◌≡◌, ℕ, ◌≤◌, Bool, true, false, IsTrue, List, [], ◌++◌, take, slice_index_or, arith, sym, refl, ◌<◌, ◌∙◌, ap, append-nil, take-append-drop},
+}
+use Rattle.ports_core.{
+  specs.{Inputs.{AsksAtMost, CameFrom, KeepsOthers, OfContent}, Slot.changed_at, Source.{Content, ReadFails, Source, source_at, is_readable, gives, fails, Gave, BrokeOff, IsFresh}},
+  proofs.{SlotLemmas.{changed_there, elsewhere, length-changed_at}, SourceLemmas.readable_within},
+}
 
 -- what was read of the input with this number so far, and what is left of it
 pub record HasRead (content : Content) (x : List ℕ) (slot : ℕ) (sources : List Source) : Type 0 where
@@ -77,10 +77,10 @@ came_sound told sources slot can sound = record { was_open = open_at sources slo
 
 -- one whose read failed came from its source, where it breaks off
 pub came_broken : (told : Bool) {content : Content} (slot size : ℕ) (sources new : List Source)
-    → IsTrue (is_readable sources slot) → new ≡ changed_at slot (fails size) sources
+    → IsTrue (is_readable sources slot) → ReadFails slot size sources new
     → (told ≡ false → content.breaks_off ≡ true) → CameFrom told content (source_at new slot)
-came_broken told slot size sources new can is broken =
-    let after = changed_source slot (fails size) sources new can is in record {
+came_broken told slot size sources new can (why, is) broken =
+    let after = changed_source slot (fails why size) sources new can is in record {
       was_open = ap (λ (source : Source). source.is_open) after ∙ open_at sources slot can;
       breaks = λ untold. broken untold ∙ sym (ap (λ (source : Source). source.is_broken) after);
     }
@@ -92,9 +92,9 @@ of_content true there seen source P told untold was alike = (there, λ t. refl, 
 of_content false there seen source P told untold was alike = (seen, λ t. absurd (false≢true t), (untold refl, record { was_open = was; breaks = λ off. alike }))
 
 pub read_failed : (content : Content) (x : List ℕ) (slot : ℕ) (sources new : List Source) (size : ℕ)
-    → HasRead content x slot sources → IsTrue (is_readable sources slot) → new ≡ changed_at slot (fails size) sources
+    → HasRead content x slot sources → IsTrue (is_readable sources slot) → ReadFails slot size sources new
     → content.bytes ≡ x ++ (source_at new slot).left.bytes
-read_failed content x slot sources new size read can is = grind (arith, common_steps, changed_source)
+read_failed content x slot sources new size read can (why, is) = grind (arith, common_steps, changed_source)
 
 -- the read that told the end took nothing
 pub read_none_more : (content : Content) (x : List ℕ) (slot : ℕ) (sources new : List Source) (size n : ℕ)
@@ -109,13 +109,13 @@ pub asked_again : (slot size most n : ℕ) (sources new : List Source) → IsTru
 asked_again slot size most n sources new can is within so_far = rw (ap (λ (source : Source). source.asked) (changed_source slot (gives size n) sources new can is)) (omega (arith, so_far, within))
 
 pub asked_at_end : (slot size most : ℕ) (sources new : List Source) → IsTrue (is_readable sources slot)
-    → new ≡ changed_at slot (fails size) sources → size ≤ most → (source_at sources slot).asked ≤ most
+    → ReadFails slot size sources new → size ≤ most → (source_at sources slot).asked ≤ most
     → (source_at new slot).asked ≤ most
-asked_at_end slot size most sources new can is within so_far = rw (ap (λ (source : Source). source.asked) (changed_source slot (fails size) sources new can is)) (omega (arith, so_far, within))
+asked_at_end slot size most sources new can (why, is) within so_far = rw (ap (λ (source : Source). source.asked) (changed_source slot (fails why size) sources new can is)) (omega (arith, so_far, within))
 
 pub broken_now : (slot size : ℕ) (sources new : List Source) → IsTrue (is_readable sources slot)
-    → new ≡ changed_at slot (fails size) sources → (source_at new slot).is_broken ≡ true
-broken_now slot size sources new can is = ap (λ (source : Source). source.is_broken) (changed_source slot (fails size) sources new can is)
+    → ReadFails slot size sources new → (source_at new slot).is_broken ≡ true
+broken_now slot size sources new can (why, is) = ap (λ (source : Source). source.is_broken) (changed_source slot (fails why size) sources new can is)
 
 -- the read that gave none, though there was room, told the end
 pub ended_now : (slot size n : ℕ) (sources new : List Source) → IsTrue (is_readable sources slot)

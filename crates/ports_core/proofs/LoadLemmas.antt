@@ -1,15 +1,12 @@
 -- Lemmas on what an engine takes in without a read.
-use Rattle.std.proofs.lemmas.Grind.{common_steps}
-use Rattle.std.proofs.Common.{◌≡◌, ℕ, ◌<◌, ◌≤◌, ◌^◌, max, zero, suc, not, ◌&&◌, Bool, true, false, IsTrue, List, [], ◌∷◌, length, take, replicate, if◌then◌else◌, inl, refl, sym, ◌∙◌, ap, subst, arith}
-use Rattle.std.proofs.lemmas.Bool.{false≢true}
-use Rattle.std.proofs.lemmas.List.{length-replicate, length-take-le, nil_from_length, take-append-drop}
-use Rattle.ports_core.specs.Slot.{changed_at}
-use Rattle.ports_core.specs.Source.{Source, source_at, is_readable, looks, skips}
-use Rattle.ports_core.specs.Inputs.{HasLooked, PassesOver}
-use Rattle.ports_core.proofs.InputsLemmas.{changed_source, keeps_again, keeps_itself, keeps_others}
-use Rattle.ports_core.specs.Engine.{Terms, Loads, TookIn}
-use Rattle.ports_core.proofs.SlotLemmas.{changed_there}
-use Rattle.ports_core.proofs.SourceLemmas.{readable_within}
+use Rattle.std.proofs.{
+  lemmas.{Grind.common_steps, Bool.false≢true, List.{length-replicate, length-take-le, nil_from_length, take-append-drop}},
+  Common.{◌≡◌, ℕ, ◌<◌, ◌≤◌, ◌^◌, max, zero, suc, not, ◌&&◌, Bool, true, false, IsTrue, List, [], ◌∷◌, length, take, replicate, if◌then◌else◌, inl, refl, sym, ◌∙◌, ap, subst, arith},
+}
+use Rattle.ports_core.{
+  specs.{Slot.changed_at, Source.{Source, source_at, is_readable, looks, skips}, Inputs.{HasLooked, PassesOver}, Engine.{Terms, Loads, TookIn}},
+  proofs.{InputsLemmas.{changed_source, keeps_again, keeps_itself, keeps_others}, SlotLemmas.changed_there, SourceLemmas.readable_within},
+}
 
 -- an input of which nothing is passed over is as it was
 pub none_passed : (slot : ℕ) (sources : List Source) → sources ≡ changed_at slot (skips 0) sources

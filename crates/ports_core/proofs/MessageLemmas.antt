@@ -1,22 +1,19 @@
 -- Lemmas on messages.
-use Rattle.std.proofs.lemmas.Grind.{common_steps}
-use Rattle.std.proofs.Common.{◌≡◌, ℕ, Bool, true, false, List, [], ◌∷◌, ◌++◌, take, Result, Ok, Err, OnOk, IfErr, ◌⊎◌, refl, sym, ◌∙◌, ap, arith}
-use Rattle.ports_core.specs.Slot.{Slot, slot_at, with_written, with_broken, adds, breaks, told_of}
-use Rattle.ports_core.specs.Write.{BrokeAfter}
-use Rattle.ports_core.specs.Text.{Message, is_quiet, line_of, message_of, status_after}
-use Rattle.ports_core.specs.declared.calling.Speaker.{Speaker}
-use Rattle.ports_core.specs.declared.reason.Reason.{Reason}
-use Rattle.ports_core.specs.declared.whole.WriteCut.{WriteCut}
-use Rattle.ports_core.specs.declared.fault.Fault.{Fault}
-use Rattle.ports_core.specs.declared.fault.Fault.TheVariants.{Memory}
-use Rattle.ports_core.specs.Message.{Prints, whole, cut, passed, PrintsOn, Says, SaysAll, SaysOn, Tells, TellsIf, TellsOn}
+use Rattle.std.proofs.{lemmas.Grind.common_steps, Common.{◌≡◌, ℕ, Bool, false, List, [], ◌∷◌, ◌++◌, take, Result, Ok, Err, OnOk, IfErr, ◌⊎◌, refl, sym, ◌∙◌, ap, arith}}
+use Rattle.ports_core.specs.{
+  Slot.{Slot, slot_at, with_written, with_broken, adds, breaks, told_of},
+  Write.BrokeAfter,
+  Text.{Message, is_quiet, line_of, message_of, status_after},
+  declared.{calling.Speaker.Speaker, reason.Reason.Reason, whole.WriteCut.WriteCut, fault.Fault.{Fault, TheVariants.Memory}},
+  Message.{Prints, whole, cut, passed, PrintsOn, Says, SaysAll, SaysOn, TellsOn, output_named, output_reason},
+}
 
 pub prints_on : (told : Bool) {text : List ℕ} {old new : List Slot} (result : Result (Unit {0}) WriteCut)
     → (slot_at old 1).is_broken ≡ false → OnOk result (new ≡ with_written 1 (told_of told text) old)
     → IfErr result (λ at. BrokeAfter told old new 1 text at.written) → PrintsOn told text old new
 prints_on told {text} (Ok u) sound out broke output error since is = grind (arith, common_steps)
-prints_on told {text} (Err at) sound out broke output error since is =
-    (breaks (adds (told_of told (take at.written text)) error), cut (sym (ap (λ slots. (slot_at slots 1).is_broken) is) ∙ sound) at.written broke.within refl, broke.slots ∙ ap (λ slots. with_broken 1 (with_written 1 (told_of told (take at.written text)) slots)) is)
+prints_on told {text} (Err at) sound out broke output error since is = let (why, slots) = broke.slots in
+    (breaks why (adds (told_of told (take at.written text)) error), cut (sym (ap (λ slots. (slot_at slots 1).is_broken) is) ∙ sound) at.written why broke.within refl, slots ∙ ap (λ slots. with_broken why 1 (with_written 1 (told_of told (take at.written text)) slots)) is)
 
 pub says_on : (told : Bool) {speaker : Speaker} {why : Reason} (message : Message) {said : List ℕ} {old new : List Slot}
     → (said ≡ line_of speaker why message) ⊎ (said ≡ line_of speaker why (message_of Memory []))
@@ -26,23 +23,11 @@ says_on told message {said} is prints output error since shape =
     (printed.0, record { said = said; is = is; printed = printed.1 }, printed.2)
 
 -- a fault of which a message is due
-pub told_aloud : (told : Bool) {speaker : Speaker} {why : Reason} (fault : Fault) (name : List ℕ) {old new : List Slot}
-    → is_quiet fault speaker.calling why ≡ false → SaysOn told speaker why (message_of fault name) old new
-    → TellsOn told speaker why fault name old new × (1 ≡ status_after fault speaker.calling why)
-told_aloud told fault name aloud says = rw aloud (says, refl)
-
--- what is said on an output leaves its name
-pub printed_named : {told : Bool} {text : List ℕ} {old new : Slot} → Prints told text old new → new.name ≡ old.name
-printed_named (whole sound is) = ap (λ slot. slot.name) is
-printed_named (cut sound n within is) = ap (λ slot. slot.name) is
-printed_named (passed broken is) = ap (λ slot. slot.name) is
-
-pub told_named : (told : Bool) (speaker : Speaker) (why : Reason) (fault : Fault) (name : List ℕ) (old new : Slot)
-    → Tells told speaker why fault name old new → new.name ≡ old.name
-told_named told speaker why fault name old new = by (is_quiet fault speaker.calling why) where
-  by : (quiet : Bool) → TellsIf quiet told speaker why (message_of fault name) old new → new.name ≡ old.name
-  by true same = ap (λ slot. slot.name) same
-  by false says = printed_named says.printed
+pub told_aloud : (told : Bool) {speaker : Speaker} (fault : Fault) {old new : List Slot}
+    → is_quiet fault speaker.calling (output_reason old fault) ≡ false
+    → SaysOn told speaker (output_reason old fault) (message_of fault (output_named old fault)) old new
+    → TellsOn told speaker fault old new × (1 ≡ status_after fault speaker.calling (output_reason old fault))
+told_aloud told fault aloud says = rw aloud (says, refl)
 
 -- one message more after others
 pub says_more : (told : Bool) (speaker : Speaker) (messages : List Message) (message : Message) (old mid new : Slot)
@@ -54,7 +39,7 @@ says_more told speaker (first ∷ messages) message old mid new so_far says = (s
 -- an output that is open stays open whatever is said on it
 pub printed_open : (told : Bool) (text : List ℕ) (old new : Slot) → Prints told text old new → new.state ≡ old.state
 printed_open told text old new (whole sound is) = cc
-printed_open told text old new (cut sound n within is) = cc
+printed_open told text old new (cut sound n why within is) = cc
 printed_open told text old new (passed broken is) = cc
 
 pub said_state : (told : Bool) (speaker : Speaker) (message : Message) (old new : Slot)

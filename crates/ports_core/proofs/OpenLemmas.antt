@@ -1,22 +1,26 @@
 -- A file with the next name that wasn't opened: why, and what that leaves.
-use Rattle.std.proofs.Common.{◌≡◌, ℕ, ◌<◌, ◌^◌, Bool, List, [], ◌∷◌, ◌++◌, ◌⊎◌, length, take, drop, None, Some, inl, inr, refl, sym, subst, ap, ◌∙◌, IsTrue, arith, append_assoc}
-use Rattle.std.proofs.lemmas.List.{append-nil, take-append-drop}
-use Rattle.ports_core.specs.Names.{next_name, has_next, with_one_drawn, told_next, line_next, OpensNone, no_memory, no_line, no_file, no_number, no_name}
-use Rattle.ports_core.specs.Slot.{Slot, FailsToOpen, broke, numberless, unopened, adds, told_of, with_written}
-use Rattle.ports_core.specs.Part.{File, Part, Begins, IsAt, IsBeginning, IsDueLine, IsNext, Marks, Output}
-use Rattle.ports_core.specs.Turn.{AllClosed}
-use Rattle.ports_core.specs.Draft.{output_of, part_with, told_before, told_of_files}
-use Rattle.ports_core.specs.Write.{BrokeAfter}
-use Rattle.ports_core.specs.inner.Names.{TellsOpening}
+use Rattle.std.proofs.{
+  Common.{◌≡◌, ℕ, ◌<◌, ◌^◌, Bool, List, [], ◌∷◌, ◌++◌, ◌⊎◌, length, take, drop, None, Some, inl, inr, refl, sym, subst, ap, ◌∙◌, IsTrue, arith, append_assoc},
+  lemmas.List.{append-nil, take-append-drop},
+}
+use Rattle.ports_core.specs.{
+  Names.{next_name, has_next, with_one_drawn, told_next, line_next, OpensNone, no_memory, no_line, no_file, no_number, no_name},
+  Slot.{Slot, FailsToOpen, broke, numberless, unopened, adds, told_of, with_written},
+  Part.{File, Part, Begins, IsAt, IsBeginning, IsDueLine, IsNext, Marks, Output},
+  Turn.AllClosed,
+  Draft.{output_of, part_with, told_before, told_of_files},
+  Write.BrokeAfter,
+  inner.Names.TellsOpening,
+  declared.{fault.Fault.Fault, file_writer.Tells.Tells, names.Names.Names},
+}
+use Rattle.ports_core.proofs.{
+  PartLemmas.{begins_itself, due_by, marks_by, turn_next},
+  PartSteps.{Becomes, becomes_again, begun_out, file_of, halts_here, line_begins, lines_due, more_files, out_added, with_last},
+  SlotLemmas.length-changed_at,
+  WriteLemmas.none_written,
+}
 use Rattle.ports_core.specs.inner.Write as short
-use Rattle.ports_core.specs.declared.fault.Fault.{Fault}
-use Rattle.ports_core.specs.declared.file_writer.Tells.{Tells}
-use Rattle.ports_core.specs.declared.names.Names.{Names}
 use Rattle.ports_core.specs.declared.slot.State.TheVariants as state
-use Rattle.ports_core.proofs.PartLemmas.{begins_itself, due_by, marks_by, turn_next}
-use Rattle.ports_core.proofs.PartSteps.{Becomes, becomes_again, begun_out, file_of, halts_here, line_begins, lines_due, more_files, out_added, with_last}
-use Rattle.ports_core.proofs.SlotLemmas.{length-changed_at}
-use Rattle.ports_core.proofs.WriteLemmas.{none_written}
 
 -- after standard output was told of the file
 pub opens_none : (told : Bool) (tells : Tells) (names : Names) {next : Names} {name : List ℕ} (old : List Slot)
@@ -24,8 +28,8 @@ pub opens_none : (told : Bool) (tells : Tells) (names : Names) {next : Names} {n
     → next ≡ with_one_drawn names
     → mid ≡ told_next told tells names old → {fault : Fault} → FailsToOpen mid name new fault
     → OpensNone told tells names next old new fault
-opens_none told tells names old named few has drew line (broke slot kept at is made) =
-    no_file slot kept (at ∙ ap length line ∙ length-changed_at 0 _ old) few has drew (subst (λ those. (kept ≡ those) ⊎ (kept ≡ [])) named is) (made ∙ ap (λ slots. slots ++ unopened kept ∷ []) line)
+opens_none told tells names old named few has drew line (broke slot kept why at is made) =
+    no_file slot kept why (at ∙ ap length line ∙ length-changed_at 0 _ old) few has drew (subst (λ those. (kept ≡ those) ⊎ (kept ≡ [])) named is) (made ∙ ap (λ slots. slots ++ unopened why kept ∷ []) line)
 opens_none told tells names old named few has drew line (numberless full same) = no_number few has (same ∙ line)
 
 -- or of which it could not be told
@@ -72,13 +76,13 @@ stops_opening {told} {tells} {names} {old = old} some (no_line n few has cut) = 
 } where
   begins : IsBeginning (take n (line_next tells names)) (line_next tells names)
   begins = (drop n (line_next tells names), sym (take-append-drop n (line_next tells names)))
-stops_opening {told} {tells} {names} {old = old} some (no_file slot kept at few has drew is made) = record {
+stops_opening {told} {tells} {names} {old = old} some (no_file slot kept why at few has drew is made) = record {
   bytes = line_next tells names;
   reached = told_next told tells names old;
   wrote = refl;
   begins = inr ((few, has, refl), begins_itself (line_next tells names));
   due = λ line is. (next_name names, (few, has, refl), is);
-  marks = (at ∙ sym (length-changed_at 0 _ old), (next_name names, kept, (few, has, refl), is, made));
+  marks = (at ∙ sym (length-changed_at 0 _ old), (next_name names, kept, why, (few, has, refl), is, made));
   at = λ first place. refl;
 }
 stops_opening {told} {tells} {names} {old = old} some (no_number few has same) = record {

@@ -1,19 +1,18 @@
 -- Lemmas on what outputs have got.
-use Rattle.std.proofs.lemmas.Grind.{common_steps}
-use Rattle.std.proofs.Common.{◌≡◌, ℕ, ◌+◌, ◌<◌, ◌≤◌, zero, suc, List, [], ◌∷◌, ◌++◌, length, take, drop, Bool, true, false, IsTrue, ◌⊎◌, inl, inr, refl, sym, ◌∙◌, ap, arith, append_assoc, rules}
-use Rattle.std.proofs.lemmas.List.{append-nil, take-append-drop, drop_all, length-map}
-use Rattle.std.proofs.lemmas.Bool.{false≢true, and_parts, not-true}
-use Rattle.ports_core.specs.Slot.{Slot, is_open, slot_at, is_writable, with_written, with_broken, told_of}
-use Rattle.ports_core.specs.Write.{BrokeAfter}
-use Rattle.ports_core.specs.Part.{File, Part, nothing, only_out, OutputsAt, IsBeginning, FilesBegin, Begins, IsNext, Marks, IsAt, InOrder, StoppedBetween, Output, gets_none, gets_bytes, gets_lines, gets_openings, openings_for, IsDueLine, LinesInOrder}
-use Rattle.ports_core.specs.Turn.{AllClosed, InTurn, StoppedInTurn, LinesTo}
-use Rattle.ports_core.specs.inner.Part.{HasLines}
-use Rattle.ports_core.specs.declared.slot.State.{State}
+use Rattle.std.proofs.{
+  lemmas.{Grind.common_steps, List.{append-nil, take-append-drop, drop_all, length-map}, Bool.{false≢true, and_parts, not-true}},
+  Common.{◌≡◌, ℕ, ◌+◌, ◌<◌, ◌≤◌, zero, suc, List, [], ◌∷◌, ◌++◌, length, take, drop, Bool, true, false, IsTrue, ◌⊎◌, inl, inr, refl, sym, ◌∙◌, ap, arith, append_assoc, rules},
+}
+use Rattle.ports_core.specs.{
+  Slot.{Slot, is_open, slot_at, is_writable, with_written, with_broken, told_of},
+  Write.BrokeAfter,
+  Part.{File, Part, nothing, only_out, OutputsAt, IsBeginning, FilesBegin, Begins, IsNext, Marks, IsAt, InOrder, StoppedBetween, Output, gets_none, gets_bytes, gets_lines, gets_openings, openings_for, IsDueLine, LinesInOrder},
+  Turn.{AllClosed, InTurn, StoppedInTurn, LinesTo},
+  inner.Part.HasLines,
+  declared.{reason.Reason.Reason, slot.State.State, fault.Fault.{Fault, TheVariants.{Memory, Write, Open}}},
+}
+use Rattle.ports_core.proofs.{SlotLemmas.{changed_at-append, length-changed_at, with_written-nil}, WriteLemmas.{told_of-append, told_of-nil, with_written-append}}
 use Rattle.ports_core.specs.declared.slot.State.TheVariants as state
-use Rattle.ports_core.specs.declared.fault.Fault.{Fault}
-use Rattle.ports_core.specs.declared.fault.Fault.TheVariants.{Memory, Write, Open}
-use Rattle.ports_core.proofs.SlotLemmas.{changed_at-append, length-changed_at, with_written-nil}
-use Rattle.ports_core.proofs.WriteLemmas.{told_of-append, told_of-nil, with_written-append}
 
 -- beginnings
 
@@ -133,11 +132,11 @@ pub stopped_here : (output : Output) (told : Bool) (before : List Slot) (low hig
 stopped_here output told before low high fault old new at begins marks from other = grind (arith, common_steps, part_begins_itself, lines_still)
 
 -- an output that could be written broke
-pub broken_at : (place : ℕ) (slots : List Slot) → IsTrue (is_writable slots place)
-    → (slot_at (with_broken place slots) place).is_broken ≡ true
-broken_at place [] can = absurd (false≢true can)
-broken_at zero (slot ∷ slots) can = refl
-broken_at (suc place) (slot ∷ slots) can = broken_at place slots can
+pub broken_at : (why : Reason) (place : ℕ) (slots : List Slot) → IsTrue (is_writable slots place)
+    → (slot_at (with_broken why place slots) place).is_broken ≡ true
+broken_at why place [] can = absurd (false≢true can)
+broken_at why zero (slot ∷ slots) can = refl
+broken_at why (suc place) (slot ∷ slots) can = broken_at why place slots can
 
 pub sound_at : (place : ℕ) (slots : List Slot) → IsTrue (is_writable slots place)
     → (slot_at slots place).is_broken ≡ false

@@ -1,21 +1,25 @@
 -- Outputs that have a part have another, as their last file is opened, written and closed; or a fault stops them in between.
-use Rattle.std.proofs.Common.{◌≡◌, ℕ, ◌+◌, suc, Bool, false, List, [], ◌∷◌, ◌++◌, length, take, Option, Some, None, inl, inr, refl, sym, ◌∙◌, ap, arith, length-append}
-use Rattle.std.proofs.lemmas.List.{append-nil, take_all}
-use Rattle.std.proofs.Math.Seq.{take-append_seam}
-use Rattle.ports_core.specs.Draft.{told_before, told_of_files}
-use Rattle.ports_core.specs.Slot.{Slot, opened, changed_at, adds, closes, with_written, with_broken, told_of}
-use Rattle.ports_core.specs.Part.{File, Part, OutputsAt, Begins, FilesBegin, IsNext, Marks, IsAt, IsDueLine, Output, gets_none, gets_bytes, gets_lines, gets_openings, lines_for, openings_for}
-use Rattle.ports_core.specs.Turn.{AllClosed, InTurn, IsThere, LinesTo}
+use Rattle.std.proofs.{
+  Common.{◌≡◌, ℕ, ◌+◌, suc, Bool, false, List, [], ◌∷◌, ◌++◌, length, take, Option, Some, None, inl, inr, refl, sym, ◌∙◌, ap, arith, length-append},
+  lemmas.List.{append-nil, take_all},
+  Math.Seq.take-append_seam,
+}
+use Rattle.ports_core.specs.{
+  declared.{reason.Reason.TheVariants.Other, fault.Fault.Fault, slot.{Mode.TheVariants.Fresh, State.State}},
+  Draft.{told_before, told_of_files},
+  Slot.{SlotBreaks, Slot, opened, changed_at, adds, closes, with_written, told_of},
+  Part.{File, Part, OutputsAt, Begins, FilesBegin, IsNext, Marks, IsAt, IsDueLine, Output, gets_none, gets_bytes, gets_lines, gets_openings, lines_for, openings_for},
+  Turn.{AllClosed, InTurn, IsThere, LinesTo},
+  inner.Write.Wrote,
+}
+use Rattle.ports_core.proofs.{
+  SlotLemmas.length-changed_at,
+  FileLemmas.{gets, ended, file_more, last_changes, write_makes, close_makes},
+  PartLemmas.{begins_itself, begins_more, take_begins_after, files_begin_themselves, part_begins_itself, IsNoOpen, none_due, openings-append, out_more, outputs_count, turn_between, turn_last},
+}
 use Rattle.ports_core.specs.inner.Write as short
-use Rattle.ports_core.specs.inner.Write.{Wrote}
-use Rattle.ports_core.specs.declared.fault.Fault.{Fault}
 use Rattle.ports_core.specs.declared.fault.Fault.TheVariants as fault
-use Rattle.ports_core.specs.declared.slot.Mode.TheVariants.{Fresh}
-use Rattle.ports_core.specs.declared.slot.State.{State}
 use Rattle.ports_core.specs.declared.slot.State.TheVariants as state
-use Rattle.ports_core.proofs.SlotLemmas.{length-changed_at}
-use Rattle.ports_core.proofs.FileLemmas.{gets, ended, file_more, last_changes, write_makes, close_makes}
-use Rattle.ports_core.proofs.PartLemmas.{begins_itself, begins_more, take_begins_after, files_begin_themselves, part_begins_itself, IsNoOpen, none_due, openings-append, out_more, outputs_count, turn_between, turn_last}
 
 pub record Becomes (output : Output) (told : Bool) (low high : Part) (old new : List Slot) (fault : Option Fault)
     : Type 0 where
@@ -41,7 +45,7 @@ falls_wider {output} {told} {low} {middle} {high} {new = new} {fault = fault} fa
 
 -- a file with this name
 abbrev pub file_of : List ℕ → List ℕ → State → File
-file_of name bytes state = record { name = name; mode = Fresh; bytes = bytes; state = state; is_broken = false }
+file_of name bytes state = record { name = name; mode = Fresh; bytes = bytes; state = state; is_broken = false; reason = Other }
 
 -- these files, and a last one
 abbrev pub with_last : List ℕ → List File → File → Part
@@ -193,7 +197,7 @@ module _ (output : Output) (told : Bool) (front : List File) (name bytes : List 
       (λ before at. inr (last_place output told _ front (file_of name (bytes ++ take n more) state.Open) (last ∙ sym (length-changed_at slot _ old)) at)))
 
   pub closes_not : {slot : ℕ} (old : List Slot) {new : List Slot} → AllClosed front → suc slot ≡ length old
-      → new ≡ with_broken slot (changed_at slot closes old)
+      → SlotBreaks slot (changed_at slot closes old) new
       → Becomes output told (with_last (begun_out output front name) front (file_of name bytes state.Open))
       (with_last (begun_out output front name) front (file_of name bytes state.Closed)) old new
       (Some (fault.Write slot))

@@ -1,20 +1,17 @@
 -- The files of shares, and what standard output is told of them: what begins what, and the last file.
-use Rattle.std.proofs.lemmas.Grind.{common_steps}
-use Rattle.std.proofs.Common.{◌≡◌, ℕ, ◌+◌, suc, Bool, true, false, cond, List, [], ◌∷◌, ◌++◌, ◌⊎◌, length, map, inl, inr, refl, sym, ◌∙◌, ap, subst, arith, append_assoc, append-nil, rules}
-use Rattle.std.proofs.lemmas.Bool.{cond_both}
-use Rattle.std.proofs.lemmas.List.{length-map}
-use Rattle.ports_core.specs.Draft.{Manner, AreNamed, Share, share, file_at, files_from, told_of_files, told_before, part_with, part_of, made_of, Draft, shares_of, draft_part, with_bytes, with_next}
-use Rattle.ports_core.specs.Part.{File, nothing, Begins, FilesBegin, IsBeginning, Output, gets_none, gets_bytes, gets_lines, gets_openings, lines_for, openings_for}
-use Rattle.ports_core.specs.Slot.{is_open}
-use Rattle.ports_core.specs.Turn.{AllClosed}
-use Rattle.ports_core.specs.inner.Part.{HasLines}
-use Rattle.ports_core.specs.inner.Shares.{SharesBegin}
-use Rattle.ports_core.specs.declared.file_writer.Opening.{Opening}
-use Rattle.ports_core.specs.declared.file_writer.Opening.TheVariants.{Never, Late, AtOnce}
-use Rattle.ports_core.specs.declared.slot.State.{State}
-use Rattle.ports_core.specs.declared.slot.State.TheVariants.{Open, Closed}
-use Rattle.ports_core.proofs.PartLemmas.{begins_itself, begins_more, openings-append, openings_since}
-use Rattle.ports_core.proofs.PartSteps.{begun_out, with_last, file_of}
+use Rattle.std.proofs.{
+  lemmas.{Grind.common_steps, Bool.cond_both, List.length-map},
+  Common.{◌≡◌, ℕ, ◌+◌, suc, Bool, true, false, cond, List, [], ◌∷◌, ◌++◌, ◌⊎◌, length, map, inl, inr, refl, sym, ◌∙◌, ap, subst, arith, append_assoc, append-nil, rules},
+}
+use Rattle.ports_core.specs.{
+  Draft.{Manner, AreNamed, Share, share, file_at, files_from, told_of_files, told_before, part_with, part_of, made_of, Draft, shares_of, draft_part, with_bytes, with_next},
+  Part.{File, nothing, Begins, FilesBegin, IsBeginning, Output, gets_none, gets_bytes, gets_lines, gets_openings, lines_for, openings_for},
+  Slot.is_open,
+  Turn.AllClosed,
+  inner.{Part.HasLines, Shares.SharesBegin},
+  declared.{file_writer.Opening.{Opening, TheVariants.{Never, Late, AtOnce}}, slot.State.{State, TheVariants.{Open, Closed}}},
+}
+use Rattle.ports_core.proofs.{PartLemmas.{begins_itself, begins_more, openings-append, openings_since}, PartSteps.{begun_out, with_last, file_of}}
 
 -- Shares that begin others
 
@@ -214,7 +211,10 @@ open_part manner draft named makes = grind (arith, common_steps, part_last, with
 pub closed_part : (manner : Manner) (draft : Draft) → AreNamed manner (suc (length draft.ended))
     → made_of draft.opening draft.bytes ≡ draft.bytes ∷ []
     → draft_part manner (with_next Never draft)
-    ≡ with_last (ended_out manner draft ++ told_of_files manner.output (file_of (name_after manner draft) draft.bytes Closed ∷ [])) (ended_files manner draft) (file_of (name_after manner draft) draft.bytes Closed)
+    ≡ with_last
+    (ended_out manner draft
+    ++ told_of_files manner.output (file_of (name_after manner draft) draft.bytes Closed ∷ []))
+    (ended_files manner draft) (file_of (name_after manner draft) draft.bytes Closed)
 closed_part manner draft named makes = grind (arith, common_steps, next_shares, part_last)
 
 -- there is none

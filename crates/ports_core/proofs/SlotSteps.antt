@@ -1,20 +1,17 @@
 -- Slots as they are opened, written and closed, and as they break.
-use Rattle.std.proofs.lemmas.Grind.{common_steps}
-use Rattle.std.proofs.Common.{◌≡◌, ℕ, ◌<◌, ◌≤◌, zero, suc, not, ◌&&◌, List, [], ◌∷◌, ◌++◌, length, take, Bool, true, false, IsTrue, refl, sym, ◌∙◌, ap, arith, rules, length-append}
-use Rattle.std.proofs.lemmas.Bool.{false≢true}
-use Rattle.std.proofs.Math.Seq.{get_or-append_seam}
-use Rattle.ports_core.specs.Slot.{Slot, Rose, is_open, has_file, can_write, no_slot, slot_at, changed_at, opened, unopened, adds, closes, breaks, with_written, with_broken, told_of, is_writable}
-use Rattle.ports_core.specs.Slot.{KeepsBroken}
-use Rattle.ports_core.specs.Swept.{Swept, none}
-use Rattle.ports_core.specs.Write.{BrokeAfter}
-use Rattle.ports_core.specs.inner.Write.{WritesShort, broke}
-use Rattle.ports_core.specs.declared.fault.Fault.{Fault}
-use Rattle.ports_core.specs.declared.slot.Mode.{Mode}
-use Rattle.ports_core.specs.declared.slot.State.{State}
-use Rattle.ports_core.specs.declared.slot.State.TheVariants.{Open}
-use Rattle.ports_core.proofs.PartLemmas.{sound_at, broken_at}
-use Rattle.ports_core.proofs.SlotLemmas.{length-changed_at, slot_at-elsewhere}
-use Rattle.ports_core.proofs.WriteLemmas.{writable-written}
+use Rattle.std.proofs.{
+  lemmas.{Grind.common_steps, Bool.false≢true},
+  Common.{◌≡◌, ℕ, ◌<◌, ◌≤◌, zero, suc, not, ◌&&◌, List, [], ◌∷◌, ◌++◌, length, take, Bool, true, false, IsTrue, refl, sym, ◌∙◌, ap, arith, rules, length-append},
+  Math.Seq.get_or-append_seam,
+}
+use Rattle.ports_core.specs.{
+  Slot.{SlotBreaks, Slot, Rose, is_open, has_file, can_write, no_slot, slot_at, changed_at, opened, unopened, adds, closes, breaks, with_written, with_broken, told_of, is_writable, KeepsBroken},
+  Swept.{Swept, none},
+  Write.BrokeAfter,
+  inner.Write.{WritesShort, broke},
+  declared.{fault.Fault.Fault, reason.Reason.Reason, slot.{Mode.Mode, State.{State, TheVariants.Open}}},
+}
+use Rattle.ports_core.proofs.{PartLemmas.{sound_at, broken_at}, SlotLemmas.{length-changed_at, slot_at-elsewhere}, WriteLemmas.writable-written}
 
 -- Outputs that were broken stay broken.
 
@@ -45,11 +42,11 @@ keeps_open one old new is place sound = grind (arith, common_steps)
 
 -- One that breaks was sound.
 
-pub broken_there : (place : ℕ) (slots : List Slot) → place < length slots
-    → (slot_at (with_broken place slots) place).is_broken ≡ true
-broken_there place [] within = absurd (omega (arith, within))
-broken_there zero (slot ∷ slots) within = refl
-broken_there (suc place) (slot ∷ slots) within = broken_there place slots (omega arith)
+pub broken_there : (why : Reason) (place : ℕ) (slots : List Slot) → place < length slots
+    → (slot_at (with_broken why place slots) place).is_broken ≡ true
+broken_there why place [] within = absurd (omega (arith, within))
+broken_there why zero (slot ∷ slots) within = refl
+broken_there why (suc place) (slot ∷ slots) within = broken_there why place slots (omega arith)
 
 pub rose_later : (slot : ℕ) (old mid new : List Slot) → KeepsBroken old mid → Rose slot mid new → Rose slot old new
 rose_later slot old mid new keeps rose = search rules
@@ -59,15 +56,15 @@ pub write_rose : (told : Bool) (slot : ℕ) (bytes : List ℕ) (n : ℕ) (old ne
 write_rose told slot bytes n old new can cut = grind (arith, common_steps, sound_at, broken_at, writable-written)
 
 pub close_rose : (slot : ℕ) (old new : List Slot) → IsTrue (is_writable old slot) → slot < length old
-    → new ≡ with_broken slot (changed_at slot closes old) → Rose slot old new
-close_rose slot old new can within is = grind (arith, common_steps, sound_at, broken_there, length-changed_at)
+    → SlotBreaks slot (changed_at slot closes old) new → Rose slot old new
+close_rose slot old new can within (why, is) = grind (arith, common_steps, sound_at, broken_there, length-changed_at)
 
 pub at_end : (slots : List Slot) (one : Slot) → slot_at (slots ++ one ∷ []) (length slots) ≡ one
 at_end slots one = get_or-append_seam slots one [] no_slot
 
-pub open_rose : (slot : ℕ) (kept : List ℕ) (old new : List Slot) → slot ≡ length old → new ≡ old ++ unopened kept ∷ []
-    → Rose slot old new
-open_rose slot kept old new number is = grind (arith, common_steps)
+pub open_rose : (slot : ℕ) (why : Reason) (kept : List ℕ) (old new : List Slot) → slot ≡ length old
+    → new ≡ old ++ unopened why kept ∷ [] → Rose slot old new
+open_rose slot why kept old new number is = grind (arith, common_steps)
 
 -- How many there are
 
@@ -79,9 +76,9 @@ pub short_size : (told : Bool) (slot : ℕ) (bytes : List ℕ) (old new : List S
     → WritesShort told slot bytes old new f → length new ≡ length old
 short_size told slot bytes old new _ (broke n cut) = grind (arith, common_steps, length-changed_at)
 
-pub broken_size : (slot : ℕ) (old new : List Slot) → new ≡ with_broken slot (changed_at slot closes old)
+pub broken_size : (slot : ℕ) (old new : List Slot) → SlotBreaks slot (changed_at slot closes old) new
     → length new ≡ length old
-broken_size slot old new is = ap length is ∙ length-changed_at slot breaks _ ∙ length-changed_at slot closes old
+broken_size slot old new (why, is) = ap length is ∙ length-changed_at slot (breaks why) _ ∙ length-changed_at slot closes old
 
 pub opened_last : (old new : List Slot) (slot : ℕ) (name : List ℕ) (mode : Mode) → slot ≡ length old
     → new ≡ old ++ opened name mode ∷ [] → suc slot ≡ length new
@@ -154,8 +151,8 @@ pub made_write : (slot : ℕ) (bytes : List ℕ) (old new : List Slot) → new �
     → KeepsMade old new
 made_write slot bytes old new is = made_change (adds bytes) slot refl is
 
-pub made_break : (slot : ℕ) (old new : List Slot) → new ≡ with_broken slot old → KeepsMade old new
-made_break slot old new is = made_change breaks slot refl is
+pub made_break : (slot : ℕ) (old new : List Slot) → SlotBreaks slot old new → KeepsMade old new
+made_break slot old new (why, is) = made_change (breaks why) slot refl is
 
 pub made_short : (told : Bool) (slot : ℕ) (bytes : List ℕ) (old new : List Slot) (f : Fault)
     → WritesShort told slot bytes old new f → KeepsMade old new
@@ -173,11 +170,12 @@ pub record KeepsFiled (old new : List Slot) : Type 0 where
 pub filed_same : {old new : List Slot} → KeepsMade old new → KeepsFiled old new
 filed_same made = record { same = made.same; within = omega (arith, made.size) }
 
-pub filed_more : {old mid new : List Slot} (kept : List ℕ) → KeepsMade old mid → new ≡ mid ++ unopened kept ∷ []
-    → KeepsFiled old new
-filed_more {old} {mid} {new} kept made added = record {
+pub filed_more : {old mid new : List Slot} (why : Reason) (kept : List ℕ) → KeepsMade old mid
+    → new ≡ mid ++ unopened why kept ∷ [] → KeepsFiled old new
+filed_more {old} {mid} {new} why kept made added = record {
   same = λ place. ap (λ slots. has_file (slot_at slots place).state) added ∙ still place ∙ made.same place;
-  within = omega (arith, made.size, ap length added, length-append mid (unopened kept ∷ []));
+  within = omega (arith, made.size, ap length added, length-append mid (unopened why kept ∷ []));
 } where
-  still : (place : ℕ) → has_file (slot_at (mid ++ unopened kept ∷ []) place).state ≡ has_file (slot_at mid place).state
+  still : (place : ℕ) → has_file (slot_at (mid ++ unopened why kept ∷ []) place).state
+      ≡ has_file (slot_at mid place).state
   still place = grind (arith, common_steps)

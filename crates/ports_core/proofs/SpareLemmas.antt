@@ -1,8 +1,8 @@
 -- Lemmas on what of an input isn't used.
-use Rattle.std.proofs.lemmas.Grind.{common_steps}
-use Rattle.std.proofs.Common.{◌≡◌, ℕ, ◌≤◌, ◌<◌, true, false, List, [], ◌++◌, length, take, drop, ◌⊎◌, inl, inr, refl, sym, ◌∙◌, ap, arith}
-use Rattle.std.proofs.lemmas.Bool.{false≢true, cases_lt}
-use Rattle.std.proofs.lemmas.List.{length-append, take-append-drop, take-append-le, take_at}
+use Rattle.std.proofs.{
+  lemmas.{Grind.common_steps, Bool.{false≢true, cases_lt}, List.{length-append, take-append-drop, take-append-le, take_at}},
+  Common.{◌≡◌, ℕ, ◌≤◌, ◌<◌, true, false, List, [], ◌++◌, length, take, drop, ◌⊎◌, inl, inr, refl, sym, ◌∙◌, ap, arith},
+}
 use Rattle.ports_core.specs.Work.{Work, IsLawful, IsComplete, IsNeeded, IsSpare}
 
 -- while the output isn't complete all is used

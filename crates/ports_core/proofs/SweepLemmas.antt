@@ -1,12 +1,15 @@
 -- Lemmas on removing many files.
-use Rattle.std.proofs.lemmas.Grind.{common_steps}
-use Rattle.std.proofs.Common.{◌≡◌, ℕ, ◌+◌, ◌<◌, ◌≤◌, zero, suc, eqb, eq-eqb, true, false, ◌||◌, List, [], ◌∷◌, ◌++◌, length, get_or, set, take, drop, Result, Ok, Err, is_ok, OnOk, IfErr, refl, sym, ◌∙◌, ap, arith, length-set, take-suc, take-suc-set, drop-cons, drop-set-lt, rules, append-nil, append_assoc}
-use Rattle.std.proofs.lemmas.Bool.{false≢true, or_parts}
-use Rattle.ports_core.specs.Slot.{Slot, has_file, slot_at, changed_at, with_broken, removes, closes, breaks}
-use Rattle.ports_core.specs.Swept.{Cleared, SweptFrom, removed, stuck, none, is_among, AreThere, Tries, Removes, all_tried, tried, goes, stays}
-use Rattle.ports_core.specs.declared.fault.Fault.{Fault}
+use Rattle.std.proofs.{
+  lemmas.{Grind.common_steps, Bool.{false≢true, or_parts}},
+  Common.{◌≡◌, ℕ, ◌+◌, ◌<◌, ◌≤◌, zero, suc, eqb, eq-eqb, true, false, ◌||◌, List, [], ◌∷◌, ◌++◌, length, get_or, set, take, drop, Result, Ok, Err, is_ok, OnOk, IfErr, refl, sym, ◌∙◌, ap, arith, length-set, take-suc, take-suc-set, drop-cons, drop-set-lt, rules, append-nil, append_assoc},
+}
+use Rattle.ports_core.{
+  specs.Slot.{Slot, has_file, slot_at, changed_at, SlotBreaks, removes, closes, breaks},
+  specs.Swept.{Cleared, SweptFrom, removed, stuck, none, is_among, AreThere, Tries, Removes, all_tried, tried, goes, stays},
+  specs.declared.fault.Fault.Fault,
+  proofs.SlotLemmas.{length-changed_at, changed_at-again, slot_at-elsewhere},
+}
 use Rattle.ports_core.specs.declared.fault.Fault.TheVariants as fault
-use Rattle.ports_core.proofs.SlotLemmas.{length-changed_at, changed_at-again, slot_at-elsewhere}
 
 -- Among others
 
@@ -48,19 +51,19 @@ module _ (one : ℕ) (change : Slot → Slot) (old : List Slot) where
 cleared_one : {one : ℕ} {change : Slot → Slot} {kept : List ℕ} {slot : Slot} → Tries one change kept
     → has_file slot.state ≡ true → Cleared slot (change slot)
 cleared_one goes has = removed has
-cleared_one stays has = stuck has
+cleared_one (stays why) has = stuck why has
 
 kept_has : {one : ℕ} {change : Slot → Slot} {kept : List ℕ} (left : List ℕ) (slot : Slot) → Tries one change kept
     → is_among one left ≡ false
     → has_file (change slot).state ≡ is_among one (kept ++ left)
 kept_has left slot goes apart = sym apart
-kept_has {one} left slot stays apart = sym (ap (λ b. b || is_among one left) (eq-eqb one one refl))
+kept_has {one} left slot (stays why) apart = sym (ap (λ b. b || is_among one left) (eq-eqb one one refl))
 
 kept_apart : {one : ℕ} {change : Slot → Slot} {kept : List ℕ} (left : List ℕ) (place : ℕ) → Tries one change kept
     → eqb place one ≡ false
     → is_among place (kept ++ left) ≡ is_among place left
 kept_apart left place goes other = refl
-kept_apart left place stays other = ap (λ b. b || is_among place left) other
+kept_apart left place (stays why) other = ap (λ b. b || is_among place left) other
 
 -- One removal more, after those of other files
 
@@ -114,13 +117,13 @@ sweep_on (Err f) so_far within file_is ok gone = absurd (false≢true ok)
 
 pub sweep_past : {files now : List ℕ} {place left file : ℕ} {old mid new : List Slot} (result : Result (Unit {0}) Fault)
     → Sweeping files now place left old mid → place < length now → file ≡ get_or now place 0 → is_ok result ≡ false
-    → IfErr result (λ f. (f ≡ fault.Write file) × (new ≡ with_broken file (changed_at file closes mid)))
+    → IfErr result (λ f. (f ≡ fault.Write file) × SlotBreaks file (changed_at file closes mid) new)
     → Sweeping files (set now left file) (place + 1) (left + 1) old new
 sweep_past (Ok done) so_far within file_is failed stuck_so = search rules
-sweep_past {files} {now} {place} {left} {file} {old} {mid} {new} (Err f) so_far within file_is failed stuck_so =
+sweep_past {files} {now} {place} {left} {file} {old} {mid} {new} (Err f) so_far within file_is failed (is, (why, stuck_so)) =
     rw (← (let e : suc left ≡ left + 1 = omega arith in e))
-    (rw (stuck_so.1, changed_at-again file closes breaks mid) (one_tried so_far within file_is (length-set now left file) (omega arith)
-    (drop-set-lt (suc place) now left file (omega (arith, so_far.few))) (take-suc-set now left file (omega (arith, so_far.few, within))) stays))
+    (rw (stuck_so, changed_at-again file closes (breaks why) mid) (one_tried so_far within file_is (length-set now left file) (omega arith)
+    (drop-set-lt (suc place) now left file (omega (arith, so_far.few))) (take-suc-set now left file (omega (arith, so_far.few, within))) (stays why)))
 
 -- What was removed, slot by slot
 
@@ -169,7 +172,7 @@ pub left_there : (files left : List ℕ) (old new : List Slot) → Removes files
     → AreThere left new
 left_there files left old new (all_tried slots) are = tt
 left_there files left old new (tried one places kept left' change old' new' goes rest) are = left_there places left' _ new' rest (still_there one change old' places are.1 are.2)
-left_there files left old new (tried one places kept left' change old' new' stays rest) are = (
+left_there files left old new (tried one places kept left' change old' new' (stays why) rest) are = (
   (are.0.0, rw (first_is change old' are rest) refl),
   left_apart places left' _ new' one rest are.1,
   left_there places left' _ new' rest (still_there one change old' places are.1 are.2),

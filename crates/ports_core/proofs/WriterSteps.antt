@@ -1,25 +1,24 @@
 -- What the writer of files does, one change after another, and where one is stopped.
-use Rattle.std.proofs.lemmas.Grind.{common_steps}
-use Rattle.std.proofs.Common.{◌≡◌, ℕ, Bool, false, List, [], ◌∷◌, ◌++◌, ◌⊎◌, length, map, Option, Some, None, Result, Ok, Err, IfErr, inl, inr, refl, sym, ◌∙◌, ap, subst, arith, rules, append_assoc}
-use Rattle.std.proofs.lemmas.Bool.{false≢true}
-use Rattle.ports_core.specs.Draft.{Manner, Draft, share, part_of, made_of, draft_part, with_bytes, with_next}
-use Rattle.ports_core.specs.FileWriter.{WriterState, Writes, IsReady, IsWrite, RunsShort}
-use Rattle.ports_core.specs.Part.{OutputsAt, Begins}
-use Rattle.ports_core.specs.Slot.{Slot}
-use Rattle.ports_core.specs.Swept.{Removes}
-use Rattle.ports_core.specs.FileWriter.{KeepsFiles, Goes, paused}
-use Rattle.ports_core.specs.Turn.{fault_in}
-use Rattle.ports_core.specs.declared.fault.Fault.{Fault}
+use Rattle.std.proofs.{
+  lemmas.{Grind.common_steps, Bool.false≢true},
+  Common.{◌≡◌, ℕ, Bool, false, List, [], ◌∷◌, ◌++◌, ◌⊎◌, length, map, Option, Some, None, Result, Ok, Err, IfErr, inl, inr, refl, sym, ◌∙◌, ap, subst, arith, rules, append_assoc},
+}
+use Rattle.ports_core.specs.{
+  Draft.{Manner, Draft, share, part_of, made_of, draft_part, with_bytes, with_next},
+  FileWriter.{WriterState, Writes, IsReady, IsWrite, RunsShort, KeepsFiles, Goes, paused},
+  Part.{OutputsAt, Begins},
+  Slot.Slot,
+  Swept.Removes,
+  Turn.fault_in,
+  declared.{fault.Fault.{Fault, TheVariants.{Memory, Verdict}}, verdict.Verdict.TheVariants.Suffixes, file_writer.{Current.TheVariants.Skipped, Opening.{Opening, TheVariants.Never}}},
+}
+use Rattle.ports_core.proofs.{
+  ShareLemmas.{stopped_part, bytes_begin, next_begins, begun_begins, still_made},
+  SweepLemmas.{left_apart, left_has, left_there, same_size},
+  FileWriterLemmas.{lacks_memory, leaves_again, leaves_lacking, put_nothing, reaches_again, reaches_as, stops_wider, where_short, where_well},
+}
 use Rattle.ports_core.specs.declared.fault.Fault.TheVariants as fault
-use Rattle.ports_core.specs.declared.fault.Fault.TheVariants.{Memory, Verdict}
-use Rattle.ports_core.specs.declared.verdict.Verdict.TheVariants.{Suffixes}
-use Rattle.ports_core.specs.declared.file_writer.Current.TheVariants.{Skipped}
-use Rattle.ports_core.specs.declared.file_writer.Opening.{Opening}
-use Rattle.ports_core.specs.declared.file_writer.Opening.TheVariants.{Never}
 use Rattle.ports_core.specs.declared.slot.State.TheVariants as state
-use Rattle.ports_core.proofs.ShareLemmas.{stopped_part, bytes_begin, next_begins, begun_begins, still_made}
-use Rattle.ports_core.proofs.SweepLemmas.{left_apart, left_has, left_there, same_size}
-use Rattle.ports_core.proofs.FileWriterLemmas.{lacks_memory, leaves_again, leaves_lacking, put_nothing, reaches_again, reaches_as, stops_wider, where_short, where_well}
 
 -- One change after another
 

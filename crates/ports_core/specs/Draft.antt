@@ -1,15 +1,13 @@
 -- What a tool has written that writes one file after another: the files that ended, and the one that is open.
 use Rattle.std.specs.Prelude.{◌≡◌, ℕ, ◌+◌, ◌<◌, Bool, true, false, List, [], ◌∷◌, ◌++◌, length, map, codes, decimal, if◌then◌else◌}
-use Rattle.ports_core.specs.Name.{Naming, has_name, name_at}
-use Rattle.ports_core.specs.Part.{File, Part, Output, gets_none, gets_bytes, gets_lines, gets_openings, lines_for, openings_for}
-use Rattle.ports_core.specs.Text.{in_quotes}
-use Rattle.ports_core.specs.declared.file_writer.Opening.{Opening}
-use Rattle.ports_core.specs.declared.file_writer.Opening.TheVariants.{Never, Late, AtOnce}
-use Rattle.ports_core.specs.declared.file_writer.Tells.{Tells}
-use Rattle.ports_core.specs.declared.file_writer.Tells.TheVariants.{Nothing, Sizes, Openings}
-use Rattle.ports_core.specs.declared.slot.Mode.TheVariants.{Fresh}
-use Rattle.ports_core.specs.declared.slot.State.{State}
-use Rattle.ports_core.specs.declared.slot.State.TheVariants.{Open, Closed}
+use Rattle.ports_core.specs.{
+  declared.reason.Reason.TheVariants.Other,
+  declared.file_writer.{Opening.{Opening, TheVariants.{Never, Late, AtOnce}}, Tells.{Tells, TheVariants.{Nothing, Sizes, Openings}}},
+  declared.slot.{Mode.TheVariants.Fresh, State.{State, TheVariants.{Open, Closed}}},
+  Name.{Naming, has_name, name_at},
+  Part.{File, Part, Output, gets_none, gets_bytes, gets_lines, gets_openings, lines_for, openings_for},
+  Text.in_quotes,
+}
 
 -- how files are made
 pub record Manner : Type 0 where
@@ -42,6 +40,7 @@ file_at manner place one = record {
   bytes = one.bytes;
   state = one.state;
   is_broken = false;
+  reason = Other;
 }
 
 -- the files of these shares, named from a place on, as far as there are names

@@ -1,15 +1,15 @@
 -- What each call of an engine owes.
 use Rattle.std.specs.Prelude.{◌≡◌, ℕ, ◌+◌, ◌≤◌, ◌^◌, Bool, true, false, List, [], ◌++◌, ◌⊎◌, None, length, IsTrue, Result, OnOk, IfErr}
-use Rattle.ports_core.specs.Slot.{Slot, Rose, is_writable}
-use Rattle.ports_core.specs.Source.{Source}
-use Rattle.ports_core.specs.Inputs.{PassesOver}
-use Rattle.ports_core.specs.Part.{Part, Output, OutputsAt, StoppedBetween, writes}
-use Rattle.ports_core.specs.Swept.{Swept, AreThere, RemovesIf}
-use Rattle.ports_core.specs.Work.{Work, Means, Needs, IsSettled, IsSpare, Judges}
-use Rattle.ports_core.specs.declared.fault.Fault.{Fault}
-use Rattle.ports_core.specs.declared.fault.Fault.TheVariants.{Memory, Write, Open}
+use Rattle.ports_core.specs.{
+  Slot.{Slot, Rose, is_writable},
+  Source.Source,
+  Inputs.PassesOver,
+  Part.{Part, Output, OutputsAt, StoppedBetween, writes},
+  Swept.{Swept, AreThere, RemovesIf},
+  Work.{Work, Means, Needs, IsSettled, IsSpare, Judges},
+  declared.{fault.Fault.{Fault, TheVariants.{Memory, Write, Open}}, verdict.Verdict.Verdict},
+}
 use Rattle.ports_core.specs.declared.fault.Fault.TheVariants as fault_is
-use Rattle.ports_core.specs.declared.verdict.Verdict.{Verdict}
 
 -- What a stage says of each of its states: what its calls owe is said in these terms.
 pub record Terms (S : Type 0) : Type 1 where

@@ -1,25 +1,23 @@
 -- What contracts see of the writer of files, and what its calls do.
 use Rattle.std.specs.Prelude.{◌≡◌, ℕ, ◌+◌, ◌<◌, ◌≤◌, ◌^◌, suc, Bool, true, false, List, [], ◌∷◌, length, Option, Some, None, IfNone, IfSome, IsTrue}
-use Rattle.ports_core.specs.Draft.{Manner, Draft, AreNamed, output_of, made_of, shares_of, draft_part, manner_by}
-use Rattle.ports_core.specs.Name.{Naming}
+use Rattle.ports_core.specs.{
+  Draft.{Manner, Draft, AreNamed, output_of, made_of, shares_of, draft_part, manner_by},
+  Name.Naming,
+  Part.{Part, Output, OutputsAt, writes},
+  Slot.{Slot, Rose, KeepsBroken, has_file, is_writable, slot_at},
+  Swept.{AreThere, is_among},
+  Turn.IsThere,
+  declared.fault.Fault.Fault,
+  declared.verdict.Verdict.TheVariants.Suffixes,
+  declared.file_writer.Current.{Current, TheVariants.{Skipped, Due, File, Unopened}},
+  declared.file_writer.FileWriter.FileWriter,
+  declared.file_writer.Keeps.{Keeps, TheVariants.{All, Open as OpenOne}},
+  declared.file_writer.Opening.{Opening, TheVariants.{Never, Late}},
+  declared.file_writer.Tells.{Tells, TheVariants.{Nothing, Sizes, Openings}},
+  declared.names.Names.Names,
+}
 pub use Rattle.ports_core.specs.Names.{CanTell}
-use Rattle.ports_core.specs.Part.{Part, Output, OutputsAt, writes}
-use Rattle.ports_core.specs.Slot.{Slot, Rose, KeepsBroken, has_file, is_writable, slot_at}
-use Rattle.ports_core.specs.Swept.{AreThere, is_among}
-use Rattle.ports_core.specs.Turn.{IsThere}
-use Rattle.ports_core.specs.declared.fault.Fault.{Fault}
 use Rattle.ports_core.specs.declared.fault.Fault.TheVariants as why
-use Rattle.ports_core.specs.declared.verdict.Verdict.TheVariants.{Suffixes}
-use Rattle.ports_core.specs.declared.file_writer.Current.{Current}
-use Rattle.ports_core.specs.declared.file_writer.Current.TheVariants.{Skipped, Due, File, Unopened}
-use Rattle.ports_core.specs.declared.file_writer.FileWriter.{FileWriter}
-use Rattle.ports_core.specs.declared.file_writer.Keeps.{Keeps}
-use Rattle.ports_core.specs.declared.file_writer.Keeps.TheVariants.{All, Open as OpenOne}
-use Rattle.ports_core.specs.declared.file_writer.Opening.{Opening}
-use Rattle.ports_core.specs.declared.file_writer.Opening.TheVariants.{Never, Late}
-use Rattle.ports_core.specs.declared.file_writer.Tells.{Tells}
-use Rattle.ports_core.specs.declared.file_writer.Tells.TheVariants.{Nothing, Sizes, Openings}
-use Rattle.ports_core.specs.declared.names.Names.{Names}
 
 pub record WriterState : Type 0 where
   -- the names of its files, and how many of them were drawn

@@ -1,8 +1,6 @@
 -- What all engines have in common: how much came in, and whether a fault came or the end.
 use Rattle.std.specs.Prelude.{◌≡◌, ℕ, Bool, false, List, length}
-use Rattle.ports_core.specs.Slot.{Slot}
-use Rattle.ports_core.specs.Engine.{Terms, IsCaused, IsMetThere, IsMetWith}
-use Rattle.ports_core.specs.declared.fault.Fault.{Fault}
+use Rattle.ports_core.specs.{Slot.Slot, Engine.{Terms, IsCaused, IsMetThere, IsMetWith}, declared.fault.Fault.Fault}
 
 pub record GuardState (S : Type 0) : Type 0 where
   pub stage : S

@@ -1,7 +1,6 @@
 -- What a run knows of its inputs, and what it leaves of them.
 use Rattle.std.specs.Prelude.{◌≡◌, ℕ, ◌<◌, ◌≤◌, ◌^◌, Bool, true, false, List, [], ◌++◌, length}
-use Rattle.ports_core.specs.Slot.{changed_at}
-use Rattle.ports_core.specs.Source.{Content, Source, looks, skips, source_at, unshown}
+use Rattle.ports_core.specs.{Slot.changed_at, Source.{Content, Source, looks, skips, source_at, unshown}}
 
 abbrev pub empty : Content
 empty = unshown []

@@ -1,17 +1,16 @@
 -- What a tool says on standard error.
-use Rattle.std.specs.Prelude.{◌≡◌, ℕ, ◌<◌, Bool, true, false, List, [], ◌∷◌, length, take, IsTrue, ◌⊎◌}
-use Rattle.ports_core.specs.Slot.{Slot, slot_at, adds, breaks, told_of}
-use Rattle.ports_core.specs.Text.{Message, is_quiet, line_of, message_of}
-use Rattle.ports_core.specs.declared.calling.Speaker.{Speaker}
-use Rattle.ports_core.specs.declared.reason.Reason.{Reason}
-use Rattle.ports_core.specs.declared.reason.Reason.TheVariants.{Other}
-use Rattle.ports_core.specs.declared.fault.Fault.{Fault}
-use Rattle.ports_core.specs.declared.fault.Fault.TheVariants.{Memory, Write, Open}
+use Rattle.std.specs.Prelude.{◌≡◌, ℕ, ◌<◌, Bool, true, false, List, [], ◌∷◌, length, take, ◌⊎◌}
+use Rattle.ports_core.specs.{
+  Slot.{Slot, slot_at, adds, breaks, told_of},
+  Text.{Message, is_quiet, line_of, message_of},
+  declared.{calling.Speaker.Speaker, reason.Reason.{Reason, TheVariants.Other}, fault.Fault.{Fault, TheVariants.{Memory, Write, Open}}},
+}
 
 -- an output got the text, or a beginning of it and broke; one that was broken is passed over
 pub data Prints (told : Bool) (text : List ℕ) (old new : Slot) : Type 0 where
   whole : old.is_broken ≡ false → new ≡ adds (told_of told text) old → Prints told text old new
-  cut : old.is_broken ≡ false → (n : ℕ) → n < length text → new ≡ breaks (adds (told_of told (take n text)) old)
+  cut : old.is_broken ≡ false → (n : ℕ) (why : Reason) → n < length text
+      → new ≡ breaks why (adds (told_of told (take n text)) old)
       → Prints told text old new
   passed : old.is_broken ≡ true → new ≡ old → Prints told text old new
 
@@ -54,17 +53,19 @@ abbrev pub Tells : Bool → Speaker → Reason → Fault → List ℕ → Slot �
 Tells told speaker why fault name =
     TellsIf (is_quiet fault speaker.calling why) told speaker why (message_of fault name)
 
-abbrev pub TellsOn : Bool → Speaker → Reason → Fault → List ℕ → List Slot → List Slot → Type 0
-TellsOn told speaker why fault name = OnError (Tells told speaker why fault name)
-
 -- the name of the output that a fault speaks of; there is none where no memory was left to keep it
 abbrev pub output_named : List Slot → Fault → List ℕ
 output_named slots (Write slot) = (slot_at slots slot).name
 output_named slots (Open slot) = (slot_at slots slot).name
 output_named slots fault = []
 
--- why the output broke of which a fault speaks, where outputs say this of each
-abbrev pub IsWhy : (ℕ → Reason → Bool) → Fault → Reason → Type 0
-IsWhy breaks_for (Write slot) why = IsTrue (breaks_for slot why)
-IsWhy breaks_for (Open slot) why = IsTrue (breaks_for slot why)
-IsWhy breaks_for fault why = why ≡ Other
+-- why that output broke
+abbrev pub output_reason : List Slot → Fault → Reason
+output_reason slots (Write slot) = (slot_at slots slot).reason
+output_reason slots (Open slot) = (slot_at slots slot).reason
+output_reason slots fault = Other
+
+-- a fault was told on standard error, with the name of the output that it speaks of and the reason for which that broke
+abbrev pub TellsOn : Bool → Speaker → Fault → List Slot → List Slot → Type 0
+TellsOn told speaker fault old new =
+    OnError (Tells told speaker (output_reason old fault) fault (output_named old fault)) old new

@@ -1,15 +1,16 @@
 -- Names that are drawn one after another, and the files with them.
 use Rattle.std.specs.Prelude.{◌≡◌, ℕ, ◌+◌, ◌<◌, ◌^◌, List, [], ◌∷◌, ◌++◌, ◌⊎◌, length, Bool, false, IsTrue}
-use Rattle.ports_core.specs.declared.fault.Fault.{Fault}
-use Rattle.ports_core.specs.declared.fault.Fault.TheVariants.{Memory, Write, Open, Verdict}
-use Rattle.ports_core.specs.declared.verdict.Verdict.TheVariants.{Suffixes}
-use Rattle.ports_core.specs.declared.names.Names.{Names}
-use Rattle.ports_core.specs.declared.file_writer.Tells.{Tells}
-use Rattle.ports_core.specs.declared.file_writer.Tells.TheVariants.{Nothing, Sizes, Openings}
-use Rattle.ports_core.specs.Draft.{output_of, told_before}
-use Rattle.ports_core.specs.Name.{name_at, has_name}
-use Rattle.ports_core.specs.Slot.{Slot, is_writable, told_of, unopened, with_written}
-use Rattle.ports_core.specs.Write.{BrokeAfter}
+use Rattle.ports_core.specs.{
+  declared.fault.Fault.{Fault, TheVariants.{Memory, Write, Open, Verdict}},
+  declared.verdict.Verdict.TheVariants.Suffixes,
+  declared.reason.Reason.Reason,
+  declared.names.Names.Names,
+  declared.file_writer.Tells.{Tells, TheVariants.{Nothing, Sizes, Openings}},
+  Draft.{output_of, told_before},
+  Name.{name_at, has_name},
+  Slot.{Slot, is_writable, told_of, unopened, with_written},
+  Write.BrokeAfter,
+}
 
 -- the next one, where there is one, and what drawing it changes
 abbrev pub next_name : Names → List ℕ
@@ -42,9 +43,9 @@ pub data OpensNone (told : Bool) (tells : Tells) (names next : Names) (old new :
   no_memory : new ≡ old → OpensNone told tells names next old new Memory
   no_line : (n : ℕ) → names.drawn < 2 ^ 64 → IsTrue (has_next names)
       → BrokeAfter told old new 0 (line_next tells names) n → OpensNone told tells names next old new (Write 0)
-  no_file : (slot : ℕ) (kept : List ℕ) → slot ≡ length old → names.drawn < 2 ^ 64 → IsTrue (has_next names)
-      → next ≡ with_one_drawn names → (kept ≡ next_name names) ⊎ (kept ≡ [])
-      → new ≡ told_next told tells names old ++ unopened kept ∷ []
+  no_file : (slot : ℕ) (kept : List ℕ) (why : Reason) → slot ≡ length old → names.drawn < 2 ^ 64
+      → IsTrue (has_next names) → next ≡ with_one_drawn names → (kept ≡ next_name names) ⊎ (kept ≡ [])
+      → new ≡ told_next told tells names old ++ unopened why kept ∷ []
       → OpensNone told tells names next old new (Open slot)
   no_number : names.drawn < 2 ^ 64 → IsTrue (has_next names) → new ≡ told_next told tells names old
       → OpensNone told tells names next old new Memory

@@ -1,11 +1,10 @@
 -- What a tool has written at some moment: bytes on standard output, and files in the order in which they were opened.
 use Rattle.std.specs.Prelude.{◌≡◌, ℕ, ◌+◌, ◌<◌, suc, Bool, true, false, List, [], ◌∷◌, ◌++◌, ◌⊎◌, length, map, take, drop, if◌then◌else◌}
-use Rattle.ports_core.specs.Slot.{Slot, is_open, with_written, with_broken, unopened, told_of}
-use Rattle.ports_core.specs.declared.slot.Mode.{Mode}
-use Rattle.ports_core.specs.declared.slot.State.{State}
+use Rattle.ports_core.specs.{
+  Slot.{SlotBreaks, Slot, is_open, with_written, unopened, told_of},
+  declared.{slot.{Mode.Mode, State.State}, reason.Reason.Reason, fault.Fault.{Fault, TheVariants.{Memory, Write, Open}}},
+}
 use Rattle.ports_core.specs.declared.slot.State.TheVariants as state
-use Rattle.ports_core.specs.declared.fault.Fault.{Fault}
-use Rattle.ports_core.specs.declared.fault.Fault.TheVariants.{Memory, Write, Open}
 
 pub record File : Type 0 where
   pub name : List ℕ
@@ -14,6 +13,8 @@ pub record File : Type 0 where
   -- open, closed or removed, or it could never be opened
   pub state : State
   pub is_broken : Bool
+  -- why it broke; `Other` of one that is sound
+  pub reason : Reason
 
 pub record Part : Type 0 where
   pub out : List ℕ
@@ -32,6 +33,7 @@ file_of slot = record {
   bytes = slot.written;
   state = slot.state;
   is_broken = slot.is_broken;
+  reason = slot.reason;
 }
 
 abbrev pub told_file : Bool → File → File
@@ -74,10 +76,10 @@ pub record IsNext (part whole : Part) (name : List ℕ) : Type 0 where
 -- What a fault leaves in the slots by itself. A file that could not be opened was due, and its slot has its name, or
 -- none where there was no memory to keep it.
 abbrev pub Marks : (List ℕ → Type 0) → Fault → List Slot → List Slot → Type 0
-Marks IsDue (Write slot) before after = (slot < length before) × (after ≡ with_broken slot before)
+Marks IsDue (Write slot) before after = (slot < length before) × SlotBreaks slot before after
 Marks IsDue (Open slot) before after = (slot ≡ length before)
-    × ((name : List ℕ) × (kept : List ℕ) × IsDue name × ((kept ≡ name) ⊎ (kept ≡ []))
-    × (after ≡ before ++ unopened kept ∷ []))
+    × ((name : List ℕ) × (kept : List ℕ) × (why : Reason) × IsDue name × ((kept ≡ name) ⊎ (kept ≡ []))
+    × (after ≡ before ++ unopened why kept ∷ []))
 Marks IsDue fault before after = after ≡ before
 
 -- Where a fault comes from, of a tool whose files are the slots from `first` on: a write fault from standard output or

@@ -1,7 +1,9 @@
 -- Why outputs, inputs and names break, and what is said of it: the numbers of Linux, and the texts of the C library.
 use Rattle.std.specs.Prelude.{ℕ, ℤ, pos, negsuc, ◌==◌, List, [], ◌∷◌, codes, Option, Some, None, if◌then◌else◌}
-use Rattle.ports_core.specs.declared.reason.Reason.{Reason}
-use Rattle.ports_core.specs.declared.reason.Reason.TheVariants.{Gone, Missing, Denied, Folder, NoFolder, Full, TooLarge, ReadOnly, Quota, TooMany, Device, Busy, LongName, Circle, Input, Other}
+use Rattle.ports_core.specs.declared.reason.Reason.{
+  Reason,
+  TheVariants.{Gone, Missing, Denied, Folder, NoFolder, Full, TooLarge, ReadOnly, Quota, TooMany, Device, Busy, LongName, Circle, Input, Other},
+}
 
 -- what a message says of it after the name
 abbrev pub reason_text : Reason → List ℕ

@@ -1,7 +1,6 @@
 -- The streams of a run.
 use Rattle.std.specs.Prelude.{List, [], ◌∷◌, codes}
-use Rattle.ports_core.specs.Slot.{Slot, opened}
-use Rattle.ports_core.specs.declared.slot.Mode.TheVariants.{Append}
+use Rattle.ports_core.specs.{Slot.{Slot, opened}, declared.slot.Mode.TheVariants.Append}
 
 abbrev pub standard_output : Slot
 standard_output = opened (codes "standard output") Append

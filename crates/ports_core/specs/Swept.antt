@@ -1,11 +1,11 @@
 -- Which files are left where a tool removes what it made.
 use Rattle.std.specs.Prelude.{◌≡◌, ℕ, ◌≤◌, ◌<◌, eqb, ◌||◌, Bool, true, false, List, [], ◌∷◌, ◌++◌, length}
-use Rattle.ports_core.specs.Slot.{Slot, slot_at, has_file, changed_at, closes, breaks, removes, is_removable}
+use Rattle.ports_core.specs.{Slot.{Slot, slot_at, has_file, changed_at, closes, breaks, removes, is_removable}, declared.reason.Reason.Reason}
 
 -- one file: it is removed; or its removal failed, and it is broken and closed; or there is none
 pub data Cleared (old : Slot) : Slot → Type 0 where
   removed : has_file old.state ≡ true → Cleared old (removes old)
-  stuck : has_file old.state ≡ true → Cleared old (breaks (closes old))
+  stuck : (why : Reason) → has_file old.state ≡ true → Cleared old (breaks why (closes old))
   none : has_file old.state ≡ false → Cleared old old
 
 -- every file from this place on is cleared away, also after one whose removal failed, and nothing else is touched
@@ -35,7 +35,7 @@ AreThere (place ∷ places) slots = is_removable slots place × (is_among place 
 -- what the removal of one file makes of its slot, and whether its place is left
 pub data Tries (place : ℕ) : (Slot → Slot) → List ℕ → Type 0 where
   goes : Tries place removes []
-  stays : Tries place (λ slot. breaks (closes slot)) (place ∷ [])
+  stays : (why : Reason) → Tries place (λ slot. breaks why (closes slot)) (place ∷ [])
 
 -- These files are removed, one after another, and nothing else is touched. Those are left whose removal failed: each of
 -- them is broken and closed, and the next is tried.

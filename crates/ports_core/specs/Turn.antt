@@ -1,9 +1,11 @@
 -- Where a fault stopped a tool that closes each file before it opens the next.
 use Rattle.std.specs.Prelude.{◌≡◌, ℕ, ◌≤◌, suc, Bool, List, [], ◌∷◌, length, take, Option, Some, None, Result, Ok, Err}
-use Rattle.ports_core.specs.Slot.{Slot}
+use Rattle.ports_core.specs.{
+  Slot.Slot,
+  declared.fault.Fault.Fault,
+  Part.{File, Part, OutputsAt, Begins, IsNext, Marks, IsAt, Output, gets_none, gets_bytes, gets_lines, gets_openings, AreLines, AreOpenings, nothing},
+}
 use Rattle.ports_core.specs.declared.slot.State.TheVariants as state
-use Rattle.ports_core.specs.declared.fault.Fault.{Fault}
-use Rattle.ports_core.specs.Part.{File, Part, OutputsAt, Begins, IsNext, Marks, IsAt, Output, gets_none, gets_bytes, gets_lines, gets_openings, AreLines, AreOpenings, nothing}
 
 abbrev pub AllClosed : List File → Type 0
 AllClosed [] = Unit {0}

@@ -1,7 +1,6 @@
 -- What a tool makes of an input, whatever engine does it: what is written once some bytes came in, and what at the end.
 use Rattle.std.specs.Prelude.{◌≡◌, ◌≤◌, ◌⊎◌, Bool, true, false, List, [], ◌++◌, ℕ, length, Option, Some, None}
-use Rattle.ports_core.specs.Part.{Part, Begins, Output, gets_bytes}
-use Rattle.ports_core.specs.declared.verdict.Verdict.{Verdict}
+use Rattle.ports_core.specs.{Part.{Part, Begins, Output, gets_bytes}, declared.verdict.Verdict.Verdict}
 
 -- what a call of an engine may need, and so which faults it can give
 pub record Needs : Type 0 where

@@ -1,14 +1,14 @@
 //! Writing one file after another: each is opened when it is due, and closed before the next.
 ghost use Rattle.std.specs.Prelude.{◌≡◌, ◌+◌, ◌<◌, ◌≤◌, ◌++◌, ◌∷◌, [], length, decimal, true, vec_capacity, vec_len, IfErr, IsTrue, OnOk};
-ghost use Rattle.ports_core.specs.Draft.{with_bytes, with_next};
-ghost use Rattle.ports_core.specs.FileWriter.{CanCount, CanTell, Goes, IsReady, IsWrite, is_file, new_writer, paused, seen_writer, size_of};
-ghost use Rattle.ports_core.specs.Slot.{is_writable};
-ghost use Rattle.ports_core.specs.Swept.{AreThere, Removes};
-ghost use Rattle.ports_core.specs.inner.FileWriter.{Appends, Makes, TellsSize, files_with};
-ghost use Rattle.ports_core.specs.Turn.{fault_in};
-ghost use Rattle.ports_core.specs.inner.Write.{Wrote};
-ghost use Rattle.ports_core.specs.declared.file_writer.Current.TheVariants.{Skipped};
-ghost use Rattle.ports_core.specs.declared.file_writer.Opening.TheVariants.{Never};
+ghost use Rattle.ports_core.specs.{
+  Draft.{with_bytes, with_next},
+  FileWriter.{CanCount, CanTell, Goes, IsReady, IsWrite, is_file, new_writer, paused, seen_writer, size_of},
+  Slot.is_writable,
+  Swept.{AreThere, Removes},
+  inner.{FileWriter.{Appends, Makes, TellsSize, files_with}, Write.Wrote},
+  Turn.fault_in,
+  declared.file_writer.{Current.TheVariants.Skipped, Opening.TheVariants.Never},
+};
 
 use crate::{Fault, Names, Naming, Outs, sweep_files, write_whole};
 use itoa::Buffer;

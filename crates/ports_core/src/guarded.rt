@@ -1,11 +1,13 @@
 //! Engines: what all of them share around a tool's stage. They count what comes in, take no more than 2^63-1 bytes, and
 //! return `Failed` once a fault or the end came.
 ghost use Rattle.std.specs.Prelude.{◌≡◌, ◌+◌, ◌^◌, ◌<◌, ◌≤◌, ◌↔◌, ℕ, List, [], true, false, length, OnOk, OnErr, IsErrOf, IsTrue};
-ghost use Rattle.ports_core.specs.Source.{is_readable};
-ghost use Rattle.ports_core.specs.Engine.{Finishes, Loads, MayGet, Passes, Sweeps, TakesIn};
-ghost use Rattle.ports_core.specs.Work.{IsSpare};
-ghost use Rattle.ports_core.specs.Swept.{AreThere};
-ghost use Rattle.ports_core.specs.Guard.{GuardState, HoldsIn, IsRefusedWith, IsRefusedThere};
+ghost use Rattle.ports_core.specs.{
+  Source.is_readable,
+  Engine.{Finishes, Loads, MayGet, Passes, Sweeps, TakesIn},
+  Work.IsSpare,
+  Swept.AreThere,
+  Guard.{GuardState, HoldsIn, IsRefusedWith, IsRefusedThere},
+};
 
 use crate::{Fault, Inputs, Outs, Stage, fed_with};
 use std::marker::Model;
@@ -145,7 +147,7 @@ impl<S: Stage> Guarded<S> {
     }
 
     /// How many bytes the next piece may have, so that no more of them than its work's `ahead` are not used: of an input that
-    /// others read after it, such as a pipe, no more is to be read at once.
+    /// others read after it, as standard input, no more is to be read at once.
     pub fn wanted(&self) -> u64
         ensures some { (x : List ℕ) → HoldsIn S.terms.Holds self.now x
             → (S.terms.work self.now.stage).is_complete x ≡ false → 0 < result }

@@ -1,8 +1,6 @@
 //! What a tool says on standard error.
 ghost use Rattle.std.specs.Prelude.{◌≡◌, true, IfOk};
-ghost use Rattle.ports_core.specs.Slot.{is_open, slot_at};
-ghost use Rattle.ports_core.specs.Text.{Message, line_of, message_of, status_after};
-ghost use Rattle.ports_core.specs.Message.{IsWhy, PrintsOn, SaysOn, TellsOn, output_named};
+ghost use Rattle.ports_core.specs.{Slot.{is_open, slot_at}, Text.{Message, line_of, message_of, status_after}, Message.{PrintsOn, SaysOn, TellsOn, output_named, output_reason}};
 
 use crate::{Fault, Outs, Reason, Speaker, is_quiet, memory_exhausted, message_for, write_whole};
 use std::alloc::Global;
@@ -34,10 +32,9 @@ pub fn say<O: Outs>(
 /// that the signal stopped.
 pub fn tell<O: Outs>(alloc: Global, speaker: Speaker, fault: &Fault, outs: &mut O) -> u8
     requires { is_open (slot_at (O.slots outs.old) 1).state ≡ true }
-    ensures { (why : Reason) × IsWhy O.breaks_for fault.now why
-        × TellsOn O.told speaker why fault.now (output_named (O.slots outs.old) fault.now) (O.slots outs.old)
-        (O.slots outs.new)
-        × (result ≡ status_after fault.now speaker.calling why) }
+    ensures told { TellsOn O.told speaker fault.now (O.slots outs.old) (O.slots outs.new) }
+    ensures status { result
+        ≡ status_after fault.now speaker.calling (output_reason (O.slots outs.old) fault.now) }
 {
     let why = output_reason(fault, outs);
     if is_quiet(fault, speaker.calling, why) {
@@ -61,7 +58,7 @@ fn output_name<'a, O: Outs>(fault: &Fault, outs: &'a O) -> &'a str
 
 /// Why the output broke of which a fault speaks.
 fn output_reason<O: Outs>(fault: &Fault, outs: &O) -> Reason
-    ensures { IsWhy O.breaks_for fault.now result }
+    ensures { result ≡ output_reason (O.slots outs.now) fault.now }
 {
     match fault {
         Fault::Write(slot) => outs.reason(*slot),

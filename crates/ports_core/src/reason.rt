@@ -1,5 +1,4 @@
-ghost use Rattle.std.specs.Prelude.{◌≡◌, Some};
-ghost use Rattle.std.specs.IoError.{raw_os_error};
+ghost use Rattle.std.specs.{Prelude.{◌≡◌, Some}, IoError.raw_os_error};
 ghost use Rattle.ports_core.specs.Reason.{reason_by, reason_in, reason_text};
 
 use std::io::Error;
@@ -94,6 +93,9 @@ const REASONS: &[(u32, Reason)] = &[
     (122, Reason::Quota),
 ];
 
+/// The reason that Linux has this number for. It isn't inlined, so that `Reason::of` is: a read or write that doesn't fail then
+/// clears no room for an error.
+#[inline(never)]
 fn by_code(code: i32) -> Reason
     ensures { result ≡ reason_by (Some code) }
 {

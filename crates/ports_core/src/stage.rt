@@ -1,9 +1,5 @@
 ghost use Rattle.std.specs.Prelude.{◌≡◌, ◌+◌, ◌^◌, ◌<◌, ◌↔◌, ℕ, List, [], false, length, IsTrue};
-ghost use Rattle.ports_core.specs.Slot.{Slot};
-ghost use Rattle.ports_core.specs.Source.{is_readable};
-ghost use Rattle.ports_core.specs.Work.{IsLawful, IsSpare};
-ghost use Rattle.ports_core.specs.Engine.{Terms, Finishes, IsMetThere, IsMetWith, Loads, MayGet, Passes, Sweeps};
-ghost use Rattle.ports_core.specs.Swept.{AreThere};
+ghost use Rattle.ports_core.specs.{Slot.Slot, Source.is_readable, Work.{IsLawful, IsSpare}, Engine.{Terms, Finishes, IsMetThere, IsMetWith, Loads, MayGet, Passes, Sweeps}, Swept.AreThere};
 
 use crate::{Fault, Inputs, Outs};
 

@@ -1,4 +1,4 @@
-ghost use Rattle.std.specs.Prelude.{◌<◌, ◌≤◌, length, IfOk};
+ghost use Rattle.std.specs.Prelude.{◌<◌};
 
 use crate::input_files::{id_of, is_standard_output};
 use crate::input_place::standard_input_place;

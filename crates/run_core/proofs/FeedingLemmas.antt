@@ -1,24 +1,26 @@
 -- Lemmas on the loop that feeds an engine, and on what an engine uses of its input.
-use Rattle.std.proofs.lemmas.Grind.{common_steps}
-use Rattle.std.proofs.Common.{◌⊎◌, ◌≡◌, ℕ, ◌+◌, ◌<◌, ◌≤◌, ◌^◌, Bool, true, false, List, [], ◌++◌, length, take, Result, Ok, Err, IfOk, None, arith, length-append, length-take, inl, inr, refl, sym, ◌∙◌, ap, IsTrue, ◌-◌, drop, not, if◌then◌else◌, append_assoc, rules}
-use Rattle.std.proofs.lemmas.List.{append-nil, drop_at, length-take}
-use Rattle.std.proofs.lemmas.Bool.{false≢true, or_right}
-use Rattle.ports_core.specs.Slot.{Slot, changed_at}
-use Rattle.ports_core.specs.Source.{Content, Source, source_at, is_readable, gives, gets_back, unshown, with_next, Gave}
-use Rattle.ports_core.specs.Part.{Part, OutputsAt}
-use Rattle.ports_core.specs.Swept.{Swept}
-use Rattle.ports_core.specs.Work.{Work, Means, Needs, IsLawful, IsComplete, IsNeeded, IsSpare, Judges, IsSettled}
-use Rattle.ports_core.specs.Engine.{Clears, Terms, Ended, EndsThere, EndsWith, IsCaused, IsMet, KeepsOwn, Passes, StandsAt, TakesIn, is_verdict}
-use Rattle.ports_core.specs.Guard.{GuardState, HoldsIn, IsRefusedWith}
-use Rattle.ports_core.specs.declared.fault.Fault.{Fault}
-use Rattle.ports_core.specs.declared.fault.Fault.TheVariants as fault_is
-use Rattle.ports_core.specs.declared.verdict.Verdict.{Verdict}
-use Rattle.run_core.specs.declared.feeding.Fed.{Fed}
-use Rattle.run_core.specs.declared.feeding.Fed.TheVariants.{Whole, Enough, Broken}
-use Rattle.ports_core.specs.Inputs.{CameFrom, empty, OfContent}
-use Rattle.run_core.specs.Feeding.{is_enough, Step, Stops, ToldEnd, HasAll, to_end, enough, call_of, close_of, feeds, closes, FedAs, whole, had_enough, broke_off, judged, stopped, IsUnread, Uses}
-use Rattle.run_core.specs.inner.RunSteps.{EndsSo, finished, fell_short}
+use Rattle.std.proofs.{
+  lemmas.{Grind.common_steps, List.{append-nil, drop_at, length-take}, Bool.{false≢true, or_right}},
+  Common.{◌⊎◌, ◌≡◌, ℕ, ◌+◌, ◌<◌, ◌≤◌, ◌^◌, Bool, true, false, List, [], ◌++◌, length, take, Result, Ok, Err, IfOk, None, arith, length-append, length-take, inl, inr, refl, sym, ◌∙◌, ap, IsTrue, ◌-◌, drop, not, if◌then◌else◌, append_assoc, rules},
+}
+use Rattle.ports_core.specs.{
+  Slot.{Slot, changed_at},
+  Source.{Content, Source, source_at, is_readable, gives, gets_back, unshown, with_next, Gave},
+  Part.{Part, OutputsAt},
+  Swept.Swept,
+  Work.{Work, Means, Needs, IsLawful, IsComplete, IsNeeded, IsSpare, Judges, IsSettled},
+  Engine.{Clears, Terms, Ended, EndsThere, EndsWith, IsCaused, IsMet, KeepsOwn, Passes, StandsAt, TakesIn, is_verdict},
+  Guard.{GuardState, HoldsIn, IsRefusedWith},
+  declared.{fault.Fault.Fault, verdict.Verdict.Verdict},
+  Inputs.{CameFrom, empty, OfContent},
+}
 use Rattle.ports_core.proofs.InputsLemmas.{HasRead, changed_source}
+use Rattle.run_core.specs.{
+  declared.feeding.Fed.{Fed, TheVariants.{Whole, Enough, Broken}},
+  Feeding.{is_enough, Step, Stops, ToldEnd, HasAll, to_end, enough, call_of, close_of, feeds, closes, FedAs, whole, had_enough, broke_off, judged, stopped, IsUnread, Uses},
+  inner.RunSteps.{EndsSo, finished, fell_short},
+}
+use Rattle.ports_core.specs.declared.fault.Fault.TheVariants as fault_is
 use Rattle.ports_core.specs.Engine as engine
 
 -- Lemmas on the loop that feeds an engine.

@@ -1,42 +1,42 @@
 -- Lemmas on what a run leaves of its inputs, on one input, on the inputs for names, one after another, and on how a run ends.
-use Rattle.std.proofs.lemmas.Grind.{common_steps}
-use Rattle.std.proofs.Common.{is_some, ◌≡◌, ℕ, ◌+◌, ◌<◌, ◌≤◌, zero, suc, Bool, true, false, ◌||◌, IsTrue, if◌then◌else◌, List, [], ◌∷◌, ◌++◌, length, Option, Some, None, IfSome, arith, inl, inr, refl, ◌⊎◌, not, take, Result, Ok, Err, sym, ◌∙◌, ap, subst, lit≤, codes, ◌-◌, drop, map, get_or, Bor, append_assoc, lit<, rules}
-use Rattle.std.proofs.lemmas.Bool.{false≢true, or_parts, or_left, or_right, false_from_ne_true}
-use Rattle.ports_core.specs.Source.{Content, Source, no_source, source_at, source_of, is_readable, missing, Opens, OpensNothing, IsFresh, Opens as OpensFile}
-use Rattle.ports_core.specs.Source as from
-use Rattle.ports_core.specs.declared.fault.Fault.{Fault}
-use Rattle.ports_core.specs.declared.fault.Fault.TheVariants as fault_is
-use Rattle.ports_core.specs.declared.verdict.Verdict.{Verdict}
-use Rattle.ports_core.specs.Work.{Work, Needs}
-use Rattle.run_core.specs.Feeding.{IsUnread, Step, ToldEnd, Uses, is_enough, FedAs, whole, had_enough, broke_off, judged, stopped}
-use Rattle.ports_core.specs.Inputs.{CameFrom, KeepsOthers, OfContent, AsksAtMost, empty, largest_piece}
-use Rattle.run_core.specs.Input.{Input, World, IsFor, shown_of, showing, is_dash, input_of, inputs_from, next_slot, has_dash, AreFrom, inputs_at, file_input, standard_input, read_before}
-use Rattle.run_core.specs.Reading.{AreDone, AreUntouched, IsDone, IsUntouched, Leaves, count_after}
-use Rattle.run_core.specs.inner.RunSteps.{TakesOne, OfSource, HeaderFails, no_room, broke, TookInput, took, cut_off, input_from, TookAll, all, stopped_at, not_begun, HasStreams, OfName, standard_source}
-use Rattle.ports_core.proofs.InputsLemmas.{came_sound, sound_at, fresh_asks}
-use Rattle.std.proofs.Math.Bool.{and-false, and-true, or-false, or-true, or_assoc}
-use Rattle.ports_core.specs.Slot.{Slot, adds, is_open, slot_at, is_writable, told_of, with_written, streams}
-use Rattle.ports_core.specs.Part.{Part, only_out, OutputsAt}
-use Rattle.ports_core.specs.Swept.{Swept}
-use Rattle.ports_core.specs.Text.{Message, message_of, status_after}
-use Rattle.ports_core.specs.Message.{IsWhy, SaysFor, SaysOn, SaysAll, Tells, TellsOn, output_named}
-use Rattle.ports_core.specs.declared.reason.Reason.{Reason}
-use Rattle.ports_core.specs.declared.fault.Fault.TheVariants.{Memory, Write, Read, Open}
-use Rattle.ports_core.proofs.PartLemmas.{out_more, out_cut, part_begins_itself, stopped_here, broken_at, nothing_out}
-use Rattle.ports_core.proofs.WriteLemmas.{writable-written}
-use Rattle.ports_core.proofs.SlotLemmas.{length-changed_at}
-use Rattle.run_core.specs.declared.inputs.Progress.{Progress}
-use Rattle.run_core.specs.declared.feeding.Fed.{Fed}
-use Rattle.run_core.specs.declared.feeding.Fed.TheVariants.{Whole, Enough, Broken}
-use Rattle.run_core.specs.RunEnds.{unheaded, heading, calling, step_after, EndsAs, as_defined, stopped as run_stopped, no_room as run_unmade, RunsOver, unopened}
-use Rattle.ports_core.specs.Streams.{streams_with, standard_output, standard_error}
-use Rattle.run_core.specs.RunSteps.{IsShown, OnlyLooked, world_of}
-use Rattle.ports_core.proofs.LoadLemmas.{looked_readable}
-use Rattle.run_core.specs.Task.{Task, Outcome, after_part, header_text, of_content, made_by, no_outcome, joined, of_input, of_inputs, is_missing, are_missing}
+use Rattle.std.proofs.{
+  lemmas.{Grind.common_steps, Bool.{false≢true, or_parts, or_left, or_right, false_from_ne_true}, List.{append-nil, nil_from_length, Recursion.and_push}},
+  Common.{is_some, ◌≡◌, ℕ, ◌+◌, ◌<◌, ◌≤◌, zero, suc, Bool, true, false, ◌||◌, IsTrue, if◌then◌else◌, List, [], ◌∷◌, ◌++◌, length, Option, Some, None, IfSome, arith, inl, inr, refl, ◌⊎◌, not, take, Result, Ok, Err, sym, ◌∙◌, ap, subst, lit≤, codes, ◌-◌, drop, map, get_or, Bor, append_assoc, lit<, rules},
+  Math.Bool.{and-false, and-true, or-false, or-true, or_assoc},
+}
+use Rattle.ports_core.specs.{
+  Source.{Content, Source, source_at, source_of, is_readable, missing, Opens, OpensNothing, IsFresh, Opens as OpensFile},
+  declared.{fault.Fault.{Fault, TheVariants.{Memory, Write, Read, Open}}, verdict.Verdict.Verdict, reason.Reason.{Reason, TheVariants.Other}},
+  Work.{Work, Needs},
+  Inputs.{CameFrom, KeepsOthers, OfContent, AsksAtMost, empty, largest_piece},
+  Slot.{Slot, adds, is_open, slot_at, is_writable, told_of, with_written, streams},
+  Part.{Part, only_out, OutputsAt},
+  Swept.Swept,
+  Text.{Message, message_of, status_after},
+  Message.{SaysFor, SaysOn, SaysAll, Tells, TellsOn, output_named, output_reason},
+  Streams.{streams_with, standard_output, standard_error},
+}
+use Rattle.ports_core.proofs.{
+  InputsLemmas.{came_sound, sound_at, fresh_asks},
+  PartLemmas.{out_more, out_cut, part_begins_itself, stopped_here, broken_at, nothing_out},
+  WriteLemmas.writable-written,
+  SlotLemmas.length-changed_at,
+  LoadLemmas.looked_readable,
+  MessageLemmas.{all_said_state, says_after},
+}
+use Rattle.run_core.specs.{
+  Feeding.{IsUnread, Step, ToldEnd, Uses, is_enough, FedAs, whole, had_enough, broke_off, judged, stopped},
+  Input.{Input, World, IsFor, shown_of, showing, is_dash, input_of, inputs_from, next_slot, has_dash, AreFrom, inputs_at, file_input, standard_input, read_before},
+  Reading.{AreDone, AreUntouched, IsDone, IsUntouched, Leaves, count_after},
+  inner.RunSteps.{TakesOne, OfSource, HeaderFails, no_room, broke, TookInput, took, cut_off, input_from, TookAll, all, stopped_at, not_begun, HasStreams, OfName, standard_source},
+  declared.{inputs.Progress.Progress, feeding.Fed.{Fed, TheVariants.{Whole, Enough, Broken}}},
+  RunEnds.{unheaded, heading, calling, step_after, EndsAs, as_defined, stopped as run_stopped, no_room as run_unmade, RunsOver, unopened},
+  RunSteps.{IsShown, OnlyLooked, world_of},
+  Task.{Task, Outcome, after_part, header_text, of_content, made_by, no_outcome, joined, of_input, of_inputs, is_missing, are_missing},
+}
 use Rattle.run_core.proofs.StopLemmas.{after_assoc, out_on, at_after, stop_after, none_to_sweep, nothing_after, swept_from, said_swept, error_open, stop_error, stop_swept, said_at}
-use Rattle.ports_core.proofs.MessageLemmas.{all_said_state, printed_named, says_after, told_named}
-use Rattle.std.proofs.lemmas.List.{append-nil, nil_from_length}
-use Rattle.std.proofs.lemmas.List.Recursion.{and_push}
+use Rattle.ports_core.specs.Source as from
+use Rattle.ports_core.specs.declared.fault.Fault.TheVariants as fault_is
 
 -- one input more
 
@@ -137,13 +137,20 @@ takes_file differs some opens keeps asked = grind (arith, common_steps)
 pub takes_missing : {told : Bool} {laid : ℕ → List ℕ → Option Content} {most : ℕ} {was_read : Bool} {name : List ℕ}
     {old new : List Source} {fault : Fault} → is_dash name ≡ false → 0 < length old
     → OpensNothing told laid old new name fault → TakesOne most was_read name old new
-takes_missing {old} {new} differs some (from.broke at number lies is) = grind (arith, common_steps)
+takes_missing {old} {new} differs some (from.broke at why number lies is) = grind (arith, common_steps)
 takes_missing differs some (from.no_room is) = takes_none is
 
+-- its number is used up
+pub opens_missing : {told : Bool} {laid : ℕ → List ℕ → Option Content} {name : List ℕ} {old new : List Source}
+    {fault : Fault} {slot : ℕ} → is_dash name ≡ false → OpensNothing told laid old new name fault
+    → fault ≡ Open slot → length new ≡ next_slot (length old) name
+opens_missing differs (from.broke at why number lies is) cannot = grind (arith, common_steps)
+opens_missing differs (from.no_room is) cannot = absurd (cc)
+
 -- a file that could not be opened is not open
-pub missing_done : (told : Bool) (work : Work) (most : ℕ) (old : List Source) {new : List Source}
-    → new ≡ old ++ missing ∷ [] → IsDone told work most (Some (length old)) None new
-missing_done told work most old is = grind (arith, common_steps)
+pub missing_done : (told : Bool) (work : Work) (most : ℕ) (why : Reason) (old : List Source) {new : List Source}
+    → new ≡ old ++ missing why ∷ [] → IsDone told work most (Some (length old)) None new
+missing_done told work most why old is = grind (arith, common_steps)
 
 -- the inputs that were done stay so
 
@@ -277,9 +284,9 @@ stopped_in_header {told} {task} is_first name {shown} {content} {so_far} {error}
     (none_to_sweep (task.work shown).clears new (omega (arith, ap length is)))
 stopped_in_header {told} {task} is_first name {shown} {content} {so_far} {error} {old} {new} due unread at (broke n after) =
     let text = header_text task.with_header is_first name in
-    let count : length new ≡ length old = ap length after.slots ∙ length-changed_at 0 _ _ ∙ length-changed_at 0 _ old in
+    let count : length new ≡ length old = ap length after.slots.1 ∙ length-changed_at 0 _ _ ∙ length-changed_at 0 _ old in
     cut_off (Write 0) _ new (heading content due (unread _ refl refl))
-    (λ _. refl, λ alone. refl, ap (λ those. (slot_at those 0).is_broken) after.slots ∙ broken_at 0 _ (writable-written old 0 0 (told_of told (take n text)) ∙ part_writable at))
+    (λ _. refl, λ alone. refl, ap (λ those. (slot_at those 0).is_broken) after.slots.1 ∙ broken_at _ 0 _ (writable-written old 0 0 (told_of told (take n text)) ∙ part_writable at))
     (rw (out_on so_far text) at (out_cut told (streams_with error) so_far old new text n at after))
     (none_to_sweep (task.work shown).clears new (omega (arith, count)))
 
@@ -325,7 +332,7 @@ module _ (told_in told : Bool) (task : Task) (most : ℕ) (is_first failed was_r
   went_badly {why} content part message reached old new done made there swept says =
       let top = adds (told_of told (after_part so_far (after_part (only_out (header_text task.with_header is_first name)) part)).out) standard_output in
       let all = part_after error part (at_after at there) in
-      let said = said_swept told (SaysFor told task.speaker why message) (λ _ _ says. printed_named says.printed) (task.work shown).clears old new count streams_there (rw all.slots at (rw counted at swept)) says in
+      let said = said_swept told (SaysFor told task.speaker why message) (task.work shown).clears old new count streams_there (rw all.slots at (rw counted at swept)) says in
       rw made (took (record { was_read = was_read; is_first = false; failed = true }) said.after (top ∷ said.after ∷ all.since)
       (simp (and-false, or-true)) done (said.after, (why, said.says), refl) (record { standard = lit< tt; since = all.since; slots = refl; files = all.files }) said.swept)
 
@@ -385,10 +392,10 @@ fed_open {work} {new} WasRead opened at (stopped fault is call is_call read reac
 -- Lemmas on how a run ends.
 
 -- the run that reached the end of its inputs
-pub ran_through : {told_in told : Bool} {breaks_for : ℕ → Reason → Bool} {task : Task} {found : List Input}
+pub ran_through : {told_in told : Bool} {task : Task} {found : List Input}
     {sources : List Source} {new : List Slot} {failed : Bool} {status : ℕ} → status ≡ (if failed then 1 else 0)
     → TookAll told_in told task found sources new (Ok failed)
-    → EndsAs told_in told breaks_for task found sources new status
+    → EndsAs told_in told task found sources new status
 ran_through is (all _ error reached same says at swept done) = as_defined error reached says at swept done (is ∙ ap (λ (b : Bool). if b then 1 else 0) same)
 
 -- standard error is there for the fault that stopped the run
@@ -398,20 +405,20 @@ stop_open {told} {task} {new} (stopped_at _ before input after error step reache
 stop_open (not_begun is untouched none) = grind (arith, common_steps)
 
 -- the run that a fault stopped
-pub ran_into : {told_in told : Bool} {breaks_for : ℕ → Reason → Bool} {task : Task} {found : List Input}
-    {sources : List Source} {mid new : List Slot} {fault : Fault} {status : ℕ}
+pub ran_into : {told_in told : Bool} {task : Task} {found : List Input} {sources : List Source} {mid new : List Slot}
+    {fault : Fault} {status : ℕ}
     → TookAll told_in told task found sources mid (Err fault)
-    → (why : Reason) × IsWhy breaks_for fault why × TellsOn told task.speaker why fault (output_named mid fault) mid new
-    × (status ≡ status_after fault task.speaker.calling why)
-    → EndsAs told_in told breaks_for task found sources new status
-ran_into {told} {task} {mid} {fault} (stopped_at _ before input after error step reached among done untouched is_step stops said stop swept) (why, is_why, tells, is) =
-    let told_so = stop_swept told (Tells told task.speaker why fault (output_named mid fault)) (told_named told task.speaker why fault _) step (task.work input.shown).clears (lit≤ tt)
+    → TellsOn told task.speaker fault mid new
+    → status ≡ status_after fault task.speaker.calling (output_reason mid fault)
+    → EndsAs told_in told task found sources new status
+ran_into {told} {task} {mid} {fault} (stopped_at _ before input after error step reached among done untouched is_step stops said stop swept) tells is =
+    let told_so = stop_swept told (Tells told task.speaker (output_reason mid fault) fault (output_named mid fault)) step (task.work input.shown).clears (lit≤ tt)
     (ap is_open (all_said_state told task.speaker (made_by task before).messages standard_error error said)) stop stops swept tells in
-    run_stopped fault why before input after error told_so.after step told_so.reached among done untouched is_step told_so.why told_so.stop told_so.swept
-    said is_why (rw told_so.named told_so.says) is
-ran_into (not_begun at_first untouched none) (why, is_why, tells, is) =
+    run_stopped fault before input after error told_so.after step told_so.reached among done untouched is_step told_so.why told_so.stop told_so.swept
+    said (rw (told_so.named, told_so.reason) told_so.says) (rw told_so.reason is)
+ran_into (not_begun at_first untouched none) tells is =
     let said = tells standard_output standard_error [] at_first in
-    run_unmade said.0 (said.0, (why, said.1), refl) said.2 untouched none is
+    run_unmade said.0 (said.0, (Other, said.1), refl) said.2 untouched none is
 
 -- Lemmas on taking the inputs for names, one after another.
 
@@ -494,18 +501,20 @@ took_standard {told_in} {told} {task} {most} {is_first} {failed} was_read laid n
 
 -- a name that could not be opened: it is passed over with a message
 
-pub of_missing : {told_in told : Bool} {IsSaid : Reason → Type 0} {task : Task} {most : ℕ}
+pub of_missing : {told_in told : Bool} {why : Reason} {task : Task} {most : ℕ}
     {is_first failed was_read : Bool} {laid : ℕ → List ℕ → Option Content} {name : List ℕ} {sources after : List Source}
     {fault : Fault} {slot : ℕ} {so_far : Part} {error : Slot} {old new : List Slot} → is_dash name ≡ false
     → OpensNothing told_in laid sources after name fault → fault ≡ Open slot
     → OutputsAt told (streams_with error) so_far old
-    → (why : Reason) × IsSaid why × SaysOn told task.speaker why (message_of (Open slot) name) old new
+    → SaysOn told task.speaker why (message_of (Open slot) name) old new
     → OfName told_in (world_of laid sources) was_read (length sources) name
-    (λ input. TookInput told_in told task most input (of_input task is_first input) is_first failed (was_read || is_dash name) so_far error (length old) after new (Ok (record { was_read = was_read; is_first = is_first; failed = true })))
-of_missing {told_in} {told} {task} {most} {is_first} {was_read} {laid} {name} {sources} {new} differs (from.broke slot number lies are) cannot at (why, reason, says) =
+    (λ input. TookInput told_in told task most input (of_input task is_first input) is_first failed
+    (was_read || is_dash name) so_far error (length old) after new
+    (Ok (record { was_read = was_read; is_first = is_first; failed = true })))
+of_missing {told_in} {told} {why} {task} {most} {is_first} {was_read} {laid} {name} {sources} {new} differs (from.broke slot reason number lies are) cannot at says =
     of_file (world_of laid sources) was_read None _ differs (λ t. ap (λ n. laid n name) (sym number) ∙ lies t) (λ t. refl)
     (let said = said_at at says in
-    took (record { was_read = was_read; is_first = is_first; failed = true }) said.0 new (simp (differs, or-false, and-true, or-true)) (missing_done told_in (task.work None) most sources are)
+    took (record { was_read = was_read; is_first = is_first; failed = true }) said.0 new (simp (differs, or-false, and-true, or-true)) (missing_done told_in (task.work None) most reason sources are)
     (said.0, (why, said.1), refl) (subst (λ part. OutputsAt told (streams_with said.0) part new) (sym nothing_after) said.2) refl)
 of_missing differs (from.no_room are) cannot at says = absurd (cc)
 
@@ -517,7 +526,7 @@ pub of_no_room : {told_in told : Bool} {task : Task} {most : ℕ} {is_first fail
     → OfName told_in (world_of laid sources) was_read (length sources) name
     (λ input. TookInput told_in told task most input (of_input task is_first input) is_first failed
     (was_read || is_dash name) so_far error (length old) after old (Err fault))
-of_no_room was_read differs (from.broke slot number lies are) other at = absurd (other slot refl)
+of_no_room was_read differs (from.broke slot why number lies are) other at = absurd (other slot refl)
 of_no_room {told} {task} was_read {laid} {name} {sources} {so_far} {error} {old} differs (from.no_room are) other at =
     of_file (world_of laid sources) was_read (shown_of (laid (length sources) name)) _ differs (λ t. refl) (λ t. refl)
     (cut_off Memory _ old (unopened (laid (length sources) name) (length sources) refl (omega (arith, ap length are))) refl

@@ -1,21 +1,24 @@
 -- Lemmas on what is written after what was written before, on outputs that a fault stopped, and on the message that tells it.
-use Rattle.std.proofs.lemmas.Grind.{common_steps}
-use Rattle.std.proofs.Common.{◌≡◌, ℕ, ◌+◌, ◌<◌, ◌≤◌, suc, Bool, true, false, List, [], ◌∷◌, ◌++◌, length, take, drop, ◌⊎◌, inl, inr, refl, sym, ◌∙◌, ap, arith, append_assoc, length-append, zero, lit<, subst}
-use Rattle.std.proofs.lemmas.List.{map-append, append-nil}
-use Rattle.std.proofs.Math.Seq.{take-append-add, drop-append-add}
-use Rattle.ports_core.specs.Slot.{Slot, with_written, told_of, is_open, slot_at, adds, breaks, unopened, with_broken}
-use Rattle.ports_core.specs.Part.{nothing, Part, File, only_out, OutputsAt, IsBeginning, Begins, IsNext, IsAt, StoppedBetween, file_of, told_file, Marks, Output, gets_none, gets_bytes, gets_lines, gets_openings, lines_for, openings_for, LinesInOrder}
-use Rattle.ports_core.specs.Swept.{Swept, SweptFrom, Cleared}
-use Rattle.ports_core.specs.declared.fault.Fault.{Fault}
-use Rattle.ports_core.specs.declared.fault.Fault.TheVariants.{Write, Open}
-use Rattle.ports_core.proofs.PartLemmas.{due_by, marks_by, outputs_count}
-use Rattle.ports_core.proofs.SlotSteps.{none_past, swept_none}
-use Rattle.ports_core.proofs.SlotLemmas.{length-changed_at, changed_at-append}
-use Rattle.ports_core.proofs.WriteLemmas.{told_of-append, with_written-append}
-use Rattle.run_core.specs.Task.{after_part}
-use Rattle.run_core.specs.Feeding.{Step, Stops}
-use Rattle.ports_core.specs.Message.{OnError, output_named}
-use Rattle.ports_core.proofs.PartSteps.{front_begins}
+use Rattle.std.proofs.{
+  lemmas.{Grind.common_steps, List.{map-append, append-nil}},
+  Common.{◌≡◌, ℕ, ◌+◌, ◌<◌, ◌≤◌, suc, Bool, true, false, List, [], ◌∷◌, ◌++◌, length, take, drop, ◌⊎◌, inl, inr, refl, sym, ◌∙◌, ap, arith, append_assoc, length-append, zero, lit<, subst},
+  Math.Seq.{take-append-add, drop-append-add},
+}
+use Rattle.ports_core.specs.{
+  Slot.{Slot, with_written, told_of, is_open, slot_at, adds, breaks, unopened, with_broken},
+  Part.{nothing, Part, File, only_out, OutputsAt, IsBeginning, Begins, IsNext, IsAt, StoppedBetween, file_of, told_file, Marks, Output, gets_none, gets_bytes, gets_lines, gets_openings, lines_for, openings_for, LinesInOrder},
+  Swept.{Swept, SweptFrom, Cleared},
+  declared.fault.Fault.{Fault, TheVariants.{Write, Open}},
+  Message.{OnError, output_named, output_reason},
+}
+use Rattle.ports_core.proofs.{
+  PartLemmas.{due_by, marks_by, outputs_count},
+  SlotSteps.{none_past, swept_none},
+  SlotLemmas.{length-changed_at, changed_at-append},
+  WriteLemmas.{told_of-append, with_written-append},
+  PartSteps.front_begins,
+}
+use Rattle.run_core.specs.{Task.after_part, Feeding.{Step, Stops}}
 
 -- Lemmas on what is written after what was written before.
 
@@ -161,10 +164,10 @@ shape_of {output} {error} {since} opened are = record { output = output; error =
 
 marked_error : (IsName : List ℕ → Type 0) (fault : Fault) (output error : Slot) (since : List Slot) {now : List Slot}
     → is_open error.state ≡ true → Marks IsName fault (output ∷ error ∷ since) now → HasError now
-marked_error IsName (Write zero) output error since opened marks = shape_of opened marks.1
-marked_error IsName (Write (suc zero)) output error since opened marks = shape_of opened marks.1
-marked_error IsName (Write (suc (suc place))) output error since opened marks = shape_of opened marks.1
-marked_error IsName (Open slot) output error since opened marks = shape_of opened marks.1.4
+marked_error IsName (Write zero) output error since opened marks = shape_of opened marks.1.1
+marked_error IsName (Write (suc zero)) output error since opened marks = shape_of opened marks.1.1
+marked_error IsName (Write (suc (suc place))) output error since opened marks = shape_of opened marks.1.1
+marked_error IsName (Open slot) output error since opened marks = shape_of opened marks.1.5
 marked_error IsName fault output error since opened marks = shape_of opened marks
 
 pub stop_error : {how : Output} {told : Bool} {output error : Slot} {low high : Part} {fault : Fault} {now : List Slot}
@@ -186,11 +189,12 @@ module _ (told : Bool) (Change : Slot → Slot → Type 0) where
       (since : List Slot) {mid : List Slot} (new : List Slot) → IsAt fault 2 place count
       → Marks IsName fault (output ∷ error ∷ since) mid → OnError Change mid new
       → (after : Slot) × Change error after × Marks IsName fault (output ∷ after ∷ since) new
-  told_marked IsName (Write zero) place count output {error} since new from marks says = let said = says (breaks output) error since marks.1 in (said.0, said.1, (marks.0, said.2))
+  told_marked IsName (Write zero) place count output {error} since new from marks says = let (within, (why, is)) = marks in let said = says (breaks why output) error since is in (said.0, said.1, (within, (why, said.2)))
   told_marked IsName (Write (suc zero)) place count output since new from marks says = absurd (elim from [ inl is ↦ omega (arith, is) | inr is ↦ omega (arith, is) ])
-  told_marked IsName (Write (suc (suc slot))) place count output {error} since new from marks says = let said = says output error (with_broken slot since) marks.1 in (said.0, said.1, (marks.0, said.2))
+  told_marked IsName (Write (suc (suc slot))) place count output {error} since new from marks says = let (within, (why, is)) = marks in let said = says output error (with_broken why slot since) is in (said.0, said.1, (within, (why, said.2)))
   told_marked IsName (Open slot) place count output {error} since new from marks says =
-      let said = says output error (since ++ unopened marks.1.1 ∷ []) marks.1.4 in (said.0, said.1, (marks.0, (marks.1.0, marks.1.1, marks.1.2, marks.1.3, said.2)))
+      let (at, (name, kept, why, due, named, is)) = marks in
+      let said = says output error (since ++ unopened why kept ∷ []) is in (said.0, said.1, (at, (name, kept, why, due, named, said.2)))
   told_marked IsName fault place count output {error} since new from marks says = says output error since marks
 
   stop_said : {how : Output} {output error : Slot} {low high : Part} {fault : Fault} {mid new : List Slot}
@@ -255,38 +259,51 @@ streams_left {since} (one ∷ []) past swept = absurd (let few : 1 ≡ suc (suc 
 streams_left {output} (one ∷ two ∷ now) past swept =
     (now, ap (λ slot. slot ∷ two ∷ now) (swept.before 0 (omega (arith, past))) ∙ ap (λ slot. output ∷ slot ∷ now) (swept.before 1 (omega (arith, past))))
 
-named_same : (fault : Fault) (output error after : Slot) (since : List Slot) → after.name ≡ error.name
-    → output_named (output ∷ after ∷ since) fault ≡ output_named (output ∷ error ∷ since) fault
-named_same (Write (suc zero)) output error after since is = is
-named_same (Open (suc zero)) output error after since is = is
-named_same fault output error after since is = refl
+-- a fault is of no output that has messages
+abbrev IsBeside : Fault → Type 0
+IsBeside (Write slot) = slot ≡ 1 → ⊥
+IsBeside (Open slot) = slot ≡ 1 → ⊥
+IsBeside fault = Unit {0}
 
-module _ (told : Bool) (Change : Slot → Slot → Type 0)
-    (keeps : (old new : Slot) → Change old new → new.name ≡ old.name) where
-  -- a message after the files were removed changes standard error alone, and no name
+marked_beside : (IsName : List ℕ → Type 0) (fault : Fault) (place count : ℕ) (output error : Slot) (since : List Slot)
+    (now : List Slot) → IsAt fault 2 place count → Marks IsName fault (output ∷ error ∷ since) now → IsBeside fault
+marked_beside IsName (Write slot) place count output error since now from marks = λ is.
+    elim from [ inl first ↦ omega (arith, is, first) | inr file ↦ omega (arith, is, file) ]
+marked_beside IsName (Open slot) place count output error since now from marks = λ is. omega (arith, is, marks.0)
+marked_beside IsName fault place count output error since now from marks = tt
+
+-- so its name and its reason are the same where only that output differs
+same_beside : (fault : Fault) (old new : List Slot) → IsBeside fault
+    → ((place : ℕ) → (place ≡ 1 → ⊥) → slot_at new place ≡ slot_at old place)
+    → (output_named new fault ≡ output_named old fault) × (output_reason new fault ≡ output_reason old fault)
+same_beside (Write slot) old new beside same = (ap (λ (slot : Slot). slot.name) (same slot beside), ap (λ (slot : Slot). slot.reason) (same slot beside))
+same_beside (Open slot) old new beside same = (ap (λ (slot : Slot). slot.name) (same slot beside), ap (λ (slot : Slot). slot.reason) (same slot beside))
+same_beside fault old new beside same = (refl, refl)
+
+module _ (told : Bool) (Change : Slot → Slot → Type 0) where
+  -- a message after the files were removed changes standard error alone
   pub record SaidSwept (clears : Bool) (first : ℕ) (output error : Slot) (since mid new : List Slot) : Type 0 where
     pub after : Slot
     pub says : Change error after
     pub swept : Swept clears first (output ∷ after ∷ since) new
-    pub named : (fault : Fault) → output_named new fault ≡ output_named mid fault
+    pub others : (place : ℕ) → (place ≡ 1 → ⊥) → slot_at new place ≡ slot_at mid place
 
-  said_named : {output error : Slot} {since mid new : List Slot} {after : Slot} → mid ≡ output ∷ error ∷ since
-      → Change error after → new ≡ output ∷ after ∷ since → (fault : Fault)
-      → output_named new fault ≡ output_named mid fault
-  said_named {output} {error} {since} {after} was says is fault = rw (is, named_same fault output error after since (keeps _ _ says), was)
+  said_beside : {output error after : Slot} {since mid new : List Slot} → mid ≡ output ∷ error ∷ since
+      → new ≡ output ∷ after ∷ since → (place : ℕ) → (place ≡ 1 → ⊥) → slot_at new place ≡ slot_at mid place
+  said_beside {output} {error} {after} {since} was is place differs = rw (is, beside_error output after error since place differs, was)
 
   pub said_swept : (clears : Bool) {output error : Slot} {since : List Slot} (mid new : List Slot) (first : ℕ)
       → 2 ≤ first → Swept clears first (output ∷ error ∷ since) mid → OnError Change mid new
       → SaidSwept clears first output error since mid new
   said_swept false {output} {error} {since} mid new first past same says =
-      let said = says output error since same in record { after = said.0; says = said.1; swept = said.2; named = said_named same said.1 said.2 }
+      let said = says output error since same in record { after = said.0; says = said.1; swept = said.2; others = said_beside same said.2 }
   said_swept true {output} {error} mid new first past swept says =
       let left = streams_left mid past swept in
       let said = says output error left.0 left.1 in record {
         after = said.0;
         says = said.1;
         swept = rw said.2 (swept_streams past (rw left.1 at swept));
-        named = said_named left.1 said.1 said.2;
+        others = said_beside left.1 said.2;
       }
 
   -- what a fault left, once its files were removed and its message was said
@@ -299,6 +316,7 @@ module _ (told : Bool) (Change : Slot → Slot → Type 0)
     pub why : Stops step reached fault
     pub swept : Swept clears first reached new
     pub named : output_named new fault ≡ output_named mid fault
+    pub reason : output_reason new fault ≡ output_reason mid fault
 
   pub stop_swept : (step : Step) (clears : Bool) {output error : Slot} {low high : Part} {fault : Fault}
       {reached mid new : List Slot} {first : ℕ} → 2 ≤ first → is_open error.state ≡ true
@@ -312,12 +330,15 @@ module _ (told : Bool) (Change : Slot → Slot → Type 0)
       let too : OnError Change reached (has.output ∷ said.after ∷ has.since) = λ top other rest is.
       let same : has.output ∷ has.error ∷ has.since ≡ top ∷ other ∷ rest = sym has.are ∙ is in
       let was : has.error ≡ other = cc in (said.after, subst (λ those. Change those said.after) was said.says, cc) in
-      let told_so = stop_said told Change stop too in record {
+      let told_so = stop_said told Change stop too in
+      let beside : IsBeside fault = marked_beside _ fault stop.place _ _ _ _ _ stop.from (rw stop.outputs.slots at stop.marks) in
+      let (named, reason) = same_beside fault mid new beside said.others in record {
         after = told_so.0;
         says = told_so.1;
         reached = has.output ∷ said.after ∷ has.since;
         stop = told_so.2;
         why = stops_still step fault stop.place _ stop.from has too why;
         swept = said.swept;
-        named = said.named fault;
+        named = named;
+        reason = reason;
       }

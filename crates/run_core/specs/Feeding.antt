@@ -1,18 +1,17 @@
 -- What becomes of an input that is fed to an engine piece by piece.
 use Rattle.std.specs.Prelude.{◌≡◌, ℕ, ◌≤◌, ◌^◌, Bool, true, false, not, ◌||◌, List, [], ◌+◌, ◌++◌, length, ◌⊎◌, None, Result, Ok, Err, if◌then◌else◌}
-use Rattle.ports_core.specs.Slot.{Slot, slot_at}
-use Rattle.ports_core.specs.Source.{Content, Source}
-use Rattle.ports_core.specs.Part.{Part, Output, OutputsAt, StoppedBetween, nothing, writes}
-use Rattle.ports_core.specs.Swept.{Swept}
-use Rattle.ports_core.specs.Work.{Work, Needs, Judges, IsNeeded}
-use Rattle.ports_core.specs.Engine.{is_verdict}
-use Rattle.ports_core.specs.Inputs.{CameFrom}
-use Rattle.ports_core.specs.declared.fault.Fault.{Fault}
-use Rattle.run_core.specs.declared.feeding.Fed.{Fed}
-use Rattle.run_core.specs.declared.feeding.Fed.TheVariants.{Whole, Enough, Broken}
-use Rattle.ports_core.specs.declared.fault.Fault.TheVariants.{Memory, Write, Open, TooLong}
+use Rattle.ports_core.specs.{
+  Slot.{Slot, slot_at},
+  Source.{Content, Source},
+  Part.{Part, Output, OutputsAt, StoppedBetween, nothing, writes},
+  Swept.Swept,
+  Work.{Work, Needs, Judges, IsNeeded},
+  Engine.is_verdict,
+  Inputs.CameFrom,
+  declared.{fault.Fault.{Fault, TheVariants.{Memory, Write, Open, TooLong}}, verdict.Verdict.Verdict},
+}
+use Rattle.run_core.specs.declared.feeding.Fed.{Fed, TheVariants.{Whole, Enough, Broken}}
 use Rattle.ports_core.specs.declared.fault.Fault.TheVariants as fault_is
-use Rattle.ports_core.specs.declared.verdict.Verdict.{Verdict}
 
 -- the input ends, or the output is complete before it breaks off
 abbrev pub is_enough : Work → Content → Bool

@@ -1,10 +1,7 @@
 -- What a run leaves of its inputs.
 use Rattle.std.specs.Prelude.{◌≡◌, ℕ, ◌≤◌, ◌<◌, Bool, true, false, List, [], ◌∷◌, ◌⊎◌, length, Option, Some, None}
-use Rattle.ports_core.specs.Source.{Content, Source, source_at, source_of}
-use Rattle.ports_core.specs.Work.{Work}
-use Rattle.run_core.specs.Feeding.{IsReadTo, LeavesOf, Step, ToldEnd, Uses}
-use Rattle.ports_core.specs.Inputs.{CameFrom}
-use Rattle.run_core.specs.Input.{Input, next_slot}
+use Rattle.ports_core.specs.{Source.{Content, Source, source_at, source_of}, Work.Work, Inputs.CameFrom}
+use Rattle.run_core.specs.{Feeding.{IsReadTo, LeavesOf, Step, ToldEnd, Uses}, Input.{Input, next_slot}}
 
 -- What is left of an input that was done, which was read from this source: where inputs tell their bytes, all but what
 -- was used. Where it ended, a read told that, or the output was complete. What could not be opened is not open.

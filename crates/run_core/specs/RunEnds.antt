@@ -1,21 +1,18 @@
 -- How a run over its inputs ends, from the streams as it found them.
 use Rattle.std.specs.Prelude.{◌≡◌, ℕ, ◌≤◌, Bool, true, false, List, [], ◌∷◌, ◌++◌, length, Option, Some}
-use Rattle.ports_core.specs.Slot.{Slot}
-use Rattle.ports_core.specs.Source.{Content, Source}
-use Rattle.ports_core.specs.Part.{Output, Part, OutputsAt, StoppedBetween, only_out, gets_none, gets_bytes}
-use Rattle.ports_core.specs.Swept.{Swept}
-use Rattle.ports_core.specs.Work.{Needs, no_needs}
-use Rattle.ports_core.specs.Text.{message_of, status_after}
-use Rattle.ports_core.specs.Message.{IsWhy, SaysAll, Tells, output_named}
-use Rattle.ports_core.specs.declared.reason.Reason.{Reason}
-use Rattle.ports_core.specs.Inputs.{largest_piece}
-use Rattle.ports_core.specs.Streams.{standard_error, streams_with}
-use Rattle.ports_core.specs.declared.fault.Fault.{Fault}
-use Rattle.ports_core.specs.declared.fault.Fault.TheVariants.{Memory}
-use Rattle.run_core.specs.Feeding.{IsCall, Step, Stops}
-use Rattle.run_core.specs.Input.{Input, World, Finds}
-use Rattle.run_core.specs.Reading.{AreDone, AreUntouched, Leaves}
-use Rattle.run_core.specs.Task.{Task, made_by, after_part, header_text, are_missing, status_of}
+use Rattle.ports_core.specs.{
+  Slot.Slot,
+  Source.{Content, Source},
+  Part.{Output, Part, OutputsAt, StoppedBetween, only_out, gets_none, gets_bytes},
+  Swept.Swept,
+  Work.{Needs, no_needs},
+  Text.{message_of, status_after},
+  Message.{SaysAll, Tells, output_named, output_reason},
+  Inputs.largest_piece,
+  Streams.{standard_error, streams_with},
+  declared.fault.Fault.{Fault, TheVariants.Memory},
+}
+use Rattle.run_core.specs.{Feeding.{IsCall, Step, Stops}, Input.{Input, World, Finds}, Reading.{AreDone, AreUntouched, Leaves}, Task.{Task, made_by, after_part, header_text, are_missing, status_of}}
 
 -- a step after what was written before it
 abbrev pub step_after : Part → Step → Step
@@ -60,20 +57,20 @@ pub data RunStep (told : Bool) (task : Task) (shown : Option (List ℕ)) (most :
       (step_after (after_part so_far (only_out header)) call)
 
 -- A run ended so: its inputs were done, its outcome is written, its files were removed if that is due, and standard
--- error was left as `error`; or a fault
--- stopped it within one step at an input, when those before it were done and told, and those after it were not touched:
--- then the outputs lie between what was written before that step and what with it, the files were removed if the work
--- clears them, the fault was told after the messages for those inputs, unless it is a reader that is gone of which
--- nothing is said, and the status says so; or there was no memory for the run at all, and no input was opened or touched.
-pub data EndsAs (told_in told : Bool) (breaks_for : ℕ → Reason → Bool) (task : Task) (inputs : List Input)
-    (sources : List Source) (new : List Slot) (status : ℕ) : Type 0 where
+-- error was left as `error`; or a fault stopped it within one step at an input, when those before it were done and told,
+-- and those after it were not touched: then the outputs lie between what was written before that step and what with it,
+-- the files were removed if the work clears them, the fault was told after the messages for those inputs, with the
+-- reason for which its output broke, unless it is a reader that is gone of which nothing is said, and the status says so;
+-- or there was no memory for the run at all, and no input was opened or touched.
+pub data EndsAs (told_in told : Bool) (task : Task) (inputs : List Input) (sources : List Source) (new : List Slot)
+    (status : ℕ) : Type 0 where
   as_defined : (error : Slot) (reached : List Slot)
       → SaysAll told task.speaker (made_by task inputs).messages standard_error error
       → OutputsAt told (streams_with error) (made_by task inputs).part reached
       → Swept (made_by task inputs).sweeps 2 reached new
       → AreDone told_in task.work largest_piece inputs sources → status ≡ status_of (made_by task inputs)
-      → EndsAs told_in told breaks_for task inputs sources new status
-  stopped : (fault : Fault) (why : Reason) (before : List Input) (input : Input) (after : List Input)
+      → EndsAs told_in told task inputs sources new status
+  stopped : (fault : Fault) (before : List Input) (input : Input) (after : List Input)
       (said error : Slot) (step : Step) (reached : List Slot)
       → inputs ≡ before ++ input ∷ after → AreDone told_in task.work largest_piece before sources
       → AreUntouched after sources
@@ -83,12 +80,12 @@ pub data EndsAs (told_in told : Bool) (breaks_for : ℕ → Reason → Bool) (ta
       → StoppedBetween step.output told (streams_with error) step.low step.high fault reached
       → Swept (task.work input.shown).clears 2 reached new
       → SaysAll told task.speaker (made_by task before).messages standard_error said
-      → IsWhy breaks_for fault why → Tells told task.speaker why fault (output_named new fault) said error
-      → status ≡ status_after fault task.speaker.calling why
-      → EndsAs told_in told breaks_for task inputs sources new status
+      → Tells told task.speaker (output_reason new fault) fault (output_named new fault) said error
+      → status ≡ status_after fault task.speaker.calling (output_reason new fault)
+      → EndsAs told_in told task inputs sources new status
   no_room : (error : Slot) → SaysAll told task.speaker (message_of Memory [] ∷ []) standard_error error
       → new ≡ streams_with error → AreUntouched inputs sources → length sources ≡ 1 → status ≡ 1
-      → EndsAs told_in told breaks_for task inputs sources new status
+      → EndsAs told_in told task inputs sources new status
 
 -- the inputs that a run found, and how it ended with them
 abbrev pub RunsOver : Bool → World → List (List ℕ) → (List Input → Type 0) → Type 0

@@ -1,16 +1,17 @@
 -- What each step of a run over its inputs leaves.
 use Rattle.std.specs.Prelude.{◌≡◌, ℕ, ◌<◌, ◌^◌, Bool, true, false, List, [], length, Option, Some, None}
-use Rattle.ports_core.specs.Slot.{Slot}
-use Rattle.ports_core.specs.Source.{Content, Source, source_at}
-use Rattle.ports_core.specs.Inputs.{HasLooked}
-use Rattle.ports_core.specs.Part.{OutputsAt, StoppedBetween, nothing}
-use Rattle.ports_core.specs.Swept.{Swept}
-use Rattle.ports_core.specs.Work.{Work, Needs}
-use Rattle.ports_core.specs.Guard.{GuardState, HoldsIn}
-use Rattle.ports_core.specs.Engine.{Terms, is_verdict}
-use Rattle.ports_core.specs.declared.fault.Fault.{Fault}
-use Rattle.run_core.specs.Feeding.{Stops, call_of}
-use Rattle.run_core.specs.Input.{World}
+use Rattle.ports_core.specs.{
+  Slot.Slot,
+  Source.{Content, Source, source_at},
+  Inputs.HasLooked,
+  Part.{OutputsAt, StoppedBetween, nothing},
+  Swept.Swept,
+  Work.{Work, Needs},
+  Guard.{GuardState, HoldsIn},
+  Engine.{Terms, is_verdict},
+  declared.fault.Fault.Fault,
+}
+use Rattle.run_core.specs.{Feeding.{Stops, call_of}, Input.World}
 
 -- a tool's engine was opened from these outputs
 pub record Opens {S : Type 0} (terms : Terms S) (asked : Work) (told : Bool) (old new : List Slot)

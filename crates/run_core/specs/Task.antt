@@ -1,15 +1,14 @@
 -- What a run makes of its inputs: one tool's work on each, one after another.
 use Rattle.std.specs.Prelude.{is_some, ℕ, ◌||◌, ◌&&◌, Bool, true, false, List, [], ◌∷◌, ◌++◌, Option, Some, None, if◌then◌else◌}
-use Rattle.ports_core.specs.Part.{Part, nothing, only_out}
-use Rattle.ports_core.specs.Source.{Content}
-use Rattle.ports_core.specs.Work.{Work, Needs}
-use Rattle.ports_core.specs.Text.{Message, message_of, header_of}
-use Rattle.ports_core.specs.declared.calling.Speaker.{Speaker}
-use Rattle.ports_core.specs.declared.fault.Fault.TheVariants.{Read, Open}
+use Rattle.ports_core.specs.{
+  Part.{Part, nothing, only_out},
+  Source.Content,
+  Work.{Work, Needs},
+  Text.{Message, message_of, header_of},
+  declared.{calling.Speaker.Speaker, fault.Fault.TheVariants.{Read, Open}, verdict.Verdict.Verdict},
+}
+use Rattle.run_core.specs.{Feeding.{is_enough, made_of}, Input.Input}
 use Rattle.ports_core.specs.declared.fault.Fault.TheVariants as fault_is
-use Rattle.ports_core.specs.declared.verdict.Verdict.{Verdict}
-use Rattle.run_core.specs.Feeding.{is_enough, made_of}
-use Rattle.run_core.specs.Input.{Input}
 
 -- what a run does with each of its inputs
 pub record Task : Type 0 where

@@ -1,8 +1,6 @@
 ghost use Rattle.std.specs.Prelude.{◌≡◌, ◌≤◌, ◌<◌, ℕ, List, Option, length, IfOk, IfErr, IfSome, IsTrue};
-ghost use Rattle.ports_core.specs.Source.{is_readable};
-ghost use Rattle.ports_core.specs.Slot.{is_writable};
-ghost use Rattle.run_core.specs.Task.{Task};
-ghost use Rattle.run_core.specs.RunSteps.{IsShown, OnlyLooked, Opens, OpensShort};
+ghost use Rattle.ports_core.specs.{Source.is_readable, Slot.is_writable};
+ghost use Rattle.run_core.specs.{Task.Task, RunSteps.{IsShown, OnlyLooked, Opens, OpensShort}};
 
 use ports_core::{Fault, Guarded, Inputs, Outs, Speaker, Stage, Verdict};
 use std::alloc::Global;

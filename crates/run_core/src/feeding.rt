@@ -1,14 +1,15 @@
 //! Feeding an engine one input, piece by piece.
-ghost use Rattle.std.specs.Prelude.{◌≡◌, ◌^◌, ◌<◌, ◌≤◌, ℕ, List, [], true, false, length, IsTrue, IfOk, IfErr, OnOk};
-ghost use Rattle.ports_core.specs.Slot.{Slot, changed_at};
-ghost use Rattle.ports_core.specs.Source.{source_at, is_readable, gives, fails, Gave, BrokeOff};
-ghost use Rattle.ports_core.specs.Part.{OutputsAt};
-ghost use Rattle.ports_core.specs.Work.{Needs};
-ghost use Rattle.ports_core.specs.Guard.{HoldsIn};
-ghost use Rattle.ports_core.specs.Engine.{Clears, KeepsOwn, is_verdict};
-ghost use Rattle.ports_core.specs.Inputs.{empty, CameFrom, KeepsOthers, OfContent};
-ghost use Rattle.run_core.specs.Feeding.{FedAs, IsReadTo, IsUnread, LeavesOf, ReadsFor, ToldEnd, Uses, is_stop};
-ghost use Rattle.run_core.specs.inner.RunSteps.{EndsSo};
+ghost use Rattle.std.specs.Prelude.{◌≡◌, ◌^◌, ◌<◌, ◌≤◌, ℕ, List, [], true, false, length, IsTrue, IfOk, IfErr};
+ghost use Rattle.ports_core.specs.{
+  Slot.{Slot, changed_at},
+  Source.{ReadFails, source_at, is_readable, gives, Gave, BrokeOff},
+  Part.OutputsAt,
+  Work.Needs,
+  Guard.HoldsIn,
+  Engine.{Clears, is_verdict},
+  Inputs.{empty, CameFrom, KeepsOthers, OfContent},
+};
+ghost use Rattle.run_core.specs.{Feeding.{FedAs, IsReadTo, IsUnread, LeavesOf, ReadsFor, ToldEnd, Uses, is_stop}, inner.RunSteps.EndsSo};
 
 use ports_core::{Fault, Guarded, Inputs, Outs, Stage};
 
@@ -127,7 +128,7 @@ fn read_part<I: Inputs>(
     ensures bytes { IfOk result (λ n. I.told ≡ true
         → Gave (source_at (I.sources inputs.old) slot).left buffer.old buffer.new n) }
     ensures rest { IfOk result (λ n. I.sources inputs.new ≡ changed_at slot (gives size n) (I.sources inputs.old)) }
-    ensures err { IfErr result (λ fault. I.sources inputs.new ≡ changed_at slot (fails size) (I.sources inputs.old)) }
+    ensures err { IfErr result (λ fault. ReadFails slot size (I.sources inputs.old) (I.sources inputs.new)) }
     ensures break_off { IfErr result (λ _. I.told ≡ true → BrokeOff (source_at (I.sources inputs.old) slot).left) }
     ensures kept { I.laid inputs.new ≡ I.laid inputs.old }
     ensures room { length buffer.new ≡ length buffer.old }

@@ -1,20 +1,23 @@
 //! The inputs of a run, one after another.
-ghost use Rattle.std.specs.Prelude.{◌≡◌, ◌<◌, ◌≤◌, ◌^◌, ◌||◌, ℕ, List, [], Option, Some, None, true, false, map, length, IfOk, IfErr, IfSome, OnOk, OnErr, IsTrue};
-ghost use Rattle.ports_core.specs.Slot.{Slot, is_open, slot_at, is_writable, streams, told_of, with_written};
-ghost use Rattle.ports_core.specs.Source.{source_at, is_readable, IsFresh};
-ghost use Rattle.ports_core.specs.Part.{Part, OutputsAt};
-ghost use Rattle.ports_core.specs.Work.{Needs};
-ghost use Rattle.run_core.specs.Feeding.{FedAs, IsUnread, is_stop};
-ghost use Rattle.run_core.specs.Input.{has_dash, is_dash, next_slot};
-ghost use Rattle.run_core.specs.Reading.{IsDone, Leaves, count_after};
-ghost use Rattle.ports_core.specs.Inputs.{AsksAtMost, largest_piece};
-ghost use Rattle.run_core.specs.inner.RunSteps.{TakesOne, HasStreams, HeaderFails, KeepsOther, OfName, OfSource, TookAll, TookInput, input_from, standard_source};
-ghost use Rattle.run_core.specs.RunEnds.{EndsAs, RunsOver};
-ghost use Rattle.ports_core.specs.Message.{SaysOn};
-ghost use Rattle.ports_core.specs.Streams.{streams_with};
-ghost use Rattle.ports_core.specs.Text.{message_of};
-ghost use Rattle.run_core.specs.RunSteps.{IsShown, world_of};
-ghost use Rattle.run_core.specs.Task.{Task, header_text, of_content, of_input};
+ghost use Rattle.std.specs.Prelude.{◌≡◌, ◌<◌, ◌≤◌, ◌||◌, ℕ, List, Option, Some, true, false, map, length, IfErr, IfSome, OnOk, OnErr, IsTrue};
+ghost use Rattle.ports_core.specs.{
+  Slot.{Slot, is_open, slot_at, is_writable, streams, told_of, with_written},
+  Source.{source_at, is_readable, IsFresh},
+  Part.{Part, OutputsAt},
+  Inputs.{AsksAtMost, largest_piece},
+  Message.SaysOn,
+  Streams.streams_with,
+  Text.message_of,
+};
+ghost use Rattle.run_core.specs.{
+  Feeding.{FedAs, IsUnread, is_stop},
+  Input.{has_dash, is_dash, next_slot},
+  Reading.{IsDone, Leaves, count_after},
+  inner.RunSteps.{TakesOne, HasStreams, HeaderFails, KeepsOther, OfName, OfSource, TookAll, TookInput, input_from, reason_of, standard_source},
+  RunEnds.{EndsAs, RunsOver},
+  RunSteps.{IsShown, world_of},
+  Task.{header_text, of_content, of_input},
+};
 
 use crate::adapter::Adapter;
 use crate::feeding::{Fed, feed_input, feed_nothing};
@@ -60,7 +63,7 @@ pub fn run_inputs<A: Adapter, I: Inputs, O: Outs>(
         → source_at (I.sources inputs.new) 0 ≡ source_at (I.sources inputs.old) 0 }
     ensures ends { RunsOver I.told (world_of (I.laid inputs.old) (I.sources inputs.old))
         (map (λ name. name.now) names.now)
-        (λ found. EndsAs I.told O.told O.breaks_for (A.task adapter.now) found (I.sources inputs.new)
+        (λ found. EndsAs I.told O.told (A.task adapter.now) found (I.sources inputs.new)
         (O.slots outs.new) result) }
     ensures opened { length (I.sources inputs.new) ≤ count_after 1 (map (λ name. name.now) names.now) }
     ensures asked { AsksAtMost largest_piece (I.sources inputs.new) }
@@ -270,9 +273,8 @@ fn say_why<A: Adapter, I: Inputs, O: Outs>(
     outs: &mut O,
 )
     requires { is_open (slot_at (O.slots outs.old) 1).state ≡ true }
-    ensures { (why : Reason) × IfSome source (λ slot. IsTrue (I.breaks_for slot why))
-        × SaysOn O.told (A.task job.now.adapter.now).speaker why (message_of fault.now name.now) (O.slots outs.old)
-        (O.slots outs.new) }
+    ensures { SaysOn O.told (A.task job.now.adapter.now).speaker (reason_of source (I.sources inputs.now))
+        (message_of fault.now name.now) (O.slots outs.old) (O.slots outs.new) }
 {
     let why = reason_of(source, inputs);
     say(job.alloc, job.adapter.speaker(), why, fault, name, outs);
@@ -280,7 +282,7 @@ fn say_why<A: Adapter, I: Inputs, O: Outs>(
 
 /// Why a source broke; one that is no input never does.
 fn reason_of<I: Inputs>(source: Option<usize>, inputs: &I) -> Reason
-    ensures { IfSome source (λ slot. IsTrue (I.breaks_for slot result)) }
+    ensures { result ≡ reason_of source (I.sources inputs.now) }
 {
     match source {
         Some(slot) => inputs.reason(slot),

@@ -1,7 +1,6 @@
 //! Whole runs of `tail` that follow files in memory, which no clause can show to succeed: words and edits look by look in, standard
 //! output, messages and status out; and runs in which each call is refused in turn.
 ghost use Rattle.std.specs.Prelude.{◌≡◌, [], IfOk};
-ghost use Rattle.ports_core.specs.Slot.{streams};
 ghost use Rattle.mem_core.specs.MemWatchState.{seen};
 
 use mem_core::{Edit, MemOut, MemWatch};

@@ -2,7 +2,7 @@
 //! one growth is refused, the test `NAME` fails, since the run doesn't leave what its row says, and `NAME_or_begin` passes: the
 //! status is 1, the message is one of the row's, and each output has a beginning. What `before_NAME` and `after_NAME` do takes as
 //! many growths.
-ghost use Rattle.std.specs.Prelude.{◌≡◌, [], IfOk};
+ghost use Rattle.std.specs.Prelude.{◌≡◌, []};
 ghost use Rattle.ports_core.specs.Slot.{streams};
 ghost use Rattle.mem_core.specs.MemWatchState.{seen};
 

@@ -1,25 +1,19 @@
 //! Callers of `run_words`, as the program is one, that rest on the laws of `tools_core`: what each of them ensures follows by one law
 //! from what `run_words` ensures, and nothing is known here of what the tools do.
-ghost use Rattle.std.specs.Prelude.{◌≡◌, ◌+◌, ◌++◌, ◌∷◌, [], ℕ, List, Option, None, Some, map, drop, codes, true, false, IfOk, IfSome};
+ghost use Rattle.std.specs.Prelude.{◌≡◌, ◌+◌, ◌++◌, ◌∷◌, [], ℕ, List, None, Some, map, drop, codes, true, false, IfOk, IfSome};
 ghost use Rattle.ends_core.specs.Ends.{tail_of};
 ghost use Rattle.mem_core.specs.MemWatchState.{seen, shows};
-ghost use Rattle.seg_core.specs.Line.{joined};
-ghost use Rattle.seg_core.specs.declared.count.Sign.TheVariants.{Plain, Plus};
-ghost use Rattle.seg_core.specs.declared.cut.Cut.TheVariants.{Parts};
-ghost use Rattle.seg_core.specs.declared.cut.Limit.TheVariants.{Bytes};
-ghost use Rattle.seg_core.specs.declared.cut.Way.TheVariants.{Cut};
-ghost use Rattle.ports_core.specs.Slot.{Slot, slot_at, streams};
-ghost use Rattle.ports_core.specs.Source.{source_of, unshown};
-ghost use Rattle.tools_core.specs.Promises.{forgives_gone, AreCopies, Does, CountAlike, HasInput, IsBare, OnlyGrows, Ran, Run, SkipNothing, counted};
-ghost use Rattle.tools_core.specs.Tasks.{is_plus, names_of};
-ghost use Rattle.words_core.specs.CsplitWords.{CsplitAsked};
-ghost use Rattle.words_core.specs.EndsWords.{EndsAsked};
-ghost use Rattle.words_core.specs.SplitWords.{SplitAsked};
-ghost use Rattle.words_core.specs.TeeWords.{TeeAsked};
-ghost use Rattle.words_core.specs.Words.{follows, settings_of};
-ghost use Rattle.words_core.specs.declared.value.Followed.{Followed};
-ghost use Rattle.words_core.specs.declared.settings.Settings.{Settings};
-ghost use Rattle.words_core.specs.declared.settings.Settings.TheVariants.{Csplit, Head, Split, Tail, Tee};
+ghost use Rattle.seg_core.specs.{Line.joined, declared.{count.Sign.TheVariants.{Plain, Plus}, cut.{Cut.TheVariants.Parts, Limit.TheVariants.Bytes, Way.TheVariants.Cut}}};
+ghost use Rattle.ports_core.specs.{Slot.{Slot, slot_at, streams}, Source.{source_of, unshown}};
+ghost use Rattle.tools_core.specs.{Promises.{forgives_gone, AreCopies, Does, CountAlike, HasInput, IsBare, OnlyGrows, Ran, Run, SkipNothing, counted}, Tasks.{is_plus, names_of}};
+ghost use Rattle.words_core.specs.{
+  CsplitWords.CsplitAsked,
+  EndsWords.EndsAsked,
+  SplitWords.SplitAsked,
+  TeeWords.TeeAsked,
+  Words.{follows, settings_of},
+  declared.{value.Followed.Followed, settings.Settings.{Settings, TheVariants.{Csplit, Head, Split, Tail, Tee}}},
+};
 
 use mem_core::{Edit, MemIn, MemOut, MemWatch};
 use ports_core::{Calling, Fault, Outs};
@@ -50,8 +44,11 @@ fn ran(
     outs: &mut MemOut,
 ) -> Result<u8, Fault>
     requires { outs.old ≡ streams }
-    ensures { (asked : Settings) → settings_of Calling.Cutters (map (λ word. word.now) words.now) ≡ Ok asked → names_of asked ≡ codes "-" ∷ [] → follows asked ≡ false
-        → IfOk result (λ status. (one : Run) × Ran one asked × HasInput one bytes.now × (one.calling ≡ Calling.Cutters) × (one.words ≡ map (λ word. word.now) words.now) × (one.outputs ≡ outs.new) × (one.status ≡ status)) }
+    ensures { (asked : Settings) → settings_of Calling.Cutters (map (λ word. word.now) words.now) ≡ Ok asked
+        → names_of asked ≡ codes "-" ∷ [] → follows asked ≡ false
+        → IfOk result
+        (λ status. (one : Run) × Ran one asked × HasInput one bytes.now × (one.calling ≡ Calling.Cutters)
+        × (one.words ≡ map (λ word. word.now) words.now) × (one.outputs ≡ outs.new) × (one.status ≡ status)) }
 {
     program_makes_these_runs();
     let mut inputs = standard_input(alloc, bytes, pieces)?;
@@ -73,8 +70,12 @@ fn left_of(
     bytes: &[u8],
     pieces: usize,
 ) -> Result<Option<MemOut>, Fault>
-    ensures { (asked : Settings) → settings_of Calling.Cutters (map (λ word. word.now) words.now) ≡ Ok asked → names_of asked ≡ codes "-" ∷ [] → follows asked ≡ false → forgives_gone asked ≡ false
-        → IfOk result (λ left. IfSome left (λ outs. (one : Run) × Does one asked × HasInput one bytes.now × (one.calling ≡ Calling.Cutters) × (one.words ≡ map (λ word. word.now) words.now) × (one.outputs ≡ outs))) }
+    ensures { (asked : Settings) → settings_of Calling.Cutters (map (λ word. word.now) words.now) ≡ Ok asked
+        → names_of asked ≡ codes "-" ∷ [] → follows asked ≡ false → forgives_gone asked ≡ false
+        → IfOk result
+        (λ left. IfSome left
+        (λ outs. (one : Run) × Does one asked × HasInput one bytes.now × (one.calling ≡ Calling.Cutters)
+        × (one.words ≡ map (λ word. word.now) words.now) × (one.outputs ≡ outs))) }
 {
     let mut outs = MemOut::new(alloc)?;
     if ran(alloc, words, bytes, pieces, &mut outs)? != 0 {
@@ -86,8 +87,10 @@ fn left_of(
 /// What `head` and then `tail` write of the same bytes, if both go well: all of them, where `tail` begins with the line or byte
 /// after those that `head` writes.
 fn met(alloc: Global, head: &[&str], tail: &[&str], bytes: &[u8]) -> Result<Option<Vec<u8>>, Fault>
-    ensures { (first rest : EndsAsked) (n looks pause : ℕ) → settings_of Calling.Cutters (map (λ word. word.now) head.now) ≡ Ok (Head (counted first Plain n))
-        → settings_of Calling.Cutters (map (λ word. word.now) tail.now) ≡ Ok (Tail (record { ends = counted rest Plus (n + 1); followed = None; looks = looks; pause = pause; process = None }))
+    ensures { (first rest : EndsAsked) (n looks pause : ℕ)
+        → settings_of Calling.Cutters (map (λ word. word.now) head.now) ≡ Ok (Head (counted first Plain n))
+        → settings_of Calling.Cutters (map (λ word. word.now) tail.now) ≡ Ok (Tail
+        (record { ends = counted rest Plus (n + 1); followed = None; looks = looks; pause = pause; process = None }))
         → CountAlike first rest → first.names ≡ codes "-" ∷ [] → rest.names ≡ codes "-" ∷ []
         → IfOk result (λ both. IfSome both (λ all. all.items ≡ bytes.now)) }
 {
@@ -112,8 +115,11 @@ fn first_and_rest(alloc: Global, bytes: &[u8]) -> Result<Option<Vec<u8>>, Fault>
 
 /// The files into which `split -b` cuts these bytes, if that goes well: joined they are the bytes.
 fn pieces(alloc: Global, words: &[&str], bytes: &[u8]) -> Result<Option<MemOut>, Fault>
-    ensures { (asked : SplitAsked) (n : ℕ) → settings_of Calling.Cutters (map (λ word. word.now) words.now) ≡ Ok (Split asked) → asked.input ≡ codes "-" → asked.way ≡ Cut (Parts (Bytes n))
-        → IfOk result (λ left. IfSome left (λ outs. joined (map (λ (file : Slot). file.written) (drop 2 outs)) ≡ bytes.now)) }
+    ensures { (asked : SplitAsked) (n : ℕ)
+        → settings_of Calling.Cutters (map (λ word. word.now) words.now) ≡ Ok (Split asked)
+        → asked.input ≡ codes "-" → asked.way ≡ Cut (Parts (Bytes n))
+        → IfOk result
+        (λ left. IfSome left (λ outs. joined (map (λ (file : Slot). file.written) (drop 2 outs)) ≡ bytes.now)) }
 {
     split_loses_nothing();
     left_of(alloc, words, bytes, 3)
@@ -121,8 +127,12 @@ fn pieces(alloc: Global, words: &[&str], bytes: &[u8]) -> Result<Option<MemOut>,
 
 /// What `tee` leaves of these bytes, if that goes well: standard output and each file that is named has them.
 fn copied(alloc: Global, words: &[&str], bytes: &[u8]) -> Result<Option<MemOut>, Fault>
-    ensures { (asked : TeeAsked) → settings_of Calling.Cutters (map (λ word. word.now) words.now) ≡ Ok (Tee asked) → forgives_gone (Tee asked) ≡ false
-        → IfOk result (λ left. IfSome left (λ outs. ((slot_at outs 0).written ≡ bytes.now) × AreCopies asked.mode asked.names bytes.now (drop 2 outs))) }
+    ensures { (asked : TeeAsked) → settings_of Calling.Cutters (map (λ word. word.now) words.now) ≡ Ok (Tee asked)
+        → forgives_gone (Tee asked) ≡ false
+        → IfOk result
+        (λ left. IfSome left
+        (λ outs. ((slot_at outs 0).written ≡ bytes.now)
+        × AreCopies asked.mode asked.names bytes.now (drop 2 outs))) }
 {
     tee_copies();
     left_of(alloc, words, bytes, 3)
@@ -131,8 +141,10 @@ fn copied(alloc: Global, words: &[&str], bytes: &[u8]) -> Result<Option<MemOut>,
 /// The files into which `csplit` cuts these bytes, if that goes well: joined they are the bytes, where no section is skipped and no
 /// line is left out at a cut.
 fn sections(alloc: Global, words: &[&str], bytes: &[u8]) -> Result<Option<MemOut>, Fault>
-    ensures { (asked : CsplitAsked) → settings_of Calling.Cutters (map (λ word. word.now) words.now) ≡ Ok (Csplit asked) → asked.input ≡ codes "-" → asked.style.suppress ≡ false → SkipNothing asked.operands
-        → IfOk result (λ left. IfSome left (λ outs. joined (map (λ (file : Slot). file.written) (drop 2 outs)) ≡ bytes.now)) }
+    ensures { (asked : CsplitAsked) → settings_of Calling.Cutters (map (λ word. word.now) words.now) ≡ Ok (Csplit asked)
+        → asked.input ≡ codes "-" → asked.style.suppress ≡ false → SkipNothing asked.operands
+        → IfOk result
+        (λ left. IfSome left (λ outs. joined (map (λ (file : Slot). file.written) (drop 2 outs)) ≡ bytes.now)) }
 {
     csplit_loses_nothing();
     left_of(alloc, words, bytes, 3)
@@ -143,9 +155,16 @@ fn sections(alloc: Global, words: &[&str], bytes: &[u8]) -> Result<Option<MemOut
 fn grown(alloc: Global, words: &[&str], watch: &mut MemWatch) -> Result<Option<MemOut>, Fault>
     requires seen { seen watch.old ≡ [] }
     requires watched { watch.old.watched ≡ [] }
-    ensures { (options : EndsAsked) (followed : Followed) (name came : List ℕ) (file n pause : ℕ) → settings_of Calling.Cutters (map (λ word. word.now) words.now) ≡ Ok (Tail (record { ends = options; followed = Some followed; looks = n + 1; pause = pause; process = None }))
-        → IsBare options → options.names ≡ name ∷ [] → ((count : ℕ) → OnlyGrows count (shows watch.old) name file) → (shows watch.old n).holds file ≡ (shows watch.old 0).holds file ++ came
-        → IfOk result (λ left. IfSome left (λ outs. (slot_at outs 0).written ≡ tail_of options.delim options.unit (is_plus options.count.sign) options.count.amount ((shows watch.old 0).holds file) ++ came)) }
+    ensures { (options : EndsAsked) (followed : Followed) (name came : List ℕ) (file n pause : ℕ)
+        → settings_of Calling.Cutters (map (λ word. word.now) words.now)
+        ≡ Ok (Tail (record { ends = options; followed = Some followed; looks = n + 1; pause = pause; process = None }))
+        → IsBare options → options.names ≡ name ∷ [] → ((count : ℕ) → OnlyGrows count (shows watch.old) name file)
+        → (shows watch.old n).holds file ≡ (shows watch.old 0).holds file ++ came
+        → IfOk result
+        (λ left. IfSome left
+        (λ outs. (slot_at outs 0).written
+        ≡ tail_of options.delim options.unit (is_plus options.count.sign) options.count.amount
+        ((shows watch.old 0).holds file) ++ came)) }
 {
     program_makes_these_runs();
     tail_follows();
@@ -167,7 +186,8 @@ fn grown(alloc: Global, words: &[&str], watch: &mut MemWatch) -> Result<Option<M
 
 /// What the words leave of these bytes where they come byte by byte, and where they come whole, if both go well: the same.
 fn both(alloc: Global, words: &[&str], bytes: &[u8]) -> Result<Option<(MemOut, MemOut)>, Fault>
-    ensures { (asked : Settings) → settings_of Calling.Cutters (map (λ word. word.now) words.now) ≡ Ok asked → names_of asked ≡ codes "-" ∷ [] → follows asked ≡ false → forgives_gone asked ≡ false
+    ensures { (asked : Settings) → settings_of Calling.Cutters (map (λ word. word.now) words.now) ≡ Ok asked
+        → names_of asked ≡ codes "-" ∷ [] → follows asked ≡ false → forgives_gone asked ≡ false
         → IfOk result (λ left. IfSome left (λ outs. outs.0 ≡ outs.1)) }
 {
     cutting_changes_nothing();
@@ -184,7 +204,8 @@ fn both(alloc: Global, words: &[&str], bytes: &[u8]) -> Result<Option<(MemOut, M
 /// tells that its reader is gone.
 fn status_of(alloc: Global, words: &[&str], bytes: &[u8], outs: &mut MemOut) -> Result<u8, Fault>
     requires { outs.old ≡ streams }
-    ensures { (asked : EndsAsked) → settings_of Calling.Cutters (map (λ word. word.now) words.now) ≡ Ok (Head asked) → asked.names ≡ codes "-" ∷ []
+    ensures { (asked : EndsAsked) → settings_of Calling.Cutters (map (λ word. word.now) words.now) ≡ Ok (Head asked)
+        → asked.names ≡ codes "-" ∷ []
         → IfOk result (λ status. (slot_at outs.new 0).is_broken ≡ true → status ≡ 1) }
 {
     faults_leave_a_beginning();

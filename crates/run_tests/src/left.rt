@@ -1,8 +1,7 @@
 //! Whole runs over memory, what they are to leave, and the check of it: files with their names, standard output, messages and
 //! status.
 ghost use Rattle.std.specs.Prelude.{◌≡◌, IfOk, OnOk};
-ghost use Rattle.ports_core.specs.Slot.{streams};
-ghost use Rattle.ports_core.specs.Source.{IsFresh};
+ghost use Rattle.ports_core.specs.{Slot.streams, Source.IsFresh};
 
 use mem_core::{MemIn, MemOut};
 use ports_core::{Fault, Outs};

@@ -1,7 +1,5 @@
 //! The laws of `promises` on small examples: each of these runs the program's `run`, and looks whether what it leaves is as
 //! promised, with no bytes written down that are wanted.
-ghost use Rattle.std.specs.Prelude.{IfOk};
-
 use crate::follow_tests::watch_of;
 use crate::left::{NOTHING, Plan, Run, inputs_of, planned_inputs, planned_outs};
 use mem_core::{Edit, MemOut};

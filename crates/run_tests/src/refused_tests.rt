@@ -1,8 +1,7 @@
 //! Whole runs over memory where a call is refused: each open, write, close and removal in turn. Outputs then have beginnings of
 //! what they are to have. `growth_tests` has the same for memory.
 ghost use Rattle.std.specs.Prelude.{◌≡◌, IfOk};
-ghost use Rattle.ports_core.specs.Slot.{streams};
-ghost use Rattle.ports_core.specs.Source.{IsFresh};
+ghost use Rattle.ports_core.specs.{Slot.streams, Source.IsFresh};
 
 use crate::left::{File, Left, NOTHING, inputs_of};
 use mem_core::{MemIn, MemOut};

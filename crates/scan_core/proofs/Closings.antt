@@ -1,27 +1,28 @@
 -- Entering all that follows without a byte, by words that are closed and by hops.
 use Rattle.std.proofs.Common.{rules, ◌≡◌, ℕ, ◌+◌, ◌*◌, ◌/◌, ◌%◌, ◌^◌, ◌<◌, List, length, get_or, set, sym, ap, ◌∙◌, subst, arith, w64, ◌⊎◌, inl, inr, zero, suc, ◌≤◌, Bool, false, [], ◌∷◌, refl, ◌↔◌, true, IsTrue, ◌++◌, length-append, eqb, not, bit_and, bit_or, Result, Ok, Err, OnOk}
-use Rattle.std.proofs.lemmas.Nat.{and_le_l, le_or_l, le_or_r, or_lt}
-use Rattle.std.proofs.lemmas.Nat.Bits.{bit_at-trailing_zeros, bit_at_and, bit_at_or, bit_at-lt, bit_at-zero, same_from_bits_below}
-use Rattle.std.specs.Int.{bit_at, trailing_zeros, bit_not}
-use Rattle.std.specs.Int.Bits.{or_zero_l, or_zero_r}
-use Rattle.std.proofs.lemmas.Bool.{cases_eq, eqb-false, not-true, ne_eqb, cases_lt}
-use Rattle.std.proofs.lemmas.List.{get_or-set_same, length-set, set-get_or}
-use Rattle.std.proofs.lemmas.Grind.{common_steps}
+use Rattle.std.proofs.lemmas.{
+  Nat.{and_le_l, le_or_l, le_or_r, or_lt, Bits.{bit_at-trailing_zeros, bit_at_and, bit_at_or, bit_at-lt, bit_at-zero, same_from_bits_below}},
+  Bool.{cases_eq, eqb-false, not-true, ne_eqb, cases_lt},
+  List.{get_or-set_same, length-set, set-get_or},
+  Grind.common_steps,
+}
+use Rattle.std.specs.Int.{bit_at, trailing_zeros, bit_not, Bits.{or_zero_l, or_zero_r}}
 use mir.Val.{bool_byte}
-use Rattle.scan_core.specs.Code.{At}
-use Rattle.scan_core.specs.declared.closures.Closures.{Closures}
-use Rattle.scan_core.specs.declared.hops.Hop.{Hop}
-use Rattle.scan_core.specs.declared.node.Node.{Node}
-use Rattle.scan_core.specs.declared.way.Way.{Way}
-use Rattle.scan_core.specs.inner.Closing.{Closer, Follows, HasLanded, IsApart, Passes}
-use Rattle.scan_core.specs.inner.Closures.{AreClosures, Closes, HasAnchors, IsBase, IsBegun, IsPlain, Stays}
-use Rattle.scan_core.specs.inner.Hops.{AreHops, AreLandings, HopsTo, IsHop, IsLanding, Meets, PartsTo, end_of, no_hop}
-use Rattle.scan_core.specs.inner.Sets.{Flows, FlowsOn, LeadsOn}
-use Rattle.scan_core.specs.inner.Ways.{IsWay}
-use Rattle.scan_core.specs.inner.Words.{Adds, IsIn, SpreadsOut, unset, width}
-use Rattle.scan_core.proofs.Countings.{set_elsewhere}
-use Rattle.scan_core.proofs.Enterings.{at_index, at_least, each_more, each_to, flows_of, led_by, parts_anywhere}
-use Rattle.scan_core.proofs.Insides.{adds_anywhere, adds_both, entered_one, either_bit, flows_join, fresh_bit, is_in_word, is_within, left_bit, right_bit, spreads_out, unset-set}
+use Rattle.scan_core.specs.{
+  Code.At,
+  declared.{closures.Closures.Closures, hops.Hop.Hop, node.Node.Node, way.Way.Way},
+  inner.Closing.{Closer, Follows, HasLanded, IsApart, Passes},
+  inner.Closures.{AreClosures, Closes, HasAnchors, IsBase, IsBegun, IsPlain, Stays},
+  inner.Hops.{AreHops, AreLandings, HopsTo, IsHop, IsLanding, Meets, PartsTo, end_of, no_hop},
+  inner.Sets.{Flows, FlowsOn, LeadsOn},
+  inner.Ways.IsWay,
+  inner.Words.{Adds, IsIn, SpreadsOut, unset, width},
+}
+use Rattle.scan_core.proofs.{
+  Countings.set_elsewhere,
+  Enterings.{at_index, at_least, each_more, each_to, flows_of, led_by, parts_anywhere},
+  Insides.{adds_anywhere, adds_both, entered_one, either_bit, flows_join, fresh_bit, is_in_word, is_within, left_bit, right_bit, spreads_out, unset-set},
+}
 
 -- some of a word's numbers are those of a hop, or none
 pub one_of : (word from : ℕ) → word < 2 ^ 64 → (bit_and word from ≡ 0 → ⊥)

@@ -1,17 +1,21 @@
 -- Walks over the nodes of a pattern.
-use Rattle.std.proofs.Common.{rules, ◌≡◌, ◌⊎◌, inl, inr, ℕ, zero, suc, ◌+◌, ◌-◌, ◌≤◌, List, [], ◌∷◌, ◌++◌, length, refl, ap, subst, arith, sym, ◌∙◌, ◌↔◌, Option, Some, None, ◌*◌, ◌<◌, Bool, IsTrue, length-append, suc-mul, add-mul}
-use Rattle.std.proofs.lemmas.Bool.{cases_eq}
-use Rattle.scan_core.specs.declared.node.Node.{Node}
-use Rattle.scan_core.specs.declared.node.Node.TheVariants.{Take, First, Last, Choose, Back}
-use Rattle.scan_core.specs.Code.{At, Leads, Goes, Walks, Path, maybe, starred, up_to, copies, tail_of, code_of, code_of_item, Entered, IsOrdered, IsOrderedItem, weight}
-use Rattle.scan_core.specs.inner.Sets.{FitsIn, IsCode}
-use Rattle.scan_core.proofs.Enterings.{at_least}
-use Rattle.bre_core.specs.Match.{Parts, IsAtMost, Matches, MatchesItem, Contains}
-use Rattle.std.proofs.lemmas.Grind.{common_steps}
-use Rattle.bre_core.specs.Pattern.{Pattern, nothing, append, Item, set, front, end, group, repeat, repeated, positions_in, positions_in_item, positions_of}
-use Rattle.bre_core.proofs.Searching.{stays, contains_tells, one_truth}
-use Rattle.bre_core.specs.Search.{contains}
-use Rattle.scan_core.specs.Counted.{EndsIn}
+use Rattle.std.proofs.{
+  Common.{rules, ◌≡◌, ◌⊎◌, inl, inr, ℕ, zero, suc, ◌+◌, ◌-◌, ◌≤◌, List, [], ◌∷◌, ◌++◌, length, refl, ap, subst, arith, sym, ◌∙◌, ◌↔◌, Option, Some, None, ◌*◌, ◌<◌, Bool, IsTrue, length-append, suc-mul, add-mul},
+  lemmas.{Bool.cases_eq, Grind.common_steps},
+}
+use Rattle.scan_core.{
+  specs.declared.node.Node.{Node, TheVariants.{Take, First, Last, Choose, Back}},
+  specs.Code.{At, Leads, Goes, Walks, Path, maybe, starred, up_to, copies, tail_of, code_of, code_of_item, Entered, IsOrdered, IsOrderedItem, weight},
+  specs.inner.Sets.{FitsIn, IsCode},
+  specs.Counted.EndsIn,
+  proofs.Enterings.at_least,
+}
+use Rattle.bre_core.{
+  specs.Match.{Parts, IsAtMost, Matches, MatchesItem, Contains},
+  specs.Pattern.{Pattern, nothing, append, Item, set, front, end, group, repeat, repeated, positions_in, positions_in_item, positions_of},
+  specs.Search.contains,
+  proofs.Searching.{stays, contains_tells, one_truth},
+}
 
 pub at-left : (a b : List Node) (n : ℕ) (node : Node) → At a n node → At (a ++ b) n node
 at-left [] b n node h = absurd h

@@ -1,22 +1,19 @@
 -- The code that is written is the pattern's.
-use Rattle.std.proofs.lemmas.Grind.{common_steps}
-use Rattle.std.proofs.Common.{rules, arith, ◌≡◌, ℕ, ◌≤◌, Option, Some, length, List, [], ◌∷◌, ◌++◌, reverse, None, sym, ap, ◌∙◌, subst, ◌⊎◌, inl, inr, zero, suc, ◌+◌, ◌-◌, ◌<◌, drop, get_or, refl, append_assoc, append-nil, All}
-use Rattle.std.proofs.lemmas.List.{reverse-append, reverse-reverse, at_drop_more}
-use Rattle.std.proofs.lemmas.List.Elements.{All-pop}
-use Rattle.scan_core.specs.declared.compile.Compiling.{Compiling}
-use Rattle.scan_core.specs.declared.compile.Pending.{Pending}
-use Rattle.scan_core.specs.declared.compile.Pending.TheVariants.{Group, Repeated}
-use Rattle.scan_core.specs.declared.emit.Duplication.{Duplication}
-use Rattle.scan_core.specs.declared.node.Node.{Node}
-use Rattle.scan_core.specs.inner.Backwards.{IsBegun, Repeats, begun}
-use Rattle.scan_core.specs.inner.Compiling.{AreBegun, Pops, Waits, IsNow, FinishesBy, Finishes, PopsNone, Begins, Closes, Writes, Passes, PassesLeaf, TakesIn, Takes, TakesAll}
-use Rattle.bre_core.specs.Flat.{IsBounded, AreBounded}
-use Rattle.bre_core.specs.Match.{IsAtMost}
-use Rattle.bre_core.specs.Pattern.{Pattern, nothing, append, Item, set, front, end, group, repeat, written, written_item}
-use Rattle.bre_core.specs.declared.token.Token.{Token}
-use Rattle.bre_core.specs.declared.token.Token.TheVariants.{Set, Front, End, Open, Close, Repeat}
-use Rattle.scan_core.specs.declared.node.Node.TheVariants.{Back}
-use Rattle.scan_core.specs.Code.{code_of, code_of_item, IsOrdered, IsOrderedItem, copies, tail_of, up_to}
+use Rattle.std.proofs.{
+  lemmas.{Grind.common_steps, List.{reverse-append, reverse-reverse, at_drop_more, Elements.All-pop}},
+  Common.{rules, arith, ◌≡◌, ℕ, ◌≤◌, Option, Some, length, List, [], ◌∷◌, ◌++◌, reverse, None, sym, ap, ◌∙◌, subst, ◌⊎◌, inl, inr, zero, suc, ◌+◌, ◌-◌, ◌<◌, drop, get_or, refl, append_assoc, append-nil, All},
+}
+use Rattle.scan_core.specs.{
+  declared.{compile.{Compiling.Compiling, Pending.{Pending, TheVariants.{Group, Repeated}}}, emit.Duplication.Duplication, node.Node.{Node, TheVariants.Back}},
+  inner.{Backwards.{IsBegun, Repeats, begun}, Compiling.{AreBegun, Pops, Waits, IsNow, FinishesBy, Finishes, PopsNone, Begins, Closes, Writes, Passes, PassesLeaf, TakesIn, Takes, TakesAll}},
+  Code.{code_of, code_of_item, IsOrdered, IsOrderedItem, copies, tail_of, up_to},
+}
+use Rattle.bre_core.specs.{
+  Flat.{IsBounded, AreBounded},
+  Match.IsAtMost,
+  Pattern.{Pattern, nothing, append, Item, set, front, end, group, repeat, written, written_item},
+  declared.token.Token.{Token, TheVariants.{Set, Front, End, Open, Close, Repeat}},
+}
 
 -- Items that are complete, and what waits for them.
 

@@ -1,20 +1,18 @@
 -- The positions of a set of words are its bits that are positions.
-use Rattle.std.proofs.Common.{◌≡◌, ◌↔◌, ℕ, zero, suc, ◌+◌, ◌*◌, ◌/◌, ◌<◌, ◌≤◌, List, [], ◌∷◌, length, get_or, refl, sym, ap, subst, arith, rules, ◌⊎◌, inl, inr, ◌%◌, ◌^◌, set, ◌∙◌, ◌-◌, Bool, true, false, ◌++◌, length-append, eqb-true, eq-eqb, get_or-set_same, get_or-set_other, length-set, bit_and, bit_or, ◌==◌, count_ones}
-use Rattle.std.proofs.lemmas.Nat.{div-mul-add, mod-mul-add, mul-add-lt, and_shr}
-use Rattle.scan_core.specs.declared.masks.Kind.TheVariants.{Takes, Counts}
-use Rattle.scan_core.specs.declared.node.Node.{Node}
-use Rattle.scan_core.specs.Code.{At, weight_of}
-use Rattle.scan_core.specs.inner.Words.{AreTakes, IsMask, counted_at, width, IsIn, bits, flags_of}
-use Rattle.std.proofs.lemmas.Bool.{cases_lt}
-use Rattle.std.proofs.lemmas.Nat.Bits.{bit_at_and, bit_at_or, bit_at_lowest, bit_at-suc, bit_at-zero, bit_at_above, bit_at_cat_low, bit_at-lt}
-use Rattle.std.specs.Int.{bit_at}
-use Rattle.scan_core.specs.inner.Sets.{Passes}
-use Rattle.scan_core.proofs.Enterings.{pass_least, weight_most}
-use Rattle.scan_core.proofs.Insides.{left_bit, right_bit, either_bit, is_in_word, is_within}
-use Rattle.std.specs.Int.Count.{ones_step}
-use Rattle.scan_core.specs.Sets.{IsMarked, weight_if, positions_among}
-use Rattle.scan_core.specs.inner.Each.{AreEach}
-use Rattle.std.proofs.lemmas.Grind.{common_steps}
+use Rattle.std.proofs.{
+  Common.{◌≡◌, ◌↔◌, ℕ, zero, suc, ◌+◌, ◌*◌, ◌/◌, ◌<◌, ◌≤◌, List, [], ◌∷◌, length, get_or, refl, sym, ap, subst, arith, rules, ◌⊎◌, inl, inr, ◌%◌, ◌^◌, set, ◌∙◌, ◌-◌, Bool, true, false, ◌++◌, length-append, eqb-true, eq-eqb, get_or-set_same, get_or-set_other, length-set, bit_and, bit_or, ◌==◌, count_ones},
+  lemmas.Nat.{div-mul-add, mod-mul-add, mul-add-lt, and_shr, Bits.{bit_at_and, bit_at_or, bit_at_lowest, bit_at-suc, bit_at-zero, bit_at_above, bit_at_cat_low, bit_at-lt}},
+  lemmas.Bool.cases_lt,
+  lemmas.Grind.common_steps,
+}
+use Rattle.std.specs.Int.{bit_at, Count.ones_step}
+use Rattle.scan_core.{
+  specs.declared.{masks.Kind.TheVariants.{Takes, Counts}, node.Node.Node},
+  specs.Code.{At, weight_of},
+  specs.inner.{Words.{AreTakes, IsMask, counted_at, width, IsIn, bits, flags_of}, Sets.Passes, Each.AreEach},
+  specs.Sets.{IsMarked, weight_if, positions_among},
+  proofs.{Enterings.{pass_least, weight_most}, Insides.{left_bit, right_bit, either_bit, is_in_word, is_within}},
+}
 
 -- The words of the numbers of a kind.
 

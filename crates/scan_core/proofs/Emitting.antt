@@ -1,12 +1,10 @@
 -- An item that stands last, written out as often as a duplication asks for.
-use Rattle.std.proofs.Common.{rules, ◌≡◌, ℕ, zero, suc, ◌+◌, ◌≤◌, List, ◌++◌, length, reverse, refl, sym, ap, ◌∙◌, arith, append_assoc, append-nil, ◌-◌, ◌<◌, [], ◌∷◌, set, length-append}
-use Rattle.std.proofs.lemmas.List.{reverse-append, length-reverse}
-use Rattle.scan_core.specs.declared.node.Node.{Node}
-use Rattle.scan_core.specs.Code.{copies, up_to, starred}
-use Rattle.scan_core.specs.inner.Backwards.{stretch}
-use Rattle.std.proofs.lemmas.Grind.{common_steps}
-use Rattle.std.proofs.Math.Seq.{set-append_seam}
-use Rattle.scan_core.specs.declared.node.Node.TheVariants.{Choose, Back}
+use Rattle.std.proofs.{
+  Common.{rules, ◌≡◌, ℕ, zero, suc, ◌+◌, ◌≤◌, List, ◌++◌, length, reverse, refl, sym, ap, ◌∙◌, arith, append_assoc, append-nil, ◌-◌, ◌<◌, [], ◌∷◌, set, length-append},
+  lemmas.{List.{reverse-append, length-reverse}, Grind.common_steps},
+  Math.Seq.set-append_seam,
+}
+use Rattle.scan_core.specs.{declared.node.Node.{Node, TheVariants.{Choose, Back}}, Code.{copies, up_to, starred}, inner.Backwards.stretch}
 
 -- Stretches of nodes, and their copies.
 

@@ -1,18 +1,15 @@
 -- The nodes at the numbers of a code, and what they lead to.
-use Rattle.std.proofs.Common.{rules, ◌≡◌, ◌⊎◌, inl, inr, ℕ, zero, suc, ◌+◌, ◌<◌, ◌≤◌, Bool, true, false, IsTrue, List, [], ◌∷◌, length, get_or, refl, sym, ◌∙◌, arith, ◌-◌, ◌++◌}
-use Rattle.std.proofs.lemmas.Bool.{false≢true}
-use Rattle.bre_core.specs.Match.{Parts}
-use Rattle.scan_core.specs.declared.node.Node.{Node}
-use Rattle.scan_core.specs.Code.{At, weight_of, weight}
-use Rattle.scan_core.specs.Sets.{weight_if, positions_among}
-use Rattle.scan_core.specs.inner.Sets.{LeadsOn, Flows, IsCode, Passes}
-use Rattle.bre_core.specs.ByteSet.{has}
-use Rattle.scan_core.specs.declared.node.Node.TheVariants.{Take, First, Last, Choose, Back}
-use Rattle.scan_core.specs.declared.way.Way.{Way}
-use Rattle.scan_core.specs.declared.way.When.TheVariants.{Never, AtFront, AtEnd, Always}
-use Rattle.scan_core.specs.inner.Ways.{IsWay}
-use Rattle.std.proofs.lemmas.Grind.{common_steps}
-use Rattle.scan_core.specs.inner.Each.{AreEach}
+use Rattle.std.proofs.{
+  Common.{rules, ◌≡◌, ◌⊎◌, inl, inr, ℕ, zero, suc, ◌+◌, ◌<◌, ◌≤◌, Bool, true, false, IsTrue, List, [], ◌∷◌, length, get_or, refl, sym, ◌∙◌, arith, ◌-◌, ◌++◌},
+  lemmas.{Bool.false≢true, Grind.common_steps},
+}
+use Rattle.bre_core.specs.{Match.Parts, ByteSet.has}
+use Rattle.scan_core.specs.{
+  declared.{node.Node.{Node, TheVariants.{Take, First, Last, Choose, Back}}, way.{Way.Way, When.TheVariants.{Never, AtFront, AtEnd, Always}}},
+  Code.{At, weight_of, weight},
+  Sets.{weight_if, positions_among},
+  inner.{Sets.{LeadsOn, Flows, IsCode, Passes}, Ways.IsWay, Each.AreEach},
+}
 
 pub weight_most : (node : Node) → weight_of node ≤ 1
 weight_most (Take bytes) = omega arith

@@ -1,22 +1,20 @@
 -- Bits of words, and sets that grow by a number.
 use Rattle.std.proofs.Common.{rules, ◌≡◌, ◌⊎◌, ◌↔◌, inl, inr, ℕ, zero, suc, ◌*◌, ◌/◌, ◌%◌, ◌^◌, ◌<◌, ◌≤◌, true, false, IsTrue, not, List, [], ◌∷◌, length, get_or, set, eqb, refl, sym, ap, ◌∙◌, subst, arith, eq-eqb, eqb-true, w64, min, ◌+◌, Bool, ◌-◌, max, bit_and, bit_or}
-use Rattle.std.proofs.lemmas.Bool.{cases_eq, false≢true, cases_lt}
-use Rattle.std.specs.Int.Bits.{or_zero_r, or_zero_l}
+use Rattle.std.proofs.lemmas.{
+  Bool.{cases_eq, false≢true, cases_lt},
+  List.{get_or-set_same, get_or-set_other, length-set, set-get_or},
+  Nat.{le_or_l, or_lt, and_le_l},
+  Nat.Bits.{shr_and_one, bit_at_set_same, bit_at_set_other, and_high, bit_at_and, bit_at_or, bit_at_not, bit_at-lt, bit_at-zero, bit_at_mask_inside, bit_at_ones, bit_at_above, bit_at_cat_low, bit_at_cat_high},
+  Grind.common_steps,
+}
+use Rattle.std.specs.Int.{bit_at, bit_not, Bits.{or_zero_r, or_zero_l}}
 use mir.Val.{bool_byte}
-use Rattle.std.proofs.lemmas.List.{get_or-set_same, get_or-set_other, length-set, set-get_or}
-use Rattle.std.proofs.lemmas.Nat.{le_or_l, or_lt, and_le_l}
-use Rattle.std.proofs.lemmas.Nat.Bits.{shr_and_one, bit_at_set_same, bit_at_set_other, and_high, bit_at_and, bit_at_or, bit_at_not, bit_at-lt, bit_at-zero, bit_at_mask_inside, bit_at_ones, bit_at_above, bit_at_cat_low, bit_at_cat_high}
-use Rattle.std.specs.Int.{bit_at, bit_not}
-use Rattle.scan_core.specs.inner.Sets.{Flows, FlowsOn}
-use Rattle.scan_core.specs.declared.node.Node.{Node}
-use Rattle.scan_core.specs.inner.Words.{GoesOn, IsIn, unset, Grows, Adds, SpreadsOut, width}
-use Rattle.scan_core.specs.declared.way.Way.{Way}
-use Rattle.scan_core.specs.inner.Ways.{IsWay, Opens}
+use Rattle.scan_core.{
+  specs.inner.{Sets.{Flows, FlowsOn}, Words.{GoesOn, IsIn, unset, Grows, Adds, SpreadsOut, width}, Ways.{IsWay, Opens}, Each.AreEach, Closures.{Closes, IsInside, chosen_at}},
+  specs.declared.{node.Node.Node, way.Way.Way},
+  proofs.Enterings.{at_least, parts_anywhere},
+}
 use Rattle.bre_core.specs.Match.{Parts}
-use Rattle.scan_core.proofs.Enterings.{at_least, parts_anywhere}
-use Rattle.std.proofs.lemmas.Grind.{common_steps}
-use Rattle.scan_core.specs.inner.Each.{AreEach}
-use Rattle.scan_core.specs.inner.Closures.{Closes, IsInside, chosen_at}
 
 pub has_tests : (words : List ℕ) (number : ℕ)
     → (eqb (bit_and (get_or words (number / 64) 0 / 2 ^ (number % 64)) 1) 1 ≡ true) ↔ IsIn words number

@@ -1,25 +1,19 @@
 -- What each line with a match has, and where a text lacks it.
-use Rattle.std.proofs.Common.{rules, ◌≡◌, inl, inr, ℕ, zero, suc, ◌+◌, ◌-◌, ◌<◌, ◌≤◌, Bool, true, false, IsTrue, List, [], ◌∷◌, ◌++◌, length, slice_index, refl, sym, ap, ◌∙◌, arith, length-append}
-use Rattle.std.proofs.lemmas.Bool.{cases_eq}
-use Rattle.std.proofs.lemmas.List.{get_or_append_left}
-use Rattle.std.proofs.Math.Seq.{get_or-append_seam}
+use Rattle.std.proofs.{
+  Common.{rules, ◌≡◌, inl, inr, ℕ, zero, suc, ◌+◌, ◌-◌, ◌<◌, ◌≤◌, Bool, true, false, IsTrue, List, [], ◌∷◌, ◌++◌, length, slice_index, refl, sym, ap, ◌∙◌, arith, length-append},
+  lemmas.{Bool.cases_eq, List.get_or_append_left, Grind.common_steps},
+  Math.Seq.get_or-append_seam,
+}
 use Rattle.memchr.specs.Find.{Nowhere, Passes, OccursAt}
-use Rattle.bre_core.specs.ByteSet.{has}
-use Rattle.bre_core.specs.Pattern.{Pattern}
-use Rattle.bre_core.specs.Search.{contains}
-use Rattle.bre_core.proofs.Searching.{contains_tells}
-use Rattle.scan_core.specs.declared.few_bytes.FewBytes.{FewBytes}
-use Rattle.scan_core.specs.declared.needle.Needle.{Needle}
-use Rattle.scan_core.specs.declared.needle.Needle.TheVariants.{Byte, Text}
-use Rattle.scan_core.specs.declared.node.Node.{Node}
-use Rattle.scan_core.specs.declared.node.Node.TheVariants.{Take, First, Last, Choose, Back}
-use Rattle.scan_core.specs.Clear.{IsClear}
-use Rattle.scan_core.specs.Code.{At, Leads, Walks, code_of, IsOrdered}
-use Rattle.scan_core.specs.Counted.{EndsIn}
-use Rattle.scan_core.specs.inner.Needles.{is_among, AreBytes, IsNeedle, LacksBefore, IsPassed, TakesOnly, IsLiteral}
-use Rattle.scan_core.proofs.Codes.{contained, at_at}
-use Rattle.scan_core.proofs.Enterings.{at_once, at_least}
-use Rattle.std.proofs.lemmas.Grind.{common_steps}
+use Rattle.bre_core.{specs.{ByteSet.has, Pattern.Pattern, Search.contains}, proofs.Searching.contains_tells}
+use Rattle.scan_core.specs.{
+  declared.{few_bytes.FewBytes.FewBytes, needle.Needle.{Needle, TheVariants.{Byte, Text}}, node.Node.{Node, TheVariants.{Take, First, Last, Choose, Back}}},
+  Clear.IsClear,
+  Code.{At, Leads, Walks, code_of, IsOrdered},
+  Counted.EndsIn,
+  inner.Needles.{is_among, AreBytes, IsNeedle, LacksBefore, IsPassed, TakesOnly, IsLiteral},
+}
+use Rattle.scan_core.proofs.{Codes.{contained, at_at}, Enterings.{at_once, at_least}}
 
 -- Each walk to the end comes by a node beyond which no choice leads.
 

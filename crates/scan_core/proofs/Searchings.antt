@@ -1,27 +1,28 @@
 -- A search by sets of words, place by place.
-use Rattle.std.proofs.Common.{◌≡◌, ◌⊎◌, ◌↔◌, inl, inr, ℕ, suc, ◌+◌, ◌*◌, ◌<◌, ◌≤◌, Bool, true, false, IsTrue, List, length, slice_index, refl, sym, ◌∙◌, subst, arith, rules, ◌/◌, ◌%◌, [], ◌∷◌, ◌++◌, length-append, get_or, ap, mul-le-mul}
-use Rattle.std.proofs.lemmas.Bool.{false≢true, cases_eq}
-use Rattle.scan_core.specs.declared.node.Node.{Node}
-use Rattle.scan_core.specs.inner.Closures.{IsBase}
-use Rattle.scan_core.specs.Code.{Entered, weight, At}
-use Rattle.scan_core.specs.Sets.{IsMarked, positions_among}
-use Rattle.scan_core.specs.inner.Sets.{FlowsOn, Passes, Came}
-use Rattle.scan_core.specs.Table.{IsOutcome}
-use Rattle.scan_core.specs.inner.Table.{IsCounted, Next, InSets, entry, Tells, IsState, no_state, IsTable}
-use Rattle.scan_core.specs.inner.Words.{IsIn, width, flags_of, SpreadsOut}
-use Rattle.scan_core.proofs.Shiftings.{IsPlace, reaches_exact, came_exact, counted_more, counted_found, counted_ends, steps_more, steps_wider}
-use Rattle.scan_core.proofs.Countings.{flags_are, flags_length}
-use Rattle.scan_core.proofs.Enterings.{positions_most, parts_anywhere, weight_length, each_more, each_to, each_by, at_index, at_once, at_least}
-use Rattle.scan_core.proofs.Insides.{flows_join}
-use Rattle.std.proofs.lemmas.List.{get_or_append_left, get_or_default}
+use Rattle.std.proofs.{
+  Common.{◌≡◌, ◌⊎◌, ◌↔◌, inl, inr, ℕ, suc, ◌+◌, ◌*◌, ◌<◌, ◌≤◌, Bool, true, false, IsTrue, List, length, slice_index, refl, sym, ◌∙◌, subst, arith, rules, ◌/◌, ◌%◌, [], ◌∷◌, ◌++◌, length-append, get_or, ap, mul-le-mul},
+  lemmas.{Bool.{false≢true, cases_eq}, List.{get_or_append_left, get_or_default}},
+}
+use Rattle.scan_core.specs.{
+  declared.{node.Node.{Node, TheVariants.Take}, build.Building.Building, table.{State.State, Table.Table}},
+  inner.Closures.IsBase,
+  inner.Sets.{FlowsOn, Passes, Came},
+  inner.Table.{IsCounted, Next, InSets, entry, Tells, IsState, no_state, IsTable},
+  inner.Words.{IsIn, width, flags_of, SpreadsOut},
+  inner.Built.{AreAlike, Built, IsBuilding, IsOpen, LeadsTo, Led},
+  inner.Each.AreEach,
+  Code.{Entered, weight, At},
+  Sets.{IsMarked, positions_among},
+  Table.IsOutcome,
+  Counted.set_at,
+}
+use Rattle.scan_core.proofs.{
+  Shiftings.{IsPlace, reaches_exact, came_exact, counted_more, counted_found, counted_ends, steps_more, steps_wider},
+  Countings.{flags_are, flags_length},
+  Enterings.{positions_most, parts_anywhere, weight_length, each_more, each_to, each_by, at_index, at_once, at_least},
+  Insides.flows_join,
+}
 use Rattle.bre_core.specs.ByteSet.{has}
-use Rattle.scan_core.specs.declared.build.Building.{Building}
-use Rattle.scan_core.specs.declared.node.Node.TheVariants.{Take}
-use Rattle.scan_core.specs.declared.table.State.{State}
-use Rattle.scan_core.specs.declared.table.Table.{Table}
-use Rattle.scan_core.specs.inner.Built.{AreAlike, Built, IsBuilding, IsOpen, LeadsTo, Led}
-use Rattle.scan_core.specs.inner.Each.{AreEach}
-use Rattle.scan_core.specs.Counted.{set_at}
 
 -- the line was searched up to a place, and no match has ended
 pub record Searched (code : List Node) (line : List ℕ) (place : ℕ) (words : List ℕ) (steps : ℕ) : Type 0 where

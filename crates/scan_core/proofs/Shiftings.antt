@@ -1,26 +1,22 @@
 -- A table of few states as words.
-use Rattle.std.proofs.Common.{rules, ◌≡◌, ◌⊎◌, ◌↔◌, inl, inr, ℕ, zero, suc, ◌+◌, ◌*◌, ◌<◌, ◌≤◌, Bool, true, false, IsTrue, List, [], ◌∷◌, ◌++◌, length, slice_index, refl, sym, subst, arith, length-append, ◌-◌, get_or, ap, ◌∙◌, ◌/◌, ◌%◌, ◌^◌, ◌==◌}
-use Rattle.std.proofs.lemmas.Bool.{cases_eq, ne_eqb, cases_lt}
-use Rattle.bre_core.specs.ByteSet.{has}
-use Rattle.bre_core.specs.Match.{Parts}
-use Rattle.scan_core.specs.declared.node.Node.{Node}
-use Rattle.scan_core.specs.declared.node.Node.TheVariants.{Take, First, Last, Choose, Back}
-use Rattle.std.proofs.lemmas.List.{get_or_push, get_or_append_left, get_or_default}
-use Rattle.scan_core.specs.Sets.{positions_among, IsMarked}
-use Rattle.scan_core.specs.Counted.{positions_in_all, AreSteps, set_at, HasStepsBefore}
-use Rattle.scan_core.specs.Code.{Leads, Goes, Walks, Entered, weight}
-use Rattle.scan_core.specs.Table.{IsOutcome}
-use Rattle.scan_core.specs.inner.Table.{IsCounted, Next, Inner, InSets, entry, IsState, no_state, IsTableOf, Walked, IsTable}
-use Rattle.scan_core.specs.inner.Sets.{LeadsOn, Flows, Passes, Came, Reaches, FlowsOn}
-use Rattle.scan_core.proofs.Enterings.{positions_most, weight_length, parts_anywhere}
-use Rattle.scan_core.proofs.Codes.{path_on, parts_join}
-use Rattle.scan_core.specs.declared.table.Table.{Table}
-use Rattle.scan_core.specs.declared.table.State.{State}
-use Rattle.std.proofs.Math.Nat.{mul-le-mul, mul-suc, pow-le-pow_right}
-use Rattle.std.proofs.lemmas.Nat.{pow-add, shr-shr, shr_high}
-use Rattle.scan_core.specs.declared.shift_table.ShiftTable.{ShiftTable}
-use Rattle.scan_core.specs.inner.Shifts.{AreLight, IsAt, IsComplete, IsOffset, IsShiftTable, IsShifted, IsStateAt, IsWeight, IsWord, six_bits}
-use Rattle.scan_core.specs.inner.Each.{AreEach}
+use Rattle.std.proofs.{
+  Common.{rules, ◌≡◌, ◌⊎◌, ◌↔◌, inl, inr, ℕ, zero, suc, ◌+◌, ◌*◌, ◌<◌, ◌≤◌, Bool, true, false, IsTrue, List, [], ◌∷◌, ◌++◌, length, slice_index, refl, sym, subst, arith, length-append, ◌-◌, get_or, ap, ◌∙◌, ◌/◌, ◌%◌, ◌^◌, ◌==◌},
+  lemmas.{Bool.{cases_eq, ne_eqb, cases_lt}, List.{get_or_push, get_or_append_left, get_or_default}, Nat.{pow-add, shr-shr, shr_high}},
+  Math.Nat.{mul-le-mul, mul-suc, pow-le-pow_right},
+}
+use Rattle.bre_core.specs.{ByteSet.has, Match.Parts}
+use Rattle.scan_core.specs.{
+  declared.{node.Node.{Node, TheVariants.{Take, First, Last, Choose, Back}}, table.{Table.Table, State.State}, shift_table.ShiftTable.ShiftTable},
+  Sets.{positions_among, IsMarked},
+  Counted.{positions_in_all, AreSteps, set_at, HasStepsBefore},
+  Code.{Leads, Goes, Walks, Entered, weight},
+  Table.IsOutcome,
+  inner.Table.{IsCounted, Next, Inner, InSets, entry, IsState, no_state, IsTableOf, Walked, IsTable},
+  inner.Sets.{LeadsOn, Flows, Passes, Came, Reaches, FlowsOn},
+  inner.Shifts.{AreLight, IsAt, IsComplete, IsOffset, IsShiftTable, IsShifted, IsStateAt, IsWeight, IsWord, six_bits},
+  inner.Each.AreEach,
+}
+use Rattle.scan_core.proofs.{Enterings.{positions_most, weight_length, parts_anywhere}, Codes.{path_on, parts_join}}
 
 -- The sets of entered nodes along a line, place by place.
 

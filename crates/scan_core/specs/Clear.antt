@@ -1,7 +1,6 @@
 -- What is seen of a text without matching its lines.
 use Rattle.std.specs.Prelude.{◌≡◌, ℕ, ◌+◌, ◌<◌, false, List, ◌++◌, length}
-use Rattle.bre_core.specs.Pattern.{Pattern}
-use Rattle.bre_core.specs.Search.{contains}
+use Rattle.bre_core.specs.{Pattern.Pattern, Search.contains}
 
 -- no stretch of the text that ends before this place, such as a line, contains a match
 abbrev pub IsClear : Pattern → List ℕ → ℕ → Type 0

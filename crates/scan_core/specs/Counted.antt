@@ -1,9 +1,7 @@
 -- How many steps a search takes that goes to the end of the line: one for each position at each place where it can be
 -- entered.
 use Rattle.std.specs.Prelude.{◌≡◌, ◌↔◌, ℕ, ◌+◌, ◌<◌, ◌≤◌, Bool, List, [], ◌∷◌, length, slice_index_or}
-use Rattle.scan_core.specs.declared.node.Node.{Node}
-use Rattle.scan_core.specs.Code.{Entered}
-use Rattle.scan_core.specs.Sets.{IsMarked, positions_among}
+use Rattle.scan_core.specs.{declared.node.Node.Node, Code.Entered, Sets.{IsMarked, positions_among}}
 
 -- the flags of one place
 abbrev pub set_at : List (List Bool) → ℕ → List Bool

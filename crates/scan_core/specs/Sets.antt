@@ -1,7 +1,6 @@
 -- Sets of nodes: which are entered at a place of a line.
 use Rattle.std.specs.Prelude.{ℕ, ◌+◌, Bool, true, false, IsTrue, List, [], ◌∷◌, slice_index_or}
-use Rattle.scan_core.specs.declared.node.Node.{Node}
-use Rattle.scan_core.specs.Code.{weight_of}
+use Rattle.scan_core.specs.{declared.node.Node.Node, Code.weight_of}
 
 abbrev pub IsMarked : List Bool → ℕ → Type 0
 IsMarked marks number = IsTrue (slice_index_or marks number false)

@@ -1,13 +1,8 @@
 //! Patterns that are ready for matching.
 
 ghost use Rattle.std.specs.Prelude.{◌≡◌, ◌<◌, ◌≤◌, ◌+◌, ◌*◌, ◌/◌, IfOk, IfErr, IfSome, IsErrOf, length};
-ghost use Rattle.bre_core.specs.Pattern.{Pattern, Reads, positions_of, depth_of};
-ghost use Rattle.bre_core.specs.Refusal.{IsOfText, IsTooLarge};
-ghost use Rattle.bre_core.specs.Search.{contains};
-ghost use Rattle.bre_core.specs.declared.fault.BreFault.TheVariants.{Memory, TooLarge};
-ghost use Rattle.scan_core.specs.Clear.{IsClear};
-ghost use Rattle.scan_core.specs.Code.{code_of, IsOrdered};
-ghost use Rattle.scan_core.specs.Table.{IsOutcome};
+ghost use Rattle.bre_core.specs.{Pattern.{Pattern, Reads, positions_of, depth_of}, Refusal.{IsOfText, IsTooLarge}, declared.fault.BreFault.TheVariants.TooLarge};
+ghost use Rattle.scan_core.specs.{Clear.IsClear, Code.{code_of, IsOrdered}, Table.IsOutcome};
 
 use crate::build::build;
 use crate::closures::{Closures, closures_of};
@@ -40,14 +35,8 @@ pub struct Bre {
 
 impl Model for Bre {
     ghost use Rattle.std.specs.Prelude.{◌≡◌, ◌≤◌, IfSome};
-    ghost use Rattle.bre_core.specs.Code.{pattern_code};
-    ghost use Rattle.bre_core.specs.Pattern.{Pattern, positions_of};
-    ghost use Rattle.scan_core.specs.Code.{code_of, IsOrdered};
-    ghost use Rattle.scan_core.specs.inner.Table.{IsTable};
-    ghost use Rattle.scan_core.specs.inner.Shifts.{IsShiftTable};
-    ghost use Rattle.scan_core.specs.inner.Closures.{AreClosures};
-    ghost use Rattle.scan_core.specs.inner.Needles.{IsNeedle};
-    ghost use Rattle.scan_core.specs.inner.Words.{IsMasks};
+    ghost use Rattle.bre_core.specs.{Code.pattern_code, Pattern.{Pattern, positions_of}};
+    ghost use Rattle.scan_core.specs.{Code.{code_of, IsOrdered}, inner.{Table.IsTable, Shifts.IsShiftTable, Closures.AreClosures, Needles.IsNeedle, Words.IsMasks}};
 
     ghost Value = { Pattern };
 

@@ -1,15 +1,11 @@
 //! Building a pattern's table ahead: set by set and byte by byte, as far as there is room.
 
 ghost use Rattle.std.specs.Prelude.{◌≡◌, ◌↔◌, ◌<◌, ◌≤◌, ◌+◌, ◌*◌, ◌/◌, ◌%◌, ℕ, List, Bool, IsTrue, IsFalse, IfOk, IfErr, IfSome, [], length, slice_index_or};
-ghost use Rattle.bre_core.specs.declared.fault.BreFault.TheVariants.{Memory};
-ghost use Rattle.bre_core.specs.ByteSet.{has};
-ghost use Rattle.scan_core.specs.declared.node.Node.TheVariants.{Take};
-ghost use Rattle.scan_core.specs.inner.Built.{AreAlike, IsBuilding, IsOpen, LeadsTo, Led};
-ghost use Rattle.scan_core.specs.inner.Closures.{AreClosures};
-ghost use Rattle.scan_core.specs.inner.Each.{AreEach};
-ghost use Rattle.scan_core.specs.inner.Sets.{IsCode};
-ghost use Rattle.scan_core.specs.inner.Table.{Next, entry, no_state, IsState, IsTable};
-ghost use Rattle.scan_core.specs.inner.Words.{IsIn, IsMasks, flags_of, width};
+ghost use Rattle.bre_core.specs.{declared.fault.BreFault.TheVariants.Memory, ByteSet.has};
+ghost use Rattle.scan_core.specs.{
+  declared.node.Node.TheVariants.Take,
+  inner.{Built.{AreAlike, IsBuilding, IsOpen, LeadsTo, Led}, Closures.AreClosures, Each.AreEach, Sets.IsCode, Table.{Next, entry, no_state, IsState, IsTable}, Words.{IsIn, IsMasks, flags_of, width}},
+};
 
 use crate::closing::spread;
 use crate::closures::Closures;

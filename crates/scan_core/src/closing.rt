@@ -1,12 +1,14 @@
 //! Entering all that follows without a byte, as it was made ready: each word is closed by itself, and then the hops are
 //! followed.
 
-ghost use Rattle.std.specs.Prelude.{◌≡◌, ◌<◌, ◌+◌, ◌*◌, ℕ, false, IsFalse, IsTrue, length};
-ghost use Rattle.scan_core.specs.inner.Closing.{Follows, HasLanded, IsApart, Passes};
-ghost use Rattle.scan_core.specs.inner.Closures.{AreClosures, IsPlain};
-ghost use Rattle.scan_core.specs.inner.Hops.{AreLandings, IsHop};
-ghost use Rattle.scan_core.specs.inner.Sets.{IsCode, Flows};
-ghost use Rattle.scan_core.specs.inner.Words.{Adds, IsIn, SpreadsOut, width};
+ghost use Rattle.std.specs.Prelude.{◌≡◌, ℕ, false, IsFalse, IsTrue, length};
+ghost use Rattle.scan_core.specs.inner.{
+  Closing.{Follows, HasLanded, IsApart, Passes},
+  Closures.{AreClosures, IsPlain},
+  Hops.{AreLandings, IsHop},
+  Sets.{IsCode, Flows},
+  Words.{Adds, IsIn, SpreadsOut, width},
+};
 
 use crate::closures::{Closures, looked_up};
 use crate::hops::Hop;

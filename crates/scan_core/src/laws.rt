@@ -1,8 +1,7 @@
 //! Laws of the definitions: what a pattern's code has to do with the pattern.
 
 ghost use Rattle.std.specs.Prelude.{◌≡◌, ◌↔◌, ◌+◌, ◌≤◌, ℕ, List, length};
-ghost use Rattle.bre_core.specs.Match.{Contains};
-ghost use Rattle.bre_core.specs.Pattern.{Pattern, positions_of};
+ghost use Rattle.bre_core.specs.{Match.Contains, Pattern.{Pattern, positions_of}};
 ghost use Rattle.scan_core.specs.Code.{code_of, IsOrdered, Entered, weight};
 
 /// A line contains a match exactly where the code's end is entered at some place of it.

@@ -1,13 +1,9 @@
 //! Matching lines against a pattern.
 
 ghost use Rattle.std.specs.Prelude.{◌≡◌, ◌<◌, ◌≤◌, ◌+◌, ◌-◌, ◌*◌, IsFalse, IsTrue, IfOk, IfErr, length};
-ghost use Rattle.bre_core.specs.Pattern.{positions_of};
-ghost use Rattle.bre_core.specs.Search.{contains};
-ghost use Rattle.bre_core.specs.declared.fault.BreFault.TheVariants.{Memory};
+ghost use Rattle.bre_core.specs.{Pattern.positions_of, Search.contains, declared.fault.BreFault.TheVariants.Memory};
 ghost use Rattle.memchr.specs.Find.{Passes, is_byte};
-ghost use Rattle.scan_core.specs.Clear.{IsClear};
-ghost use Rattle.scan_core.specs.Code.{code_of};
-ghost use Rattle.scan_core.specs.Counted.{HasStepsBefore, IsStepCount};
+ghost use Rattle.scan_core.specs.{Clear.IsClear, Code.code_of, Counted.{HasStepsBefore, IsStepCount}};
 
 use crate::bre::Bre;
 use crate::walk::Outcome;

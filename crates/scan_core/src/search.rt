@@ -1,10 +1,7 @@
 //! Searching a line place by place, with the set of what is entered at each.
 
 ghost use Rattle.std.specs.Prelude.{◌≡◌, length};
-ghost use Rattle.scan_core.specs.inner.Closures.{AreClosures};
-ghost use Rattle.scan_core.specs.inner.Sets.{IsCode};
-ghost use Rattle.scan_core.specs.Table.{IsOutcome};
-ghost use Rattle.scan_core.specs.inner.Words.{IsMasks, width};
+ghost use Rattle.scan_core.specs.{inner.{Closures.AreClosures, Sets.IsCode, Words.{IsMasks, width}}, Table.IsOutcome};
 
 use crate::closing::spread;
 use crate::closures::Closures;

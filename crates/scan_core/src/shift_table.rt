@@ -1,9 +1,8 @@
 //! Tables of few states as words: what a byte leads to from each state is read by one shift.
 
-ghost use Rattle.std.specs.Prelude.{◌≡◌, ◌<◌, ◌≤◌, ◌*◌, ◌%◌, ℕ, IsTrue, IfOk, IfErr, IfSome, length};
+ghost use Rattle.std.specs.Prelude.{◌≡◌, ◌<◌, ◌≤◌, ◌*◌, ◌%◌, IsTrue, IfOk, IfErr, IfSome, length};
 ghost use Rattle.bre_core.specs.declared.fault.BreFault.TheVariants.{Memory};
-ghost use Rattle.scan_core.specs.inner.Shifts.{AreLight, IsComplete, IsOffset, IsShiftTable, IsWeight, IsWord};
-ghost use Rattle.scan_core.specs.inner.Table.{IsTable};
+ghost use Rattle.scan_core.specs.inner.{Shifts.{AreLight, IsComplete, IsOffset, IsShiftTable, IsWeight, IsWord}, Table.IsTable};
 
 use crate::node::Node;
 use crate::table::{State, Table, UNKNOWN};

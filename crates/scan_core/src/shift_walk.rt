@@ -1,8 +1,7 @@
 //! Walking along a line with a table of words: no read waits for the one before it, and no branch depends on a byte.
 
-ghost use Rattle.std.specs.Prelude.{◌≡◌, ◌<◌, ◌≤◌, ◌+◌, ◌*◌, ℕ, length};
-ghost use Rattle.scan_core.specs.inner.Shifts.{IsAt, IsShiftTable, IsSized};
-ghost use Rattle.scan_core.specs.Table.{IsOutcome};
+ghost use Rattle.std.specs.Prelude.{◌<◌, ◌≤◌, ◌+◌, ℕ, length};
+ghost use Rattle.scan_core.specs.{inner.Shifts.{IsAt, IsShiftTable, IsSized}, Table.IsOutcome};
 
 use crate::node::Node;
 use crate::shift_table::ShiftTable;

@@ -1,8 +1,7 @@
 //! Walking along a line with a pattern's table, one look for each byte.
 
 ghost use Rattle.std.specs.Prelude.{◌≡◌, ◌<◌, ◌≤◌, ◌+◌, ◌*◌, ℕ, IfSome, length, slice_index, slice_index_or};
-ghost use Rattle.scan_core.specs.inner.Table.{IsTable};
-ghost use Rattle.scan_core.specs.Table.{IsOutcome};
+ghost use Rattle.scan_core.specs.{inner.Table.IsTable, Table.IsOutcome};
 
 use crate::node::Node;
 use crate::table::{STOP, Table, UNKNOWN};

@@ -1,8 +1,7 @@
 //! Where the numbers of a code lead without a byte.
 
 ghost use Rattle.std.specs.Prelude.{IsTrue, ◌↔◌};
-ghost use Rattle.scan_core.specs.inner.Sets.{IsCode};
-ghost use Rattle.scan_core.specs.inner.Ways.{IsWay, Opens};
+ghost use Rattle.scan_core.specs.inner.{Sets.IsCode, Ways.{IsWay, Opens}};
 
 use crate::node::Node;
 

@@ -1,11 +1,11 @@
 //! Sets of a code's numbers as words: a step of the whole set takes a few operations for 64 numbers.
 
-ghost use Rattle.std.specs.Prelude.{◌≡◌, ◌⊎◌, ◌↔◌, ◌<◌, ◌+◌, ◌*◌, ℕ, IsTrue, length};
-ghost use Rattle.scan_core.specs.declared.masks.Kind.TheVariants.{Counts};
-ghost use Rattle.scan_core.specs.inner.Each.{AreEach};
-ghost use Rattle.scan_core.specs.inner.Sets.{IsCode, Flows, Passes};
-ghost use Rattle.scan_core.specs.Sets.{positions_among};
-ghost use Rattle.scan_core.specs.inner.Words.{AreTakes, Grows, IsIn, IsMask, flags_of, width};
+ghost use Rattle.std.specs.Prelude.{◌≡◌, ◌⊎◌, ◌↔◌, ◌<◌, ◌*◌, ℕ, IsTrue, length};
+ghost use Rattle.scan_core.specs.{
+  declared.masks.Kind.TheVariants.Counts,
+  inner.{Each.AreEach, Sets.{IsCode, Flows, Passes}, Words.{AreTakes, Grows, IsIn, IsMask, flags_of, width}},
+  Sets.positions_among,
+};
 
 use crate::node::Node;
 use crate::way::{is_open, way_of};

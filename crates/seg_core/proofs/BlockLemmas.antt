@@ -1,15 +1,13 @@
 -- A text in blocks.
-use Rattle.std.proofs.Common.{◌≡◌, ℕ, zero, suc, ◌+◌, ◌-◌, ◌^◌, ◌<◌, ◌≤◌, List, [], ◌∷◌, ◌++◌, length, take, drop, get_or, set, refl, sym, ap, ◌∙◌, arith, append-nil, append_assoc, length-append, length-drop, drop-drop, take_at, drop_at}
-use Rattle.std.proofs.lemmas.List.Elements.{All-set, All-take, All-drop}
-use Rattle.std.proofs.Math.Seq.{drop-append-add, take-append-add}
-use Rattle.seg_core.specs.Line.{delimiters, first_lines, but_last_lines}
-use Rattle.seg_core.specs.Blocks.{BlockState, text_of, HasCount, HaveCounts, IsCounted}
-use Rattle.seg_core.specs.inner.Blocks.{count_of, Gone}
-use Rattle.seg_core.proofs.Delimiters.{delimiters-append, delimiters-take-drop}
-use Rattle.seg_core.proofs.LineCounts.{line_count-drop}
-use Rattle.seg_core.proofs.LastLines.{few_from_nothing}
-use Rattle.seg_core.proofs.FirstLines.{first_lines-append, first_lines-short}
-use Rattle.std.proofs.lemmas.Grind.{common_steps}
+use Rattle.std.proofs.{
+  Common.{◌≡◌, ℕ, zero, suc, ◌+◌, ◌-◌, ◌^◌, ◌<◌, ◌≤◌, List, [], ◌∷◌, ◌++◌, length, take, drop, get_or, set, refl, sym, ap, ◌∙◌, arith, append-nil, append_assoc, length-append, length-drop, drop-drop, take_at, drop_at},
+  lemmas.{List.Elements.{All-set, All-take, All-drop}, Grind.common_steps},
+  Math.Seq.{drop-append-add, take-append-add},
+}
+use Rattle.seg_core.{
+  specs.{Line.{delimiters, first_lines, but_last_lines}, Blocks.{BlockState, text_of, HasCount, HaveCounts, IsCounted}, inner.Blocks.{count_of, Gone}},
+  proofs.{Delimiters.{delimiters-append, delimiters-take-drop}, LineCounts.line_count-drop, LastLines.few_from_nothing, FirstLines.{first_lines-append, first_lines-short}},
+}
 
 pub text_of-append : (front back : List BlockState) → text_of (front ++ back) ≡ text_of front ++ text_of back
 text_of-append [] back = refl

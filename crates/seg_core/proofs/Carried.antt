@@ -1,12 +1,13 @@
 -- The last lines of a text that goes on: what stood before them is never needed again.
-use Rattle.std.proofs.lemmas.Grind.{common_steps}
-use Rattle.std.proofs.Common.{◌≡◌, ℕ, ◌+◌, ◌-◌, ◌≤◌, min, List, [], ◌++◌, length, drop, sym, ap, ◌∙◌, arith}
-use Rattle.std.proofs.lemmas.List.{length-append, length-drop, drop-append-le}
-use Rattle.std.proofs.Math.Seq.{drop-append-add}
-use Rattle.seg_core.specs.Line.{line_count, but_last_lines}
-use Rattle.seg_core.specs.inner.Lines.{last_lines}
-use Rattle.seg_core.proofs.FirstLines.{length-first_lines-le, after_lines-is_drop, lines_of-after_lines}
-use Rattle.seg_core.proofs.LastLines.{but_last_lines-few}
+use Rattle.std.proofs.{
+  lemmas.{Grind.common_steps, List.{length-append, length-drop, drop-append-le}},
+  Common.{◌≡◌, ℕ, ◌+◌, ◌-◌, ◌≤◌, min, List, [], ◌++◌, length, drop, sym, ap, ◌∙◌, arith},
+  Math.Seq.drop-append-add,
+}
+use Rattle.seg_core.{
+  specs.{Line.{line_count, but_last_lines}, inner.Lines.last_lines},
+  proofs.{FirstLines.{length-first_lines-le, after_lines-is_drop, lines_of-after_lines}, LastLines.but_last_lines-few},
+}
 
 -- the last n lines are n lines, or all there are
 pub line_count-last : (delim n : ℕ) (x : List ℕ) → line_count delim (last_lines delim n x) ≡ min n (line_count delim x)

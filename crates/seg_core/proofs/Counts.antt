@@ -1,15 +1,13 @@
 -- What a text writes as a count or as a number, from how its parts were read.
-use Rattle.std.proofs.lemmas.Grind.{common_steps}
-use Rattle.std.proofs.Common.{rules, ◌≡◌, ℕ, suc, ◌+◌, ◌-◌, ◌*◌, ◌^◌, ◌<◌, ◌≤◌, ◌⊎◌, min, Bool, true, false, cond, leb, ltb, ◌&&◌, List, [], ◌∷◌, Option, Ok, Err, length, take, drop, refl, ap, arith}
-use Rattle.std.specs.List.{prefix_len, list_all}
-use Rattle.std.specs.Char.{is_ascii_digit}
-use Rattle.std.proofs.lemmas.Bool.{le-leb, lt-leb, lt-ltb, and_from, and_right}
-use Rattle.std.proofs.lemmas.List.{take_rest}
-use Rattle.std.proofs.lemmas.List.Folds.{list_all_at}
-use Rattle.std.proofs.lemmas.List.Sums.{prefix_len-le-length, prefix_len_stops}
-use Rattle.seg_core.specs.declared.count.Sign.{Sign}
-use Rattle.seg_core.specs.declared.count.CountFault.TheVariants.{NoDigits, TooLarge}
-use Rattle.seg_core.specs.Count.{value_of, factor_of, greatest, sign_of, after_sign, sized, scaled, unsigned, count_of, digits_of}
+use Rattle.std.{
+  proofs.lemmas.{Grind.common_steps, Bool.{le-leb, lt-leb, lt-ltb, and_from, and_right}, List.{take_rest, Folds.list_all_at, Sums.{prefix_len-le-length, prefix_len_stops}}},
+  proofs.Common.{rules, ◌≡◌, ℕ, suc, ◌+◌, ◌-◌, ◌*◌, ◌^◌, ◌<◌, ◌≤◌, ◌⊎◌, min, Bool, true, false, cond, leb, ltb, ◌&&◌, List, [], ◌∷◌, Option, Ok, Err, length, take, drop, refl, ap, arith},
+  specs.{List.{prefix_len, list_all}, Char.is_ascii_digit},
+}
+use Rattle.seg_core.specs.{
+  declared.count.{Sign.Sign, CountFault.TheVariants.{NoDigits, TooLarge}},
+  Count.{value_of, factor_of, greatest, sign_of, after_sign, sized, scaled, unsigned, count_of, digits_of},
+}
 
 pub count_of-parts : (text : List ℕ) {sign : Sign} {rest : List ℕ} → sign ≡ sign_of text → rest ≡ after_sign text
     → count_of text ≡ unsigned sign rest

@@ -1,7 +1,8 @@
 -- How many delimiters a text has.
-use Rattle.std.proofs.lemmas.Grind.{common_steps}
-use Rattle.std.proofs.Common.{◌≡◌, ◌≢◌, ℕ, ◌+◌, ◌-◌, ◌<◌, ◌≤◌, Bool, true, false, cond, eqb, List, [], ◌∷◌, ◌++◌, length, take, drop, get_or, sym, ap, ◌∙◌, arith, take-add, eq-eqb, ne_eqb}
-use Rattle.std.proofs.lemmas.List.{take_more, take-append-drop}
+use Rattle.std.proofs.{
+  lemmas.{Grind.common_steps, List.{take_more, take-append-drop}},
+  Common.{◌≡◌, ◌≢◌, ℕ, ◌+◌, ◌-◌, ◌<◌, ◌≤◌, Bool, true, false, cond, eqb, List, [], ◌∷◌, ◌++◌, length, take, drop, get_or, sym, ap, ◌∙◌, arith, take-add, eq-eqb, ne_eqb},
+}
 use Rattle.seg_core.specs.Line.{delimiters}
 
 append_step : (is_delim : Bool) (m n : ℕ) {k : ℕ} → k ≡ m + n → cond is_delim (k + 1) k ≡ cond is_delim (m + 1) m + n

@@ -1,11 +1,12 @@
 -- The first lines of a text, and of a text that goes on.
-use Rattle.std.proofs.Common.{rules, ◌≡◌, ℕ, zero, suc, ◌+◌, ◌-◌, ◌<◌, ◌≤◌, Bool, true, false, cond, eqb, inl, List, [], ◌∷◌, ◌++◌, length, take, drop, get_or, refl, sym, ap, ◌∙◌, arith}
-use Rattle.std.proofs.lemmas.List.{take_more, take-append-drop, take_at, drop_at, take_all, length-take-le, append-nil, append_assoc, length-append}
-use Rattle.seg_core.specs.Line.{AreLines, joined, lines_of, line_count, delimiters, first_lines, after_lines, EndsAt}
-use Rattle.seg_core.proofs.Delimiters.{delimiters-take-le}
-use Rattle.seg_core.proofs.LinesOf.{joined-lines_of, lines_of-joined, AreLines-lines_of}
-use Rattle.seg_core.proofs.LineCounts.{line_count_near, line_count-le-length}
-use Rattle.std.proofs.lemmas.Grind.{common_steps}
+use Rattle.std.proofs.{
+  Common.{rules, ◌≡◌, ℕ, zero, suc, ◌+◌, ◌-◌, ◌<◌, ◌≤◌, Bool, true, false, cond, eqb, inl, List, [], ◌∷◌, ◌++◌, length, take, drop, get_or, refl, sym, ap, ◌∙◌, arith},
+  lemmas.{List.{take_more, take-append-drop, take_at, drop_at, take_all, length-take-le, append-nil, append_assoc, length-append}, Grind.common_steps},
+}
+use Rattle.seg_core.{
+  specs.Line.{AreLines, joined, lines_of, line_count, delimiters, first_lines, after_lines, EndsAt},
+  proofs.{Delimiters.delimiters-take-le, LinesOf.{joined-lines_of, lines_of-joined, AreLines-lines_of}, LineCounts.{line_count_near, line_count-le-length}},
+}
 
 pub first_lines-nil : (delim n : ℕ) → first_lines delim n [] ≡ []
 first_lines-nil delim zero = refl
@@ -24,7 +25,8 @@ append_step : (delim : ℕ) (is_delim : Bool) (n : ℕ) (x y : List ℕ)
     → first_lines delim (suc n) (x ++ y)
     ≡ first_lines delim (suc n) x ++ first_lines delim (suc n - delimiters delim x) y
     → cond is_delim (first_lines delim n (x ++ y)) (first_lines delim (suc n) (x ++ y))
-    ≡ cond is_delim (first_lines delim n x) (first_lines delim (suc n) x) ++ first_lines delim (suc n - cond is_delim (delimiters delim x + 1) (delimiters delim x)) y
+    ≡ cond is_delim (first_lines delim n x) (first_lines delim (suc n) x)
+    ++ first_lines delim (suc n - cond is_delim (delimiters delim x + 1) (delimiters delim x)) y
 append_step delim true n x y here there = search rules
 append_step delim false n x y here there = there
 

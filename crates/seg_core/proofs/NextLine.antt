@@ -1,13 +1,13 @@
 -- The first line of a text and the rest, from where the first delimiter stands.
-use Rattle.std.proofs.lemmas.Grind.{common_steps}
-use Rattle.std.proofs.Common.{◌≡◌, ℕ, zero, suc, ◌+◌, ◌<◌, ◌≤◌, Bool, true, false, cond, List, [], ◌∷◌, ◌++◌, length, take, drop, get_or, refl, sym, ap, subst, ◌∙◌, arith}
-use Rattle.std.proofs.lemmas.Bool.{eq-eqb, ne_eqb, eqb-true, false≢true}
-use Rattle.std.proofs.lemmas.List.{take_more, take-append-drop, take_all, drop_all, length-append}
+use Rattle.std.proofs.{
+  lemmas.{Grind.common_steps, Bool.{eq-eqb, ne_eqb, eqb-true, false≢true}, List.{take_more, take-append-drop, take_all, drop_all, length-append}},
+  Common.{◌≡◌, ℕ, zero, suc, ◌+◌, ◌<◌, ◌≤◌, Bool, true, false, cond, List, [], ◌∷◌, ◌++◌, length, take, drop, get_or, refl, sym, ap, subst, ◌∙◌, arith},
+}
 use Rattle.memchr.specs.Find.{Nowhere, Passes, is_byte}
-use Rattle.seg_core.specs.Line.{HasNone, lines_of, delimiters, ends_with}
-use Rattle.seg_core.proofs.Delimiters.{delimiters-append, delimiters-one_yes}
-use Rattle.seg_core.proofs.LineCounts.{ends_with-append}
-use Rattle.seg_core.proofs.LinesOf.{lines_of-complete, lines_of-open}
+use Rattle.seg_core.{
+  specs.Line.{HasNone, lines_of, delimiters, ends_with},
+  proofs.{Delimiters.{delimiters-append, delimiters-one_yes}, LineCounts.ends_with-append, LinesOf.{lines_of-complete, lines_of-open}},
+}
 
 -- what `next_line` says of a text x, its first line and the rest
 pub record IsCutFrom (delim : ℕ) (x line rest : List ℕ) : Type 0 where

@@ -1,12 +1,10 @@
 -- Counts, as options take them: an optional sign, digits, and a suffix that stands for a factor.
-use Rattle.std.specs.Prelude.{ℕ, Bool, ◌+◌, ◌-◌, ◌*◌, ◌^◌, ◌==◌, ◌&&◌, nat_lt, nat_le, List, [], ◌∷◌, Option, None, Some, Result, Ok, Err, if◌then◌else◌, length, drop, codes, bytes_eq}
-use Rattle.std.specs.List.{prefix_len, take_while, list_all}
-use Rattle.std.specs.Char.{is_ascii_digit}
-use Rattle.seg_core.specs.declared.count.Sign.{Sign}
-use Rattle.seg_core.specs.declared.count.Sign.TheVariants.{Plain, Minus, Plus}
-use Rattle.seg_core.specs.declared.count.Count.{Count}
-use Rattle.seg_core.specs.declared.count.CountFault.{CountFault}
-use Rattle.seg_core.specs.declared.count.CountFault.TheVariants.{NoDigits, Suffix, TooLarge}
+use Rattle.std.specs.{
+  Prelude.{ℕ, Bool, ◌+◌, ◌-◌, ◌*◌, ◌^◌, ◌==◌, ◌&&◌, nat_lt, nat_le, List, [], ◌∷◌, Option, None, Some, Result, Ok, Err, if◌then◌else◌, length, drop, codes, bytes_eq},
+  List.{prefix_len, take_while, list_all},
+  Char.is_ascii_digit,
+}
+use Rattle.seg_core.specs.declared.count.{Sign.{Sign, TheVariants.{Plain, Minus, Plus}}, Count.Count, CountFault.{CountFault, TheVariants.{NoDigits, Suffix, TooLarge}}}
 
 -- the number that digits write in base ten, the highest first; 48 is the digit 0
 abbrev pub value_of : List ℕ → ℕ

@@ -1,11 +1,8 @@
 -- The lines of a text. A text is a list of bytes. A line ends with a delimiter: a byte that is chosen once for the
 -- text, and that the definitions have as their first argument. POSIX's lines are those that end with the newline, byte
 -- 10.
-use Rattle.std.specs.Prelude.{◌≡◌, ◌≢◌, ℕ, ◌+◌, ◌-◌, ◌<◌, ◌≤◌, ◌==◌, Bool, true, false, List, [], ◌∷◌, ◌++◌, ◌⊎◌, if◌then◌else◌, length, take, drop}
-use Rattle.std.specs.List.{onto_first}
-use Rattle.seg_core.specs.declared.line_reach.Reach.{Reach}
-use Rattle.seg_core.specs.declared.line_reach.Reach.TheVariants.{Ends, Short}
-use Rattle.seg_core.specs.declared.line_reach.ReachBack.{ReachBack}
+use Rattle.std.specs.{Prelude.{◌≡◌, ◌≢◌, ℕ, ◌+◌, ◌-◌, ◌<◌, ◌≤◌, ◌==◌, Bool, true, false, List, [], ◌∷◌, ◌++◌, ◌⊎◌, if◌then◌else◌, length, take, drop}, List.onto_first}
+use Rattle.seg_core.specs.declared.line_reach.{Reach.{Reach, TheVariants.{Ends, Short}}, ReachBack.ReachBack}
 use Rattle.seg_core.specs.declared.line_reach.ReachBack.TheVariants as back
 
 -- the lines one after another

@@ -23,8 +23,7 @@ pub struct ByteWindow {
 }
 
 impl Model for ByteWindow {
-    ghost use Rattle.seg_core.specs.Window.{ByteWindowState};
-    ghost use Rattle.seg_core.specs.Rooms.{HasRoom};
+    ghost use Rattle.seg_core.specs.{Window.ByteWindowState, Rooms.HasRoom};
 
     ghost Value = { ByteWindowState };
 

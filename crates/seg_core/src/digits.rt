@@ -1,7 +1,5 @@
 //! Numbers that are written in digits alone.
-ghost use Rattle.std.specs.Prelude.{◌≡◌, ◌-◌, ◌^◌, min, take};
-ghost use Rattle.std.specs.List.{prefix_len};
-ghost use Rattle.std.specs.Char.{is_ascii_digit};
+ghost use Rattle.std.specs.{Prelude.{◌≡◌, ◌-◌, ◌^◌, min, take}, List.prefix_len, Char.is_ascii_digit};
 ghost use Rattle.seg_core.specs.Count.{digits_of, value_of};
 
 use crate::count::CountFault;

@@ -1,7 +1,6 @@
 //! Runs of bytes with a count of the delimiters among them: a line window is made of them.
 ghost use Rattle.std.specs.Prelude.{◌≡◌, ◌+◌, ◌-◌, ◌≤◌, ◌++◌, length, take, drop, IfOk, OnOk, OnErr};
-ghost use Rattle.seg_core.specs.Line.{delimiters};
-ghost use Rattle.seg_core.specs.Blocks.{BlockState};
+ghost use Rattle.seg_core.specs.{Line.delimiters, Blocks.BlockState};
 
 use crate::line::count_delimiters;
 use std::alloc::{AllocError, Global};

@@ -1,6 +1,5 @@
 //! The iterator over the lines of a text.
-ghost use Rattle.std.specs.Prelude.{◌≡◌};
-ghost use Rattle.std.specs.Iterator.{YieldsFirstRef, item_count};
+ghost use Rattle.std.specs.{Prelude.◌≡◌, Iterator.{YieldsFirstRef, item_count}};
 ghost use Rattle.seg_core.specs.Line.{lines_left};
 
 use crate::line::next_line;

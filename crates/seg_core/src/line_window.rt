@@ -1,7 +1,6 @@
 //! The last lines of what came in.
-ghost use Rattle.std.specs.Prelude.{◌≡◌, ℕ, ◌+◌, ◌-◌, ◌^◌, ◌<◌, ◌≤◌, ◌==◌, List, [], ◌++◌, length, take, drop, min, IsOk, IfOk, IfErr, IfSome, OnOk, None};
-ghost use Rattle.seg_core.specs.Line.{but_last_lines, delimiters, first_lines, line_count};
-ghost use Rattle.seg_core.specs.Window.{without_first};
+ghost use Rattle.std.specs.Prelude.{◌≡◌, ℕ, ◌+◌, ◌-◌, ◌<◌, ◌≤◌, ◌==◌, List, [], ◌++◌, length, take, drop, min, IsOk, IfOk, IfErr, IfSome, OnOk, None};
+ghost use Rattle.seg_core.specs.{Line.{but_last_lines, delimiters, first_lines, line_count}, Window.without_first};
 
 use crate::fault::Fault;
 use crate::line::count_delimiters;
@@ -27,8 +26,7 @@ pub struct Over {
 
 /// A window over lines: it keeps the last `most` of what came in, at most 2^63-1 bytes. All lines end
 /// with the byte that it was given when it was made. It takes as much memory as it holds bytes, in
-/// blocks of 64 KiB and those that were put in front, of which the first and the last may be used in
-/// part only. No byte moves from block to block.
+/// blocks of 64 KiB, of which the first and the last may be used in part only. No byte moves from block to block.
 #[derive(Drop)]
 pub struct LineWindow {
     alloc: Global,
@@ -40,8 +38,7 @@ pub struct LineWindow {
 }
 
 impl Model for LineWindow {
-    ghost use Rattle.seg_core.specs.Window.{Window};
-    ghost use Rattle.seg_core.specs.Blocks.{IsCounted, text_of};
+    ghost use Rattle.seg_core.specs.{Window.Window, Blocks.{IsCounted, text_of}};
 
     ghost Value = { Window };
 

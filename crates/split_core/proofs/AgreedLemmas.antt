@@ -1,37 +1,29 @@
 -- What all continuations agree on, of files.
-use Rattle.std.proofs.lemmas.Grind.{common_steps}
-use Rattle.std.proofs.lemmas.Bool.Decides.{nat_tests}
-use Rattle.std.proofs.Common.{◌≡◌, ℕ, ◌+◌, ◌-◌, ◌<◌, ◌≤◌, zero, suc, List, [], ◌∷◌, ◌++◌, get_or, length, map, drop, replicate, Bool, true, false, cond, refl, sym, ◌∙◌, ap, arith, append_assoc, length-append, zero-add, rules}
-use Rattle.std.proofs.Math.Seq.{drop-append_seam}
-use Rattle.std.proofs.lemmas.Bool.{cases_lt, ne_eqb}
-use Rattle.std.proofs.lemmas.List.{append-nil, get_or_append_left, take_all, length-map, length-replicate}
-use Rattle.seg_core.specs.Line.{delimiters, joined}
-use Rattle.ports_core.specs.Draft.{opening_line, told_of_files}
-use Rattle.ports_core.specs.Name.{Naming, has_name}
-use Rattle.ports_core.specs.Part.{Begins, File, IsBeginning, openings_for}
-use Rattle.ports_core.specs.Work.{Work}
-use Rattle.ports_core.specs.Agreed.{CanCome, IsAgreed, file_bytes, output_at, outputs_of}
-use Rattle.ports_core.specs.declared.slot.State.{State}
-use Rattle.ports_core.specs.declared.slot.State.TheVariants.{Open, Closed}
-use Rattle.ports_core.proofs.AgreedLemmas.{none_comes, copies_come, other, other_differs, other_comes, agreed_now, beginning_short, common}
-use Rattle.seg_core.specs.declared.cut.Cut.{Cut}
+use Rattle.std.proofs.{
+  lemmas.{Grind.common_steps, Bool.{cases_lt, ne_eqb, Decides.nat_tests}, List.{append-nil, get_or_append_left, take_all, length-map, length-replicate}},
+  Common.{◌≡◌, ℕ, ◌+◌, ◌-◌, ◌<◌, ◌≤◌, zero, suc, List, [], ◌∷◌, ◌++◌, get_or, length, map, drop, replicate, Bool, true, false, cond, refl, sym, ◌∙◌, ap, arith, append_assoc, length-append, zero-add, rules},
+  Math.Seq.drop-append_seam,
+}
+use Rattle.seg_core.specs.{Line.{delimiters, joined}, declared.cut.{Cut.Cut, Limit.{Limit, TheVariants.{Lines, Bytes, LineBytes}}}, Cut.{most, IsPositive}}
+use Rattle.ports_core.specs.{
+  Draft.{opening_line, told_of_files},
+  Name.{Naming, has_name},
+  Part.{Begins, File, IsBeginning, openings_for},
+  Work.Work,
+  Agreed.{CanCome, IsAgreed, file_bytes, output_at, outputs_of},
+  declared.slot.State.{State, TheVariants.{Open, Closed}},
+}
+use Rattle.ports_core.proofs.{AgreedLemmas.{none_comes, copies_come, other, other_differs, other_comes, agreed_now, beginning_short, common}, ShareLemmas.one_on}
+use Rattle.split_core.specs.{
+  Parts.{whole_lines, after_first, cut_up, unless_empty, parts, settled_rest, waiting_rest},
+  inner.CutLaws.named,
+  Split.{Filing, Plan, Share, share, are_named, output_by, settled_parts, settled_by, split_work, dealt_files, bytes_in},
+  PartsState.parts_work,
+  Round.{round_plan, round_work},
+  laws.{CutLaws.{short_some, full_from, whole_of_none, whole_some, rest_short}, ShareLaws.{cut_first, parts_on, settled_count}, WorkLaws.{parts_lawful, round_lawful}},
+}
+use Rattle.split_core.proofs.{FilesLemmas.named_before, SectionLemmas.{settled_list, settled_bytes, list_all}, CutLaws.{bytes_of_shares, lines_stay}}
 use Rattle.seg_core.specs.declared.cut.Cut.TheVariants as cut
-use Rattle.seg_core.specs.declared.cut.Limit.{Limit}
-use Rattle.seg_core.specs.declared.cut.Limit.TheVariants.{Lines, Bytes, LineBytes}
-use Rattle.seg_core.specs.Cut.{most}
-use Rattle.split_core.specs.Parts.{whole_lines, after_first, cut_up, unless_empty, parts, settled_rest, waiting_rest}
-use Rattle.split_core.specs.inner.CutLaws.{named}
-use Rattle.split_core.specs.Split.{Filing, Plan, Share, share, are_named, output_by, settled_parts, settled_by, split_work, dealt_files, bytes_in}
-use Rattle.seg_core.specs.Cut.{IsPositive}
-use Rattle.split_core.specs.PartsState.{parts_work}
-use Rattle.split_core.specs.Round.{round_plan, round_work}
-use Rattle.split_core.specs.laws.CutLaws.{short_some, full_from, whole_of_none, whole_some, rest_short}
-use Rattle.split_core.specs.laws.ShareLaws.{cut_first, parts_on, settled_count}
-use Rattle.split_core.specs.laws.WorkLaws.{parts_lawful, round_lawful}
-use Rattle.split_core.proofs.FilesLemmas.{named_before}
-use Rattle.ports_core.proofs.ShareLemmas.{one_on}
-use Rattle.split_core.proofs.SectionLemmas.{settled_list, settled_bytes, list_all}
-use Rattle.split_core.proofs.CutLaws.{bytes_of_shares, lines_stay}
 
 -- The bytes of files that have names
 
@@ -179,7 +171,9 @@ agreed_files work x few y more begin few_come come count out same = record {
 } where
   longest : (place : ℕ) → place < length (outputs_of (work.settled x))
       → (a : List ℕ) × (b : List ℕ) × CanCome a × CanCome b
-      × ((front : List ℕ) → IsBeginning front (output_at (work.whole (x ++ a)) place) → IsBeginning front (output_at (work.whole (x ++ b)) place) → length front ≤ length (output_at (work.settled x) place))
+      × ((front : List ℕ) → IsBeginning front (output_at (work.whole (x ++ a)) place)
+      → IsBeginning front (output_at (work.whole (x ++ b)) place)
+      → length front ≤ length (output_at (work.settled x) place))
   longest zero less = (few, few, few_come, few_come, λ front is also. let short = beginning_short front _ is in omega (arith, short, ap length out))
   longest (suc place) less = (
     y,

@@ -1,18 +1,19 @@
 -- Lemmas on inputs that a work can't tell apart, and on what a stage owes that was fed one in place of the other.
-use Rattle.std.proofs.Common.{◌≡◌, ℕ, ◌↔◌, ◌≤◌, ◌<◌, Bool, true, false, List, [], ◌++◌, length, take, drop, Result, Ok, Err, inl, inr, refl, sym, ◌∙◌, ap, subst, arith, append_assoc}
-use Rattle.std.proofs.lemmas.Bool.{cases_lt, false≢true}
-use Rattle.std.proofs.lemmas.List.{append-nil, length-append, nil_from_length, drop-append-le, take-append-drop, take-append-le, take_at}
-use Rattle.std.proofs.Math.Seq.{drop-append_seam}
-use Rattle.ports_core.specs.Engine.{CutsOff, EndsThere, EndsWith, Finishes, IsMet, IsMetThere, IsMetWith, Passes, PutsOut, StandsAt, TakesIn, Terms, TookIn}
-use Rattle.ports_core.specs.Part.{OutputsAt, Part}
-use Rattle.ports_core.specs.Slot.{Slot}
-use Rattle.ports_core.specs.Work.{IsLawful, IsNeeded, IsSpare, Means, Needs, Work}
-use Rattle.ports_core.specs.declared.fault.Fault.{Fault}
-use Rattle.ports_core.specs.declared.fault.Fault.TheVariants.{Memory, Open, Write}
-use Rattle.ports_core.specs.declared.fault.Fault.TheVariants as fault_is
-use Rattle.ports_core.specs.declared.verdict.Verdict.{Verdict}
+use Rattle.std.proofs.{
+  Common.{◌≡◌, ℕ, ◌↔◌, ◌≤◌, ◌<◌, Bool, true, false, List, [], ◌++◌, length, take, drop, Result, Ok, Err, inl, inr, refl, sym, ◌∙◌, ap, subst, arith, append_assoc},
+  lemmas.{Bool.{cases_lt, false≢true}, List.{append-nil, length-append, nil_from_length, drop-append-le, take-append-drop, take-append-le, take_at}},
+  Math.Seq.drop-append_seam,
+}
+use Rattle.ports_core.specs.{
+  Engine.{CutsOff, EndsThere, EndsWith, Finishes, IsMet, IsMetThere, IsMetWith, Passes, PutsOut, StandsAt, TakesIn, Terms, TookIn},
+  Part.{OutputsAt, Part},
+  Slot.Slot,
+  Work.{IsLawful, IsNeeded, IsSpare, Means, Needs, Work},
+  declared.{fault.Fault.{Fault, TheVariants.{Memory, Open, Write}}, verdict.Verdict.Verdict},
+}
 use Rattle.ports_core.proofs.SpareLemmas.{all_used, complete_used, none_spare}
 use Rattle.split_core.specs.Alike.{AreAlike, as_if}
+use Rattle.ports_core.specs.declared.fault.Fault.TheVariants as fault_is
 
 -- Inputs that are alike
 

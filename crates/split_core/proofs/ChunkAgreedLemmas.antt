@@ -1,37 +1,35 @@
 -- What is settled of chunks is what all continuations agree on.
-use Rattle.std.proofs.Common.{◌≡◌, ◌≢◌, ℕ, ◌+◌, ◌-◌, ◌*◌, ◌/◌, ◌<◌, ◌≤◌, max, zero, suc, Bool, true, false, cond, List, [], ◌∷◌, ◌++◌, length, take, drop, map, get_or, replicate, Option, Some, None, inl, inr, refl, sym, ◌∙◌, ap, subst, arith}
-use Rattle.std.proofs.lemmas.Bool.{cases_lt, eq-eqb, ltb-false}
-use Rattle.std.proofs.lemmas.List.{append-nil, drop-append-le, length-append, length-replicate, map-append, take_all}
-use Rattle.std.proofs.lemmas.Nat.{le-div}
-use Rattle.std.proofs.Math.Nat.{one-mul}
+use Rattle.std.proofs.{
+  Common.{◌≡◌, ◌≢◌, ℕ, ◌+◌, ◌-◌, ◌*◌, ◌/◌, ◌<◌, ◌≤◌, max, zero, suc, Bool, true, false, cond, List, [], ◌∷◌, ◌++◌, length, take, drop, map, get_or, replicate, Option, Some, None, inl, inr, refl, sym, ◌∙◌, ap, subst, arith},
+  lemmas.{Bool.{cases_lt, eq-eqb, ltb-false}, List.{append-nil, drop-append-le, length-append, length-replicate, map-append, take_all}, Nat.le-div},
+  Math.Nat.one-mul,
+}
 use Rattle.std.specs.List.{filter, range_with_len}
-use Rattle.seg_core.specs.Line.{joined}
-use Rattle.seg_core.proofs.FirstLines.{joined-append}
-use Rattle.seg_core.specs.declared.cut.Chunks.{Chunks}
-use Rattle.seg_core.specs.declared.unit.Unit.{Unit as Which}
-use Rattle.seg_core.specs.declared.unit.Unit.TheVariants.{Bytes, Lines}
-use Rattle.ports_core.specs.Agreed.{file_bytes, output_at}
-use Rattle.ports_core.specs.Draft.{part_of, told_of_files}
-use Rattle.ports_core.specs.Part.{IsBeginning, Part}
-use Rattle.ports_core.specs.Work.{Work}
-use Rattle.ports_core.specs.declared.slot.State.TheVariants.{Open, Closed}
-use Rattle.split_core.specs.Parts.{CutUp, unless_empty}
-use Rattle.split_core.specs.Place.{beside_output}
-use Rattle.split_core.specs.Split.{Filing, Share, are_named, has_bytes, manner_of, output_by, share}
-use Rattle.split_core.specs.Chunks.{before_chunk, begun_before, chunk_at, chunk_start, chunks_of, decided, ended, in_the_end, is_longer, open_from, pieces_in, size_by}
-use Rattle.split_core.specs.ChunkAgreed.{AgreeAt, CanFollow}
-use Rattle.split_core.specs.ChunkWork.{ChunksPlan, chunk_work, chunks_settled, chunks_whole, chunks_work, files_by, kept}
-use Rattle.split_core.specs.inner.Chunks.{HaveEnded}
-use Rattle.split_core.specs.laws.ChunkWorkLaws.{chunk_lawful, chunks_lawful, first_kept, kept-append, length-kept}
-use Rattle.ports_core.proofs.AgreedLemmas.{common, copies_come, none_comes, other, other_comes, other_differs, beginning_short}
-use Rattle.split_core.proofs.AgreedLemmas.{bytes_named, each_named, named_bytes}
-use Rattle.split_core.proofs.CutLaws.{bytes_of_shares}
-use Rattle.split_core.proofs.ChunkLemmas.{bytes_filed, few_files, made_few, same_pieces}
-use Rattle.split_core.proofs.RoundLemmas.{named_fewer, joined_some}
-use Rattle.split_core.specs.laws.BegunLaws.{begun_begins, begun_first, begun_first_place, begun_monotone, begun_on, begun_within, open_within}
-use Rattle.split_core.specs.laws.ChunkLaws.{all_joined, before_stays, chunks_are, cut_all, ended_is, full_stays, map_parts, passed_open, start_first, start_grows, start_past}
-use Rattle.split_core.proofs.SectionLemmas.{joined_one}
-use Rattle.split_core.proofs.UnsaidLemmas.{start_some}
+use Rattle.seg_core.{specs.{Line.joined, declared.{cut.Chunks.Chunks, unit.Unit.{Unit as Which, TheVariants.{Bytes, Lines}}}}, proofs.FirstLines.joined-append}
+use Rattle.ports_core.{
+  specs.{Agreed.{file_bytes, output_at}, Draft.{part_of, told_of_files}, Part.{IsBeginning, Part}, Work.Work, declared.slot.State.TheVariants.{Open, Closed}},
+  proofs.AgreedLemmas.{common, copies_come, none_comes, other, other_comes, other_differs, beginning_short},
+}
+use Rattle.split_core.specs.{
+  Parts.{CutUp, unless_empty},
+  Place.beside_output,
+  Split.{Filing, Share, are_named, has_bytes, manner_of, output_by, share},
+  Chunks.{before_chunk, begun_before, chunk_at, chunk_start, chunks_of, decided, ended, in_the_end, is_longer, open_from, pieces_in, size_by},
+  ChunkAgreed.{AgreeAt, CanFollow, HasNoMore},
+  ChunkWork.{ChunksPlan, chunk_work, chunks_settled, chunks_whole, chunks_work, files_by, kept},
+  inner.Chunks.HaveEnded,
+  laws.ChunkWorkLaws.{chunk_lawful, chunks_lawful, first_kept, kept-append, length-kept},
+  laws.BegunLaws.{begun_begins, begun_first, begun_first_place, begun_monotone, begun_on, begun_within, open_within},
+  laws.ChunkLaws.{all_joined, before_stays, chunks_are, cut_all, ended_is, full_stays, map_parts, passed_open, start_by_size, start_first, start_grows, start_past},
+}
+use Rattle.split_core.proofs.{
+  AgreedLemmas.{bytes_named, each_named, named_bytes},
+  CutLaws.bytes_of_shares,
+  ChunkLemmas.{bytes_filed, few_files, made_few, same_pieces},
+  RoundLemmas.{named_fewer, joined_some},
+  SectionLemmas.joined_one,
+  UnsaidLemmas.start_some,
+}
 
 -- Bytes that are all the same
 
@@ -81,19 +79,11 @@ apart_after a b differ (byte ∷ r) (next ∷ front) one other first second run 
           (begins_tail next byte front (r ++ other) second) run also,
     )
 
--- Files, of which the first that goes on has r, and then only this byte, and so have all after it
+-- Files, of which the first has r and then this byte, and only it from there on, and so have all after it
 
 abbrev pub IsTail : ℕ → List ℕ → List (List ℕ) → Type 0
-IsTail c r [] = r ≡ []
-IsTail c r (piece ∷ pieces) = ((more : List ℕ) × (piece ≡ r ++ more) × IsRun c more) × AreRuns c pieces
-
-tail_of_runs : (c : ℕ) (pieces : List (List ℕ)) → AreRuns c pieces → IsTail c [] pieces
-tail_of_runs c [] runs = refl
-tail_of_runs c (piece ∷ pieces) (run, runs) = ((piece, refl, run), runs)
-
-no_front : (r more : List ℕ) → has_bytes (r ++ more) ≡ false → r ≡ []
-no_front [] more none = refl
-no_front (byte ∷ r) more none = cc
+IsTail c r [] = ⊥
+IsTail c r (piece ∷ pieces) = ((more : List ℕ) × (piece ≡ r ++ c ∷ more) × IsRun c more) × AreRuns c pieces
 
 some_runs : (c : ℕ) (pieces : List (List ℕ)) → AreRuns c pieces → AreRuns c (filter has_bytes pieces)
 some_runs c [] runs = tt
@@ -103,18 +93,16 @@ some_runs c (piece ∷ pieces) (run, runs) = by (has_bytes piece) (some_runs c p
   by true rest = (run, rest)
   by false rest = rest
 
+some_after : (r : List ℕ) (byte : ℕ) (more : List ℕ) → has_bytes (r ++ byte ∷ more) ≡ true
+some_after [] byte more = refl
+some_after (one ∷ r) byte more = refl
+
 tail_kept : (elide : Bool) (c : ℕ) (r : List ℕ) (pieces : List (List ℕ)) → IsTail c r pieces
     → IsTail c r (kept elide pieces)
 tail_kept false c r pieces tail = tail
-tail_kept true c r [] tail = tail
-tail_kept true c r (piece ∷ pieces) ((more, is, run), runs) = by (has_bytes piece) refl where
-  rest : AreRuns c (filter has_bytes pieces)
-  rest = some_runs c pieces runs
-
-  by : (some : Bool) → has_bytes piece ≡ some
-      → IsTail c r (cond some (piece ∷ filter has_bytes pieces) (filter has_bytes pieces))
-  by true some = ((more, is, run), rest)
-  by false none = rw (no_front r more (sym (ap has_bytes is) ∙ none)) (tail_of_runs c (filter has_bytes pieces) rest)
+tail_kept true c r [] tail = absurd tail
+tail_kept true c r (piece ∷ pieces) ((more, is, run), runs) =
+    rw (ap has_bytes is ∙ some_after r c more) ((more, is, run), some_runs c pieces runs)
 
 runs_at : (c : ℕ) (pieces : List (List ℕ)) (i : ℕ) → AreRuns c pieces → IsRun c (get_or pieces i [])
 runs_at c [] i runs = tt
@@ -130,16 +118,14 @@ pub tails_apart : (a b : ℕ) → a ≢ b → (front : List (List ℕ)) (r : Lis
     → IsTail b r other → (place : ℕ) (bytes : List ℕ) → IsBeginning bytes (get_or (front ++ one) place [])
     → IsBeginning bytes (get_or (front ++ other) place [])
     → length bytes ≤ length (get_or (front ++ unless_empty r) place [])
-tails_apart a b differ [] r [] other tail also place bytes first second =
-    omega (arith, beginning_short bytes (get_or [] place []) first)
-tails_apart a b differ [] r (piece ∷ one) [] tail also place bytes first second =
-    omega (arith, beginning_short bytes (get_or [] place []) second)
+tails_apart a b differ [] r [] other tail also place bytes first second = absurd tail
+tails_apart a b differ [] r (piece ∷ one) [] tail also place bytes first second = absurd also
 tails_apart a b differ [] r (piece ∷ one) (next ∷ other) ((more, is, run), runs) ((rest, are, also), too) zero bytes
     first second = omega (
       arith,
       ap length (first_made r),
-      apart_after a b differ r bytes more rest (subst (IsBeginning bytes) is first)
-          (subst (IsBeginning bytes) are second) run also,
+      apart_after a b differ r bytes (a ∷ more) (b ∷ rest) (subst (IsBeginning bytes) is first)
+          (subst (IsBeginning bytes) are second) (refl, run) (refl, also),
     )
 tails_apart a b differ [] r (piece ∷ one) (next ∷ other) tail also (suc place) bytes first second =
     omega (arith, apart a b differ bytes _ _ first second (runs_at a one place tail.1) (runs_at b other place also.1))
@@ -166,46 +152,52 @@ runs_from : (c : ℕ) (f : ℕ → List ℕ) (a n : ℕ) → ((i : ℕ) → a �
 runs_from c f a zero run = tt
 runs_from c f a (suc n) run = (run a (omega arith), runs_from c f (a + 1) n (λ i from. run i (omega (arith, from))))
 
+front_of : (unit : Which) (delim place byte : ℕ) (y : List ℕ) → 0 < place
+    → (more : List ℕ) × (begun_before unit delim place (byte ∷ y) ≡ byte ∷ more)
+front_of Bytes delim zero byte y some = absurd (omega (arith, some))
+front_of Bytes delim (suc place) byte y some = (take place y, refl)
+front_of Lines delim place byte y some = (_, begun_first delim byte place y some)
+
 -- the chunk that is begun has what is left, and then that byte, and so have all after it
 tail_is : (chunks : Chunks) (size : ℕ) (x y : List ℕ) (c p m : ℕ) → IsRun c y
-    → before_chunk chunks size p (x ++ y) ≡ before_chunk chunks size p x
+    → before_chunk chunks size p (x ++ c ∷ y) ≡ before_chunk chunks size p x
     → open_from chunks.unit chunks.delim x < chunk_start chunks.count size (p + 1)
     → IsTail c (drop (length (before_chunk chunks size p x)) x)
-    (map (chunk_at chunks size (x ++ y)) (range_with_len p (suc m)))
+    (map (chunk_at chunks size (x ++ c ∷ y)) (range_with_len p (suc m)))
 tail_is chunks size x y c p m run same past =
-    ((more, first, run_begins c more y begins run), runs_from c f (p + 1) m later)
+    ((more.0, first, (run_begins c (c ∷ more.0) (c ∷ y) begins (refl, run)).1), runs_from c f (p + 1) m later)
   where
     end : ℕ
     end = chunk_start chunks.count size (p + 1)
 
     f : ℕ → List ℕ
-    f = chunk_at chunks size (x ++ y)
+    f = chunk_at chunks size (x ++ c ∷ y)
 
-    more : List ℕ
-    more = begun_before chunks.unit chunks.delim (max (end - length x) 1) y
+    more : (more : List ℕ) × (begun_before chunks.unit chunks.delim (max (end - length x) 1) (c ∷ y) ≡ c ∷ more)
+    more = front_of chunks.unit chunks.delim (max (end - length x) 1) c y (omega arith)
 
-    begins : IsBeginning more y
-    begins = begun_begins chunks.unit chunks.delim (max (end - length x) 1) y
+    begins : IsBeginning (c ∷ more.0) (c ∷ y)
+    begins = rw more.1 at (begun_begins chunks.unit chunks.delim (max (end - length x) 1) (c ∷ y))
 
-    all : before_chunk chunks size (p + 1) (x ++ y) ≡ x ++ more
-    all = begun_on chunks.unit chunks.delim end x y past
+    all : before_chunk chunks size (p + 1) (x ++ c ∷ y) ≡ x ++ c ∷ more.0
+    all = begun_on chunks.unit chunks.delim end x (c ∷ y) past ∙ ap (λ more. x ++ more) more.1
 
-    first : f p ≡ drop (length (before_chunk chunks size p x)) x ++ more
-    first = ap (λ low. drop (length low) (before_chunk chunks size (p + 1) (x ++ y))) same
+    first : f p ≡ drop (length (before_chunk chunks size p x)) x ++ c ∷ more.0
+    first = ap (λ low. drop (length low) (before_chunk chunks size (p + 1) (x ++ c ∷ y))) same
         ∙ ap (drop (length (before_chunk chunks size p x))) all
-        ∙ drop-append-le (length (before_chunk chunks size p x)) x more
+        ∙ drop-append-le (length (before_chunk chunks size p x)) x (c ∷ more.0)
         (begun_within chunks.unit chunks.delim _ x)
 
     later : (i : ℕ) → p + 1 ≤ i → IsRun c (f i)
-    later i from = drop_run c x y _ (before_chunk chunks size (i + 1) (x ++ y))
-        (begun_begins chunks.unit chunks.delim _ (x ++ y))
+    later i from = drop_run c x (c ∷ y) _ (before_chunk chunks size (i + 1) (x ++ c ∷ y))
+        (begun_begins chunks.unit chunks.delim _ (x ++ c ∷ y))
         (omega (
           arith,
           ap length all,
-          length-append x more,
+          length-append x (c ∷ more.0),
           beginning_short _ _ (begun_monotone chunks.unit chunks.delim
-              (x ++ y) (start_grows chunks.count size (p + 1) i from)),
-        )) run
+              (x ++ c ∷ y) (start_grows chunks.count size (p + 1) i from)),
+        )) (refl, run)
 
 parts_split : (f : ℕ → List ℕ) (p m : ℕ)
     → map f (range_with_len 0 (p + suc m)) ≡ map f (range_with_len 0 p) ++ map f (range_with_len p (suc m))
@@ -257,21 +249,26 @@ said_split elide chunks size x y m some short long is =
     (full_stays chunks size p x y (omega (arith, long)) here.before
     ∙ sym (ap (λ cut. cut.full) (chunks_are chunks size x some (omega (arith, short)) here)))
 
-said_files : (elide : Bool) (chunks : Chunks) (size : ℕ) (x y : List ℕ) (c : ℕ) → 0 < chunks.count → length x < size
-    → length (x ++ y) ≡ size → IsRun c y → (tail : List (List ℕ)) × IsTail c (chunks_of chunks size x).rest tail
-    × (files_by elide (chunks_of chunks size (x ++ y)) ≡ kept elide (chunks_of chunks size x).full ++ tail)
+-- the files where a text goes on with one byte alone
+abbrev pub TailFiles : Bool → Chunks → ℕ → List ℕ → ℕ → List ℕ → List (List ℕ) → List ℕ → Type 0
+TailFiles elide chunks size x c y front r = (tail : List (List ℕ)) × IsTail c r tail
+    × (files_by elide (chunks_of chunks size (x ++ c ∷ y)) ≡ front ++ tail)
+
+said_files : (elide : Bool) (chunks : Chunks) (size : ℕ) (x y : List ℕ) (c : ℕ) → 0 < chunks.count
+    → length x < size → length (x ++ c ∷ y) ≡ size → IsRun c y
+    → TailFiles elide chunks size x c y (kept elide (chunks_of chunks size x).full) (chunks_of chunks size x).rest
 said_files elide chunks size x y c some short long run =
     let (m, is) = chunks_left chunks size x some short in
     let p = ended chunks size x in
     let here : HaveEnded chunks size x p = ended_is chunks size x in
-    let those = map (chunk_at chunks size (x ++ y)) (range_with_len p (suc m)) in (
+    let those = map (chunk_at chunks size (x ++ c ∷ y)) (range_with_len p (suc m)) in (
       kept elide those,
       tail_kept elide c (chunks_of chunks size x).rest those
           (subst (λ (cut : CutUp). IsTail c cut.rest those)
           (sym (chunks_are chunks size x some (omega (arith, short)) here))
-          (tail_is chunks size x y c p m run (before_stays chunks size p x y (omega (arith, long)) here.before)
+          (tail_is chunks size x y c p m run (before_stays chunks size p x (c ∷ y) (omega (arith, long)) here.before)
           (omega (arith, here.next (omega (arith, is)), passed_open chunks size x short)))),
-      said_split elide chunks size x y m some short long is,
+      said_split elide chunks size x (c ∷ y) m some short long is,
     )
 
 -- two continuations that have no more in common in any file than what is decided
@@ -285,24 +282,28 @@ pub record AreFiles (elide : Bool) (chunks : Chunks) (said : Option ℕ) (x : Li
       → IsBeginning front (get_or (files_by elide (in_the_end chunks said (x ++ z))) place [])
       → length front ≤ length (get_or (files_by elide (decided chunks 1 said x)) place [])
 
-abbrev fill : ℕ → List ℕ → ℕ → List ℕ
-fill size x c = replicate (size - length x) c
+abbrev pub fill : ℕ → List ℕ → ℕ → List ℕ
+fill size x c = replicate (size - length x - 1) c
 
-fills : (size : ℕ) (x : List ℕ) (c : ℕ) → length x ≤ size → length (x ++ fill size x c) ≡ size
-fills size x c within = omega (arith, length-append x (fill size x c), length-replicate (size - length x) c)
+pub fills : (size : ℕ) (x : List ℕ) (c : ℕ) → length x < size → length (x ++ c ∷ fill size x c) ≡ size
+fills size x c short = omega (arith, length-append x (c ∷ fill size x c), length-replicate (size - length x - 1) c, short)
+
+pub said_filled : (elide : Bool) (chunks : Chunks) (size : ℕ) (x : List ℕ) (c : ℕ) → 0 < chunks.count → length x < size
+    → TailFiles elide chunks size x c (fill size x c) (kept elide (chunks_of chunks size x).full)
+    (chunks_of chunks size x).rest
+said_filled elide chunks size x c some short =
+    said_files elide chunks size x (fill size x c) c some short (fills size x c short) (run_of c (size - length x - 1))
 
 said_longest : (elide : Bool) (chunks : Chunks) (size : ℕ) (x : List ℕ) (place : ℕ) → 0 < chunks.count
     → length x ≤ size → AreFiles elide chunks (Some size) x place
 said_longest elide chunks size x place some within = elim (cases_lt (length x) size) [
   | inl short ↦ (
-      let one = said_files elide chunks size x (fill size x 0) 0 some short (fills size x 0 within)
-      (run_of 0 (size - length x)) in
-      let two = said_files elide chunks size x (fill size x 1) 1 some short (fills size x 1 within)
-      (run_of 1 (size - length x)) in record {
-        y = fill size x 0;
-        z = fill size x 1;
-        comes = (copies_come (size - length x) 0 (omega arith), eq-eqb _ _ (fills size x 0 within));
-        also = (copies_come (size - length x) 1 (omega arith), eq-eqb _ _ (fills size x 1 within));
+      let one = said_filled elide chunks size x 0 some short in
+      let two = said_filled elide chunks size x 1 some short in record {
+        y = 0 ∷ fill size x 0;
+        z = 1 ∷ fill size x 1;
+        comes = (copies_come (suc (size - length x - 1)) 0 (omega arith), eq-eqb _ _ (fills size x 0 short));
+        also = (copies_come (suc (size - length x - 1)) 1 (omega arith), eq-eqb _ _ (fills size x 1 short));
         longest = λ front first second. tails_apart 0 1 (λ same. omega (arith, same))
             (kept elide (chunks_of chunks size x).full) (chunks_of chunks size x).rest one.0 two.0 one.1 two.1 place
             front
@@ -352,44 +353,49 @@ pub none_kept : (elide : Bool) → kept elide [] ≡ []
 none_kept true = refl
 none_kept false = refl
 
-pub none_files : (elide : Bool) (chunks : Chunks) (x y : List ℕ) (c : ℕ) → 0 < chunks.count → IsRun c y
-    → length y ≡ suc (length x) * chunks.count
-    → IsTail c x (files_by elide (chunks_of chunks (length (x ++ y)) (x ++ y)))
-none_files elide chunks x y c some run long = by chunks.count refl where
-  size : ℕ
-  size = length (x ++ y)
+abbrev pub far_on : Chunks → List ℕ → ℕ → List ℕ
+far_on chunks x c = replicate (suc (length x) * chunks.count) c
 
-  f : ℕ → List ℕ
-  f = chunk_at chunks size (x ++ y)
+pub none_files : (elide : Bool) (chunks : Chunks) (x : List ℕ) (c : ℕ) → 0 < chunks.count
+    → TailFiles elide chunks (length (x ++ c ∷ far_on chunks x c)) x c (far_on chunks x c) [] x
+none_files elide chunks x c some = by chunks.count refl where
+  y : List ℕ
+  y = far_on chunks x c
+
+  k : ℕ
+  k = suc (length x) * chunks.count
+
+  size : ℕ
+  size = length (x ++ c ∷ y)
+
+  long : size ≡ length x + suc k
+  long = length-append x (c ∷ y) ∙ ap (λ n. length x + suc n) (length-replicate k c)
 
   past : open_from chunks.unit chunks.delim x < chunk_start chunks.count size (0 + 1)
   past = omega (
     arith,
     open_within chunks.unit chunks.delim x,
     far chunks.count (length x) some,
-    ap (λ n. chunk_start chunks.count n (0 + 1)) (length-append x y ∙ ap (λ n. length x + n) long),
+    start_by_size chunks.count (length x + k) size (0 + 1) some (omega (arith, some)) (omega (arith, long)),
   )
 
-  same : before_chunk chunks size 0 (x ++ y) ≡ before_chunk chunks size 0 x
-  same = none_before_first chunks size (x ++ y) ∙ sym (none_before_first chunks size x)
+  same : before_chunk chunks size 0 (x ++ c ∷ y) ≡ before_chunk chunks size 0 x
+  same = none_before_first chunks size (x ++ c ∷ y) ∙ sym (none_before_first chunks size x)
 
-  by : (n : ℕ) → chunks.count ≡ n → IsTail c x (files_by elide (chunks_of chunks size (x ++ y)))
+  by : (n : ℕ) → chunks.count ≡ n → TailFiles elide chunks size x c y [] x
   by zero is = absurd (omega (arith, some, is))
-  by (suc m) is = subst (IsTail c x) (sym (files_split elide chunks size (x ++ y) 0 m some refl (omega (arith, is))
-      ∙ ap (λ front. front ++ kept elide (map f (range_with_len 0 (suc m)))) (none_kept elide)))
-      (tail_kept elide c x (map f (range_with_len 0 (suc m)))
-      (rw (none_before_first chunks size x) at (tail_is chunks size x y c 0 m run same past)))
+  by (suc m) is = let those = map (chunk_at chunks size (x ++ c ∷ y)) (range_with_len 0 (suc m)) in (
+    kept elide those,
+    tail_kept elide c x those
+        (rw (none_before_first chunks size x) at (tail_is chunks size x y c 0 m (run_of c k) same past)),
+    files_split elide chunks size (x ++ c ∷ y) 0 m some refl (omega (arith, is))
+        ∙ ap (λ front. front ++ kept elide those) (none_kept elide),
+  )
 
 tail_runs : (c : ℕ) (r : List ℕ) (pieces : List (List ℕ)) (place : ℕ) → IsTail c r pieces
     → IsRun c (get_or pieces (suc place) [])
-tail_runs c r [] place tail = tt
+tail_runs c r [] place tail = absurd tail
 tail_runs c r (piece ∷ pieces) place tail = runs_at c pieces place tail.1
-
-begun_some : (unit : Which) (delim place byte : ℕ) (x : List ℕ) → 0 < place
-    → has_bytes (begun_before unit delim place (byte ∷ x)) ≡ true
-begun_some Bytes delim zero byte x some = absurd (omega (arith, some))
-begun_some Bytes delim (suc place) byte x some = refl
-begun_some Lines delim place byte x some = ap has_bytes (begun_first delim byte place x some)
 
 -- the first file has all that begins before the second chunk
 pub first_file : (elide : Bool) (chunks : Chunks) (byte : ℕ) (x : List ℕ) → 0 < chunks.count
@@ -410,7 +416,7 @@ first_file elide chunks byte x some = by chunks.count refl where
   later = start_some chunks.count (length all) some (omega arith)
 
   filled : has_bytes (f 0) ≡ true
-  filled = ap has_bytes one ∙ begun_some chunks.unit chunks.delim (chunk_start chunks.count (length all) 1) byte x later
+  filled = ap has_bytes one ∙ ap has_bytes (front_of chunks.unit chunks.delim (chunk_start chunks.count (length all) 1) byte x later).1
 
   by : (n : ℕ) → chunks.count ≡ n → (more : List (List ℕ))
       × (files_by elide (chunks_of chunks (length all) all) ≡ before_chunk chunks (length all) 1 all ∷ more)
@@ -460,9 +466,6 @@ none_longest elide chunks (byte ∷ x) (suc place) some =
       here front first = subst (λ z. IsBeginning front
           (get_or (files_by elide (chunks_of chunks (length z) z)) (suc place) [])) (append-nil (byte ∷ x)) first
 
-      far_on : ℕ → List ℕ
-      far_on c = replicate (suc (length (byte ∷ x)) * chunks.count) c
-
       apart_by : (first : ℕ) (piece front : List ℕ) → IsBeginning front (first ∷ piece)
           → IsRun (other first) front → length front ≤ 0
       apart_by first piece [] begins run = omega arith
@@ -481,16 +484,13 @@ none_longest elide chunks (byte ∷ x) (suc place) some =
       }
       by (first ∷ piece) is = let c = other first in record {
         y = [];
-        z = far_on c;
+        z = c ∷ far_on chunks (byte ∷ x) c;
         comes = (none_comes, refl);
-        also = (copies_come (suc (length (byte ∷ x)) * chunks.count) c (other_comes first), refl);
-        longest = λ front one two. omega (
+        also = (copies_come (suc (suc (length (byte ∷ x)) * chunks.count)) c (other_comes first), refl);
+        longest = λ front one two. let (tail, after, files) = none_files elide chunks (byte ∷ x) c some in omega (
           arith,
           apart_by first piece front (subst (IsBeginning front) is (here front one))
-              (run_begins c front _ two (tail_runs c (byte ∷ x) _ place
-              (none_files elide chunks (byte ∷ x) (far_on c) c some
-              (run_of c (suc (length (byte ∷ x)) * chunks.count))
-              (length-replicate (suc (length (byte ∷ x)) * chunks.count) c)))),
+              (run_begins c front _ (rw files at two) (tail_runs c (byte ∷ x) tail place after)),
         );
       }
 
@@ -552,9 +552,7 @@ agree_by : {elide : Bool} {chunks : Chunks} {said : Option ℕ} {x : List ℕ} {
     → ((y front : List ℕ) → IsBeginning front (output_at (work.whole (x ++ y)) at)
     → IsBeginning front (get_or (files_by elide (in_the_end chunks said (x ++ y))) place []))
     → length (get_or (files_by elide (decided chunks 1 said x)) place []) ≤ length (output_at agreed at)
-    → (y : List ℕ) × (z : List ℕ) × CanFollow said x y × CanFollow said x z
-    × ((front : List ℕ) → IsBeginning front (output_at (work.whole (x ++ y)) at)
-    → IsBeginning front (output_at (work.whole (x ++ z)) at) → length front ≤ length (output_at agreed at))
+    → HasNoMore (CanFollow said x) work x agreed at
 agree_by work agreed at those same enough = (
   those.y,
   those.z,
@@ -569,10 +567,8 @@ none_told : (part : Part) → (verbose : Bool) → verbose ≡ false → part.ou
 none_told part verbose quiet is = is ∙ ap (λ tells. told_of_files (output_by tells) part.files) quiet
 
 nothing_at : {elide : Bool} {chunks : Chunks} {said : Option ℕ} {x : List ℕ} {place : ℕ} (work : Work) (agreed : Part)
-    (at : ℕ) (those : AreFiles elide chunks said x place) → ((y : List ℕ) → output_at (work.whole (x ++ y)) at ≡ [])
-    → (y : List ℕ) × (z : List ℕ) × CanFollow said x y × CanFollow said x z
-    × ((front : List ℕ) → IsBeginning front (output_at (work.whole (x ++ y)) at)
-    → IsBeginning front (output_at (work.whole (x ++ z)) at) → length front ≤ length (output_at agreed at))
+    (at : ℕ) → AreFiles elide chunks said x place → ((y : List ℕ) → output_at (work.whole (x ++ y)) at ≡ [])
+    → HasNoMore (CanFollow said x) work x agreed at
 nothing_at work agreed at those none = (
   those.y,
   those.z,
@@ -582,59 +578,43 @@ nothing_at work agreed at those none = (
       omega (arith, ap length (none those.y), beginning_short _ _ first),
 )
 
--- files don't depend on what standard output is told
-file_agreed : (plan : ChunksPlan) (said : Option ℕ) (x : List ℕ) (place : ℕ) → 0 < plan.chunks.count
-    → are_named plan.filing.names plan.chunks.count ≡ true → is_longer said x ≡ false
-    → (y : List ℕ) × (z : List ℕ) × CanFollow said x y × CanFollow said x z
-    × ((front : List ℕ) → IsBeginning front (output_at (chunks_whole plan said (x ++ y)) (suc place))
-    → IsBeginning front (output_at (chunks_whole plan said (x ++ z)) (suc place))
-    → length front ≤ length (output_at (chunks_settled plan said x) (suc place)))
-file_agreed plan said x place some named fits =
-    agree_by (chunks_work plan said) (chunks_settled plan said x) (suc place)
-    (files_longest plan.elide plan.chunks said x place some fits)
-    (λ y front begins. rw (whole_files plan said (x ++ y) some named) at begins)
-    (omega (arith, ap (λ files. length (get_or files place [])) (settled_files plan said x some named)))
+module _ (plan : ChunksPlan) (said : Option ℕ) (x : List ℕ) (some : 0 < plan.chunks.count)
+    (named : are_named plan.filing.names plan.chunks.count ≡ true) (fits : is_longer said x ≡ false) where
+  -- files don't depend on what standard output is told
+  file_agreed : (place : ℕ)
+      → HasNoMore (CanFollow said x) (chunks_work plan said) x (chunks_settled plan said x) (suc place)
+  file_agreed place = agree_by (chunks_work plan said) (chunks_settled plan said x) (suc place)
+      (files_longest plan.elide plan.chunks said x place some fits)
+      (λ y front begins. rw (whole_files plan said (x ++ y) some named) at begins)
+      (omega (arith, ap (λ files. length (get_or files place [])) (settled_files plan said x some named)))
 
-quiet_agreed : (plan : ChunksPlan) (said : Option ℕ) (x : List ℕ) → 0 < plan.chunks.count
-    → plan.filing.verbose ≡ false → are_named plan.filing.names plan.chunks.count ≡ true → is_longer said x ≡ false
-    → (place : ℕ) → (y : List ℕ) × (z : List ℕ) × CanFollow said x y × CanFollow said x z
-    × ((front : List ℕ) → IsBeginning front (output_at (chunks_whole plan said (x ++ y)) place)
-    → IsBeginning front (output_at (chunks_whole plan said (x ++ z)) place)
-    → length front ≤ length (output_at (chunks_settled plan said x) place))
-quiet_agreed plan said x some quiet named fits zero =
-    nothing_at (chunks_work plan said) (chunks_settled plan said x) 0
-    (files_longest plan.elide plan.chunks said x 0 some fits)
-    (λ y. none_told (chunks_whole plan said (x ++ y)) plan.filing.verbose quiet refl)
-quiet_agreed plan said x some quiet named fits (suc place) = file_agreed plan said x place some named fits
+  pub chunks_agreed : plan.filing.verbose ≡ false
+      → AgreeAt (CanFollow said x) (chunks_work plan said) x ((chunks_work plan said).settled x)
+  chunks_agreed quiet = record {
+    common = λ y comes. common (chunks_work plan said) (chunks_lawful plan said some) x y;
+    longest = longest;
+  } where
+    longest : (place : ℕ) → HasNoMore (CanFollow said x) (chunks_work plan said) x (chunks_settled plan said x) place
+    longest zero = nothing_at (chunks_work plan said) (chunks_settled plan said x) 0
+        (files_longest plan.elide plan.chunks said x 0 some fits)
+        (λ y. none_told (chunks_whole plan said (x ++ y)) plan.filing.verbose quiet refl)
+    longest (suc place) = file_agreed place
 
-pub chunks_agreed : (plan : ChunksPlan) (said : Option ℕ) (x : List ℕ) → 0 < plan.chunks.count
-    → plan.filing.verbose ≡ false → are_named plan.filing.names plan.chunks.count ≡ true → is_longer said x ≡ false
-    → AgreeAt (CanFollow said x) (chunks_work plan said) x ((chunks_work plan said).settled x)
-chunks_agreed plan said x some quiet named fits = record {
-  common = λ y comes. common (chunks_work plan said) (chunks_lawful plan said some) x y;
-  longest = quiet_agreed plan said x some quiet named fits;
-}
-
-pub files_agreed : (plan : ChunksPlan) (said : Option ℕ) (x : List ℕ) → 0 < plan.chunks.count
-    → are_named plan.filing.names plan.chunks.count ≡ true → is_longer said x ≡ false
-    → AgreeAt (CanFollow said x) (beside_output (chunks_work plan said)) x
-    (record ((chunks_work plan said).settled x) { out = [] })
-files_agreed plan said x some named fits = record {
-  common = λ y comes. record {
-    out = ([], refl);
-    files = (common (chunks_work plan said) (chunks_lawful plan said some) x y).files;
-  };
-  longest = longest;
-} where
-  longest : (place : ℕ) → (y : List ℕ) × (z : List ℕ) × CanFollow said x y × CanFollow said x z
-      × ((front : List ℕ)
-      → IsBeginning front (output_at ((beside_output (chunks_work plan said)).whole (x ++ y)) place)
-      → IsBeginning front (output_at ((beside_output (chunks_work plan said)).whole (x ++ z)) place)
-      → length front ≤ length (output_at (record ((chunks_work plan said).settled x) { out = [] }) place))
-  longest zero = nothing_at (beside_output (chunks_work plan said))
-      (record ((chunks_work plan said).settled x) { out = [] }) 0
-      (files_longest plan.elide plan.chunks said x 0 some fits) (λ y. refl)
-  longest (suc place) = file_agreed plan said x place some named fits
+  pub files_agreed : AgreeAt (CanFollow said x) (beside_output (chunks_work plan said)) x
+      (record ((chunks_work plan said).settled x) { out = [] })
+  files_agreed = record {
+    common = λ y comes. record {
+      out = ([], refl);
+      files = (common (chunks_work plan said) (chunks_lawful plan said some) x y).files;
+    };
+    longest = longest;
+  } where
+    longest : (place : ℕ) → HasNoMore (CanFollow said x) (beside_output (chunks_work plan said)) x
+        (record ((chunks_work plan said).settled x) { out = [] }) place
+    longest zero = nothing_at (beside_output (chunks_work plan said))
+        (record ((chunks_work plan said).settled x) { out = [] }) 0
+        (files_longest plan.elide plan.chunks said x 0 some fits) (λ y. refl)
+    longest (suc place) = file_agreed place
 
 piece_made : (place : ℕ) (chunks : Chunks) (said : Option ℕ) (x : List ℕ)
     → length (get_or (files_by false (decided chunks 1 said x)) place [])
@@ -648,10 +628,8 @@ piece_made place chunks (Some size) x = let cut = chunks_of chunks size x in
     omega (arith, ap length (same_pieces cut.full cut.rest place))
 
 chunk_longest : (place : ℕ) (chunks : Chunks) (said : Option ℕ) (x : List ℕ) → place < chunks.count
-    → is_longer said x ≡ false → (at : ℕ) → (y : List ℕ) × (z : List ℕ) × CanFollow said x y × CanFollow said x z
-    × ((front : List ℕ) → IsBeginning front (output_at ((chunk_work place chunks said).whole (x ++ y)) at)
-    → IsBeginning front (output_at ((chunk_work place chunks said).whole (x ++ z)) at)
-    → length front ≤ length (output_at ((chunk_work place chunks said).settled x) at))
+    → is_longer said x ≡ false → (at : ℕ)
+    → HasNoMore (CanFollow said x) (chunk_work place chunks said) x ((chunk_work place chunks said).settled x) at
 chunk_longest place chunks said x within fits zero =
     agree_by (chunk_work place chunks said) ((chunk_work place chunks said).settled x) 0
     (files_longest false chunks said x place (omega (arith, within)) fits)

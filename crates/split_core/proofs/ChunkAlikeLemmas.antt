@@ -1,23 +1,20 @@
 -- Lemmas on what stands before one chunk alone: which bytes these are is no matter.
-use Rattle.std.proofs.Common.{◌≡◌, ℕ, ◌+◌, ◌-◌, ◌<◌, ◌≤◌, max, nat_le, nat_lt, ◌==◌, ◌||◌, Bool, true, false, cond, List, [], ◌++◌, ◌⊎◌, length, take, drop, map, get_or, Some, None, inl, inr, refl, sym, ◌∙◌, ap, arith, if◌then◌else◌}
-use Rattle.std.specs.List.{range_with_len}
-use Rattle.std.proofs.lemmas.Bool.{cases_lt, lt-leb}
-use Rattle.std.proofs.lemmas.List.{get_or_past, length-append}
-use Rattle.std.proofs.lemmas.List.FromFn.{get_or-map-range_with_len, length-map-range_with_len, map-range_with_len_more}
-use Rattle.std.proofs.Math.Seq.{drop-append-add, take-append-add}
-use Rattle.seg_core.specs.Line.{delimiters}
-use Rattle.seg_core.specs.declared.cut.Chunks.{Chunks}
-use Rattle.seg_core.specs.declared.unit.Unit.{Unit}
-use Rattle.seg_core.specs.declared.unit.Unit.TheVariants.{Bytes, Lines}
-use Rattle.ports_core.specs.Part.{only_out}
-use Rattle.ports_core.specs.Work.{IsLawful, Work}
-use Rattle.ports_core.specs.declared.verdict.Verdict.TheVariants.{Changed}
-use Rattle.split_core.specs.Alike.{AreAlike}
-use Rattle.split_core.specs.Chunks.{before_chunk, begun_before, chunk_at, chunk_start, chunks_within, ended, has_ended, open_from, pieces_in}
-use Rattle.split_core.specs.ChunkWork.{chunk_work}
-use Rattle.split_core.specs.laws.BegunLaws.{begun_on, open_append, open_within}
-use Rattle.split_core.specs.laws.ChunkLaws.{before_later, before_next, chunk_none, ended_is, passed_full, passed_open, start_grows, start_within, take_within}
-use Rattle.split_core.specs.laws.ChunkWorkLaws.{chunk_lawful}
+use Rattle.std.{
+  proofs.Common.{◌≡◌, ℕ, ◌+◌, ◌-◌, ◌<◌, ◌≤◌, max, nat_le, nat_lt, ◌==◌, ◌||◌, Bool, true, false, cond, List, [], ◌++◌, ◌⊎◌, length, take, drop, map, get_or, Some, None, inl, inr, refl, sym, ◌∙◌, ap, arith, if◌then◌else◌},
+  proofs.lemmas.{Bool.{cases_lt, lt-leb}, List.{get_or_past, length-append, FromFn.{get_or-map-range_with_len, length-map-range_with_len, map-range_with_len_more}}},
+  proofs.Math.Seq.{drop-append-add, take-append-add},
+  specs.List.range_with_len,
+}
+use Rattle.seg_core.specs.{Line.delimiters, declared.{cut.Chunks.Chunks, unit.Unit.{Unit, TheVariants.{Bytes, Lines}}}}
+use Rattle.ports_core.specs.{Part.only_out, Work.{IsLawful, Work}, declared.verdict.Verdict.TheVariants.Changed}
+use Rattle.split_core.specs.{
+  Alike.AreAlike,
+  Chunks.{before_chunk, begun_before, chunk_at, chunk_start, chunks_within, ended, has_ended, open_from, pieces_in},
+  ChunkWork.chunk_work,
+  laws.BegunLaws.{begun_on, open_append, open_within},
+  laws.ChunkLaws.{before_later, before_next, chunk_none, ended_is, passed_full, passed_open, start_grows, start_within, take_within},
+  laws.ChunkWorkLaws.chunk_lawful,
+}
 use Rattle.split_core.proofs.AlikeLemmas.{spare_so}
 
 -- the piece at a place is what the text has of the chunk there

@@ -1,31 +1,29 @@
 -- Chunks of a whole text, and one of them alone.
-use Rattle.std.proofs.lemmas.Grind.{common_steps, flat_map-append}
+use Rattle.std.proofs.lemmas.{
+  Grind.{common_steps, flat_map-append},
+  Bool.{cases_lt, eqb-true, le-ltb, lt-ltb},
+  List.{append-nil, drop_at, length-append, length-drop, length-take-le, take_all, take_at},
+  List.FromFn.{get_or-map-range_with_len, length-map-range_with_len, map-range_with_len_more, take-map-range_with_len},
+}
 use Rattle.std.proofs.Common.{◌≡◌, ℕ, ◌+◌, ◌-◌, ◌/◌, ◌%◌, ◌<◌, ◌≤◌, zero, suc, nat_lt, Bool, true, false, cond, List, [], ◌∷◌, ◌++◌, length, take, drop, map, get_or, Option, Some, None, inl, inr, refl, sym, ◌∙◌, ap, arith}
-use Rattle.std.proofs.lemmas.Bool.{cases_lt, eqb-true, le-ltb, lt-ltb}
-use Rattle.std.proofs.lemmas.List.{append-nil, drop_at, length-append, length-drop, length-take-le, take_all, take_at}
-use Rattle.std.proofs.lemmas.List.FromFn.{get_or-map-range_with_len, length-map-range_with_len, map-range_with_len_more, take-map-range_with_len}
 use Rattle.std.specs.List.{flat_map, range_with_len}
-use Rattle.seg_core.specs.Line.{joined, lines_of, line_count, first_lines}
-use Rattle.seg_core.specs.declared.cut.Chunks.{Chunks}
-use Rattle.seg_core.specs.declared.cut.Cut.TheVariants.{Round}
+use Rattle.seg_core.{
+  specs.{Line.{joined, lines_of, line_count, first_lines}, declared.{cut.{Chunks.Chunks, Cut.TheVariants.Round}, unit.Unit.TheVariants.{Bytes, Lines}}},
+  proofs.{FirstLines.{joined-append, lines_of-first_lines, lines_of-after_lines}, LinesOf.joined-lines_of},
+}
+use Rattle.ports_core.specs.{Agreed.file_bytes, Draft.part_of, Part.only_out, declared.slot.State.TheVariants.Closed}
+use Rattle.split_core.specs.{
+  Chunks.{IsInChunk, IsInPiece, before_chunk, begun_before, chunk_at, chunk_start, chunks_in, chunks_of, ended, in_the_end, is_as_said, lines_before, pieces_in, size_by},
+  ChunkWork.{chunk_work, files_by, way_work},
+  Split.{Filing, are_named, manner_of, share},
+  Parts.{dealt, round_robin, unless_empty},
+  inner.Dealt.EachSome,
+  laws.BegunLaws.{begun_long, lines_all, lines_more},
+  laws.ChunkLaws.{chunk_none, cut_all, ended_within, joined_chunks, start_first, start_grows, start_last, start_next, start_within, rest_none, take_within},
+  laws.DealLaws.each_line,
+}
+use Rattle.split_core.proofs.{AgreedLemmas.{each_named, shared_bytes}, RoundLemmas.named_fewer}
 use Rattle.seg_core.specs.declared.cut.Way.TheVariants as way
-use Rattle.ports_core.specs.Agreed.{file_bytes}
-use Rattle.ports_core.specs.Draft.{part_of}
-use Rattle.ports_core.specs.Part.{only_out}
-use Rattle.ports_core.specs.declared.slot.State.TheVariants.{Closed}
-use Rattle.seg_core.specs.declared.unit.Unit.TheVariants.{Bytes, Lines}
-use Rattle.seg_core.proofs.FirstLines.{joined-append, lines_of-first_lines, lines_of-after_lines}
-use Rattle.seg_core.proofs.LinesOf.{joined-lines_of}
-use Rattle.split_core.specs.Chunks.{IsInChunk, IsInPiece, before_chunk, begun_before, chunk_at, chunk_start, chunks_in, chunks_of, ended, in_the_end, is_as_said, lines_before, pieces_in, size_by}
-use Rattle.split_core.specs.ChunkWork.{chunk_work, files_by, way_work}
-use Rattle.split_core.specs.Split.{Filing, are_named, manner_of, share}
-use Rattle.split_core.proofs.AgreedLemmas.{each_named, shared_bytes}
-use Rattle.split_core.proofs.RoundLemmas.{named_fewer}
-use Rattle.split_core.specs.Parts.{dealt, round_robin, unless_empty}
-use Rattle.split_core.specs.inner.Dealt.{EachSome}
-use Rattle.split_core.specs.laws.BegunLaws.{begun_long, lines_all, lines_more}
-use Rattle.split_core.specs.laws.ChunkLaws.{chunk_none, cut_all, ended_within, joined_chunks, start_first, start_grows, start_last, start_next, start_within, rest_none, take_within}
-use Rattle.split_core.specs.laws.DealLaws.{each_line}
 
 -- Chunks of a whole text
 

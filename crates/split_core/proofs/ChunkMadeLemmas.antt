@@ -1,58 +1,29 @@
 -- Which files of chunks there are once some bytes came in, and when the output of one chunk is complete.
-use Rattle.std.proofs.Common.{◌≡◌, ℕ, ◌+◌, ◌-◌, ◌*◌, ◌<◌, ◌≤◌, max, zero, suc, Bool, true, false, List, [], ◌∷◌, ◌++◌, length, take, drop, map, get_or, replicate, Option, Some, None, ◌⊎◌, inl, inr, refl, sym, ◌∙◌, ap, arith}
-use Rattle.std.proofs.Math.Seq.{get_or-append_seam, take-append_seam}
-use Rattle.std.proofs.lemmas.Bool.{cases_lt, cond_both, eq-eqb, eqb-true, false≢true, leb-true, le-leb, ne_eqb}
-use Rattle.std.proofs.lemmas.List.{append-nil, drop-append-le, length-append, length-map, length-replicate, map-append, take-take}
-use Rattle.std.proofs.lemmas.List.Elements.{filter-append}
-use Rattle.std.proofs.lemmas.List.FromFn.{length-map-range_with_len}
-use Rattle.std.specs.List.{filter, range_with_len}
-use Rattle.seg_core.specs.Line.{joined}
-use Rattle.seg_core.specs.declared.cut.Chunks.{Chunks}
-use Rattle.seg_core.specs.declared.unit.Unit.{Unit as Which}
-use Rattle.seg_core.specs.declared.unit.Unit.TheVariants.{Bytes, Lines}
-use Rattle.ports_core.specs.Agreed.{file_bytes}
-use Rattle.ports_core.specs.Draft.{files_from, file_at, part_of}
-use Rattle.ports_core.specs.Part.{File, Part}
-use Rattle.ports_core.specs.declared.slot.State.TheVariants.{Open, Closed}
-use Rattle.ports_core.specs.declared.verdict.Verdict.TheVariants.{Changed}
-use Rattle.ports_core.proofs.AgreedLemmas.{copies_come}
-use Rattle.ports_core.proofs.ShareLemmas.{closed_files, one_on}
-use Rattle.split_core.specs.Parts.{CutUp, unless_empty}
-use Rattle.split_core.specs.Split.{Filing, Share, are_named, has_bytes, manner_of, share}
-use Rattle.split_core.specs.Chunks.{before_chunk, begun_before, chunk_at, chunk_start, chunks_of, chunks_within, decided, ended, has_ended, in_the_end, is_longer, open_from, pieces_in}
-use Rattle.split_core.specs.ChunkAgreed.{AreMade, CanFollow, TwoDiffer}
-use Rattle.split_core.specs.ChunkWork.{ChunksPlan, chunk_work, chunks_settled, chunks_whole, chunks_work, files_by, kept}
-use Rattle.split_core.specs.laws.BegunLaws.{begun_first, begun_on, begun_within, open_within}
-use Rattle.split_core.specs.laws.ChunkLaws.{all_joined, before_stays, chunks_are, ended_all, ended_is, has_ended_before, no_more, passed_open, rest_none, start_by_size, start_grows}
-use Rattle.split_core.specs.laws.ChunkWorkLaws.{chunk_lawful, first_kept}
-use Rattle.split_core.proofs.ChunkAgreedLemmas.{chunks_left, far, few_decided, files_split, joined_files, none_before_first, none_kept, said_split, settled_files, whole_files}
-use Rattle.split_core.proofs.ChunkLemmas.{bytes_filed, same_pieces}
-use Rattle.split_core.proofs.RoundLemmas.{named_at}
-
--- A text that goes on with a byte
-
-front_of : (unit : Which) (delim place byte : ℕ) (y : List ℕ) → 0 < place
-    → (more : List ℕ) × (begun_before unit delim place (byte ∷ y) ≡ byte ∷ more)
-front_of Bytes delim zero byte y some = absurd (omega (arith, some))
-front_of Bytes delim (suc place) byte y some = (take place y, refl)
-front_of Lines delim place byte y some = (_, begun_first delim byte place y some)
-
--- it goes with the chunk that is begun
-next_is : (chunks : Chunks) (size : ℕ) (x y : List ℕ) (byte p : ℕ)
-    → before_chunk chunks size p (x ++ byte ∷ y) ≡ before_chunk chunks size p x
-    → open_from chunks.unit chunks.delim x < chunk_start chunks.count size (p + 1)
-    → (more : List ℕ) × (chunk_at chunks size (x ++ byte ∷ y) p
-    ≡ drop (length (before_chunk chunks size p x)) x ++ byte ∷ more)
-next_is chunks size x y byte p same past =
-    let end = chunk_start chunks.count size (p + 1) in
-    let before = length (before_chunk chunks size p x) in
-    let (more, is) = front_of chunks.unit chunks.delim (max (end - length x) 1) byte y (omega arith) in (
-      more,
-      ap (λ low. drop (length low) (before_chunk chunks size (p + 1) (x ++ byte ∷ y))) same
-          ∙ ap (drop before) (begun_on chunks.unit chunks.delim end x (byte ∷ y) past)
-          ∙ drop-append-le before x _ (begun_within chunks.unit chunks.delim _ x)
-          ∙ ap (λ more. drop before x ++ more) is,
-    )
+use Rattle.std.proofs.{
+  Common.{◌≡◌, ℕ, ◌+◌, ◌-◌, ◌*◌, ◌<◌, ◌≤◌, zero, suc, Bool, true, false, List, [], ◌∷◌, ◌++◌, length, take, drop, map, get_or, Option, Some, None, ◌⊎◌, inl, inr, refl, sym, ◌∙◌, ap, arith},
+  Math.Seq.{get_or-append_seam, take-append_seam},
+  lemmas.Bool.{cases_lt, cond_both, eq-eqb, eqb-true, false≢true, leb-true, le-leb, ne_eqb},
+  lemmas.List.{append-nil, length-append, length-map, map-append, take-take, Elements.filter-append, FromFn.length-map-range_with_len},
+}
+use Rattle.std.specs.List.{filter}
+use Rattle.seg_core.specs.{Line.joined, declared.cut.Chunks.Chunks}
+use Rattle.ports_core.{
+  specs.{Agreed.file_bytes, Draft.{files_from, file_at, part_of}, Part.{File, Part}, declared.{slot.State.TheVariants.{Open, Closed}, verdict.Verdict.TheVariants.Changed}},
+  proofs.{AgreedLemmas.copies_come, ShareLemmas.{closed_files, one_on}},
+}
+use Rattle.split_core.specs.{
+  Parts.{CutUp, unless_empty},
+  Split.{Filing, Share, are_named, has_bytes, manner_of, share},
+  Chunks.{chunk_at, chunks_of, chunks_within, decided, ended, has_ended, in_the_end, is_longer, pieces_in},
+  ChunkAgreed.{AreMade, CanFollow, TwoDiffer},
+  ChunkWork.{ChunksPlan, chunk_work, chunks_settled, chunks_whole, chunks_work, files_by, kept},
+  laws.{ChunkLaws.{all_joined, chunks_are, ended_all, ended_is, has_ended_before, no_more, rest_none, start_grows}, ChunkWorkLaws.chunk_lawful},
+}
+use Rattle.split_core.proofs.{
+  ChunkAgreedLemmas.{TailFiles, chunks_left, far_on, few_decided, fill, fills, none_files, said_filled, joined_files, none_kept, said_split, settled_files, whole_files},
+  ChunkLemmas.{bytes_filed, same_pieces},
+  RoundLemmas.named_at,
+}
 
 -- In one continuation the files are those that have ended, then one that goes on with this byte, and later ones.
 record GoesOnWith (elide : Bool) (chunks : Chunks) (said : Option ℕ) (x r : List ℕ) (byte : ℕ) : Type 0 where
@@ -63,88 +34,32 @@ record GoesOnWith (elide : Bool) (chunks : Chunks) (said : Option ℕ) (x r : Li
   files : files_by elide (in_the_end chunks said (x ++ y))
       ≡ kept elide (decided chunks 1 said x).full ++ (r ++ byte ∷ more) ∷ later
 
-some_after : (r : List ℕ) (byte : ℕ) (more : List ℕ) → has_bytes (r ++ byte ∷ more) ≡ true
-some_after [] byte more = refl
-some_after (one ∷ r) byte more = refl
-
-first_has : (elide : Bool) (r : List ℕ) (byte : ℕ) (more : List ℕ) {piece : List ℕ} (later : List (List ℕ))
-    → piece ≡ r ++ byte ∷ more → kept elide (piece ∷ later) ≡ (r ++ byte ∷ more) ∷ kept elide later
-first_has elide r byte more later is = rw is (first_kept elide (r ++ byte ∷ more) later (some_after r byte more))
-
 said_goes_on : (elide : Bool) (chunks : Chunks) (size : ℕ) (x : List ℕ) (byte : ℕ) → 0 < chunks.count
     → length x < size → byte < 256 → GoesOnWith elide chunks (Some size) x (chunks_of chunks size x).rest byte
-said_goes_on elide chunks size x byte some short small = record {
-  y = byte ∷ replicate k byte;
-  comes = (copies_come (suc k) byte small, eq-eqb _ _ long);
-  more = next.0;
-  later = kept elide (map f (range_with_len (p + 1) left.0));
-  files = said_split elide chunks size x (byte ∷ replicate k byte) left.0 some short long left.1
-      ∙ ap (λ tail. kept elide (chunks_of chunks size x).full ++ tail)
-      (first_has elide (chunks_of chunks size x).rest byte next.0 (map f (range_with_len (p + 1) left.0)) (next.1
-      ∙ ap (λ (cut : CutUp). cut.rest ++ byte ∷ next.0) (sym (chunks_are chunks size x some (omega (arith, short))
-      (ended_is chunks size x)))));
-} where
-  k : ℕ
-  k = size - length x - 1
-
-  p : ℕ
-  p = ended chunks size x
-
-  long : length (x ++ byte ∷ replicate k byte) ≡ size
-  long = omega (arith, length-append x (byte ∷ replicate k byte), length-replicate k byte, short)
-
-  left : (m : ℕ) × (p + suc m ≡ chunks.count)
-  left = chunks_left chunks size x some short
-
-  f : ℕ → List ℕ
-  f = chunk_at chunks size (x ++ byte ∷ replicate k byte)
-
-  next : (more : List ℕ) × (f p ≡ drop (length (before_chunk chunks size p x)) x ++ byte ∷ more)
-  next = next_is chunks size x (replicate k byte) byte p
-      (before_stays chunks size p x (byte ∷ replicate k byte) (omega (arith, long)) (ended_is chunks size x).before)
-      (omega (
-        arith,
-        (ended_is chunks size x).next (omega (arith, left.1)),
-        passed_open chunks size x short,
-      ))
+said_goes_on elide chunks size x byte some short small = by (said_filled elide chunks size x byte some short) where
+  by : TailFiles elide chunks size x byte (fill size x byte) (kept elide (chunks_of chunks size x).full)
+      (chunks_of chunks size x).rest → GoesOnWith elide chunks (Some size) x (chunks_of chunks size x).rest byte
+  by ([], none, files) = absurd none
+  by (piece ∷ later, ((more, is, run), runs), files) = record {
+    y = byte ∷ fill size x byte;
+    comes = (copies_come (suc (size - length x - 1)) byte small, eq-eqb _ _ (fills size x byte short));
+    more = more;
+    later = later;
+    files = rw is at files;
+  }
 
 none_goes_on : (elide : Bool) (chunks : Chunks) (x : List ℕ) (byte : ℕ) → 0 < chunks.count → byte < 256
     → GoesOnWith elide chunks None x x byte
-none_goes_on elide chunks x byte some small = by chunks.count refl where
-  k : ℕ
-  k = suc (length x) * chunks.count
-
-  w : List ℕ
-  w = x ++ byte ∷ replicate k byte
-
-  long : length w ≡ length x + suc k
-  long = length-append x (byte ∷ replicate k byte) ∙ ap (λ n. length x + suc n) (length-replicate k byte)
-
-  past : open_from chunks.unit chunks.delim x < chunk_start chunks.count (length w) (0 + 1)
-  past = omega (
-    arith,
-    open_within chunks.unit chunks.delim x,
-    far chunks.count (length x) some,
-    start_by_size chunks.count (length x + k) (length w) (0 + 1) some (omega (arith, some)) (omega (arith, long)),
-  )
-
-  f : ℕ → List ℕ
-  f = chunk_at chunks (length w) w
-
-  next : (more : List ℕ) × (f 0 ≡ x ++ byte ∷ more)
-  next = rw (none_before_first chunks (length w) x) at (next_is chunks (length w) x (replicate k byte) byte 0
-      (none_before_first chunks (length w) w ∙ sym (none_before_first chunks (length w) x)) past)
-
-  by : (n : ℕ) → chunks.count ≡ n → GoesOnWith elide chunks None x x byte
-  by zero is = absurd (omega (arith, some, is))
-  by (suc m) is = record {
-    y = byte ∷ replicate k byte;
-    comes = (copies_come (suc k) byte small, refl);
-    more = next.0;
-    later = kept elide (map f (range_with_len (0 + 1) m));
-    files = files_split elide chunks (length w) w 0 m some refl (omega (arith, is))
-        ∙ ap (λ tail. kept elide [] ++ tail)
-        (first_has elide x byte next.0 (map f (range_with_len (0 + 1) m)) next.1);
+none_goes_on elide chunks x byte some small = by (none_files elide chunks x byte some) where
+  by : TailFiles elide chunks (length (x ++ byte ∷ far_on chunks x byte)) x byte (far_on chunks x byte) [] x
+      → GoesOnWith elide chunks None x x byte
+  by ([], none, files) = absurd none
+  by (piece ∷ later, ((more, is, run), runs), files) = record {
+    y = byte ∷ far_on chunks x byte;
+    comes = (copies_come (suc (suc (length x) * chunks.count)) byte small, refl);
+    more = more;
+    later = later;
+    files = rw is at files ∙ ap (λ front. front ++ (x ++ byte ∷ more) ∷ later) (sym (none_kept elide));
   }
 
 heads_differ : (r more other : List ℕ) → r ++ 0 ∷ more ≡ r ++ 1 ∷ other → ⊥

@@ -1,28 +1,21 @@
 -- Chunks of an input, as a stage.
-use Rattle.std.proofs.lemmas.Bool.{cases_lt, eq-eqb, false≢true, le-leb, le-ltb, lt-ltb, ltb-true}
-use Rattle.std.proofs.lemmas.List.{append-nil, drop_all, take_at, take-append-drop, take-take, length-append, length-drop, length-take}
-use Rattle.std.proofs.Common.{◌≡◌, ℕ, ◌+◌, ◌-◌, ◌<◌, ◌≤◌, min, Bool, true, false, eqb, nat_lt, List, [], ◌++◌, ◌⊎◌, length, take, drop, Option, Some, None, inl, inr, refl, sym, ◌∙◌, ap, subst, arith, append_assoc}
-use Rattle.std.proofs.lemmas.Bool.Decides.{eqb_tells}
-use Rattle.ports_core.specs.FileWriter.{IsWrite}
-use Rattle.ports_core.specs.Part.{Begins}
-use Rattle.ports_core.specs.Slot.{Slot}
-use Rattle.ports_core.specs.Work.{IsLawful, IsNeeded, IsSettled, IsSpare, Judges, Work}
-use Rattle.ports_core.specs.declared.fault.Fault.{Fault}
-use Rattle.ports_core.specs.declared.verdict.Verdict.TheVariants.{Changed}
-use Rattle.ports_core.proofs.PartLemmas.{part_begins_itself}
+use Rattle.std.proofs.{
+  lemmas.{Bool.{cases_lt, eq-eqb, false≢true, le-leb, le-ltb, lt-ltb, ltb-true, Decides.eqb_tells}, List.{append-nil, drop_all, take_at, take-append-drop, length-append, length-drop, length-take}},
+  Common.{◌≡◌, ℕ, ◌+◌, ◌-◌, ◌<◌, ◌≤◌, min, Bool, true, false, eqb, nat_lt, List, [], ◌++◌, ◌⊎◌, length, take, drop, Option, Some, None, Ok, Err, inl, inr, refl, sym, ◌∙◌, ap, subst, arith, append_assoc},
+}
+use Rattle.ports_core.{
+  specs.{FileWriter.IsWrite, Part.Begins, Slot.Slot, Work.{IsLawful, IsNeeded, IsSpare, Work}, declared.{fault.Fault.{Fault, TheVariants.Verdict}, verdict.Verdict.TheVariants.Changed}},
+  proofs.PartLemmas.part_begins_itself,
+}
 use Rattle.seg_core.specs.declared.cut.Chunks.{Chunks}
-use Rattle.split_core.specs.Chunks.{chunks_of, chunks_within, ended, has_ended}
-use Rattle.split_core.specs.ChunkerState.{AimState, ChunkerState, Course, CutterState, Holds, HoldsBy, IsSaid, TargetState, can_cut, course, course_of, in_files, in_output, to_files, to_output, work_on, total}
-use Rattle.split_core.specs.inner.Chunker.{Changes, Comes, Ends, IsLike, Passes, TakesAs, made}
-use Rattle.split_core.specs.inner.Cutter.{Cuts, CutsAs, IsCut, part_so, said_work}
-use Rattle.split_core.specs.inner.Seen.{is_each_on, is_past_at, is_past_on}
-use Rattle.split_core.specs.inner.Sends.{Ends as TargetEnds, part_on, whole_on}
-use Rattle.split_core.specs.Parts.{CutUp}
-use Rattle.split_core.specs.laws.ChunkLaws.{ended_after, has_ended_before, passed_full, start_within}
-use Rattle.split_core.specs.laws.ChunkWorkLaws.{longer_differs}
-use Rattle.split_core.proofs.CutterLemmas.{cut_of, placed_at}
-use Rattle.split_core.proofs.TargetLemmas.{brings_as, brings_wider}
-use Rattle.split_core.specs.laws.WorkLaws.{work_lawful}
+use Rattle.split_core.specs.{
+  Chunks.{chunks_of, chunks_within, ended, has_ended},
+  ChunkerState.{AimState, ChunkerState, Course, CutterState, Holds, HoldsBy, IsAimed, IsSaid, TargetState, can_cut, course, course_of, in_files, in_output, to_files, to_output, work_on, total},
+  inner.{Chunker.{Comes, EndsAs, IsLike, PassesAs, made}, Cutter.{Cuts, CutsAs, IsCut, part_so, said_work}, Seen.{is_each_on, is_past_at, is_past_on}, Sends.{Ends as TargetEnds, part_on, whole_on}},
+  Parts.CutUp,
+  laws.{ChunkLaws.{ended_after, has_ended_before, passed_full, start_within}, ChunkWorkLaws.longer_differs, WorkLaws.work_lawful},
+}
+use Rattle.split_core.proofs.{ChunkerWays.{ends_at, ends_changed, passes_at, passes_changed}, CutterLemmas.{cut_of, placed_at}, TargetLemmas.{brings_as, brings_wider}}
 
 -- What is made
 
@@ -31,7 +24,7 @@ settled_is : (on : Course) (chunks : Chunks) (size : ℕ) (x : List ℕ)
 settled_is (in_files filing elide) chunks size x = refl
 settled_is (in_output chunk) chunks size x = refl
 
-whole_is : (on : Course) (chunks : Chunks) (size : ℕ) (x : List ℕ)
+pub whole_is : (on : Course) (chunks : Chunks) (size : ℕ) (x : List ℕ)
     → (work_on on chunks (Some size)).whole x ≡ whole_on on (chunks_of chunks size x)
 whole_is (in_files filing elide) chunks size x = refl
 whole_is (in_output chunk) chunks size x = refl
@@ -83,10 +76,10 @@ part_is {chunker} {size} {x} has = let on = course chunker.cutter in let chunks 
 
 -- A piece
 
-module _ {chunker next : ChunkerState} {size : ℕ} {piece : List ℕ} {x : List ℕ} {past : ℕ} {told : Bool}
+module _ {chunker : ChunkerState} {next : CutterState} {size : ℕ} {piece : List ℕ} {x : List ℕ} {past : ℕ} {told : Bool}
     {old new : List Slot}
-    (takes : TakesAs told chunker size piece old new next past)
-    (ok : (past ≡ 0) ⊎ (is_each_on next.cutter.target.aim ≡ false)) (has : IsSaid chunker size x) where
+    (takes : CutsAs told chunker.cutter size piece old new next past)
+    (ok : (past ≡ 0) ⊎ (is_each_on next.target.aim ≡ false)) (has : IsSaid chunker size x) where
   abbrev done : List ℕ
   done = take (length piece - past) piece
 
@@ -115,11 +108,11 @@ module _ {chunker next : ChunkerState} {size : ℕ} {piece : List ℕ} {x : List
         ∙ ap (λ used. used ++ (has.spare.rest ++ over)) (sym (append-nil has.spare.used) ∙ ap (λ done. has.spare.used ++ done) (sym none))
   ]
 
-  next_cut : IsCut next.cutter size (has.spare.used ++ done)
+  next_cut : IsCut next size (has.spare.used ++ done)
   next_cut = takes.cuts.stands has.spare.used (cut_is has) fits_done
 
-  next_work : (said_work next.cutter size) ≡ (said_work chunker.cutter size)
-  next_work = ap (λ on. work_on on next.cutter.chunks (Some size)) takes.cuts.brings.stays ∙ ap (λ chunks. work_on (course chunker.cutter) chunks (Some size)) takes.cuts.chunks
+  next_work : (said_work next size) ≡ (said_work chunker.cutter size)
+  next_work = ap (λ on. work_on on next.chunks (Some size)) takes.cuts.brings.stays ∙ ap (λ chunks. work_on (course chunker.cutter) chunks (Some size)) takes.cuts.chunks
 
   needed_so : IsNeeded (said_work chunker.cutter size).is_complete 1 (has.spare.used ++ done)
   needed_so = elim takes.needed [
@@ -137,7 +130,7 @@ module _ {chunker next : ChunkerState} {size : ℕ} {piece : List ℕ} {x : List
       | inr full ↦ elim ok [
         | inl none ↦ zero_past none
         | inr one ↦ inr (sym (ap (λ (work : Work). work.is_complete (has.spare.used ++ done)) next_work)
-            ∙ full_at (course next.cutter) next.cutter.chunks size next.cutter.target.aim (has.spare.used ++ done) next_cut.cut.can one (omega (arith, full, next_cut.cut.at)))
+            ∙ full_at (course next) next.chunks size next.target.aim (has.spare.used ++ done) next_cut.cut.can one (omega (arith, full, next_cut.cut.at)))
       ]
     ]
   ] where
@@ -159,7 +152,7 @@ module _ {chunker next : ChunkerState} {size : ℕ} {piece : List ℕ} {x : List
     enough = enough_so;
   }
 
-  pub said_on : (after : ℕ) → after ≡ chunker.spare + past → IsSaid (record next { spare = after }) size (x ++ piece)
+  pub said_on : (after : ℕ) → after ≡ chunker.spare + past → IsSaid (record chunker { cutter = next; spare = after }) size (x ++ piece)
   said_on after is = record {
     spare = record {
       used = has.spare.used ++ done;
@@ -171,7 +164,7 @@ module _ {chunker next : ChunkerState} {size : ℕ} {piece : List ℕ} {x : List
     };
     within = fits_done;
     cut = next_cut.cut;
-    waits = takes.waiting ∙ has.waits;
+    waits = has.waits;
   }
 
   pub part_on_said : part_so chunker.cutter size (has.spare.used ++ done)
@@ -228,30 +221,24 @@ module _ (chunker : ChunkerState) {size : ℕ} (said : chunker.said ≡ Some siz
       ] in
       rw (here, ← made_is chunker said) there
 
-module _ {chunker next : ChunkerState} {size : ℕ} (piece : List ℕ) {told : Bool} {old new : List Slot}
-    (said : chunker.said ≡ Some size) (same : next.said ≡ chunker.said)
+module _ {chunker : ChunkerState} {next : CutterState} {size : ℕ} (piece : List ℕ) {told : Bool} {old new : List Slot}
+    (said : chunker.said ≡ Some size)
     (can : can_cut (course chunker.cutter) chunker.cutter.chunks.count ≡ true) where
   pub passes_said : {past : ℕ} (after : ℕ) → after ≡ chunker.spare + past
-      → TakesAs told chunker size piece old new next past → (past ≡ 0) ⊎ (is_each_on next.cutter.target.aim ≡ false)
-      → Passes told chunker piece old new (record next { spare = after }) None
-  passes_said {past} after is takes ok = record {
-    same = record { can = can; said = same; chunks = takes.cuts.chunks };
-    bound = omega (arith, is, takes.at, takes.few, ap length takes.waiting);
-    comes = brings_as (λ x. take chunker.cutter.at x) None (λ x holds. cut_has chunker said can x (take (length piece - past) piece) holds (omega (arith, takes.fits (omega (arith, (is_said said holds).within, (is_said said holds).cut.at)), length-take (length piece - past) piece, takes.few)))
-        (low_is chunker said can) (λ x holds. let has = is_said said holds in ap (λ used. part_so chunker.cutter size (used ++ take (length piece - past) piece)) (used_is has) ∙ part_on_said takes ok has ∙ ap (λ (work : Work). work.settled (x ++ piece)) (made_is chunker said)) takes.cuts.brings;
-    stands = λ x holds. said_is (same ∙ said) (said_on takes ok (is_said said holds) after is);
-  }
+      → CutsAs told chunker.cutter size piece old new next past → (past ≡ 0) ⊎ (is_each_on next.target.aim ≡ false)
+      → PassesAs told chunker piece old new (record chunker { cutter = next; spare = after }) (Ok tt)
+  passes_said {past} after is takes ok = passes_at (Ok tt) (record { can = can; said = refl; chunks = takes.cuts.chunks }) (omega (arith, is, takes.at, takes.few))
+      (brings_as (λ x. take chunker.cutter.at x) None (λ x holds. cut_has chunker said can x (take (length piece - past) piece) holds (omega (arith, takes.fits (omega (arith, (is_said said holds).within, (is_said said holds).cut.at)), length-take (length piece - past) piece, takes.few)))
+      (low_is chunker said can) (λ x holds. let has = is_said said holds in ap (λ used. part_so chunker.cutter size (used ++ take (length piece - past) piece)) (used_is has) ∙ part_on_said takes ok has ∙ ap (λ (work : Work). work.settled (x ++ piece)) (made_is chunker said)) takes.cuts.brings)
+      (λ x holds. said_is said (said_on takes ok (is_said said holds) after is))
 
-  pub passes_not : {why : Fault} → next.waiting ≡ chunker.waiting → next.spare ≡ chunker.spare
-      → Cuts told chunker.cutter size (take (min (length piece) (size - chunker.cutter.at)) piece) old new next.cutter
-      (Some why) → Passes told chunker piece old new next (Some why)
-  passes_not {why} waits spare cuts = let n = min (length piece) (size - chunker.cutter.at) in
-      let fits : (x : List ℕ) → Holds chunker x → chunker.cutter.at + length (take n piece) ≤ size = λ x holds. let has = is_said said holds in omega (arith, length-take n piece, has.within, has.cut.at) in record {
-        same = record { can = can; said = same; chunks = cuts.chunks };
-        bound = omega (arith, ap length waits, spare, cuts.bound, length-take n piece);
-        comes = brings_wider (λ x holds. to_all chunker said can piece (take n piece) (drop n piece) (sym (take-append-drop n piece)) x holds (fits x holds)) (brings_as (λ x. take chunker.cutter.at x) (Some why) (λ x holds. cut_has chunker said can x (take n piece) holds (fits x holds)) (low_is chunker said can) (λ x holds. refl) cuts.brings);
-        stands = tt;
-      }
+  pub passes_not : {why : Fault}
+      → Cuts told chunker.cutter size (take (min (length piece) (size - chunker.cutter.at)) piece) old new next
+      (Some why) → PassesAs told chunker piece old new (record chunker { cutter = next }) (Err why)
+  passes_not {why} cuts = let n = min (length piece) (size - chunker.cutter.at) in
+      let fits : (x : List ℕ) → Holds chunker x → chunker.cutter.at + length (take n piece) ≤ size = λ x holds. let has = is_said said holds in omega (arith, length-take n piece, has.within, has.cut.at) in
+      passes_at (Err why) (record { can = can; said = refl; chunks = cuts.chunks }) (omega (arith, cuts.bound, length-take n piece))
+      (brings_wider (λ x holds. to_all chunker said can piece (take n piece) (drop n piece) (sym (take-append-drop n piece)) x holds (fits x holds)) (brings_as (λ x. take chunker.cutter.at x) (Some why) (λ x holds. cut_has chunker said can x (take n piece) holds (fits x holds)) (low_is chunker said can) (λ x holds. refl) cuts.brings)) tt
 
 -- the input has more than it said
 each_course : (aim : AimState) (chunks : Chunks) (size : ℕ) → is_each_on aim ≡ true → (x : List ℕ)
@@ -274,16 +261,17 @@ never_past : (aim : AimState) (place : ℕ) → is_each_on aim ≡ true → is_p
 never_past (to_files writer elide) place each = refl
 never_past (to_output chunk) place each = absurd (false≢true each)
 
-module _ {chunker next : ChunkerState} {size : ℕ} (piece : List ℕ) {past : ℕ} {told : Bool} {old new : List Slot}
-    (said : chunker.said ≡ Some size) (same : next.said ≡ chunker.said)
+module _ (chunker : ChunkerState) {next : CutterState} {size : ℕ} (piece : List ℕ) {past : ℕ} {told : Bool}
+    {old new : List Slot}
+    (said : chunker.said ≡ Some size)
     (can : can_cut (course chunker.cutter) chunker.cutter.chunks.count ≡ true)
-    (takes : TakesAs told chunker size piece old new next past) (some : 0 < past)
-    (each : is_each_on next.cutter.target.aim ≡ true) where
+    (takes : CutsAs told chunker.cutter size piece old new next past) (some : 0 < past)
+    (each : is_each_on next.target.aim ≡ true) where
   abbrev cut_off : List ℕ
   cut_off = take (length piece - past) piece
 
   this : is_each_on chunker.cutter.target.aim ≡ true
-  this = sym (each_same chunker.cutter.target.aim next.cutter.target.aim takes.cuts.brings.stays) ∙ each
+  this = sym (each_same chunker.cutter.target.aim next.target.aim takes.cuts.brings.stays) ∙ each
 
   all_used : (x : List ℕ) (has : IsSaid chunker size x) → has.spare.rest ≡ []
   all_used x has = elim has.spare.enough [
@@ -291,11 +279,11 @@ module _ {chunker next : ChunkerState} {size : ℕ} (piece : List ℕ) {past : �
     | inr complete ↦ absurd (omega (arith, has.within, ltb-true _ _ (sym (each_course chunker.cutter.target.aim chunker.cutter.chunks size this has.spare.used) ∙ complete)))
   ]
 
-  full : size ≤ next.cutter.at
+  full : size ≤ next.at
   full = elim takes.enough [
     | inl none ↦ absurd (omega (arith, none, some))
     | inr later ↦ elim later [
-      | inl closed ↦ absurd (false≢true (sym (never_past next.cutter.target.aim next.cutter.target.place each) ∙ closed))
+      | inl closed ↦ absurd (false≢true (sym (never_past next.target.aim next.target.place each) ∙ closed))
       | inr enough ↦ enough
     ]
   ]
@@ -314,53 +302,16 @@ module _ {chunker next : ChunkerState} {size : ℕ} (piece : List ℕ) {past : �
   longer_so : (x : List ℕ) (has : IsSaid chunker size x) → size < length (x ++ piece)
   longer_so x has = omega (arith, ap length (all_so x has), length-append (has.spare.used ++ cut_off) (drop (length piece - past) piece), size_is x has, length-drop (length piece - past) piece, takes.few, some)
 
-  pub changed_more : (total next ≤ total chunker + length piece)
-      × Changes told chunker (λ x. (made chunker).settled (x ++ piece))
-      (λ x. IsSettled (made chunker) (x ++ piece) Changed) old new next
-  changed_more = (
-    omega (arith, takes.at, takes.few, takes.spare, ap length takes.waiting),
-    record {
-      same = record { can = can; said = same; chunks = takes.cuts.chunks };
-      all = brings_as (λ x. take chunker.cutter.at x) None (λ x holds. cut_has chunker said can x cut_off holds (omega (arith, takes.fits (omega (arith, (is_said said holds).within, (is_said said holds).cut.at)), length-take (length piece - past) piece, takes.few)))
-          (low_is chunker said can) (λ x holds. let has = is_said said holds in
-          ap (λ used. part_so chunker.cutter size (used ++ cut_off)) (used_is has) ∙ ap (λ z. part_on (course chunker.cutter) (chunks_within chunker.cutter.chunks size z)) (sym (taken x has)) ∙ sym (settled_is (course chunker.cutter) chunker.cutter.chunks size (x ++ piece))
-          ∙ ap (λ (work : Work). work.settled (x ++ piece)) (made_is chunker said)) takes.cuts.brings;
-      judged = λ x holds. let has = is_said said holds in let longer : size < length (x ++ piece) = longer_so x has in rw (← made_is chunker said) (
+  pub changed_more : PassesAs told chunker piece old new (record chunker { cutter = next }) (Err (Verdict Changed))
+  changed_more = passes_changed (record { can = can; said = refl; chunks = takes.cuts.chunks }) (omega (arith, takes.at, takes.few))
+      (brings_as (λ x. take chunker.cutter.at x) None (λ x holds. cut_has chunker said can x cut_off holds (omega (arith, takes.fits (omega (arith, (is_said said holds).within, (is_said said holds).cut.at)), length-take (length piece - past) piece, takes.few)))
+      (low_is chunker said can) (λ x holds. let has = is_said said holds in
+      ap (λ used. part_so chunker.cutter size (used ++ cut_off)) (used_is has) ∙ ap (λ z. part_on (course chunker.cutter) (chunks_within chunker.cutter.chunks size z)) (sym (taken x has)) ∙ sym (settled_is (course chunker.cutter) chunker.cutter.chunks size (x ++ piece))
+      ∙ ap (λ (work : Work). work.settled (x ++ piece)) (made_is chunker said)) takes.cuts.brings)
+      (λ x holds. let has = is_said said holds in let longer : size < length (x ++ piece) = longer_so x has in rw (← made_is chunker said) (
         each_course chunker.cutter.target.aim chunker.cutter.chunks size this (x ++ piece) ∙ lt-ltb _ _ longer,
         each_judges chunker.cutter.target.aim chunker.cutter.chunks size this (x ++ piece) (longer_differs size (x ++ piece) longer),
-      );
-    },
-  )
-
--- What was cut off of a piece
-
-pub takes_as : {told : Bool} {chunker next : ChunkerState} {size : ℕ} (piece : List ℕ) (own left : ℕ)
-    {old new : List Slot} → own ≡ min (length piece) (size - chunker.cutter.at) → next.waiting ≡ chunker.waiting
-    → next.spare ≡ chunker.spare
-    → CutsAs told chunker.cutter size (take own piece) old new next.cutter left
-    → TakesAs told chunker size piece old new next (left + (length piece - own))
-takes_as {told} {chunker} {next} {size} piece own left {old} {new} is waiting spare cuts = let n = length piece - (left + (length piece - own)) in
-    let long : length (take own piece) ≡ own = omega (arith, length-take own piece, is) in
-    let e : take (length (take own piece) - left) (take own piece) ≡ take n piece = let m : length (take own piece) - left ≡ n = omega (arith, long, cuts.few, is) in ap (λ m. take m (take own piece)) m ∙ take-take n own piece (omega (arith, is)) in record {
-      waiting = waiting;
-      spare = spare;
-      few = omega (arith, cuts.few, long, is);
-      at = omega (arith, cuts.at, long, cuts.few, is);
-      cuts = rw e at cuts.cuts;
-      fits = λ fits. omega (arith, fits, is);
-      still = λ past. omega (arith, cuts.still past, long, is);
-      needed = elim cuts.needed [
-        | inl all ↦ inl (omega (arith, all, long, is))
-        | inr needed ↦ inr (λ x has. rw e at (needed x has (omega (arith, has.fits, has.cut.at, length-append x (take own piece), long, is))))
-      ];
-      enough = elim cuts.enough [
-        | inl none ↦ elim (cases_lt own (length piece)) [
-          | inl less ↦ inr (inr (omega (arith, cuts.at, long, none, is, less)))
-          | inr all ↦ inl (omega (arith, none, all))
-        ]
-        | inr past ↦ inr (inl past)
-      ];
-    }
+      ))
 
 -- The end of an input that said its length
 
@@ -376,17 +327,22 @@ complete_whole : (on : Course) (chunks : Chunks) (size : ℕ) (x : List ℕ) →
 complete_whole (in_files filing elide) chunks size x fits complete = absurd (omega (arith, fits, ltb-true _ _ complete))
 complete_whole (in_output chunk) chunks size x fits complete = λ cut. refl
 
+-- and it is the whole, whatever else comes
+pub complete_all : (on : Course) (chunks : Chunks) (size : ℕ) (used rest : List ℕ) → can_cut on chunks.count ≡ true
+    → length used ≤ size → (work_on on chunks (Some size)).is_complete used ≡ true
+    → whole_on on (chunks_within chunks size used) ≡ (work_on on chunks (Some size)).whole (used ++ rest)
+complete_all on chunks size used rest can fits complete = sym (complete_whole on chunks size used fits complete (chunks_within chunks size used))
+    ∙ ap (part_on on) (sym (cut_of chunks size used fits)) ∙ sym (settled_is on chunks size used)
+    ∙ sym ((work_lawful on chunks (Some size) can).stays used rest complete).whole_stays
+
 whole_said : {chunker : ChunkerState} {size : ℕ} {x : List ℕ} → IsSaid chunker size x
     → whole_on (course chunker.cutter) (chunks_within chunker.cutter.chunks size (take chunker.cutter.at x))
     ≡ (said_work chunker.cutter size).whole x
 whole_said {chunker} {size} {x} has =
     let on = course chunker.cutter in let chunks = chunker.cutter.chunks in let work = work_on on chunks (Some size) in let used = has.spare.used in
-    let here : whole_on on (chunks_within chunks size (take chunker.cutter.at x)) ≡ work.whole used =
-    ap (λ used. whole_on on (chunks_within chunks size used)) (used_is has) ∙ ap (whole_on on) (sym (cut_of chunks size used has.within)) ∙ sym (whole_is on chunks size used) in
-    elim has.spare.enough [
-      | inl none ↦ here ∙ ap work.whole (sym (has.spare.joined ∙ ap (λ rest. used ++ rest) none ∙ append-nil used))
-      | inr complete ↦ here ∙ whole_is on chunks size used ∙ sym (complete_whole on chunks size used has.within complete (chunks_of chunks size used)) ∙ sym (settled_is on chunks size used)
-          ∙ sym (ap work.whole has.spare.joined ∙ ((work_lawful on chunks (Some size) has.cut.can).stays used has.spare.rest complete).whole_stays)
+    ap (λ used. whole_on on (chunks_within chunks size used)) (used_is has) ∙ elim has.spare.enough [
+      | inl none ↦ ap (whole_on on) (sym (cut_of chunks size used has.within)) ∙ sym (whole_is on chunks size used) ∙ ap work.whole (sym (has.spare.joined ∙ ap (λ rest. used ++ rest) none ∙ append-nil used))
+      | inr complete ↦ complete_all on chunks size used has.spare.rest has.cut.can has.within complete ∙ ap work.whole (sym has.spare.joined)
     ]
 
 ends_well : (aim : AimState) (chunks : Chunks) (size : ℕ) (x : List ℕ) {n : ℕ}
@@ -421,38 +377,31 @@ module _ {chunker next : ChunkerState} {size : ℕ} {told : Bool} {old new : Lis
       (λ x holds. let has = is_said said holds in rw (← used_is has) at has.cut.carries)
       (low_is chunker said same.can) (λ x holds. whole_said (is_said said holds) ∙ ap (λ (work : Work). work.whole x) (made_is chunker said)) ends
 
-  pub said_stops : {why : Fault} → TargetEnds told chunker.cutter.target old new next.cutter.target (Some why)
-      → IsWrite why → Ends told chunker old new next (Some why)
-  said_stops {why} ends broke = record { same = same; bound = bound; comes = end_comes (Some why) ends; well = tt; only_write = λ some. broke }
+  pub said_stops : {why : Fault} → IsAimed chunker.cutter.target.aim old
+      → TargetEnds told chunker.cutter.target old new next.cutter.target (Some why) → IsWrite why
+      → EndsAs told chunker old new next (Err why)
+  said_stops {why} aimed ends broke = ends_at (Err why) aimed same bound (end_comes (Some why) ends) tt (λ some. broke)
 
-  pub said_ends : TargetEnds told chunker.cutter.target old new next.cutter.target None
-      → (is_past_on chunker.cutter.target ≡ true) ⊎ (size ≤ chunker.cutter.at) → Ends told chunker old new next None
-  said_ends ends full = record {
-    same = same;
-    bound = bound;
-    comes = end_comes None ends;
-    well = λ x holds. let has = is_said said holds in ap (λ (work : Work). work.verdict x) (sym (made_is chunker said))
-        ∙ ends_well chunker.cutter.target.aim chunker.cutter.chunks size x has.spare (work_lawful (course chunker.cutter) chunker.cutter.chunks (Some size) same.can) same.can has.within (elim full [
-          | inl past ↦ inl (sym (past_is (cut_is has)) ∙ past)
-          | inr all ↦ inr (omega (arith, all, has.cut.at))
-        ]);
-    only_write = λ some. tt;
-  }
+  pub said_ends : IsAimed chunker.cutter.target.aim old
+      → TargetEnds told chunker.cutter.target old new next.cutter.target None
+      → (is_past_on chunker.cutter.target ≡ true) ⊎ (size ≤ chunker.cutter.at)
+      → EndsAs told chunker old new next (Ok tt)
+  said_ends aimed ends full = ends_at (Ok tt) aimed same bound (end_comes None ends) (λ x holds. let has = is_said said holds in ap (λ (work : Work). work.verdict x) (sym (made_is chunker said))
+      ∙ ends_well chunker.cutter.target.aim chunker.cutter.chunks size x has.spare (work_lawful (course chunker.cutter) chunker.cutter.chunks (Some size) same.can) same.can has.within (elim full [
+        | inl past ↦ inl (sym (past_is (cut_is has)) ∙ past)
+        | inr all ↦ inr (omega (arith, all, has.cut.at))
+      ])) (λ some. tt)
 
   pub said_changed : TargetEnds told chunker.cutter.target old new next.cutter.target None
       → is_past_on chunker.cutter.target ≡ false → chunker.cutter.at < size
-      → Changes told chunker (made chunker).whole (λ x. Judges (made chunker) x Changed) old new next
-  said_changed ends going short = record {
-    same = same;
-    all = end_comes None ends;
-    judged = λ x holds. let has = is_said said holds in
-        let open_still = sym (past_is (cut_is has)) ∙ going in
-        let used : has.spare.used ≡ x = elim has.spare.enough [
-          | inl none ↦ sym (has.spare.joined ∙ ap (λ rest. has.spare.used ++ rest) none ∙ append-nil has.spare.used)
-          | inr complete ↦ absurd (false≢true (sym open_still ∙ complete))
-        ] in
-        rw (made_is chunker said) at (ends_badly chunker.cutter.target.aim chunker.cutter.chunks size x (omega (arith, short, has.cut.at, ap length used)) (ap (said_work chunker.cutter size).is_complete (sym used) ∙ open_still));
-  }
+      → EndsAs told chunker old new next (Err (Verdict Changed))
+  said_changed ends going short = ends_changed same bound (end_comes None ends) (λ x holds. let has = is_said said holds in
+      let open_still = sym (past_is (cut_is has)) ∙ going in
+      let used : has.spare.used ≡ x = elim has.spare.enough [
+        | inl none ↦ sym (has.spare.joined ∙ ap (λ rest. has.spare.used ++ rest) none ∙ append-nil has.spare.used)
+        | inr complete ↦ absurd (false≢true (sym open_still ∙ complete))
+      ] in
+      rw (made_is chunker said) at (ends_badly chunker.cutter.target.aim chunker.cutter.chunks size x (omega (arith, short, has.cut.at, ap length used)) (ap (said_work chunker.cutter size).is_complete (sym used) ∙ open_still)))
 
 past_so : (one two : AimState) (place : ℕ) → course_of two ≡ course_of one → is_past_at two place ≡ is_past_at one place
 past_so (to_files writer elide) (to_files other also) place same = refl

@@ -1,34 +1,32 @@
 -- Lemmas on chunks of an input, as one of the ways to split.
-use Rattle.std.specs.Option.{is_none}
-use Rattle.std.proofs.lemmas.Grind.{common_steps}
-use Rattle.std.proofs.Common.{◌≡◌, ℕ, ◌+◌, ◌≤◌, Bool, true, false, IsTrue, List, ◌++◌, length, Option, Some, None, Result, Ok, Err, inl, inr, refl, sym, ◌∙◌, ap, subst, arith, if◌then◌else◌}
-use Rattle.std.proofs.lemmas.Bool.{ltb-true}
-use Rattle.std.proofs.lemmas.Bool.Decides.{nat_tests}
-use Rattle.std.proofs.lemmas.List.{length-append}
-use Rattle.ports_core.specs.Engine.{EndsThere, EndsWith, IsMet, StandsAt, is_verdict}
-use Rattle.ports_core.specs.Engine as engine
-use Rattle.ports_core.specs.FileWriter.{Breaks, IsWrite}
-use Rattle.ports_core.specs.Part.{Part, gets_bytes, writes}
-use Rattle.ports_core.specs.Slot.{Slot, is_writable}
-use Rattle.ports_core.specs.Work.{IsSettled, IsSpare, Judges, Means, Needs, Work, on_output}
-use Rattle.ports_core.specs.declared.fault.Fault.{Fault}
-use Rattle.ports_core.specs.declared.fault.Fault.TheVariants.{Memory, Verdict, Write}
-use Rattle.ports_core.specs.declared.verdict.Verdict.{Verdict as Judgement}
-use Rattle.ports_core.specs.declared.verdict.Verdict.TheVariants.{Changed, Suffixes}
-use Rattle.ports_core.specs.inner.Part.{HasLines}
-use Rattle.ports_core.proofs.PartLemmas.{stopped_here, stopped_in_turn}
-use Rattle.ports_core.proofs.ShareLemmas.{has_told}
-use Rattle.ports_core.proofs.SpareLemmas.{all_used}
+use Rattle.std.{
+  specs.Option.is_none,
+  proofs.lemmas.{Grind.common_steps, Bool.{ltb-true, Decides.nat_tests}, List.length-append},
+  proofs.Common.{◌≡◌, ℕ, ◌+◌, ◌≤◌, Bool, true, false, IsTrue, List, ◌++◌, length, Option, Some, None, Result, Ok, Err, IfNone, IfSome, inl, inr, refl, sym, ◌∙◌, ap, subst, arith, if◌then◌else◌},
+}
+use Rattle.ports_core.specs.{
+  Engine.{IsMet, StandsAt},
+  FileWriter.{Breaks, IsWrite},
+  Part.{Part, gets_bytes, writes},
+  Slot.{Slot, is_writable},
+  Turn.fault_in,
+  Work.{IsSettled, IsSpare, Judges, Means, Needs, Work, on_output},
+  declared.{fault.Fault.{Fault, TheVariants.{Memory, Verdict, Write}}, verdict.Verdict.{Verdict as Judgement, TheVariants.{Changed, Suffixes}}},
+  inner.Part.HasLines,
+}
+use Rattle.ports_core.proofs.{PartLemmas.{stopped_here, stopped_in_turn}, ShareLemmas.has_told, SpareLemmas.all_used}
 use Rattle.seg_core.specs.declared.cut.Chunks.{Chunks}
-use Rattle.split_core.specs.ChunkerState.{AimState, ChunkerState, Course, Holds, HoldsBy, IsAimed, can_cut, course, course_of, first_on, to_files, to_output, in_files, in_output, made_if, total, work, work_on}
-use Rattle.split_core.specs.Chunks.{is_longer, undecided}
-use Rattle.split_core.specs.Split.{Filing, manner_of}
+use Rattle.split_core.specs.{
+  ChunkerState.{AimState, ChunkerState, Course, Holds, HoldsBy, IsAimed, can_cut, course, course_of, first_on, to_files, to_output, in_files, in_output, made_if, total, work, work_on},
+  Chunks.{is_longer, undecided},
+  Split.{Filing, manner_of},
+  inner.{Chunker.{Comes, EndsAs, IsLike, PassesAs, made}, Sends.{AtAim, IsOf, manner_on, output_on}},
+  laws.WorkLaws.lawful,
+}
+use Rattle.split_core.proofs.PartsLemmas.{met_files, told_writable, unjudged}
+use Rattle.ports_core.specs.Engine as engine
 use Rattle.split_core.specs.Ways as ways
 use Rattle.split_core.specs.declared.splitter.Splitter.TheVariants as way
-use Rattle.split_core.specs.inner.Chunker.{Changes, Comes, Ends, EndsAs, IsLike, LacksRoom, Passes, PassesAs, made}
-use Rattle.split_core.specs.inner.Sends.{AtAim, IsOf, manner_on, output_on}
-use Rattle.split_core.specs.laws.WorkLaws.{lawful}
-use Rattle.split_core.proofs.PartsLemmas.{met_files, told_writable, unjudged}
 
 -- What is made
 
@@ -127,79 +125,66 @@ module _ {told : Bool} {old : ChunkerState} (new : ChunkerState) {before after :
       (sym (works_so old can))
       (engine.judged refl after (comes.reaches x at.holds start (at_aim can at)).outputs (rw (clears_none (course old.cutter) old.cutter.chunks old.said) refl))
 
-module _ (told : Bool) (old new : ChunkerState) (piece : List ℕ) (before after : List Slot) where
-  abbrev Owed : Result (Unit {0}) Fault → Type 0
-  Owed result = engine.Passes ways.terms told piece (way.Chunks old) (way.Chunks new) before after (engine.IsMetWith ways.terms piece (way.Chunks old)) result
-
-  passes_well : Passes told old piece before after new None
-      → Owed (Ok tt)
-  passes_well passes = record {
-    same = same_work old new passes.same passes.comes.stays;
-    size = passes.bound;
-    holds = passes.stands;
-    outputs = went_out new (λ work x. work.settled (x ++ piece)) passes.same.can passes.comes;
-    ready = passes.comes.ready;
-    owns = passes.comes.owns;
+module _ {told : Bool} {old new : ChunkerState} {piece : List ℕ} {before after : List Slot} where
+  pub passes_at : (result : Result (Unit {0}) Fault) → IsLike old new → total new ≤ total old + length piece
+      → Comes told old (λ x. (made old).settled (x ++ piece)) before after new (fault_in result)
+      → IfNone (fault_in result) ((x : List ℕ) → Holds old x → Holds new (x ++ piece))
+      → PassesAs told old piece before after new result
+  passes_at (Ok done) same bound comes stands = record {
+    same = same_work old new same comes.stays;
+    size = bound;
+    holds = stands;
+    outputs = went_out new (λ work x. work.settled (x ++ piece)) same.can comes;
+    ready = comes.ready;
+    owns = comes.owns;
     there = λ are. tt;
     cut = tt;
     met = tt;
   }
-
-  passes_cut : (why : Fault) → Passes told old piece before after new (Some why)
-      → Owed (Err why)
-  passes_cut why passes = record {
-    same = same_work old new passes.same passes.comes.stays;
-    size = passes.bound;
-    holds = tt;
-    outputs = tt;
-    ready = tt;
-    owns = passes.comes.owns;
-    there = λ are. tt;
-    cut = was_cut new (λ work x. work.settled (x ++ piece)) passes.same.can passes.comes;
-    met = rw (works_so old passes.same.can) (met_feeding old.cutter.chunks _ before after why (λ is x holds. absurd (passes.comes.named is x holds)) (course old.cutter) old.said passes.comes.slots passes.comes.only);
-  }
-
-  passes_lacking : LacksRoom old piece before after new
-      → Owed (Err Memory)
-  passes_lacking lacks = record {
-    same = same_work old new lacks.same (ap course_of lacks.aim);
-    size = lacks.bound;
-    holds = tt;
-    outputs = tt;
-    ready = tt;
-    owns = λ first owns. rw (lacks.aim, lacks.slots) owns;
-    there = λ are. tt;
-    cut = λ start x at. engine.cut refl (stopped_here (work old).means.output told start ((work old).settled x) ((work old).settled (x ++ piece))
-        Memory before after at.outputs ((lawful (way.Chunks old)).grows x piece) lacks.slots tt tt);
-    met = rw (works_so old lacks.same.can) (feeds_memory (course old.cutter) old.cutter.chunks lacks.unsaid, refl);
-  }
-
-  passes_changed : total new ≤ total old + length piece
-      → Changes told old (λ x. (made old).settled (x ++ piece))
-      (λ x. IsSettled (made old) (x ++ piece) Changed) before after new
-      → Owed (Err (Verdict Changed))
-  passes_changed bound changes = record {
-    same = same_work old new changes.same changes.all.stays;
+  passes_at (Err why) same bound comes stands = record {
+    same = same_work old new same comes.stays;
     size = bound;
     holds = tt;
     outputs = tt;
     ready = tt;
-    owns = changes.all.owns;
+    owns = comes.owns;
     there = λ are. tt;
-    cut = was_judged new (λ work x. work.settled (x ++ piece)) changes.same.can changes.all;
-    met = λ x holds. rw (← works_so old changes.same.can) at (changes.judged x holds);
+    cut = was_cut new (λ work x. work.settled (x ++ piece)) same.can comes;
+    met = rw (works_so old same.can) (met_feeding old.cutter.chunks _ before after why (λ is x holds. absurd (comes.named is x holds)) (course old.cutter) old.said comes.slots comes.only);
   }
 
-pub passes_by : (told : Bool) (old new : ChunkerState) (piece : List ℕ) (before after : List Slot)
-    (result : Result (Unit {0}) Fault)
-    → PassesAs told old piece before after new result
-    → engine.Passes ways.terms told piece (way.Chunks old) (way.Chunks new) before after
-    (engine.IsMetWith ways.terms piece (way.Chunks old)) result
-passes_by told old new piece before after (Ok u) passes = passes_well told old new piece before after passes
-passes_by told old new piece before after (Err why) (inl passes) = passes_cut told old new piece before after why passes
-passes_by told old new piece before after (Err why) (inr (inl (is, lacks))) = rw is (passes_lacking told old new piece before after lacks)
-passes_by told old new piece before after (Err why) (inr (inr (is, bound, changes))) =
-    rw is (passes_changed told old new piece before after bound changes)
+  -- the input has changed: all is written
+  pub passes_changed : IsLike old new → total new ≤ total old + length piece
+      → Comes told old (λ x. (made old).settled (x ++ piece)) before after new None
+      → ((x : List ℕ) → Holds old x → IsSettled (made old) (x ++ piece) Changed)
+      → PassesAs told old piece before after new (Err (Verdict Changed))
+  passes_changed same bound all judged = record {
+    same = same_work old new same all.stays;
+    size = bound;
+    holds = tt;
+    outputs = tt;
+    ready = tt;
+    owns = all.owns;
+    there = λ are. tt;
+    cut = was_judged new (λ work x. work.settled (x ++ piece)) same.can all;
+    met = λ x holds. rw (← works_so old same.can) at (judged x holds);
+  }
+
+-- bytes wait, and there was no room for the piece: nothing was written
+pub passes_lacking : {told : Bool} (old : ChunkerState) {piece : List ℕ} {slots : List Slot} → old.said ≡ None
+    → can_cut (course old.cutter) old.cutter.chunks.count ≡ true → PassesAs told old piece slots slots old (Err Memory)
+passes_lacking {told} old {piece} {slots} unsaid can = record {
+  same = refl;
+  size = omega arith;
+  holds = tt;
+  outputs = tt;
+  ready = tt;
+  owns = λ first owns. owns;
+  there = λ are. tt;
+  cut = λ start x at. engine.cut refl (stopped_here (work old).means.output told start ((work old).settled x) ((work old).settled (x ++ piece))
+      Memory slots slots at.outputs ((lawful (way.Chunks old)).grows x piece) refl tt tt);
+  met = rw (works_so old can) (feeds_memory (course old.cutter) old.cutter.chunks unsaid, refl);
+}
 
 -- And the end
 
@@ -208,61 +193,48 @@ aimed_writable : (aim : AimState) (chunks : Chunks) (said : Option ℕ) (slots :
 aimed_writable (to_files writer elide) chunks said slots aimed told = told_writable writer.tells slots aimed.0.output told
 aimed_writable (to_output chunk) chunks said slots aimed told = aimed
 
-module _ (told : Bool) (old new : ChunkerState) (before after : List Slot) where
-  abbrev OwedThere : Result (Unit {0}) Fault → Type 0
-  OwedThere result = engine.Finishes ways.terms told (way.Chunks old) (way.Chunks new) before after (engine.IsMetThere ways.terms (way.Chunks old)) result
-
-  ends_well : IsAimed old.cutter.target.aim before → Ends told old before after new None
-      → OwedThere (Ok tt)
-  ends_well aimed ends = record {
-    same = same_work old new ends.same ends.comes.stays;
-    size = ends.bound;
-    well = λ x holds. rw (← works_so old ends.same.can) at (ends.well x holds);
-    outputs = went_out new (λ work. work.whole) ends.same.can ends.comes;
-    writable = rw (works_so old ends.same.can) (λ told_is. ends.comes.output (aimed_writable old.cutter.target.aim old.cutter.chunks old.said before aimed told_is));
-    owns = ends.comes.owns;
+module _ {told : Bool} {old new : ChunkerState} {before after : List Slot} where
+  pub ends_at : (result : Result (Unit {0}) Fault) → IsAimed old.cutter.target.aim before → IsLike old new
+      → total new ≤ total old → Comes told old (made old).whole before after new (fault_in result)
+      → IfNone (fault_in result) ((x : List ℕ) → Holds old x → (made old).verdict x ≡ None)
+      → (is_none old.said ≡ false → IfSome (fault_in result) IsWrite) → EndsAs told old before after new result
+  ends_at (Ok done) aimed same bound comes well only_write = record {
+    same = same_work old new same comes.stays;
+    size = bound;
+    well = λ x holds. rw (← works_so old same.can) at (well x holds);
+    outputs = went_out new (λ work. work.whole) same.can comes;
+    writable = rw (works_so old same.can) (λ told_is. comes.output (aimed_writable old.cutter.target.aim old.cutter.chunks old.said before aimed told_is));
+    owns = comes.owns;
     there = λ are. tt;
     cut = tt;
     met = tt;
   }
-
-  ends_cut : (why : Fault) → Ends told old before after new (Some why)
-      → OwedThere (Err why)
-  ends_cut why ends = record {
-    same = same_work old new ends.same ends.comes.stays;
-    size = ends.bound;
-    well = tt;
-    outputs = tt;
-    writable = tt;
-    owns = ends.comes.owns;
-    there = λ are. tt;
-    cut = was_cut new (λ work. work.whole) ends.same.can ends.comes;
-    met = rw (works_so old ends.same.can) (met_closing old.cutter.chunks _ before after why (λ is x holds. absurd (ends.comes.named is x holds)) (course old.cutter) old.said ends.comes.slots ends.comes.only ends.only_write);
-  }
-
-  ends_changed : total new ≤ total old
-      → Changes told old (made old).whole (λ x. Judges (made old) x Changed) before after new
-      → OwedThere (Err (Verdict Changed))
-  ends_changed bound changes = record {
-    same = same_work old new changes.same changes.all.stays;
+  ends_at (Err why) aimed same bound comes well only_write = record {
+    same = same_work old new same comes.stays;
     size = bound;
     well = tt;
     outputs = tt;
     writable = tt;
-    owns = changes.all.owns;
+    owns = comes.owns;
     there = λ are. tt;
-    cut = was_judged new (λ work. work.whole) changes.same.can changes.all;
-    met = λ x holds. rw (← works_so old changes.same.can) at (changes.judged x holds);
+    cut = was_cut new (λ work. work.whole) same.can comes;
+    met = rw (works_so old same.can) (met_closing old.cutter.chunks _ before after why (λ is x holds. absurd (comes.named is x holds)) (course old.cutter) old.said comes.slots comes.only only_write);
   }
 
-pub finishes_by : (told : Bool) (old new : ChunkerState) (before after : List Slot) (result : Result (Unit {0}) Fault)
-    → IsAimed old.cutter.target.aim before → EndsAs told old before after new result
-    → engine.Finishes ways.terms told (way.Chunks old) (way.Chunks new) before after
-    (engine.IsMetThere ways.terms (way.Chunks old)) result
-finishes_by told old new before after (Ok u) aimed ends = ends_well told old new before after aimed ends
-finishes_by told old new before after (Err why) aimed (inl ends) = ends_cut told old new before after why ends
-finishes_by told old new before after (Err why) aimed (inr (is, bound, changes)) =
-    rw is (ends_changed told old new before after bound changes)
+  pub ends_changed : IsLike old new → total new ≤ total old → Comes told old (made old).whole before after new None
+      → ((x : List ℕ) → Holds old x → Judges (made old) x Changed)
+      → EndsAs told old before after new (Err (Verdict Changed))
+  ends_changed same bound all judged = record {
+    same = same_work old new same all.stays;
+    size = bound;
+    well = tt;
+    outputs = tt;
+    writable = tt;
+    owns = all.owns;
+    there = λ are. tt;
+    cut = was_judged new (λ work. work.whole) same.can all;
+    met = λ x holds. rw (← works_so old same.can) at (judged x holds);
+  }
 
 -- what waits, and what isn't used
 

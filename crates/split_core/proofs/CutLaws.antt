@@ -1,27 +1,26 @@
 -- Laws of parts that follow one another, of what files get of them, and of lines that are dealt; and what the next bytes of a piece do
 -- to the part that was begun.
-use Rattle.std.proofs.lemmas.Grind.{common_steps}
-use Rattle.std.proofs.Common.{◌≡◌, ℕ, ◌<◌, ◌≤◌, List, [], ◌∷◌, ◌++◌, length, take, drop, true, false, cond, refl, sym, ◌∙◌, ap, subst, arith, append_assoc, map, ◌+◌, ◌%◌, Bool, eqb, rules, take_all, take-append-drop, ne_eqb, ◌-◌, nat_lt, length-append, length-drop}
-use Rattle.std.proofs.lemmas.Bool.Decides.{nat_tests}
-use Rattle.std.proofs.Math.Seq.{drop-append_seam}
-use Rattle.seg_core.specs.Line.{joined, delimiters, after_lines, first_lines, EndsAt, FallsShort, LastEndsAt}
-use Rattle.seg_core.proofs.FirstLines.{first_lines-is_take, first_lines-append, first_lines-full, first_lines-short, delimiters-first_lines}
-use Rattle.seg_core.specs.declared.cut.Limit.{Limit}
-use Rattle.seg_core.specs.declared.cut.Limit.TheVariants.{Lines, Bytes, LineBytes}
-use Rattle.seg_core.specs.Cut.{most}
-use Rattle.split_core.specs.Parts.{whole_lines, open_line, measure, is_full, first_part, after_first, cut_up, dealt}
-use Rattle.split_core.specs.laws.CutLaws.{whole_within, cuts_up, cut_once, full_from, whole_of_lines, whole_of_none, whole_then_open, whole_some, has_lines}
-use Rattle.split_core.specs.inner.CutLaws.{Cuts, stops, goes, cut_so}
+use Rattle.std.proofs.{
+  lemmas.{Grind.common_steps, Bool.Decides.nat_tests, List.{append-nil, take_all, take-append-drop, append_cancel_left, length-take-le}},
+  Common.{◌≡◌, ℕ, ◌<◌, ◌≤◌, List, [], ◌∷◌, ◌++◌, length, take, drop, true, false, cond, refl, sym, ◌∙◌, ap, subst, arith, append_assoc, map, ◌+◌, ◌%◌, Bool, eqb, rules, take_all, take-append-drop, ne_eqb, ◌-◌, nat_lt, length-append, length-drop},
+  Math.{Seq.drop-append_seam, Nat.{mod-add-mod, mod-lt}},
+}
+use Rattle.seg_core.{
+  specs.{Line.{joined, delimiters, after_lines, first_lines, EndsAt, FallsShort, LastEndsAt}, declared.cut.Limit.{Limit, TheVariants.{Lines, Bytes, LineBytes}}, Cut.most},
+  proofs.FirstLines.{first_lines-is_take, first_lines-append, first_lines-full, first_lines-short, delimiters-first_lines},
+  proofs.Delimiters.{delimiters-append, delimiters-le-length},
+  proofs.EndLines.after_lines-append,
+}
+use Rattle.split_core.specs.{
+  Parts.{whole_lines, open_line, measure, is_full, first_part, after_first, cut_up, dealt},
+  laws.CutLaws.{whole_within, cuts_up, cut_once, full_from, whole_of_lines, whole_of_none, whole_then_open, whole_some, has_lines},
+  inner.{CutLaws.{Cuts, stops, goes, cut_so}, Step.{IsSettled, IsTurned, IsHeld, Leads}},
+  Split.{Share, share},
+  Round.opened_by,
+  PartsState.Lacks,
+  declared.step.Step.Step,
+}
 use Rattle.ports_core.specs.declared.slot.State.{State}
-use Rattle.split_core.specs.Split.{Share, share}
-use Rattle.std.proofs.Math.Nat.{mod-add-mod, mod-lt}
-use Rattle.split_core.specs.Round.{opened_by}
-use Rattle.std.proofs.lemmas.List.{append-nil, take_all, take-append-drop, append_cancel_left, length-take-le}
-use Rattle.seg_core.proofs.Delimiters.{delimiters-append, delimiters-le-length}
-use Rattle.seg_core.proofs.EndLines.{after_lines-append}
-use Rattle.split_core.specs.PartsState.{Lacks}
-use Rattle.split_core.specs.declared.step.Step.{Step}
-use Rattle.split_core.specs.inner.Step.{IsSettled, IsTurned, IsHeld, Leads}
 
 pub short_from : (limit : Limit) (x : List ℕ) → measure limit x < most limit → is_full limit x ≡ false
 short_from limit x less = search rules

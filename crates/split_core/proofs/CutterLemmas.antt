@@ -1,38 +1,34 @@
 -- Where a text is cut into chunks, and what goes where of it.
-use Rattle.std.proofs.lemmas.Bool.{cases_lt, false≢true, le-ltb, lt-leb, lt-ltb, ltb-false, ltb-true}
-use Rattle.std.proofs.lemmas.Bool.Decides.{nat_tests}
-use Rattle.std.proofs.lemmas.List.{append-nil, take_all, take_at, take-append-drop, take-take, length-append, length-drop, length-take}
-use Rattle.std.proofs.Math.Seq.{take-add}
-use Rattle.std.proofs.Common.{◌≡◌, ℕ, ◌+◌, ◌-◌, ◌<◌, ◌≤◌, max, min, zero, suc, Bool, true, false, cond, eqb, nat_lt, List, [], ◌∷◌, ◌++◌, ◌⊎◌, length, take, drop, replicate, Option, Some, None, Ok, inl, inr, refl, sym, ◌∙◌, ap, subst, arith, append_assoc}
-use Rattle.ports_core.specs.Draft.{draft_part}
-use Rattle.ports_core.specs.Part.{Begins}
-use Rattle.ports_core.specs.Slot.{Slot}
-use Rattle.ports_core.specs.Work.{IsNeeded}
-use Rattle.ports_core.specs.declared.fault.Fault.{Fault}
-use Rattle.ports_core.proofs.FileWriterLemmas.{where_well}
-use Rattle.ports_core.proofs.PartLemmas.{out_begins, part_begins_itself, part_trans}
-use Rattle.seg_core.specs.Line.{delimiters, first_lines, joined, lines_of}
-use Rattle.seg_core.proofs.FirstLines.{delimiters-first_lines, first_lines-is_take, lines_of-first_lines}
-use Rattle.seg_core.specs.declared.cut.Chunks.{Chunks}
-use Rattle.seg_core.specs.declared.unit.Unit.{Unit}
-use Rattle.seg_core.specs.declared.unit.Unit.TheVariants.{Bytes, Lines}
-use Rattle.split_core.specs.Chunks.{before_chunk, begun_before, chunk_at, chunk_start, chunks_of, chunks_within, ended, is_within, lines_before, open_from, passed, pieces_in}
-use Rattle.split_core.specs.ChunkWork.{draft_by, piece_at}
-use Rattle.split_core.specs.ChunkerState.{AimState, Carries, Course, CutterState, HasAll, HasCut, IsAimed, can_cut, course_of, to_files, to_output, work_on, TargetState, course, in_files, in_output}
-use Rattle.split_core.specs.Parts.{CutUp}
-use Rattle.split_core.specs.Split.{manner_of}
-use Rattle.split_core.specs.inner.Cutter.{Cuts, CutsAs, EndsBefore, EndsFull, EndsUp, IsCut, IsCutOff, IsOpen, IsUpTo, WritesTo, cut_to, part_so, said_work}
-use Rattle.split_core.specs.inner.Chunks.{GoesOn as Goes, HaveEnded}
-use Rattle.split_core.specs.inner.Seen.{is_past_at, is_past_on}
-use Rattle.split_core.specs.inner.Sends.{Brings, Changes, GoesOn, HasName, Sends, with_full, with_fulls, with_rest, part_on}
-use Rattle.split_core.specs.laws.BegunLaws.{begun_begins, begun_first, begun_long, begun_stays, begun_within, open_append, open_within, begun_none}
-use Rattle.split_core.specs.laws.ChunkLaws.{ended_grows, ended_is, ended_only, ends_here, goes_on, passed_full, passed_open, piece_all, start_grows, start_past}
-use Rattle.split_core.specs.laws.ChunkWorkLaws.{chunks_go_on, piece_on, shares_on}
-use Rattle.split_core.specs.laws.ShareLaws.{part_begins}
-use Rattle.std.proofs.lemmas.List.FromFn.{length-map-range_with_len}
-use Rattle.ports_core.specs.declared.slot.State.TheVariants.{Open}
-use Rattle.split_core.proofs.RoundLemmas.{named_fewer}
-use Rattle.split_core.proofs.TargetLemmas.{brings_as, brings_then, brings_wider, ends_begin, ends_full, piece_full, sends_as, sends_none, sends_then, sends_wider}
+use Rattle.std.proofs.{
+  lemmas.Bool.{cases_lt, false≢true, le-ltb, lt-leb, lt-ltb, ltb-false, ltb-true, Decides.nat_tests},
+  lemmas.List.{append-nil, take_all, take_at, take-append-drop, take-take, length-append, length-drop, length-take, FromFn.length-map-range_with_len},
+  Math.Seq.take-add,
+  Common.{◌≡◌, ℕ, ◌+◌, ◌-◌, ◌<◌, ◌≤◌, max, min, zero, suc, Bool, true, false, cond, eqb, nat_lt, List, [], ◌∷◌, ◌++◌, ◌⊎◌, length, take, drop, replicate, Option, Some, None, Ok, inl, inr, refl, sym, ◌∙◌, ap, subst, arith, append_assoc},
+}
+use Rattle.ports_core.{
+  specs.{Draft.draft_part, Part.Begins, Slot.Slot, Work.IsNeeded, declared.{fault.Fault.Fault, slot.State.TheVariants.Open}},
+  proofs.{FileWriterLemmas.where_well, PartLemmas.{out_begins, part_begins_itself, part_trans}},
+}
+use Rattle.seg_core.{
+  specs.{Line.{delimiters, first_lines, joined, lines_of}, declared.{cut.Chunks.Chunks, unit.Unit.{Unit, TheVariants.{Bytes, Lines}}}},
+  proofs.FirstLines.{delimiters-first_lines, first_lines-is_take, lines_of-first_lines},
+}
+use Rattle.split_core.specs.{
+  Chunks.{before_chunk, begun_before, chunk_at, chunk_start, chunks_of, chunks_within, ended, is_within, lines_before, open_from, passed, pieces_in},
+  ChunkWork.{draft_by, piece_at},
+  ChunkerState.{AimState, Carries, Course, CutterState, HasAll, HasCut, IsAimed, can_cut, course_of, to_files, to_output, work_on, TargetState, course, in_files, in_output},
+  Parts.CutUp,
+  Split.manner_of,
+  inner.Cutter.{Cuts, CutsAs, EndsFull, IsCut, IsCutOff, IsOpen, WritesTo, cut_to, part_so, said_work},
+  inner.Chunks.{GoesOn as Goes, HaveEnded},
+  inner.Seen.{is_past_at, is_past_on},
+  inner.Sends.{Brings, Changes, GoesOn, HasName, Sends, with_full, with_fulls, with_rest, part_on},
+  laws.BegunLaws.{begun_begins, begun_first, begun_long, begun_stays, begun_within, open_append, open_within, begun_none},
+  laws.ChunkLaws.{ended_grows, ended_is, ended_only, ends_here, goes_on, passed_full, passed_open, piece_all, start_grows, start_past},
+  laws.ChunkWorkLaws.{chunks_go_on, piece_on, shares_on},
+  laws.ShareLaws.part_begins,
+}
+use Rattle.split_core.proofs.{RoundLemmas.named_fewer, TargetLemmas.{brings_as, brings_then, brings_wider, ends_begin, ends_full, piece_full, sends_as, sends_none, sends_then, sends_wider}}
 
 -- The lines that begin before a place: all before it, and the rest of the one that it stands in
 
@@ -76,114 +72,6 @@ cut_lines delim q w x {rest} {first} more within low all is split line some = el
       ∙ sym (begun_line delim more split line some) ∙ ap (begun_before Lines delim 1) is)
       ∙ ap (λ n. take n x ++ begun_before Lines delim 1 (drop n x)) e ∙ sym (begun_from delim q x))
 ]
-
--- Chunks end one after another
-
--- each of them changes what is there to what it is once it ended
-pub record Ending (told : Bool) (cutter : CutterState) (size : ℕ) (old slots : List Slot) (now : CutterState)
-    : Type 0 where
-  pub chunks : now.chunks ≡ cutter.chunks
-  pub at : now.at ≡ cutter.at
-  pub within : now.is_within ≡ cutter.is_within
-  pub from : cutter.target.place ≤ now.target.place
-  pub sends : Sends told cutter.target (EndsBefore cutter size) (λ x. x.1)
-      (λ x. with_fulls (now.target.place - cutter.target.place) x.1) old slots now.target None
-  pub low : (p : ℕ) → cutter.target.place ≤ p → IsUpTo cutter.chunks.count size cutter.at p → now.target.place ≤ p
-
-pub ends_none : {told : Bool} {cutter : CutterState} {size : ℕ} {slots : List Slot} → IsAimed cutter.target.aim slots
-    → Ending told cutter size slots slots cutter
-ends_none {told} {cutter} {size} {slots} ready = record {
-  chunks = refl;
-  at = refl;
-  within = refl;
-  from = omega arith;
-  sends = let e : cutter.target.place - cutter.target.place ≡ 0 = omega arith in rw e (sends_none ready (λ x so. so.carries));
-  low = λ p from is. from;
-}
-
-pub name_of : (on : Course) (count place : ℕ) → HasAll on count → place < count → HasName on place
-name_of (in_files filing elide) count place all less = named_fewer filing.names (suc place) count all less
-name_of (in_output chunk) count place all less = tt
-
-full_begins : (on : Course) (cut : CutUp) → Begins (part_on on cut) (part_on on (with_full cut))
-full_begins (in_files filing elide) cut = subst (λ high. Begins (draft_part (manner_of filing) (draft_by elide cut)) (draft_part (manner_of filing) high)) (ends_full elide cut) (ends_begin elide (manner_of filing) (draft_by elide cut))
-full_begins (in_output chunk) cut = rw (piece_full (pieces_in cut) chunk) (part_begins_itself (piece_at chunk cut))
-
-pub fulls_begin : (on : Course) (cut : CutUp) (few more : ℕ)
-    → Begins (part_on on (with_fulls few cut)) (part_on on (with_fulls (few + more) cut))
-fulls_begin on cut few zero = let e : few + 0 ≡ few = omega arith in rw e (part_begins_itself _)
-fulls_begin on cut few (suc more) = let e : few + suc more ≡ suc (few + more) = omega arith in
-    rw e (part_trans _ _ _ (fulls_begin on cut few more) (full_begins on (with_fulls (few + more) cut)))
-
-module _ {told : Bool} {cutter now : CutterState} {size : ℕ} {old slots : List Slot}
-    (so_far : Ending told cutter size old slots now)
-    (less : now.target.place < now.chunks.count)
-    (ends : chunk_start now.chunks.count size (now.target.place + 1) ≤ now.at) where
-  abbrev k : ℕ
-  k = now.target.place - cutter.target.place
-
-  later : (p : ℕ) → cutter.target.place ≤ p → IsUpTo cutter.chunks.count size cutter.at p → now.target.place + 1 ≤ p
-  later p from is = elim (cases_lt now.target.place p) [
-    | inl before ↦ omega (arith, before)
-    | inr past ↦ (let e : p ≡ now.target.place = omega (arith, past, so_far.low p from is) in
-        let next : cutter.at < chunk_start cutter.chunks.count size (p + 1) = is.next (omega (arith, e, less, ap (λ (chunks : Chunks). chunks.count) so_far.chunks)) in
-        absurd (omega (arith, next, ends, so_far.at, ap (λ (chunks : Chunks). chunk_start chunks.count size (now.target.place + 1)) so_far.chunks, ap (λ p. chunk_start cutter.chunks.count size (p + 1)) e)))
-  ]
-
-  pub next_sends : {next : TargetState} {new : List Slot} (fault : Option Fault)
-      → Changes told now.target with_full slots new next fault
-      → Sends told cutter.target (EndsBefore cutter size) (λ x. x.1) (λ x. with_fulls (suc k) x.1) old new next fault
-  next_sends {next} {new} fault went = sends_then so_far.sends
-      (λ x so has. (has, rw so_far.sends.brings.stays (name_of (course cutter) cutter.chunks.count now.target.place so.all (omega (arith, less, ap (λ (chunks : Chunks). chunks.count) so_far.chunks)))))
-      (sends_as {Also = λ x. GoesOn now.target (with_fulls k x.1)} (λ x. with_fulls k x.1) fault (λ x so. so) (λ x so. refl) (λ x so. refl) went)
-
-  pub ends_next : {next : CutterState} {new : List Slot} → next.chunks ≡ now.chunks → next.at ≡ now.at
-      → next.is_within ≡ now.is_within → next.target.place ≡ now.target.place + 1
-      → Changes told now.target with_full slots new next.target None → Ending told cutter size old new next
-  ends_next {next} {new} chunks at within place went = record {
-    chunks = chunks ∙ so_far.chunks;
-    at = at ∙ so_far.at;
-    within = within ∙ so_far.within;
-    from = omega (arith, place, so_far.from);
-    sends = let e : next.target.place - cutter.target.place ≡ suc k = omega (arith, place, so_far.from) in rw e (next_sends None went);
-    low = λ p from is. omega (arith, place, later p from is);
-  }
-
-  pub ends_stopped : {next : CutterState} {new : List Slot} {why : Fault} → next.chunks ≡ now.chunks → next.at ≡ now.at
-      → next.is_within ≡ now.is_within
-      → Changes told now.target with_full slots new next.target (Some why)
-      → EndsUp told cutter size old new next (Some why)
-  ends_stopped {next} {new} {why} chunks at within stopped = record {
-    chunks = chunks ∙ so_far.chunks;
-    at = at ∙ so_far.at;
-    within = within ∙ so_far.within;
-    sends = sends_wider (λ x so. let more = x.0 - (now.target.place + 1) in
-        let e : suc k + more ≡ x.0 - cutter.target.place = omega (arith, later x.0 so.from so.is, so_far.from) in
-        rw e at (fulls_begin (course cutter) x.1 (suc k) more)) (next_sends (Some why) stopped);
-  }
-
-pub ends_so : {told : Bool} {cutter now : CutterState} {size : ℕ} {old slots : List Slot}
-    → Ending told cutter size old slots now
-    → (now.target.place < now.chunks.count → now.at < chunk_start now.chunks.count size (now.target.place + 1))
-    → EndsUp told cutter size old slots now None
-ends_so {told} {cutter} {now} {size} so_far last = record {
-  chunks = so_far.chunks;
-  at = so_far.at;
-  within = so_far.within;
-  sends = sends_as (λ x. x) None (λ x so. so) (λ x so. refl) (λ x so. ap (λ p. with_fulls (p - cutter.target.place) x.1) (same x.0 so.from so.is)) so_far.sends;
-} where
-  same : (p : ℕ) → cutter.target.place ≤ p → IsUpTo cutter.chunks.count size cutter.at p → now.target.place ≡ p
-  same p from is = elim (cases_lt now.target.place p) [
-    | inl before ↦ absurd (omega (
-      arith,
-      last (omega (arith, before, is.within, ap (λ (chunks : Chunks). chunks.count) so_far.chunks)),
-      so_far.at,
-      is.before,
-      ap (λ (chunks : Chunks). chunk_start chunks.count size (now.target.place + 1)) so_far.chunks,
-      start_grows cutter.chunks.count size (now.target.place + 1) p (omega (arith, before)),
-    ))
-    | inr past ↦ omega (arith, past, so_far.low p from is)
-  ]
 
 -- Where a line is open
 
@@ -238,13 +126,16 @@ still_ended chunks size place x short all within from = let is = ended_is chunks
 })
 
 -- else just those before the text's end
-pub passed_all : (chunks : Chunks) (size : ℕ) (x : List ℕ) → length x ≤ size
-    → (is_within chunks.unit chunks.delim x ≡ false) ⊎ (size ≤ length x) → passed chunks size x ≡ length x
-passed_all chunks size x fits (inl none) = elim (cases_lt (length x) size) [
-  | inl short ↦ passed_open chunks size x short ∙ no_line chunks.unit chunks.delim x none
+passed_all : (chunks : Chunks) (size : ℕ) (x : List ℕ) → length x ≤ size
+    → (is_within chunks.unit chunks.delim x ≡ true → size ≤ length x) → passed chunks size x ≡ length x
+passed_all chunks size x fits whole = elim (cases_lt (length x) size) [
+  | inl short ↦ passed_open chunks size x short ∙ by (is_within chunks.unit chunks.delim x) refl short
   | inr full ↦ omega (arith, passed_full chunks size x full, fits, full)
-]
-passed_all chunks size x fits (inr full) = omega (arith, passed_full chunks size x full, fits, full)
+] where
+  by : (within : Bool) → is_within chunks.unit chunks.delim x ≡ within → length x < size
+      → open_from chunks.unit chunks.delim x ≡ length x
+  by true is short = absurd (omega (arith, whole is, short))
+  by false none short = no_line chunks.unit chunks.delim x none
 
 pub ends_open : {told : Bool} {cutter : CutterState} {size : ℕ} {slots : List Slot} → IsAimed cutter.target.aim slots
     → cutter.is_within ≡ true → cutter.at < size → EndsFull told cutter size slots slots cutter None
@@ -257,25 +148,124 @@ ends_open {told} {cutter} {size} {slots} ready within short = record {
       ap (λ n. with_fulls n x.1) (sym e)) (sends_none ready (λ x so. so.carries));
 }
 
-pub ends_full_by : {told : Bool} {cutter next : CutterState} {size : ℕ} {old new : List Slot} {fault : Option Fault}
-    → (cutter.is_within ≡ false) ⊎ (size ≤ cutter.at) → EndsUp told cutter size old new next fault
-    → EndsFull told cutter size old new next fault
-ends_full_by {cutter = cutter} {size = size} {fault = fault} goes ends = record {
-  chunks = ends.chunks;
-  at = ends.at;
-  within = ends.within;
-  sends = sends_as (λ x. (ended cutter.chunks size x.0, x.1)) fault (λ x so. let is = ended_is cutter.chunks size x.0 in
-      let all : passed cutter.chunks size x.0 ≡ cutter.at = passed_all cutter.chunks size x.0 so.fits (by x so goes) ∙ sym so.at in record {
-        carries = so.carries;
-        all = so.all;
-        from = so.from;
-        is = record { within = is.within; before = omega (arith, all, is.before); next = λ less. omega (arith, all, is.next less) };
-      }) (λ x so. refl) (λ x so. refl) ends.sends;
+pub begun_some : (unit : Unit) (delim place : ℕ) (x : List ℕ) → 0 < place → 0 < length x
+    → 0 < length (begun_before unit delim place x)
+begun_some Bytes delim place x some has = omega (arith, length-take place x, some, has)
+begun_some Lines delim place [] some has = absurd (omega (arith, has))
+begun_some Lines delim place (byte ∷ x) some has = rw (begun_first delim byte place x some) (omega arith)
+
+-- Chunks end one after another
+
+-- each of them changes what is there to what it is once it ended
+pub record Ending (told : Bool) (cutter : CutterState) (size : ℕ) (old slots : List Slot) (now : CutterState)
+    : Type 0 where
+  pub chunks : now.chunks ≡ cutter.chunks
+  pub at : now.at ≡ cutter.at
+  pub within : now.is_within ≡ cutter.is_within
+  pub from : cutter.target.place ≤ now.target.place
+  pub sends : Sends told cutter.target (IsCutOff cutter size) (λ x. x.1)
+      (λ x. with_fulls (now.target.place - cutter.target.place) x.1) old slots now.target None
+  pub low : (x : List ℕ × CutUp) → IsCutOff cutter size x → now.target.place ≤ ended cutter.chunks size x.0
+
+pub ends_none : {told : Bool} {cutter : CutterState} {size : ℕ} {slots : List Slot} → IsAimed cutter.target.aim slots
+    → Ending told cutter size slots slots cutter
+ends_none {told} {cutter} {size} {slots} ready = record {
+  chunks = refl;
+  at = refl;
+  within = refl;
+  from = omega arith;
+  sends = let e : cutter.target.place - cutter.target.place ≡ 0 = omega arith in rw e (sends_none ready (λ x so. so.carries));
+  low = λ x so. so.from;
+}
+
+pub name_of : (on : Course) (count place : ℕ) → HasAll on count → place < count → HasName on place
+name_of (in_files filing elide) count place all less = named_fewer filing.names (suc place) count all less
+name_of (in_output chunk) count place all less = tt
+
+full_begins : (on : Course) (cut : CutUp) → Begins (part_on on cut) (part_on on (with_full cut))
+full_begins (in_files filing elide) cut = subst (λ high. Begins (draft_part (manner_of filing) (draft_by elide cut)) (draft_part (manner_of filing) high)) (ends_full elide cut) (ends_begin elide (manner_of filing) (draft_by elide cut))
+full_begins (in_output chunk) cut = rw (piece_full (pieces_in cut) chunk) (part_begins_itself (piece_at chunk cut))
+
+pub fulls_begin : (on : Course) (cut : CutUp) (few more : ℕ)
+    → Begins (part_on on (with_fulls few cut)) (part_on on (with_fulls (few + more) cut))
+fulls_begin on cut few zero = let e : few + 0 ≡ few = omega arith in rw e (part_begins_itself _)
+fulls_begin on cut few (suc more) = let e : few + suc more ≡ suc (few + more) = omega arith in
+    rw e (part_trans _ _ _ (fulls_begin on cut few more) (full_begins on (with_fulls (few + more) cut)))
+
+passed_at : (cutter : CutterState) (size : ℕ) → (cutter.is_within ≡ true → size ≤ cutter.at) → (x : List ℕ × CutUp)
+    → IsCutOff cutter size x → passed cutter.chunks size x.0 ≡ cutter.at
+passed_at cutter size whole x so = passed_all cutter.chunks size x.0 so.fits (λ is. omega (arith, whole (so.within ∙ is), so.at)) ∙ sym so.at
+
+module _ {told : Bool} {cutter now : CutterState} {size : ℕ} {old slots : List Slot}
+    (whole : cutter.is_within ≡ true → size ≤ cutter.at) (so_far : Ending told cutter size old slots now)
+    (less : now.target.place < now.chunks.count)
+    (ends : chunk_start now.chunks.count size (now.target.place + 1) ≤ now.at) where
+  abbrev k : ℕ
+  k = now.target.place - cutter.target.place
+
+  later : (x : List ℕ × CutUp) → IsCutOff cutter size x → now.target.place + 1 ≤ ended cutter.chunks size x.0
+  later x so = elim (cases_lt now.target.place (ended cutter.chunks size x.0)) [
+    | inl before ↦ omega (arith, before)
+    | inr past ↦ (let e : ended cutter.chunks size x.0 ≡ now.target.place = omega (arith, past, so_far.low x so) in
+        let next = (ended_is cutter.chunks size x.0).next (omega (arith, e, less, ap (λ (chunks : Chunks). chunks.count) so_far.chunks)) in
+        absurd (omega (arith, next, ends, passed_at cutter size whole x so, so_far.at, ap (λ (chunks : Chunks). chunk_start chunks.count size (now.target.place + 1)) so_far.chunks, ap (λ p. chunk_start cutter.chunks.count size (p + 1)) e)))
+  ]
+
+  pub next_sends : {next : TargetState} {new : List Slot} (fault : Option Fault)
+      → Changes told now.target with_full slots new next fault
+      → Sends told cutter.target (IsCutOff cutter size) (λ x. x.1) (λ x. with_fulls (suc k) x.1) old new next fault
+  next_sends {next} {new} fault went = sends_then so_far.sends
+      (λ x so has. (has, rw so_far.sends.brings.stays (name_of (course cutter) cutter.chunks.count now.target.place so.all (omega (arith, less, ap (λ (chunks : Chunks). chunks.count) so_far.chunks)))))
+      (sends_as {Also = λ x. GoesOn now.target (with_fulls k x.1)} (λ x. with_fulls k x.1) fault (λ x so. so) (λ x so. refl) (λ x so. refl) went)
+
+  pub ends_next : {next : CutterState} {new : List Slot} → next.chunks ≡ now.chunks → next.at ≡ now.at
+      → next.is_within ≡ now.is_within → next.target.place ≡ now.target.place + 1
+      → Changes told now.target with_full slots new next.target None → Ending told cutter size old new next
+  ends_next {next} {new} chunks at within place went = record {
+    chunks = chunks ∙ so_far.chunks;
+    at = at ∙ so_far.at;
+    within = within ∙ so_far.within;
+    from = omega (arith, place, so_far.from);
+    sends = let e : next.target.place - cutter.target.place ≡ suc k = omega (arith, place, so_far.from) in rw e (next_sends None went);
+    low = λ x so. omega (arith, place, later x so);
+  }
+
+  pub ends_stopped : {next : CutterState} {new : List Slot} {why : Fault} → next.chunks ≡ now.chunks → next.at ≡ now.at
+      → next.is_within ≡ now.is_within
+      → Changes told now.target with_full slots new next.target (Some why)
+      → EndsFull told cutter size old new next (Some why)
+  ends_stopped {next} {new} {why} chunks at within stopped = record {
+    chunks = chunks ∙ so_far.chunks;
+    at = at ∙ so_far.at;
+    within = within ∙ so_far.within;
+    sends = sends_wider (λ x so. let more = ended cutter.chunks size x.0 - (now.target.place + 1) in
+        let e : suc k + more ≡ ended cutter.chunks size x.0 - cutter.target.place = omega (arith, later x so, so_far.from) in
+        rw e at (fulls_begin (course cutter) x.1 (suc k) more)) (next_sends (Some why) stopped);
+  }
+
+pub ends_so : {told : Bool} {cutter now : CutterState} {size : ℕ} {old slots : List Slot}
+    → (cutter.is_within ≡ true → size ≤ cutter.at) → Ending told cutter size old slots now
+    → (now.target.place < now.chunks.count → now.at < chunk_start now.chunks.count size (now.target.place + 1))
+    → EndsFull told cutter size old slots now None
+ends_so {told} {cutter} {now} {size} whole so_far last = record {
+  chunks = so_far.chunks;
+  at = so_far.at;
+  within = so_far.within;
+  sends = sends_as (λ x. x) None (λ x so. so) (λ x so. refl) (λ x so. ap (λ p. with_fulls (p - cutter.target.place) x.1) (same x so)) so_far.sends;
 } where
-  by : (x : List ℕ × CutUp) → IsCutOff cutter size x → (cutter.is_within ≡ false) ⊎ (size ≤ cutter.at)
-      → (is_within cutter.chunks.unit cutter.chunks.delim x.0 ≡ false) ⊎ (size ≤ length x.0)
-  by x so (inl none) = inl (sym so.within ∙ none)
-  by x so (inr full) = inr (omega (arith, full, so.at))
+  same : (x : List ℕ × CutUp) → IsCutOff cutter size x → now.target.place ≡ ended cutter.chunks size x.0
+  same x so = let is = ended_is cutter.chunks size x.0 in elim (cases_lt now.target.place (ended cutter.chunks size x.0)) [
+    | inl before ↦ absurd (omega (
+      arith,
+      last (omega (arith, before, is.within, ap (λ (chunks : Chunks). chunks.count) so_far.chunks)),
+      so_far.at,
+      is.before,
+      passed_at cutter size whole x so,
+      ap (λ (chunks : Chunks). chunk_start chunks.count size (now.target.place + 1)) so_far.chunks,
+      start_grows cutter.chunks.count size (now.target.place + 1) (ended cutter.chunks size x.0) (omega (arith, before)),
+    ))
+    | inr past ↦ omega (arith, past, so_far.low x so)
+  ]
 
 -- A text goes on, all of it with the chunk that was begun
 
@@ -440,65 +430,53 @@ has_cut {cutter} {x = x} y chunks stays at within some has carries = record {
   carries = carries;
 }
 
-pub cuts_ok : {told : Bool} {cutter mid next : CutterState} {size : ℕ} (text : List ℕ) {y : List ℕ}
-    {old wet new : List Slot} → y ≡ cut_to cutter (end_so cutter size) text → Cutting cutter mid y
-    → Changes told cutter.target (with_rest y) old wet mid.target None
-    → EndsFull told mid size wet new next None → Cuts told cutter size y old new next None
-cuts_ok {told} {cutter} {mid} {next} {size} text {y} {old} {new = new} is step changes ends =
-    let sends = both_cut None step changes ends.sends in
+pub cuts_on : {told : Bool} {cutter mid next : CutterState} {size : ℕ} (text : List ℕ) {y : List ℕ}
+    {old wet new : List Slot} (fault : Option Fault) → y ≡ cut_to cutter (end_so cutter size) text
+    → Cutting cutter mid y → Changes told cutter.target (with_rest y) old wet mid.target None
+    → EndsFull told mid size wet new next fault → Cuts told cutter size y old new next fault
+cuts_on {told} {cutter} {mid} {next} {size} text {y} {old} {new = new} fault is step changes ends =
+    let sends = both_cut fault step changes ends.sends in
     let so : (x : List ℕ) → IsCut cutter size x × (length (x ++ y) ≤ size) → CutsOn cutter size y x = λ x has. let place = place_of y has.0 step.some has.1 in (has.0, place, has.1, rw is (all_before text has.0 place)) in record {
       chunks = ends.chunks ∙ step.chunks;
       bound = omega (arith, ends.at, step.at);
-      brings = brings_as (λ x. x) None so (λ x has. refl) (λ x has. refl) sends.brings;
-      stands = λ x has within. record {
+      brings = brings_as (λ x. x) fault so (λ x has. refl) (λ x has. refl) sends.brings;
+      stands = where_well fault sends.carries (λ carries x has within. record {
         cut = has_cut y (ends.chunks ∙ step.chunks) sends.brings.stays (ends.at ∙ step.at) (ends.within ∙ step.within) step.some has.cut
-            (rw (← (ends.chunks ∙ step.chunks)) at (sends.carries x (so x (has, within))));
+            (rw (← (ends.chunks ∙ step.chunks)) at (carries x (so x (has, within))));
         fits = within;
-      };
+      });
     }
 
--- a fault came on the way
-begun_rest : (cutter : CutterState) (end : ℕ) (text : List ℕ) {y : List ℕ} → y ≡ cut_to cutter end text
-    → (rest : List ℕ) × (text ≡ y ++ rest)
-begun_rest cutter end text is = rw is (begun_begins cutter.chunks.unit cutter.chunks.delim _ text)
-
+-- a fault came as it was written
 fulls_follow : (on : Course) (cut : CutUp) (n : ℕ) → Begins (part_on on cut) (part_on on (with_fulls n cut))
 fulls_follow on cut n = let e : 0 + n ≡ n = omega arith in rw e at (fulls_begin on cut 0 n)
 
-module _ {cutter : CutterState} {size : ℕ} (text : List ℕ) {y : List ℕ}
-    (is_cut : y ≡ cut_to cutter (end_so cutter size) text) (some : 0 < length text) where
-  so_more : (x : List ℕ) → IsCut cutter size x × (length (x ++ text) ≤ size) → CutsOn cutter size y x
-  so_more x (is, within) = let (rest, both) = begun_rest cutter (end_so cutter size) text is_cut in let place = place_of text is some within in
-      (is, place, omega (arith, within, length-append x text, length-append x y, ap length both, length-append y rest), rw is_cut (all_before text is place))
+pub cuts_not : {told : Bool} {cutter next : CutterState} {size : ℕ} (text : List ℕ) {y : List ℕ} {old new : List Slot}
+    {why : Fault} → y ≡ cut_to cutter (end_so cutter size) text → 0 < length text → next.chunks ≡ cutter.chunks
+    → next.at ≡ cutter.at → Changes told cutter.target (with_rest y) old new next.target (Some why)
+    → Cuts told cutter size y old new next (Some why)
+cuts_not {cutter = cutter} {size = size} text {y} {why = why} is some chunks at stopped =
+    let place : (x : List ℕ) → IsCut cutter size x × (length (x ++ y) ≤ size) → Place cutter size x = λ x so. place_of y so.0 (rw is (begun_some cutter.chunks.unit cutter.chunks.delim _ text (omega arith) some)) so.1 in record {
+      chunks = chunks;
+      bound = omega (arith, at);
+      brings = brings_wider (λ x so. rw (grown cutter.chunks size x y (place x so).some so.1 (rw is (all_before text so.0 (place x so)))) at (fulls_follow (course cutter) (with_rest y (chunks_within cutter.chunks size x)) (ended cutter.chunks size (x ++ y) - ended cutter.chunks size x)))
+          (brings_as {Also = λ x. IsCut cutter size x × (length (x ++ y) ≤ size)} (λ x. x) (Some why) (λ x so. (so.0, place x so)) (λ x so. refl) (λ x so. refl) (changes_cut y (Some why) stopped).brings);
+      stands = tt;
+    }
 
-  to_all : (on : Course) (x : List ℕ) → CutsOn cutter size y x → length (x ++ text) ≤ size
-      → Begins (part_on on (chunks_within cutter.chunks size (x ++ y)))
-      (part_on on (chunks_within cutter.chunks size (x ++ text)))
-  to_all on x (is, place, within, all) fits = let (rest, both) = begun_rest cutter (end_so cutter size) text is_cut in
-      let e : (x ++ y) ++ rest ≡ x ++ text = append_assoc x y rest ∙ ap (λ more. x ++ more) (sym both) in
-      rw e at (so_grows on cutter.chunks size (x ++ y) rest place.some (omega (arith, ap length e, fits)))
-
-  pub cuts_none : {told : Bool} {next : CutterState} {old new : List Slot} {why : Fault} → next.chunks ≡ cutter.chunks
-      → next.at ≤ cutter.at + length text → Changes told cutter.target (with_rest y) old new next.target (Some why)
-      → Cuts told cutter size text old new next (Some why)
-  cuts_none {why = why} chunks bound stopped = record {
-    chunks = chunks;
-    bound = bound;
-    brings = brings_wider (λ x so. let so_on = so_more x so in let (is, place, within, all) = so_on in let on = course cutter in
-        part_trans _ _ _ (rw (grown cutter.chunks size x y place.some within all) at (fulls_follow on (with_rest y (chunks_within cutter.chunks size x)) (ended cutter.chunks size (x ++ y) - ended cutter.chunks size x))) (to_all on x so_on so.1))
-        (brings_as {Also = λ x. IsCut cutter size x × (length (x ++ text) ≤ size)} (λ x. x) (Some why) (λ x so. let so_on = so_more x so in (so.0, so_on.1)) (λ x so. refl) (λ x so. refl) (changes_cut y (Some why) stopped).brings);
-    stands = tt;
-  }
-
-  pub cuts_some : {told : Bool} {mid next : CutterState} {old wet new : List Slot} {why : Fault} → Cutting cutter mid y
-      → Changes told cutter.target (with_rest y) old wet mid.target None
-      → EndsFull told mid size wet new next (Some why) → Cuts told cutter size text old new next (Some why)
-  cuts_some {why = why} step changes ends = record {
-    chunks = ends.chunks ∙ step.chunks;
-    bound = let (rest, both) = begun_rest cutter (end_so cutter size) text is_cut in omega (arith, ends.at, step.at, ap length both, length-append y rest);
-    brings = brings_wider (λ x so. to_all (course cutter) x (so_more x so) so.1) (brings_as (λ x. x) (Some why) so_more (λ x so. refl) (λ x so. refl) (both_cut (Some why) step changes ends.sends).brings);
-    stands = tt;
-  }
+-- on the way to all of a text
+pub cuts_all : {told : Bool} {cutter next : CutterState} {size : ℕ} (text : List ℕ) {y : List ℕ}
+    {old new : List Slot} {why : Fault} → y ≡ cut_to cutter (end_so cutter size) text
+    → Cuts told cutter size y old new next (Some why) → Cuts told cutter size text old new next (Some why)
+cuts_all {cutter = cutter} {size = size} text {y} {why = why} is cuts =
+    let (rest, both) : (rest : List ℕ) × (text ≡ y ++ rest) = rw is (begun_begins cutter.chunks.unit cutter.chunks.delim _ text) in
+    let all : (x : List ℕ) → (x ++ y) ++ rest ≡ x ++ text = λ x. append_assoc x y rest ∙ ap (λ more. x ++ more) (sym both) in record {
+      chunks = cuts.chunks;
+      bound = omega (arith, cuts.bound, ap length both, length-append y rest);
+      brings = brings_wider (λ x so. rw (all x) at (so_grows (course cutter) cutter.chunks size (x ++ y) rest (some_of (course cutter) cutter.chunks.count so.0.cut.can) (omega (arith, ap length (all x), so.1))))
+          (brings_as {Also = λ x. IsCut cutter size x × (length (x ++ text) ≤ size)} (λ x. x) (Some why) (λ x so. (so.0, omega (arith, so.1, ap length (all x), length-append (x ++ y) rest))) (λ x so. refl) (λ x so. refl) cuts.brings);
+      stands = tt;
+    }
 
 -- one byte less doesn't complete what is written
 
@@ -563,18 +541,6 @@ cuts_again {told} {cutter} {mid} {next} {size} first more {wet = wet} {new} faul
   low : (x : List ℕ) → length (x ++ (first ++ more)) ≤ size → length (x ++ first) ≤ size
   low x within = omega (arith, within, length-append x (first ++ more), length-append first more, length-append x first)
 
--- a fault came on the way to more
-pub cuts_wider : {told : Bool} {cutter next : CutterState} {size : ℕ} (first more : List ℕ) {old new : List Slot}
-    {why : Fault} → Cuts told cutter size first old new next (Some why)
-    → Cuts told cutter size (first ++ more) old new next (Some why)
-cuts_wider {cutter = cutter} {size = size} first more {why = why} cuts = record {
-  chunks = cuts.chunks;
-  bound = omega (arith, cuts.bound, length-append first more);
-  brings = brings_wider (λ x so. rw (← append_assoc x first more) (so_grows (course cutter) cutter.chunks size (x ++ first) more (some_of (course cutter) cutter.chunks.count so.0.cut.can) (omega (arith, so.1, ap length (append_assoc x first more)))))
-      (brings_as {Also = λ x. IsCut cutter size x × (length (x ++ (first ++ more)) ≤ size)} (λ x. x) (Some why) (λ x so. (so.0, omega (arith, so.1, length-append x (first ++ more), length-append first more, length-append x first))) (λ x so. refl) (λ x so. refl) cuts.brings);
-  stands = tt;
-}
-
 -- what was cut off of a text, and what is left of it
 pub record CutsAway (told : Bool) (cutter : CutterState) (size : ℕ) (text left : List ℕ) (old slots : List Slot)
     (now : CutterState) : Type 0 where
@@ -594,7 +560,9 @@ module _ {told : Bool} {cutter now : CutterState} {size : ℕ} {text left : List
     (so_far : CutsAway told cutter size text left old slots now) where
   pub away_more : {next : CutterState} {rest : List ℕ} {n : ℕ} {new : List Slot}
       → (0 < n) × (n ≤ length left) × (next.at ≡ now.at + n) × Cuts told now size (take n left) slots new next None
-      × (is_past_on now.target ≡ false → (x : List ℕ) → IsCut now size x → length (x ++ left) ≤ size → IsOpen now size (x ++ take (n - 1) left)) → is_past_on now.target ≡ false → rest ≡ drop n left → CutsAway told cutter size text rest old new next
+      × (is_past_on now.target ≡ false → (x : List ℕ) → IsCut now size x → length (x ++ left) ≤ size
+      → IsOpen now size (x ++ take (n - 1) left)) → is_past_on now.target ≡ false → rest ≡ drop n left
+      → CutsAway told cutter size text rest old new next
   away_more {next} {rest} {n} (some, within, at, step, going) not_past is = record {
     done = so_far.done ++ take n left;
     both = so_far.both ∙ ap (λ those. so_far.done ++ those) (sym (take-append-drop n left)) ∙ sym (append_assoc so_far.done (take n left) (drop n left)) ∙ ap (λ those. (so_far.done ++ take n left) ++ those) (sym is);
@@ -622,23 +590,37 @@ module _ {told : Bool} {cutter now : CutterState} {size : ℕ} {text left : List
       → Cuts told now size left slots new next (Some why) → Cuts told cutter size text old new next (Some why)
   away_stops {why = why} stops = rw so_far.both (cuts_again so_far.done left (Some why) so_far.cuts stops)
 
-  pub away_so : (length left ≡ 0) ⊎ (is_past_on now.target ≡ true)
-      → CutsAs told cutter size text old slots now (length left)
-  away_so ends = let e : take (length text - length left) text ≡ so_far.done = let n : length text - length left ≡ length so_far.done = omega (arith, ap length so_far.both, length-append so_far.done left) in
-      ap (λ n. take n text) n ∙ ap (take (length so_far.done)) so_far.both ∙ take_at so_far.done left (length so_far.done) refl in record {
-        few = omega (arith, ap length so_far.both, length-append so_far.done left);
-        at = omega (arith, so_far.at, ap length so_far.both, length-append so_far.done left);
-        still = λ past. elim so_far.start [
-          | inl (same, none) ↦ omega (arith, ap length so_far.both, length-append so_far.done left, ap length none)
-          | inr going ↦ absurd (false≢true (sym going ∙ past))
-        ];
-        cuts = rw e so_far.cuts;
-        needed = elim so_far.needed [
-          | inl none ↦ inl (omega (arith, ap length so_far.both, length-append so_far.done left, ap length none))
-          | inr needed ↦ inr (λ x has fits. rw e (needed x has fits))
-        ];
-        enough = elim ends [
-          | inl none ↦ inl none
-          | inr past ↦ inr past
-        ];
-      }
+  pub away_so : (piece : List ℕ) (own : ℕ) {count : ℕ} → own ≡ min (length piece) (size - cutter.at)
+      → text ≡ take own piece → count ≡ length left + (length piece - own)
+      → (length left ≡ 0) ⊎ (is_past_on now.target ≡ true) → CutsAs told cutter size piece old slots now count
+  away_so piece own {count} is text_is count_is ends = record {
+    few = omega (arith, long, is, count_is);
+    at = omega (arith, so_far.at, long, is, count_is);
+    fits = λ fits. omega (arith, fits, is, count_is);
+    still = λ past. elim so_far.start [
+      | inl (same, none) ↦ omega (arith, long, is, ap length none, count_is)
+      | inr going ↦ absurd (false≢true (sym going ∙ past))
+    ];
+    cuts = rw e so_far.cuts;
+    needed = elim so_far.needed [
+      | inl none ↦ inl (omega (arith, long, is, ap length none, count_is))
+      | inr needed ↦ inr (λ x has. rw e (needed x has (omega (arith, has.fits, has.cut.at, length-append x text, all, is))))
+    ];
+    enough = elim ends [
+      | inl none ↦ elim (cases_lt own (length piece)) [
+        | inl less ↦ inr (inr (omega (arith, so_far.at, long, none, is, less)))
+        | inr all ↦ inl (omega (arith, none, all, count_is))
+      ]
+      | inr past ↦ inr (inl past)
+    ];
+  } where
+    all : length text ≡ own
+    all = omega (arith, ap length text_is, length-take own piece, is)
+
+    long : length so_far.done + length left ≡ own
+    long = omega (arith, all, ap length so_far.both, length-append so_far.done left)
+
+    e : take (length piece - count) piece ≡ so_far.done
+    e = let n : length piece - count ≡ length so_far.done = omega (arith, long, is, count_is) in
+        ap (λ n. take n piece) n ∙ sym (ap (take (length so_far.done)) text_is ∙ take-take (length so_far.done) own piece (omega (arith, long)))
+        ∙ ap (take (length so_far.done)) so_far.both ∙ take_at so_far.done left (length so_far.done) refl

@@ -1,44 +1,43 @@
 -- Files that are opened, written and closed in order.
-use Rattle.std.proofs.lemmas.Grind.{common_steps}
-use Rattle.std.proofs.Common.{◌≡◌, ℕ, ◌+◌, ◌-◌, ◌<◌, ◌≤◌, zero, suc, max, Bool, cond, ltb, List, [], ◌++◌, ◌⊎◌, length, map, take, drop, Result, Ok, Err, append_assoc, inl, inr, refl, sym, ◌∙◌, ap, subst, arith, true, false, ◌∷◌, get_or, length-append, IsTrue, rules, zero-add}
+use Rattle.std.proofs.{
+  lemmas.Grind.common_steps,
+  lemmas.Bool.{cases_lt, false≢true, eq-eqb, ne_eqb, Decides.nat_tests},
+  lemmas.List.{append-nil, take-append-drop, get_or_append_left, FromFn.{length-map-range_with_len, take-map-range_with_len, map-range_with_len_more}},
+  lemmas.Result.{IfErr-weaker, on_ok_weaker},
+  Common.{◌≡◌, ℕ, ◌+◌, ◌-◌, ◌<◌, ◌≤◌, zero, suc, max, Bool, cond, ltb, List, [], ◌++◌, ◌⊎◌, length, map, take, drop, Result, Ok, Err, append_assoc, inl, inr, refl, sym, ◌∙◌, ap, subst, arith, true, false, ◌∷◌, get_or, length-append, IsTrue, rules, zero-add},
+  Math.{Path.fun_ext, Seq.drop-append_seam},
+}
 use Rattle.std.specs.List.{range_with_len}
-use Rattle.std.proofs.Math.Path.{fun_ext}
-use Rattle.std.proofs.Math.Seq.{drop-append_seam}
-use Rattle.std.proofs.lemmas.Bool.Decides.{nat_tests}
-use Rattle.std.proofs.lemmas.List.{append-nil, take-append-drop, get_or_append_left}
-use Rattle.std.proofs.lemmas.List.FromFn.{length-map-range_with_len, take-map-range_with_len, map-range_with_len_more}
-use Rattle.std.proofs.lemmas.Result.{IfErr-weaker, on_ok_weaker}
-use Rattle.ports_core.specs.Name.{Naming, name_at, has_name}
-use Rattle.ports_core.specs.Names.{next_name, has_next, line_next, told_next, CanTell, OpensNone, no_memory, no_name, no_line, no_number, no_file}
-use Rattle.ports_core.specs.declared.names.Names.{Names}
-use Rattle.ports_core.specs.Slot.{Slot, Rose, changed_at, slot_at, opened, adds, closes, is_closable, with_written, with_broken, told_of}
-use Rattle.ports_core.specs.Part.{File, Part, OutputsAt, StoppedBetween, FilesBegin, Begins, IsBeginning, IsDueLine, IsNext, IsAt, LinesInOrder, Marks, Output, openings_for, writes as are_written}
-use Rattle.ports_core.specs.Draft.{opening_line, output_of, part_with, told_before, told_of_files}
-use Rattle.ports_core.specs.Write.{BrokeAfter}
-use Rattle.ports_core.specs.declared.file_writer.Tells.{Tells}
-use Rattle.ports_core.specs.declared.file_writer.Tells.TheVariants.{Nothing, Sizes, Openings}
-use Rattle.ports_core.specs.declared.slot.State.TheVariants.{Open, Closed}
-use Rattle.ports_core.specs.declared.fault.Fault.{Fault}
-use Rattle.ports_core.proofs.PartLemmas.{IsNoOpen, begins_itself, begins_trans, due_by, kept_trans, marks_by, none_due, openings-append, openings_since, out_more, sound_at}
-use Rattle.ports_core.proofs.SlotSteps.{keeps_again, keeps_close, keeps_open, keeps_write, open_rose, rose_later, write_rose, writable_before, writable_elsewhere, writable_within, written_writable, opened_writable, broken_there, written_size, short_size, broken_size}
-use Rattle.split_core.specs.Split.{Filing, Share, TellsNoSizes, is_verbose, output_by, share}
-use Rattle.split_core.specs.FilesState.{FilesState, filing_in}
-use Rattle.split_core.specs.Round.{AreReady, output_at}
-use Rattle.split_core.specs.laws.ShareLaws.{kept_file, told_begins}
-use Rattle.ports_core.proofs.OpenLemmas.{IsNextName, StopsOpening, stops_opening}
-use Rattle.ports_core.proofs.FileWriterLemmas.{breaks_later, can_tell}
-use Rattle.split_core.specs.inner.Sharing.{file_at, files_by, part_by, all_open, only_at, StandAt, KeepsFiles, IsOfFiles, Adds, Leaves, Grow, Halts, closed_first, Opens, HaveClosed, ClosesAll, with_opened}
-use Rattle.std.proofs.lemmas.Bool.{cases_lt, false≢true, eq-eqb, ne_eqb}
+use Rattle.ports_core.specs.{
+  Name.{Naming, name_at, has_name},
+  Names.{next_name, has_next, line_next, told_next, CanTell, OpensNone, no_memory, no_name, no_line, no_number, no_file},
+  declared.{names.Names.Names, file_writer.Tells.{Tells, TheVariants.{Nothing, Sizes, Openings}}, slot.{State.TheVariants.{Open, Closed}, Mode.TheVariants.Fresh}, fault.Fault.Fault},
+  Slot.{Slot, Rose, changed_at, slot_at, opened, adds, closes, is_closable, with_written, SlotBreaks, told_of, KeepsBroken},
+  Part.{File, Part, OutputsAt, StoppedBetween, FilesBegin, Begins, IsBeginning, IsDueLine, IsNext, IsAt, LinesInOrder, Marks, Output, openings_for, writes as are_written},
+  Draft.{opening_line, output_of, part_with, told_before, told_of_files},
+  Write.BrokeAfter,
+  Turn.fault_in,
+  inner.Write.Wrote,
+}
+use Rattle.ports_core.proofs.{
+  PartLemmas.{IsNoOpen, begins_itself, begins_trans, due_by, kept_trans, marks_by, none_due, openings-append, openings_since, out_more, sound_at},
+  SlotSteps.{keeps_again, keeps_close, keeps_open, keeps_write, open_rose, rose_later, write_rose, writable_before, writable_elsewhere, writable_within, written_writable, opened_writable, broken_there, written_size, short_size, broken_size},
+  OpenLemmas.{IsNextName, StopsOpening, stops_opening},
+  FileWriterLemmas.{breaks_later, can_tell},
+  SlotLemmas.length-changed_at,
+  WriteLemmas.{none_written, writable-written},
+  FileLemmas.{Makes, file_more, file_changes, write_makes, close_makes, gets, ended},
+}
+use Rattle.split_core.specs.{
+  Split.{Filing, Share, TellsNoSizes, is_verbose, output_by, share},
+  FilesState.{FilesState, filing_in},
+  Round.{AreReady, output_at},
+  laws.ShareLaws.{kept_file, told_begins},
+  inner.Sharing.{file_at, files_by, part_by, all_open, only_at, StandAt, KeepsFiles, IsOfFiles, Adds, Leaves, Grow, Halts, closed_first, Opens, HaveClosed, ClosesAll, with_opened},
+  Sharing.CannotOpen,
+}
 use Rattle.ports_core.specs.inner.Write as short
-use Rattle.ports_core.specs.declared.slot.Mode.TheVariants.{Fresh}
 use Rattle.ports_core.specs.declared.fault.Fault.TheVariants as fault
-use Rattle.ports_core.proofs.SlotLemmas.{length-changed_at}
-use Rattle.ports_core.proofs.WriteLemmas.{none_written, writable-written}
-use Rattle.ports_core.proofs.FileLemmas.{Makes, file_more, file_changes, write_makes, close_makes, gets, ended}
-use Rattle.ports_core.specs.Turn.{fault_in}
-use Rattle.ports_core.specs.inner.Write.{Wrote}
-use Rattle.ports_core.specs.Slot.{KeepsBroken}
-use Rattle.split_core.specs.Sharing.{CannotOpen}
 
 -- what has a name after a place, has one there
 pub named_before : (names : Naming) (place more : ℕ) → has_name names more ≡ true → place ≤ more
@@ -440,7 +439,7 @@ owned_unopened files names drawn (no_memory same) first owns = record { stand = 
 owned_unopened {told} files names {old} {new} drawn (no_line n few has cut) first owns = record { stand = owns.stand; last = λ also. owns.last drawn ∙ sym (short_size told 0 _ old new _ (short.broke n cut)) }
 owned_unopened {told} files names {old} drawn (no_number few has same) first owns = record { stand = owns.stand; last = λ also. owns.last drawn ∙ sym (written_size 0 (told_of told (line_next files.tells files.names)) old _ same) }
 owned_unopened files names drawn (no_name few none same) first owns = record { stand = owns.stand; last = λ also. owns.last drawn ∙ sym (ap length same) }
-owned_unopened files names drawn (no_file slot kept at few has drew is made) first owns =
+owned_unopened files names drawn (no_file slot kept reason at few has drew is made) first owns =
     record { stand = owns.stand; last = λ also. absurd (omega (arith, also, drawn, ap (λ (those : Names). those.drawn) drew)) }
 
 -- standard output can break only where it is told of files
@@ -456,9 +455,9 @@ fails_caused : (told : Bool) (files : FilesState) {next : Names} (old new : List
     → CannotOpen (is_verbose files.tells) old new why
 fails_caused told files old new ready has (no_memory same) = inl refl
 fails_caused told files old new ready has (no_line n few _ cut) = let (verbose, rose) = line_breaks told files.tells files.names n ready.tells ready.output cut in inr (inl (verbose, refl, rose))
-fails_caused told files old new ready has (no_file slot kept at few _ drew is made) =
+fails_caused told files old new ready has (no_file slot kept reason at few _ drew is made) =
     let size : length (told_next told files.tells files.names old) ≡ length old = written_size 0 (told_of told (line_next files.tells files.names)) old _ refl in
-    inr (inr (slot, refl, rose_later slot old (told_next told files.tells files.names old) new (keeps_write 0 _ old _ refl) (open_rose slot kept _ new (at ∙ sym size) made)))
+    inr (inr (slot, refl, rose_later slot old (told_next told files.tells files.names old) new (keeps_write 0 _ old _ refl) (open_rose slot reason kept _ new (at ∙ sym size) made)))
 fails_caused told files old new ready has (no_number few _ same) = inl refl
 fails_caused told files old new ready has (no_name few none same) = absurd (false≢true (sym none ∙ has))
 
@@ -707,26 +706,26 @@ module _ (told : Bool) {files : FilesState} {place : ℕ} {old now : List Slot} 
     by can = search (rules, length-changed_at, writable_elsewhere, closes_next, keeps_again, keeps_close)
 
   pub not_closed : {new : List Slot} {slot : ℕ} {why : Fault} → slot ≡ output_at files place
-      → (why ≡ fault.Write slot) × (new ≡ with_broken slot (changed_at slot closes now))
+      → (why ≡ fault.Write slot) × SlotBreaks slot (changed_at slot closes now) new
       → ClosesAll told files old new (Err why)
   not_closed {new} {slot} {why} slot_is failed = subst (λ those. ClosesAll told files old new (Err those)) (sym (failed.0 ∙ ap fault.Write slot_is)) (record {
     closed = tt;
     output = tt;
     cut = λ before had at. stops_in_order (halted before had at);
     caused = (output_at files place, refl, can.0, (so_far.sound (output_at files place) (sound_at (output_at files place) now can.1), risen));
-    owned = owned_same (broken_size (output_at files place) now new is ∙ so_far.size);
+    owned = owned_same (broken_size (output_at files place) now new breaks ∙ so_far.size);
   }) where
     can : is_closable now (output_at files place)
     can = so_far.left place (omega arith) within
 
-    is : new ≡ with_broken (output_at files place) (changed_at (output_at files place) closes now)
-    is = failed.1 ∙ ap (λ at. with_broken at (changed_at at closes now)) slot_is
+    breaks : SlotBreaks (output_at files place) (changed_at (output_at files place) closes now) new
+    breaks = rw slot_is at failed.1
 
     there : output_at files place < length (changed_at (output_at files place) closes now)
     there = omega (arith, length-changed_at (output_at files place) closes now, so_far.size, output_within place ready within)
 
     risen : (slot_at new (output_at files place)).is_broken ≡ true
-    risen = ap (λ slots. (slot_at slots (output_at files place)).is_broken) is ∙ broken_there (output_at files place) _ there
+    risen = ap (λ slots. (slot_at slots (output_at files place)).is_broken) breaks.1 ∙ broken_there breaks.0 (output_at files place) _ there
 
     shut_grow : (had : ℕ → List ℕ) (from to n m : ℕ) → from ≤ n → n ≤ m → m ≤ to
         → Grow from to (closed_first n had) (length files.outputs) (closed_first m had) (length files.outputs)
@@ -739,7 +738,7 @@ module _ (told : Bool) {files : FilesState} {place : ℕ} {old now : List Slot} 
     halted before had at = halts place (closed_first (place + 1) had) (length files.outputs) tt (omega arith) (omega arith) (omega arith)
         (grind (arith, common_steps, still_open, begins_itself))
         (shut_grow had place (length files.outputs) (place + 1) (length files.outputs) (omega arith) (omega arith) (omega arith))
-        (closes_next refl at) (there, is) (inr (at.owns.stand place within))
+        (closes_next refl at) (there, breaks) (inr (at.owns.stand place within))
 
 -- A file was reached, and then written to.
 

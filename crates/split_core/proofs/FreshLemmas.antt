@@ -1,26 +1,16 @@
 -- Lemmas on chunks of an input of which no byte came in yet.
-use Rattle.std.proofs.Common.{◌≡◌, ℕ, ◌<◌, Bool, true, false, List, [], Option, Some, None, IfSome, refl, sym, ◌∙◌, ap, subst, arith, inl, Result, zero, suc, max}
-use Rattle.std.proofs.Math.Seq.{drop-nil, take-nil}
-use Rattle.seg_core.specs.declared.cut.Chunks.{Chunks}
-use Rattle.seg_core.specs.declared.unit.Unit.{Unit as Counted}
-use Rattle.seg_core.specs.declared.unit.Unit.TheVariants.{Bytes, Lines}
-use Rattle.ports_core.specs.Draft.{draft_part}
-use Rattle.ports_core.specs.Part.{Output, OutputsAt, Part, StoppedBetween, nothing}
-use Rattle.ports_core.specs.Slot.{Slot}
-use Rattle.ports_core.specs.declared.fault.Fault.{Fault}
-use Rattle.ports_core.specs.declared.fault.Fault.TheVariants.{Memory}
-use Rattle.ports_core.proofs.HandedOn.{result_is}
-use Rattle.ports_core.proofs.PartLemmas.{nothing_begins_part, stopped_here}
-use Rattle.std.specs.Result.{IfErr, IsErrAnd}
-use Rattle.split_core.specs.ChunkWork.{draft_by, piece_at}
-use Rattle.split_core.specs.Split.{Filing, manner_of}
-use Rattle.split_core.specs.Parts.{uncut}
-use Rattle.split_core.specs.Chunks.{chunks_within, decided, is_within}
-use Rattle.split_core.specs.ChunkerState.{Carries, Course, CutterState, HasAll, HasCut, HoldsBy, TargetState, can_cut, course_of, in_files, in_output, work_on}
-use Rattle.ports_core.proofs.ShareLemmas.{nothing_part}
-use Rattle.split_core.specs.laws.BegunLaws.{begun_of_none}
-use Rattle.split_core.proofs.UnsaidLemmas.{none_within}
-use Rattle.split_core.proofs.CutterLemmas.{some_of}
+use Rattle.std.proofs.{Common.{◌≡◌, ℕ, ◌<◌, Bool, true, false, List, [], Option, Some, None, IfSome, refl, sym, ◌∙◌, ap, subst, arith, inl, zero, suc, max}, Math.Seq.{drop-nil, take-nil}}
+use Rattle.seg_core.specs.declared.{cut.Chunks.Chunks, unit.Unit.{Unit as Counted, TheVariants.{Bytes, Lines}}}
+use Rattle.ports_core.{specs.{Draft.draft_part, Part.nothing}, proofs.ShareLemmas.nothing_part}
+use Rattle.split_core.specs.{
+  ChunkWork.{draft_by, piece_at},
+  Split.{Filing, manner_of},
+  Parts.uncut,
+  Chunks.{chunks_within, decided, is_within},
+  ChunkerState.{Carries, Course, CutterState, HasAll, HasCut, HoldsBy, TargetState, can_cut, course_of, in_files, in_output, work_on},
+  laws.BegunLaws.begun_of_none,
+}
+use Rattle.split_core.proofs.{UnsaidLemmas.none_within, CutterLemmas.some_of}
 
 none_so : (unit : Counted) (delim : ℕ) → is_within unit delim [] ≡ false
 none_so Bytes delim = refl
@@ -71,13 +61,3 @@ settled_none (in_files filing elide) chunks said can long =
     ap (λ cut. draft_part (manner_of filing) (draft_by elide cut)) (none_decided chunks 1 said (some_of (in_files filing elide) _ can) long) ∙ no_file filing elide
 settled_none (in_output chunk) chunks said can long =
     ap (piece_at chunk) (none_decided chunks (max chunk 1) said (some_of (in_output chunk) _ can) long) ∙ no_piece chunk
-
--- there was no memory for what waits, and nothing was written
-pub lacks_memory : (told : Bool) (output : Output) (high : Part) (slots : List Slot) {T : Type 0}
-    (result : Result T Fault) (fault : Fault) → fault ≡ Memory
-    → IsErrAnd result (λ given. given ≡ fault)
-    → IfErr result (λ fault. (before : List Slot) → OutputsAt told before nothing slots
-    → StoppedBetween output told before nothing high fault slots)
-lacks_memory told output high slots result fault is handed = result_is
-    (λ result. IfErr result (λ fault. (before : List Slot) → OutputsAt told before nothing slots → StoppedBetween output told before nothing high fault slots))
-    result fault handed (λ before outputs. rw is (stopped_here output told before nothing high Memory slots slots outputs (nothing_begins_part high) refl tt tt))

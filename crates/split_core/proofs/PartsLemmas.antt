@@ -1,50 +1,47 @@
 -- What each call on parts leaves: a step of a piece, a piece that is taken in step by step, the end of the input, and what the stage owes.
-use Rattle.std.proofs.lemmas.Grind.{common_steps}
-use Rattle.std.proofs.Common.{◌≡◌, ℕ, ◌+◌, ◌-◌, ◌<◌, ◌≤◌, suc, List, [], ◌∷◌, ◌++◌, ◌⊎◌, length, map, Bool, true, false, Option, Some, None, IfSome, IsTrue, Result, Ok, Err, OnOk, IfErr, IfOk, inl, inr, refl, sym, ◌∙◌, ap, subst, arith, length-append, take, drop, append_assoc, not, cond, rules}
-use Rattle.std.proofs.lemmas.List.{append-nil, drop-take, take-append-drop, length-map, map-append}
-use Rattle.std.proofs.Math.Seq.{take-length, drop-append_seam}
-use Rattle.ports_core.specs.Draft.{Manner, Draft, share, Share, made_of, shares_of, draft_part, output_of, with_bytes, with_next}
-use Rattle.ports_core.specs.Engine.{CutsOff, EndsWith, EndsThere, IsMet, StandsAt, is_verdict}
+use Rattle.std.proofs.{
+  lemmas.{Grind.common_steps, List.{append-nil, drop-take, take-append-drop, length-map, map-append}},
+  Common.{◌≡◌, ℕ, ◌+◌, ◌-◌, ◌<◌, ◌≤◌, suc, List, [], ◌∷◌, ◌++◌, ◌⊎◌, length, map, Bool, true, false, Option, Some, None, IfSome, IsTrue, Result, Ok, Err, OnOk, IfErr, IfOk, inl, inr, refl, sym, ◌∙◌, ap, subst, arith, length-append, take, drop, append_assoc, not, cond, rules},
+  Math.Seq.take-length,
+}
+use Rattle.ports_core.specs.{
+  Draft.{Manner, Draft, share, Share, made_of, shares_of, draft_part, output_of, with_bytes, with_next},
+  Engine.{CutsOff, EndsWith, EndsThere, IsMet, StandsAt, is_verdict},
+  FileWriter.{Leaves, Reaches, WriterState, Writes, At, Breaks, CanCount, CanTell, Goes, IsCurrent, IsWrite, is_file, manner_in},
+  Name.{Naming, has_name},
+  Part.writes,
+  Slot.{Slot, is_writable},
+  Turn.fault_in,
+  inner.Shares.SharesBegin,
+  declared.fault.Fault.{Fault, TheVariants.{Memory, Write, Open}},
+  declared.verdict.Verdict.{Verdict, TheVariants.Suffixes},
+  declared.file_writer.{Current.{Current, TheVariants.{Skipped, Due, File, Unopened}}, Opening.TheVariants.{Never, Late}, Tells.{Tells, TheVariants.{Nothing, Sizes, Openings}}},
+  Work.Needs,
+}
+use Rattle.ports_core.proofs.{
+  FileWriterLemmas.{goes_still, in_any, keeps_files, leaves_again, leaves_still, reaches_again, reaches_as, reaches_still, stops_wider, where_short, where_well},
+  WriterSteps.{goes_again, goes_lacking, goes_more, goes_wider, stops_among},
+  PartLemmas.{begins_itself, begins_trans, kept_trans, stopped_in_turn},
+  ShareLemmas.{has_told, bytes_begin, made_begin, next_begins, shares_after, shares_wider, still_made},
+}
+use Rattle.seg_core.specs.{Cut.most, declared.cut.Limit.Limit}
+use Rattle.split_core.specs.{
+  Parts.{cut_up, parts, settled_rest, unless_empty, waiting_rest},
+  PartsState.{PartsState, IsReady, Lacks, Stands, filing_of, work},
+  Split.{Filing, TellsNoSizes, are_named, is_verbose, tells_by, draft_of, manner_of, output_by, settled_parts, split_means},
+  declared.step.Step.{Step, TheVariants.{Goes as GoesOn, Ends, Begins, Waits}},
+  inner.CutLaws.{cut_so, named},
+  inner.Sharing.{CannotClose, always_named},
+  inner.Step.{IsTurned, Leads},
+  inner.Takes.{Extends, Finishes, LacksNames, Moves, Steps, Takes, Turns, numbers, settled_part, turns, whole_part},
+  laws.{CutLaws.{cut_none, cut_on, first_some, settled_some, settled_then_waiting}, ShareLaws.{are_named_more, named_short, part_begins, settled_count, settled_grow, shares_fewer}},
+}
+use Rattle.split_core.proofs.{AgreedLemmas.one_of, CutLaws.cut_two}
 use Rattle.ports_core.specs.Engine as engine
-use Rattle.ports_core.specs.FileWriter.{Leaves, Reaches, WriterState, Writes, At, Breaks, CanCount, CanTell, Goes, IsCurrent, IsReady as CanWrite, IsWrite, is_file, manner_in}
-use Rattle.ports_core.specs.Name.{Naming, has_name}
-use Rattle.ports_core.specs.Part.{writes}
-use Rattle.ports_core.specs.Slot.{Slot, is_writable}
-use Rattle.ports_core.specs.Turn.{fault_in}
-use Rattle.ports_core.specs.inner.Shares.{SharesBegin}
-use Rattle.ports_core.specs.declared.fault.Fault.{Fault}
-use Rattle.ports_core.specs.declared.fault.Fault.TheVariants.{Memory, Write, Open}
 use Rattle.ports_core.specs.declared.fault.Fault.TheVariants as fault_is
-use Rattle.ports_core.specs.declared.verdict.Verdict.{Verdict}
-use Rattle.ports_core.specs.declared.verdict.Verdict.TheVariants.{Suffixes}
-use Rattle.ports_core.specs.declared.file_writer.Current.{Current}
-use Rattle.ports_core.specs.declared.file_writer.Current.TheVariants.{Skipped, Due, File, Unopened}
-use Rattle.ports_core.specs.declared.file_writer.Opening.TheVariants.{Never, Late}
-use Rattle.ports_core.specs.declared.file_writer.Tells.{Tells}
-use Rattle.ports_core.specs.declared.file_writer.Tells.TheVariants.{Nothing, Sizes, Openings}
 use Rattle.ports_core.specs.declared.slot.State.TheVariants as file_state
-use Rattle.ports_core.proofs.FileWriterLemmas.{goes_still, in_any, keeps_files, leaves_again, leaves_still, put_nothing, reaches_again, reaches_as, reaches_still, stops_wider, where_short, where_well}
-use Rattle.ports_core.proofs.WriterSteps.{goes_again, goes_as, goes_lacking, goes_more, goes_wider, stops_among}
-use Rattle.ports_core.proofs.PartLemmas.{begins_itself, begins_trans, kept_trans, stopped_in_turn}
-use Rattle.ports_core.proofs.ShareLemmas.{has_told, bytes_begin, made_begin, next_begins, shares_after, shares_wider, still_made}
-use Rattle.seg_core.specs.Cut.{most}
-use Rattle.seg_core.specs.declared.cut.Limit.{Limit}
-use Rattle.split_core.specs.Parts.{cut_up, parts, settled_rest, unless_empty, waiting_rest}
-use Rattle.split_core.specs.PartsState.{PartsState, IsReady, Lacks, Stands, filing_of, work}
-use Rattle.ports_core.specs.Work.{Needs}
-use Rattle.split_core.specs.Split.{Filing, TellsNoSizes, are_named, is_verbose, tells_by, draft_of, manner_of, output_by, settled_parts, split_means}
 use Rattle.split_core.specs.Ways as ways
 use Rattle.split_core.specs.declared.splitter.Splitter.TheVariants as way
-use Rattle.split_core.specs.declared.step.Step.{Step}
-use Rattle.split_core.specs.declared.step.Step.TheVariants.{Goes as GoesOn, Ends, Begins, Waits}
-use Rattle.split_core.specs.inner.CutLaws.{cut_so, named}
-use Rattle.split_core.specs.inner.Sharing.{CannotClose, always_named}
-use Rattle.split_core.specs.inner.Step.{IsTurned, Leads}
-use Rattle.split_core.specs.inner.Takes.{Emptying, Extends, Finishes, LacksNames, Moves, Steps, Takes, Turns, numbers, settled_part, turns, whole_part}
-use Rattle.split_core.specs.laws.CutLaws.{cut_none, cut_on, first_some, settled_some, settled_then_waiting}
-use Rattle.split_core.specs.laws.ShareLaws.{are_named_more, named_short, part_begins, settled_count, settled_grow, shares_fewer}
-use Rattle.split_core.proofs.AgreedLemmas.{one_of}
-use Rattle.split_core.proofs.CutLaws.{cut_two}
 
 pub on_ok : {P : Type 0} (result : Result (Unit {0}) Fault) → P → OnOk result P
 on_ok (Ok done) is = is
@@ -97,41 +94,6 @@ pub told_writable : (tells : Tells) (slots : List Slot) → CanTell tells slots
 told_writable Nothing slots can is_told = absurd (cc)
 told_writable Sizes slots can is_told = absurd (cc)
 told_writable Openings slots can is_told = can
-
--- What waits goes to what is begun.
-
-pub all_held : {told : Bool} {writer : WriterState} {held : List ℕ} {most : ℕ} {slots : List Slot}
-    → CanWrite writer slots → Emptying told writer writer held held most most slots slots
-all_held ready = record { gone = []; both = refl; goes = put_nothing refl ready; stays = λ is. is; same = refl }
-
-module _ {told : Bool} {writer now : WriterState} {held left : List ℕ} {most now_most : ℕ} {old slots : List Slot}
-    (so_far : Emptying told writer now held left most now_most old slots) (front rest : List ℕ)
-    (is : left ≡ front ++ rest) where
-  gone_on : held ≡ (so_far.gone ++ front) ++ rest
-  gone_on = so_far.both ∙ ap (λ those. so_far.gone ++ those) is ∙ sym (append_assoc so_far.gone front rest)
-
-  pub empties : {next : WriterState} {after : List ℕ} {next_most : ℕ} {new : List Slot}
-      → Goes told now (with_bytes front) slots new next None
-      → (is_file now.current ≡ true → is_file next.current ≡ true) → next_most ≡ now_most
-      → after ≡ drop (length front) left
-      → Emptying told writer next held after most next_most old new
-  empties went stays same dropped = record {
-    gone = so_far.gone ++ front;
-    both = gone_on ∙ ap (λ those. (so_far.gone ++ front) ++ those) (sym (dropped ∙ ap (drop (length front)) is ∙ drop-append_seam front rest));
-    goes = goes_more so_far.gone front so_far.goes went;
-    stays = λ file. stays (so_far.stays file);
-    same = same ∙ so_far.same;
-  }
-
-  pub empties_short : {next : WriterState} {new : List Slot} {fault : Fault}
-      → Goes told now (with_bytes front) slots new next (Some fault)
-      → Goes told writer (with_bytes held) old new next (Some fault)
-  empties_short stopped = goes_as (sym gone_on) (stops_among (so_far.gone ++ front) rest (goes_more so_far.gone front so_far.goes stopped))
-
-pub emptied : {told : Bool} {writer now : WriterState} {held left : List ℕ} {most now_most : ℕ} {old slots : List Slot}
-    → Emptying told writer now held left most now_most old slots → left ≡ []
-    → Goes told writer (with_bytes held) old slots now None
-emptied so_far none = goes_as (sym (so_far.both ∙ ap (λ those. so_far.gone ++ those) none ∙ append-nil so_far.gone)) so_far.goes
 
 -- More goes to the part that was begun.
 
@@ -377,7 +339,8 @@ begins_on {state = state} piece bytes fault leads turn = turned_on piece (turns 
 
 module _ {state : PartsState} (piece : List ℕ) (end bytes : ℕ) (leads : LeadsOn state piece (Ends end bytes)) where
   ends_to : (x : List ℕ) → Stands state x → Comes state x (take bytes piece)
-      (turns (drop end (take bytes piece)) (with_bytes (state.waiting ++ take end piece) (draft_of state.limit x))) (most state.limit - length (drop end (take bytes piece)), false, [])
+      (turns (drop end (take bytes piece)) (with_bytes (state.waiting ++ take end piece) (draft_of state.limit x)))
+      (most state.limit - length (drop end (take bytes piece)), false, [])
   ends_to x stands = rw (all_of (take end piece) stands) (turned_so (leads (rest_of state x) stands.lacks))
 
   pub ends_stopped : {told : Bool} {mid : PartsState} {old wet : List Slot} {f : Fault}

@@ -1,58 +1,49 @@
 -- Lemmas on dealing lines in turn, as a stage, and on what waits in the engine in each of its two ways to cut.
-use Rattle.std.proofs.Common.{◌≡◌, ℕ, ◌+◌, ◌%◌, ◌<◌, ◌≤◌, zero, suc, min, max, Bool, true, false, not, cond, List, [], ◌∷◌, ◌++◌, length, map, take, drop, get_or, Some, None, refl, sym, ◌∙◌, ap, subst, arith, Ok, Err, OnOk, IfErr, Result, rules}
-use Rattle.std.proofs.Math.Nat.{mod-add-mod, mod-eq_of_lt, mod-mod, mod-le}
-use Rattle.std.proofs.Math.Path.{fun_ext}
-use Rattle.std.proofs.Math.Seq.{drop-length}
+use Rattle.std.proofs.{
+  Common.{◌≡◌, ℕ, ◌+◌, ◌%◌, ◌<◌, ◌≤◌, zero, suc, min, max, Bool, true, false, not, cond, List, [], ◌∷◌, ◌++◌, length, map, take, drop, get_or, Some, None, refl, sym, ◌∙◌, ap, subst, arith, Ok, Err, OnOk, IfErr, Result, rules},
+  Math.{Nat.{mod-add-mod, mod-eq_of_lt, mod-mod, mod-le}, Path.fun_ext, Seq.drop-length},
+  lemmas.{Bool.cases_lt, List.{append-nil, length-map, get_or_past, FromFn.{length-map-range_with_len, get_or-map-range_with_len, take-map-range_with_len}}, Grind.common_steps},
+}
 use Rattle.std.specs.List.{filter, range_with_len}
-use Rattle.std.proofs.lemmas.Bool.{cases_lt}
-use Rattle.std.proofs.lemmas.List.{append-nil, length-map, get_or_past}
-use Rattle.std.proofs.lemmas.List.FromFn.{length-map-range_with_len, get_or-map-range_with_len, take-map-range_with_len}
-use Rattle.seg_core.specs.Line.{joined, delimiters, line_count}
-use Rattle.seg_core.proofs.Delimiters.{delimiters-append}
-use Rattle.seg_core.proofs.LineCounts.{line_count_near, line_count-front}
-use Rattle.ports_core.specs.Name.{Naming, has_name}
-use Rattle.ports_core.specs.Slot.{Slot}
-use Rattle.ports_core.specs.Part.{Part, OutputsAt, StoppedBetween, gets_bytes, nothing}
-use Rattle.ports_core.specs.Work.{IsSpare, Judges, Work}
-use Rattle.ports_core.specs.declared.verdict.Verdict.TheVariants.{Suffixes}
-use Rattle.ports_core.specs.Engine.{MayGet, TakesIn, EndsWith, EndsThere, StandsAt, is_verdict, cut}
-use Rattle.ports_core.specs.Engine as engine
-use Rattle.ports_core.proofs.SpareLemmas.{none_spare}
-use Rattle.split_core.specs.Alike.{as_if}
-use Rattle.split_core.specs.laws.WorkLaws.{lawful}
-use Rattle.split_core.proofs.AlikeLemmas.{complete_as, verdict_as, waiting_as}
-use Rattle.ports_core.specs.declared.fault.Fault.{Fault}
-use Rattle.ports_core.specs.declared.verdict.Verdict.TheVariants.{Suffixes}
-use Rattle.ports_core.specs.declared.slot.State.{State}
-use Rattle.ports_core.specs.declared.slot.State.TheVariants.{Open, Closed}
-use Rattle.ports_core.proofs.PartLemmas.{outputs_count}
-use Rattle.ports_core.proofs.ShareLemmas.{nothing_part}
-use Rattle.split_core.specs.Parts.{dealt, round_robin}
+use Rattle.seg_core.{specs.Line.{joined, delimiters, line_count}, proofs.{Delimiters.delimiters-append, LineCounts.{line_count_near, line_count-front}}}
+use Rattle.ports_core.specs.{
+  Name.{Naming, has_name},
+  Slot.Slot,
+  Part.{Part, OutputsAt, StoppedBetween, gets_bytes, nothing},
+  Work.{IsSpare, Judges, Work},
+  declared.{verdict.Verdict.TheVariants.Suffixes, fault.Fault.Fault, slot.State.{State, TheVariants.{Open, Closed}}, file_writer.Tells.Tells},
+  Engine.{MayGet, TakesIn, EndsWith, EndsThere, StandsAt, is_verdict, cut},
+  Draft.{part_of, part_with},
+}
+use Rattle.ports_core.proofs.{SpareLemmas.none_spare, PartLemmas.outputs_count, ShareLemmas.nothing_part}
+use Rattle.split_core.specs.{
+  Alike.as_if,
+  laws.{WorkLaws.lawful, DealLaws.{dealt_append, dealt_none, dealt_files_are, share_none}},
+  Parts.round_robin,
+  inner.CutLaws.named,
+  inner.Dealt.{dealt_piece, dealt_first, reached_by, share_of},
+  inner.Ways.{EndsAs, PassesAs, held},
+  inner.Sharing.{file_at, files_by, always_named, part_by, all_open, closed_first, StandAt, Adds, Opens, Leaves, ClosesAll},
+  Split.{Filing, share, manner_of, are_named, is_verbose, output_by, dealt_files, settled_by, is_short, has_bytes, split_work, bytes_in},
+  FilesState.{FilesState, filing_in},
+  RoundState.RoundState,
+  Round.{round_plan, round_work, work, opened_by, Holds, OwnsFiles},
+  declared.splitter.Splitter.Splitter,
+  ChunkerState.ChunkerState,
+  PartsState.{PartsState, Stands},
+}
+use Rattle.split_core.proofs.{
+  AlikeLemmas.{complete_as, verdict_as, waiting_as},
+  AgreedLemmas.{each_named, shared_bytes, waiting_is},
+  CutLaws.{dealt_same, dealt_past},
+  FilesLemmas.{same_by, stopped_as, stops_in_order, shut_now, named_before},
+  SectionLemmas.all_dealt,
+  ChunkerWays.{chunks_wait, no_suffixes, open_beside},
+}
 use Rattle.split_core.specs.Parts as cut
-use Rattle.split_core.specs.inner.CutLaws.{named}
-use Rattle.split_core.specs.Split.{Filing, share, manner_of, are_named, is_verbose, output_by, dealt_files, settled_by, is_short, has_bytes, split_work, bytes_in}
-use Rattle.split_core.specs.inner.Dealt.{dealt_piece, dealt_first, reached_by, share_of}
-use Rattle.ports_core.specs.Draft.{part_of, part_with}
-use Rattle.ports_core.specs.declared.file_writer.Tells.{Tells}
-use Rattle.split_core.specs.FilesState.{FilesState, filing_in}
-use Rattle.split_core.specs.RoundState.{RoundState}
-use Rattle.split_core.specs.Round.{round_plan, round_work, work, opened_by, Holds, OwnsFiles}
 use Rattle.split_core.specs.Ways as ways
 use Rattle.split_core.specs.declared.splitter.Splitter.TheVariants as way
-use Rattle.split_core.specs.inner.Ways.{Deals, held}
-use Rattle.split_core.specs.inner.Sharing.{file_at, files_by, always_named, part_by, all_open, closed_first, StandAt, Adds, Opens, Leaves, ClosesAll}
-use Rattle.split_core.specs.laws.DealLaws.{dealt_append, dealt_none, dealt_files_are, share_none}
-use Rattle.split_core.proofs.AgreedLemmas.{each_named, shared_bytes, waiting_is}
-use Rattle.split_core.proofs.CutLaws.{dealt_same, dealt_past}
-use Rattle.split_core.proofs.FilesLemmas.{same_by, stopped_as, stops_in_order, shut_now}
-use Rattle.split_core.proofs.FilesLemmas.{named_before}
-use Rattle.split_core.proofs.SectionLemmas.{all_dealt}
-use Rattle.std.proofs.lemmas.Grind.{common_steps}
-use Rattle.split_core.specs.declared.splitter.Splitter.{Splitter}
-use Rattle.split_core.specs.ChunkerState.{ChunkerState}
-use Rattle.split_core.proofs.ChunkerWays.{chunks_wait, no_suffixes, open_beside}
 use Rattle.split_core.proofs.PartsLemmas as part
-use Rattle.split_core.specs.PartsState.{PartsState, Stands}
 use Rattle.split_core.specs.PartsState as parts_state
 
 -- Names
@@ -129,10 +120,6 @@ first_gathered delim n start {reached} piece is reached_is = search (rules, take
 
 -- What a piece leaves
 
-pub same_work : (old new : RoundState) → new.delim ≡ old.delim → new.count ≡ old.count → new.elide ≡ old.elide
-    → filing_in new.files ≡ filing_in old.files → work new ≡ work old
-same_work old new delim count elide filing = cc
-
 -- what the stage has written, where it can have been fed x
 stands_is : {round : RoundState} {x : List ℕ} → Holds round x
     → part_by (filing_in round.files) (all_open (share_of round.delim round.count x)) (length round.files.outputs)
@@ -152,7 +139,8 @@ count_is {round} {x} piece holds = search (rules, length-map-range_with_len, ope
 module _ (told : Bool) (round : RoundState) (piece : List ℕ) {old before : List Slot} {x : List ℕ}
     (at : StandsAt ways.terms (way.Round round) told before x old) where
   made_is : part_by (filing_in round.files) (all_open (share_of round.delim round.count (x ++ piece)))
-      (max (length round.files.outputs) (length (dealt_first round.delim round.count round.next piece))) ≡ (work round).settled (x ++ piece)
+      (max (length round.files.outputs) (length (dealt_first round.delim round.count round.next piece)))
+      ≡ (work round).settled (x ++ piece)
   made_is = ap (part_by (filing_in round.files) (all_open (share_of round.delim round.count (x ++ piece)))) (count_is piece at.holds) ∙ sym (filed_are round.delim Open (filing_in round.files) round.elide round.count (x ++ piece) at.holds.named)
 
   left_by : {next : FilesState} {new : List Slot} (result : Result (Unit {0}) Fault)
@@ -160,40 +148,47 @@ module _ (told : Bool) (round : RoundState) (piece : List ℕ) {old before : Lis
       (length (dealt_first round.delim round.count round.next piece)) old next new result
       → Leaves told before (filing_in round.files) (all_open (share_of round.delim round.count x))
       (length round.files.outputs) (all_open (share_of round.delim round.count (x ++ piece)))
-      (max (length round.files.outputs) (length (dealt_first round.delim round.count round.next piece))) 0 (length (dealt_first round.delim round.count round.next piece)) new result
+      (max (length round.files.outputs) (length (dealt_first round.delim round.count round.next piece))) 0
+      (length (dealt_first round.delim round.count round.next piece)) new result
   left_by result adds = adds.leaves before _ _ (stand_at told round at) (λ i. rw at.holds.next (share_after round.delim round.count x piece at.holds.some i))
 
-takes_in : (told : Bool) {old new : RoundState} {piece : List ℕ} {before after : List Slot}
-    → Deals told old piece before after new (Ok tt) → TakesIn ways.Holds piece (way.Round old) (way.Round new)
-takes_in told {old} {new} {piece} deals x holds = grind (arith, common_steps, mod-add-mod, delimiters-append, count_is)
+takes_in : (told : Bool) (round : RoundState) (piece : List ℕ) {place : ℕ} {next : FilesState}
+    {before after : List Slot}
+    → place ≡ (round.next + delimiters round.delim piece) % round.count
+    → Adds told round.files (λ i. get_or (dealt_first round.delim round.count round.next piece) i []) 0
+    (length (dealt_first round.delim round.count round.next piece)) before next after (Ok tt)
+    → TakesIn ways.Holds piece (way.Round round) (way.Round (record round { files = next; next = place }))
+takes_in told round piece is adds x holds = grind (arith, common_steps, mod-add-mod, delimiters-append, count_is)
 
-pub passes_by : (told : Bool) (old new : RoundState) (piece : List ℕ) (before after : List Slot)
-    (result : Result (Unit {0}) Fault)
-    → Deals told old piece before after new result
-    → engine.Passes ways.terms told piece (way.Round old) (way.Round new) before after
-    (engine.IsMetWith ways.terms piece (way.Round old)) result
-passes_by told old new piece before after (Ok u) deals = record {
-  same = same_work old new deals.delim deals.count deals.elide deals.adds.filing;
+pub passes_at : (told : Bool) (round : RoundState) (piece : List ℕ) {place : ℕ} {next : FilesState}
+    {before after : List Slot} (result : Result (Unit {0}) Fault)
+    → OnOk result (place ≡ (round.next + delimiters round.delim piece) % round.count)
+    → Adds told round.files (λ i. get_or (dealt_first round.delim round.count round.next piece) i []) 0
+    (length (dealt_first round.delim round.count round.next piece)) before next after result
+    → PassesAs told (way.Round round) piece before after (way.Round (record round { files = next; next = place }))
+    result
+passes_at told round piece (Ok u) is adds = record {
+  same = ap (λ filing. round_work (round_plan round.delim round.count round.elide filing)) adds.filing;
   size = omega arith;
-  holds = takes_in told deals;
-  outputs = λ start x at. rw (made_is told old piece at) at (left_by told old piece at (Ok u) deals.adds);
-  ready = deals.adds.ready;
-  owns = deals.adds.owned;
+  holds = takes_in told round piece is adds;
+  outputs = λ start x at. rw (made_is told round piece at) at (left_by told round piece at (Ok u) adds);
+  ready = adds.ready;
+  owns = adds.owned;
   there = λ are. tt;
   cut = tt;
   met = tt;
 }
-passes_by told old new piece before after (Err why) deals = record {
-  same = same_work old new deals.delim deals.count deals.elide deals.adds.filing;
+passes_at told round piece {before = before} {after} (Err why) is adds = record {
+  same = ap (λ filing. round_work (round_plan round.delim round.count round.elide filing)) adds.filing;
   size = omega arith;
   holds = tt;
   outputs = tt;
   ready = tt;
-  owns = deals.adds.owned;
+  owns = adds.owned;
   there = λ are. tt;
-  cut = λ start x at. cut (part.unjudged (always_named (is_verbose old.files.tells)) before after why deals.adds.caused (part.none_lacks (is_verbose old.files.tells) before after deals.adds.caused))
-      (stopped_as (output_by (is_verbose old.files.tells)) told (stands_is at.holds) (made_is told old piece at) (stops_in_order (left_by told old piece at (Err why) deals.adds)));
-  met = part.met_files false _ _ (EndsWith ways.terms piece (way.Round old)) (always_named (is_verbose old.files.tells)) (is_verbose old.files.tells) before after why (refl, refl) refl refl deals.adds.caused (λ is. absurd (part.none_lacks (is_verbose old.files.tells) before after deals.adds.caused is));
+  cut = λ start x at. cut (part.unjudged (always_named (is_verbose round.files.tells)) before after why adds.caused (part.none_lacks (is_verbose round.files.tells) before after adds.caused))
+      (stopped_as (output_by (is_verbose round.files.tells)) told (stands_is at.holds) (made_is told round piece at) (stops_in_order (left_by told round piece at (Err why) adds)));
+  met = part.met_files false _ _ (EndsWith ways.terms piece (way.Round round)) (always_named (is_verbose round.files.tells)) (is_verbose round.files.tells) before after why (refl, refl) refl refl adds.caused (λ is. absurd (part.none_lacks (is_verbose round.files.tells) before after adds.caused is));
 }
 
 -- The end
@@ -208,8 +203,7 @@ closed_part {round} {x} holds =
 
 pub finishes_by : (told : Bool) (round : RoundState) (old new : List Slot) (result : Result (Unit {0}) Fault)
     → ClosesAll told round.files old new result
-    → engine.Finishes ways.terms told (way.Round round) (way.Round round) old new
-    (engine.IsMetThere ways.terms (way.Round round)) result
+    → EndsAs told (way.Round round) old new (way.Round round) result
 finishes_by told round old new (Ok u) closes = record {
   same = refl;
   size = omega arith;

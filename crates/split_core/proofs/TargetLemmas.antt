@@ -1,42 +1,42 @@
 -- What goes to the files of chunks, or to standard output where one of them goes there.
-use Rattle.std.proofs.lemmas.Bool.{false≢true}
-use Rattle.std.proofs.lemmas.List.Elements.{filter-append}
-use Rattle.std.proofs.Common.{◌≡◌, ℕ, ◌+◌, ◌≤◌, zero, suc, Bool, true, false, List, [], ◌∷◌, ◌++◌, length, map, filter, get_or, cond, eqb, Option, Some, None, Result, Ok, Err, IfSome, IfNone, IfErr, IsTrue, inl, refl, sym, ◌∙◌, ap, subst, arith}
-use Rattle.std.proofs.lemmas.List.{append-nil, length-append}
-use Rattle.std.proofs.Math.Seq.{get_or-append_seam}
-use Rattle.std.proofs.lemmas.Bool.{eq-eqb, eqb-true}
-use Rattle.ports_core.specs.Draft.{Draft, Manner, draft_part, made_of, manner_by, output_of, part_of, share, with_bytes, with_next}
-use Rattle.ports_core.specs.FileWriter.{At, Goes, IsCurrent, IsReady, IsWrite, KeepsOrBreaks, Leaves, Writes, WriterState, is_file}
-use Rattle.ports_core.specs.Name.{has_name}
-use Rattle.ports_core.specs.Part.{Begins, File as PartFile, FilesBegin, Output, OutputsAt, Part, gets_bytes, only_out}
-use Rattle.ports_core.specs.Slot.{Slot, is_writable, told_of}
-use Rattle.ports_core.specs.Write.{BrokeAfter}
-use Rattle.ports_core.specs.inner.Write.{Wrote}
-use Rattle.ports_core.specs.inner.Write as short
-use Rattle.ports_core.specs.Turn.{IsThere, StoppedInTurn, fault_in}
-use Rattle.ports_core.specs.declared.fault.Fault.{Fault}
-use Rattle.ports_core.specs.declared.fault.Fault.TheVariants.{Verdict, Write}
-use Rattle.ports_core.specs.declared.verdict.Verdict.TheVariants.{Suffixes}
-use Rattle.ports_core.specs.declared.file_writer.Current.{Current}
-use Rattle.ports_core.specs.declared.file_writer.Current.TheVariants.{Skipped, Due, File, Unopened}
-use Rattle.ports_core.specs.declared.file_writer.Opening.{Opening}
-use Rattle.ports_core.specs.declared.file_writer.Opening.TheVariants.{Late, AtOnce, Never}
-use Rattle.ports_core.specs.declared.file_writer.Tells.{Tells}
-use Rattle.ports_core.specs.declared.slot.State.TheVariants.{Closed}
-use Rattle.ports_core.proofs.FileWriterLemmas.{breaks_later, in_any, leaves_again, reaches_again, reaches_as, stops_wider, where_well, where_short}
-use Rattle.ports_core.proofs.PartLemmas.{out_begins, out_cut, out_more, part_begins_itself, part_trans, turn_between}
-use Rattle.ports_core.proofs.PartSteps.{there_from}
-use Rattle.ports_core.proofs.SlotSteps.{keeps_again, keeps_write, write_rose}
-use Rattle.ports_core.proofs.WriteLemmas.{writable-written}
-use Rattle.ports_core.proofs.ShareLemmas.{bytes_begin, next_begins}
-use Rattle.split_core.specs.ChunkWork.{draft_by, files_by, kept, piece_at}
-use Rattle.split_core.specs.Chunks.{pieces_in}
-use Rattle.split_core.specs.ChunkerState.{AimState, Carries, Course, IsAimed, TargetState, course_of, filing_by, in_files, in_output, to_files, to_output}
-use Rattle.split_core.specs.Parts.{CutUp}
-use Rattle.split_core.specs.Split.{Filing, TellsNoSizes, has_bytes, manner_of}
-use Rattle.split_core.specs.inner.Sends.{AtAim, Brings, Files, IsOf, Changes, GoesOn, Sends, begun_by, empties_by, ends_by, manner_on, output_on, or_empty, with_full, with_rest, part_on, whole_on}
+use Rattle.std.proofs.{
+  lemmas.{Bool.{false≢true, eq-eqb, eqb-true}, List.{append-nil, length-append, Elements.filter-append}},
+  Common.{◌≡◌, ℕ, ◌+◌, ◌≤◌, zero, suc, Bool, true, false, List, [], ◌∷◌, ◌++◌, length, map, filter, get_or, cond, eqb, Option, Some, None, Result, Ok, Err, IfSome, IfNone, IfErr, IsTrue, inl, refl, sym, ◌∙◌, ap, subst, arith},
+  Math.Seq.get_or-append_seam,
+}
+use Rattle.ports_core.specs.{
+  Draft.{Draft, Manner, draft_part, made_of, manner_by, output_of, part_of, share, with_bytes, with_next},
+  FileWriter.{At, Goes, IsCurrent, IsReady, IsWrite, KeepsOrBreaks, Leaves, Writes, WriterState, is_file},
+  Name.has_name,
+  Part.{Begins, File as PartFile, FilesBegin, Output, OutputsAt, Part, gets_bytes, only_out},
+  Slot.{Slot, is_writable, told_of},
+  Write.BrokeAfter,
+  inner.Write.Wrote,
+  Turn.{IsThere, StoppedInTurn, fault_in},
+  declared.fault.Fault.{Fault, TheVariants.{Verdict, Write}},
+  declared.verdict.Verdict.TheVariants.Suffixes,
+  declared.file_writer.{Current.{Current, TheVariants.{Skipped, Due, File, Unopened}}, Opening.{Opening, TheVariants.{Late, AtOnce, Never}}, Tells.Tells},
+  declared.slot.State.TheVariants.Closed,
+}
+use Rattle.ports_core.proofs.{
+  FileWriterLemmas.{breaks_later, in_any, leaves_again, reaches_again, reaches_as, stops_wider, where_well, where_short},
+  PartLemmas.{out_begins, out_cut, out_more, part_begins_itself, part_trans, turn_between},
+  PartSteps.there_from,
+  SlotSteps.{keeps_again, keeps_write, write_rose},
+  WriteLemmas.writable-written,
+  ShareLemmas.{bytes_begin, next_begins},
+}
+use Rattle.split_core.specs.{
+  ChunkWork.{draft_by, files_by, kept, piece_at},
+  Chunks.pieces_in,
+  ChunkerState.{AimState, Carries, Course, IsAimed, TargetState, course_of, filing_by, in_files, in_output, to_files, to_output},
+  Parts.CutUp,
+  Split.{Filing, TellsNoSizes, has_bytes, manner_of},
+  inner.Sends.{AtAim, Brings, Files, IsOf, Changes, GoesOn, Sends, begun_by, empties_by, ends_by, manner_on, output_on, or_empty, with_full, with_rest, part_on, whole_on},
+  laws.ChunkWorkLaws.length-kept,
+}
 use Rattle.split_core.proofs.FilesLemmas.{named_before}
-use Rattle.split_core.specs.laws.ChunkWorkLaws.{length-kept}
+use Rattle.ports_core.specs.inner.Write as short
 
 -- The files
 

@@ -1,43 +1,39 @@
 -- Where the bytes of parts that follow one another go, and which of them continuations put into different files.
-use Rattle.std.proofs.Common.{take, ◌≡◌, ℕ, ◌+◌, ◌-◌, ◌<◌, zero, suc, List, [], ◌∷◌, ◌++◌, length, get_or, inl, inr, refl, sym, ◌∙◌, ap, subst, arith, length-append, ◌≢◌, ◌⊎◌, ◌≤◌, map, Bool, true, false, not, rules, zero-add, ◌%◌, drop, cond, eqb, mod-lt}
-use Rattle.std.proofs.lemmas.Bool.{cond_both, cases_lt, false≢true, eq-eqb}
-use Rattle.std.proofs.lemmas.List.{append-nil, drop_all, take-take, take-append-drop, get_or_past, length-take-le}
-use Rattle.std.proofs.Math.Seq.{drop-cons, get_or-append_seam}
-use Rattle.seg_core.specs.Line.{joined, delimiters, lines_of}
-use Rattle.seg_core.proofs.FirstLines.{joined-append}
-use Rattle.ports_core.specs.Name.{Naming, has_name}
-use Rattle.ports_core.specs.Draft.{told_of_files}
-use Rattle.ports_core.specs.Work.{Work}
-use Rattle.ports_core.specs.Agreed.{Spot, spot, spots_from, GoesTo, file_bytes, ArePlaced, CanCome, IsUndecided}
-use Rattle.ports_core.proofs.AgreedLemmas.{spot_in, spot_past, none_comes, beginning_short, common, none_before, nothing_waits, AreFront, stretch_placed}
-use Rattle.seg_core.specs.declared.cut.Limit.{Limit}
-use Rattle.seg_core.specs.Cut.{most}
-use Rattle.split_core.specs.Parts.{parts, whole_lines, cut_up, unless_empty, settled_rest, waiting_rest, dealt}
-use Rattle.ports_core.proofs.ShareLemmas.{one_on}
-use Rattle.split_core.specs.inner.CutLaws.{named}
-use Rattle.split_core.specs.Split.{Filing, output_by, share, are_named, settled_by, is_short, split_work, dealt_files, bytes_in, whole_by}
-use Rattle.split_core.specs.PartsState.{parts_work}
-use Rattle.split_core.proofs.SectionLemmas.{joined_parts, settled_list}
-use Rattle.split_core.proofs.AgreedLemmas.{named_bytes, came_in, settled_bytes_in, settled_in, shared_bytes, waiting_is, named_more, each_named, list_count, decides_lines, one_of, delimiters_some, plan_by}
-use Rattle.std.proofs.lemmas.Grind.{common_steps}
-use Rattle.ports_core.specs.Part.{File, FilesBegin}
-use Rattle.ports_core.specs.Slot.{is_open}
-use Rattle.ports_core.specs.declared.slot.State.TheVariants.{Open, Closed}
-use Rattle.seg_core.specs.declared.cut.Cut.{Cut}
+use Rattle.std.proofs.{
+  Common.{take, ◌≡◌, ℕ, ◌+◌, ◌-◌, ◌<◌, zero, suc, List, [], ◌∷◌, ◌++◌, length, get_or, inl, inr, refl, sym, ◌∙◌, ap, subst, arith, length-append, ◌≢◌, ◌⊎◌, ◌≤◌, map, Bool, true, false, not, rules, zero-add, ◌%◌, drop, cond, eqb, mod-lt},
+  lemmas.Bool.{cond_both, cases_lt, false≢true, eq-eqb, Decides.nat_tests},
+  lemmas.List.{append-nil, drop_all, take-take, take-append-drop, get_or_past, length-take-le, FromFn.{get_or-map-range_with_len, length-map-range_with_len}},
+  lemmas.Grind.common_steps,
+  Math.Seq.{drop-cons, get_or-append_seam},
+}
+use Rattle.seg_core.{specs.{Line.{joined, delimiters, lines_of}, declared.cut.{Limit.{Limit, TheVariants.{Lines, Bytes, LineBytes}}, Cut.Cut}, Cut.{most, IsPositive}}, proofs.FirstLines.joined-append}
+use Rattle.ports_core.specs.{
+  Name.{Naming, has_name},
+  Draft.told_of_files,
+  Work.Work,
+  Agreed.{Spot, spot, spots_from, GoesTo, file_bytes, ArePlaced, CanCome, IsUndecided},
+  Part.{File, FilesBegin},
+  Slot.is_open,
+  declared.slot.State.TheVariants.{Open, Closed},
+}
+use Rattle.ports_core.proofs.{AgreedLemmas.{spot_in, spot_past, none_comes, beginning_short, common, none_before, nothing_waits, AreFront, stretch_placed}, ShareLemmas.one_on}
+use Rattle.split_core.specs.{
+  Parts.{parts, whole_lines, cut_up, unless_empty, settled_rest, waiting_rest, dealt},
+  inner.{CutLaws.named, Dealt.share_of},
+  Split.{Filing, output_by, share, are_named, settled_by, is_short, split_work, dealt_files, bytes_in, whole_by},
+  PartsState.parts_work,
+  Place.{beside_output, dealt_spots, split_spots, dealt_to},
+  Round.round_plan,
+  laws.{CutLaws.whole_some, WorkLaws.parts_lawful, DealLaws.{dealt_append, dealt_first, next_place, dealt_files_are}},
+}
+use Rattle.split_core.proofs.{
+  SectionLemmas.{joined_parts, settled_list},
+  AgreedLemmas.{named_bytes, came_in, settled_bytes_in, settled_in, shared_bytes, waiting_is, named_more, each_named, list_count, decides_lines, one_of, delimiters_some, plan_by},
+  CutLaws.{open_of_none, cut_all, opened_by-most},
+  RoundLemmas.{dealt_all, none_yet},
+  FilesLemmas.named_before,
+}
 use Rattle.seg_core.specs.declared.cut.Cut.TheVariants as cut
-use Rattle.seg_core.specs.declared.cut.Limit.TheVariants.{Lines, Bytes, LineBytes}
-use Rattle.seg_core.specs.Cut.{IsPositive}
-use Rattle.split_core.specs.Place.{beside_output, dealt_spots, split_spots, dealt_to}
-use Rattle.split_core.specs.Round.{round_plan}
-use Rattle.split_core.specs.laws.CutLaws.{whole_some}
-use Rattle.split_core.proofs.CutLaws.{open_of_none, cut_all, opened_by-most}
-use Rattle.split_core.specs.laws.WorkLaws.{parts_lawful}
-use Rattle.split_core.proofs.RoundLemmas.{dealt_all, none_yet}
-use Rattle.std.proofs.lemmas.Bool.Decides.{nat_tests}
-use Rattle.std.proofs.lemmas.List.FromFn.{get_or-map-range_with_len, length-map-range_with_len}
-use Rattle.split_core.specs.inner.Dealt.{share_of}
-use Rattle.split_core.specs.laws.DealLaws.{dealt_append, dealt_first, next_place, dealt_files_are}
-use Rattle.split_core.proofs.FilesLemmas.{named_before}
 
 -- Parts that follow one another, as far as there are names
 
@@ -78,7 +74,7 @@ abbrev OnlyLastOpen : List File → Type 0
 OnlyLastOpen [] = Unit {0}
 OnlyLastOpen (file ∷ files) = (file.state ≡ Open → files ≡ []) × OnlyLastOpen files
 
-last_open : (filing : Filing) (place : ℕ) (full : List (List ℕ)) (rest : List ℕ)
+pub last_open : (filing : Filing) (place : ℕ) (full : List (List ℕ)) (rest : List ℕ)
     → OnlyLastOpen (named filing place (map (share Closed) full ++ map (share Open) (unless_empty rest)))
 last_open filing place [] [] = tt
 last_open filing place [] (byte ∷ rest) = search rules
@@ -87,7 +83,7 @@ last_open filing place (part ∷ full) rest =
     (λ is. tt)
 
 -- bytes that files have stay where they are
-spots_stay : (place i : ℕ) (low high : List File) → FilesBegin low high → OnlyLastOpen low
+pub spots_stay : (place i : ℕ) (low high : List File) → FilesBegin low high → OnlyLastOpen low
     → i < length (joined (map (λ (file : File). file.bytes) low))
     → spots_from place (map (λ (file : File). file.bytes) high) i
     ≡ spots_from place (map (λ (file : File). file.bytes) low) i

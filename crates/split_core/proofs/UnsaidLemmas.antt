@@ -1,61 +1,38 @@
 -- Chunks of an input that doesn't say its length.
-use Rattle.std.specs.Option.{is_none}
-use Rattle.std.proofs.lemmas.Bool.{cases_lt, false≢true, ltb-false, ltb-true, or_cases, or_parts}
-use Rattle.std.proofs.lemmas.List.{append-nil, get_or_past, drop_at, drop-append-le, take-append-drop, length-append, length-take, nil_from_length}
-use Rattle.std.proofs.Common.{◌≡◌, ℕ, ◌+◌, ◌-◌, ◌<◌, ◌≤◌, max, zero, suc, Bool, true, false, ◌||◌, nat_lt, List, [], ◌∷◌, ◌++◌, ◌⊎◌, length, map, take, drop, replicate, get_or, ◌/◌, ◌*◌, Option, Some, None, Result, Ok, Err, inl, inr, refl, sym, ◌∙◌, ap, subst, arith, append_assoc}
-use Rattle.ports_core.specs.Part.{Begins, IsBeginning}
-use Rattle.ports_core.specs.Slot.{Slot}
-use Rattle.ports_core.specs.declared.fault.Fault.{Fault}
-use Rattle.seg_core.specs.declared.cut.Chunks.{Chunks}
-use Rattle.split_core.specs.Chunks.{before_chunk, pieces_in, begun_before, chunk_at, chunk_start, chunks_of, chunks_within, decided, ended, is_within, open_from}
-use Rattle.split_core.specs.Parts.{CutUp, uncut}
-use Rattle.split_core.specs.ChunkerState.{AimState, Carries, ChunkerState, Course, course_of, to_files, to_output, CutterState, Holds, HoldsBy, IsAimed, IsUnsaid, TargetState, can_cut, course, first_on, in_files, in_output, work_on}
-use Rattle.split_core.specs.Split.{manner_of}
-use Rattle.split_core.specs.ChunkWork.{draft_by}
-use Rattle.ports_core.specs.Draft.{draft_part}
-use Rattle.ports_core.specs.declared.file_writer.Opening.TheVariants.{Never}
-use Rattle.ports_core.proofs.PartLemmas.{part_begins_itself, part_trans}
-use Rattle.ports_core.proofs.ShareLemmas.{next_begins}
-use Rattle.split_core.specs.inner.Chunker.{Ends as StageEnds, EndsAs, Passes, PassesAs, made}
-use Rattle.ports_core.specs.Turn.{fault_in}
-use Rattle.ports_core.specs.Work.{Work}
-use Rattle.ports_core.proofs.FileWriterLemmas.{in_any, where_well}
-use Rattle.seg_core.specs.declared.unit.Unit.{Unit as Counted}
-use Rattle.seg_core.specs.declared.unit.Unit.TheVariants.{Bytes, Lines}
-use Rattle.std.specs.List.{range_with_len}
-use Rattle.std.proofs.lemmas.List.FromFn.{get_or-map-range_with_len, length-map-range_with_len, map-range_with_len_more}
-use Rattle.std.proofs.lemmas.Nat.{div-add-mod'}
-use Rattle.ports_core.specs.Part.{only_out}
-use Rattle.split_core.specs.laws.ChunkLaws.{chunk_none, cut_all, ended_all, passed_open, ended_only, start_first, begin_then_rest, start_by_size}
-use Rattle.split_core.specs.inner.Cutter.{BeginsBefore, Cuts, CutsHeld, EndsFull, EndsHeld, IsCut, IsCutOff, IsSettled, part_so, Settles, Steps, WritesTo, all_before, cut_to}
-use Rattle.split_core.specs.inner.Sends.{Brings, Changes, Ends as TargetEnds, Sends, with_fulls, with_rest, part_on, whole_on}
-use Rattle.split_core.specs.laws.BegunLaws.{begun_first, begun_of_none, begun_again, begun_begins, begun_grows, begun_monotone, begun_on, begun_stays, open_within}
-use Rattle.split_core.proofs.CutterLemmas.{cut_of, so_grows, fulls_are, grown, begin_so, cuts_again, cuts_nothing, cuts_wider, cutting, has_cut, name_of, no_line, open_early, some_of}
-use Rattle.split_core.proofs.TargetLemmas.{whole_draft, piece_full, brings_as, brings_then, brings_wider, sends_as, sends_none, sends_then, sends_wider}
-use Rattle.std.proofs.Math.Seq.{drop-nil}
-
--- What is settled is written, stretch after stretch
-
-pub record Settling (told : Bool) (cutter : CutterState) (waiting : List ℕ) (end : ℕ) (old slots : List Slot)
-    (now : CutterState) (left : List ℕ) : Type 0 where
-  pub chunks : now.chunks ≡ cutter.chunks
-  pub done : List ℕ
-  pub both : waiting ≡ done ++ left
-  pub at : now.at ≡ cutter.at + length done
-  pub sends : Sends told cutter.target (BeginsBefore cutter end) (λ z. uncut z)
-      (λ z. uncut (z ++ done)) old slots now.target None
-  pub stands : (z : List ℕ) → BeginsBefore cutter end z → BeginsBefore now end (z ++ done)
-
-pub settles_none : {told : Bool} {cutter : CutterState} {waiting : List ℕ} {end : ℕ} {slots : List Slot}
-    → IsAimed cutter.target.aim slots → Settling told cutter waiting end slots slots cutter waiting
-settles_none {told} {cutter} {waiting} {end} {slots} ready = record {
-  chunks = refl;
-  done = [];
-  both = refl;
-  at = omega arith;
-  sends = sends_as (λ z. z) None (λ z so. so) (λ z so. refl) (λ z so. ap uncut (sym (append-nil z))) (sends_none {target = cutter.target} {So = BeginsBefore cutter end} {from = λ z. uncut z} ready (λ z so. so.0.carries));
-  stands = λ z so. rw (append-nil z) so;
+use Rattle.std.specs.{Option.is_none, List.range_with_len}
+use Rattle.std.proofs.{
+  lemmas.Bool.{cases_lt, false≢true, ltb-false, ltb-true, or_cases, or_parts},
+  lemmas.List.{append-nil, get_or_past, drop_at, take_all, take-append-drop, length-append, length-drop, length-take, nil_from_length},
+  lemmas.List.FromFn.{get_or-map-range_with_len, length-map-range_with_len, map-range_with_len_more},
+  lemmas.Nat.div-add-mod',
+  Common.{◌≡◌, ℕ, ◌+◌, ◌-◌, ◌<◌, ◌≤◌, max, min, zero, suc, Bool, true, false, ◌||◌, nat_lt, List, [], ◌∷◌, ◌++◌, ◌⊎◌, length, map, take, drop, replicate, get_or, ◌/◌, ◌*◌, Option, Some, None, Result, Ok, Err, inl, inr, refl, sym, ◌∙◌, ap, subst, arith, append_assoc},
+  Math.Seq.{drop-append-add, drop-nil},
 }
+use Rattle.ports_core.{
+  specs.{Part.{Begins, IsBeginning, only_out}, Slot.Slot, declared.{fault.Fault.Fault, file_writer.Opening.TheVariants.Never}, Draft.draft_part, Turn.fault_in, Work.Work},
+  proofs.{PartLemmas.{part_begins_itself, part_trans}, ShareLemmas.next_begins, FileWriterLemmas.{in_any, where_well}},
+}
+use Rattle.seg_core.specs.declared.{cut.Chunks.Chunks, unit.Unit.Unit as Counted}
+use Rattle.split_core.specs.{
+  Chunks.{before_chunk, pieces_in, begun_before, chunk_at, chunk_start, chunks_of, chunks_within, decided, ended, is_within, open_from},
+  Parts.{CutUp, uncut},
+  ChunkerState.{AimState, Carries, ChunkerState, Course, course_of, to_files, to_output, CutterState, Holds, HoldsBy, IsAimed, IsUnsaid, TargetState, can_cut, course, first_on, in_files, in_output, work_on},
+  Split.manner_of,
+  ChunkWork.draft_by,
+  inner.Chunker.{EndsAs, PassesAs, made},
+  inner.Cutter.{BeginsBefore, Cuts, CutsAs, EndsFull, EndsHeld, IsCut, IsCutOff, IsSettled, part_so, Settles, WritesTo, all_before, cut_to},
+  inner.Sends.{Brings, Changes, Ends as TargetEnds, Sends, with_fulls, with_rest, part_on, whole_on},
+  laws.ChunkLaws.{chunk_none, cut_all, ended_all, passed_open, ended_only, start_first, begin_then_rest, start_by_size},
+  laws.BegunLaws.{begun_of_none, begun_again, begun_begins, begun_monotone, begun_on, begun_stays, open_within},
+}
+use Rattle.split_core.proofs.{
+  ChunkerWays.{ends_at, passes_at},
+  CutterLemmas.{begun_some, cut_of, so_grows, fulls_are, grown, cutting, has_cut, name_of, no_line, open_early, some_of},
+  ChunkerLemmas.{complete_all, past_is, whole_is},
+  TargetLemmas.{whole_draft, piece_full, brings_as, brings_then, brings_wider, sends_as, sends_none},
+}
+
+-- What is settled is written
 
 -- what comes goes on with what was cut off
 goes_on_so : (cutter : CutterState) (end : ℕ) (w : List ℕ) → BeginsBefore cutter end w
@@ -71,122 +48,61 @@ writes_on : (cutter : CutterState) (end : ℕ) (w front : List ℕ) → BeginsBe
 writes_on cutter end w front so short = begun_on cutter.chunks.unit cutter.chunks.delim end w front (goes_on_so cutter end w so short)
     ∙ ap (λ at. w ++ begun_before cutter.chunks.unit cutter.chunks.delim (max (end - at) 1) front) (sym so.0.at)
 
-still_before : (cutter : CutterState) (end : ℕ) (w front : List ℕ) → BeginsBefore cutter end w
-    → true ≡ (nat_lt cutter.at end || cutter.is_within)
-    → begun_before cutter.chunks.unit cutter.chunks.delim end (w ++ cut_to cutter end front)
-    ≡ w ++ cut_to cutter end front
-still_before cutter end w front so short = let is = writes_on cutter end w front so short in let unit = cutter.chunks.unit in let delim = cutter.chunks.delim in
-    ap (begun_before unit delim end) (sym is) ∙ begun_again unit delim end (w ++ front) ∙ is
+-- nothing waits, or it goes with what comes later
+still_all : (cutter : CutterState) (waiting : List ℕ) (end : ℕ) (z : List ℕ) → BeginsBefore cutter end z
+    → (length waiting ≡ 0) ⊎ (false ≡ (nat_lt cutter.at end || cutter.is_within)) → all_before cutter waiting end z ≡ z
+still_all cutter waiting end z (has, all) (inl none) =
+    ap (λ rest. begun_before cutter.chunks.unit cutter.chunks.delim end (z ++ rest)) (nil_from_length waiting none)
+    ∙ ap (begun_before cutter.chunks.unit cutter.chunks.delim end) (append-nil z) ∙ all
+still_all cutter waiting end z (has, all) (inr stops) = let (before, within) = or_parts (nat_lt cutter.at end) cutter.is_within (sym stops) in
+    let open_at = no_line cutter.chunks.unit cutter.chunks.delim z (sym has.within ∙ within) in
+    begun_stays cutter.chunks.unit cutter.chunks.delim end z waiting (omega (arith, open_at, has.at, ltb-false _ _ before)) ∙ all
 
-module _ {told : Bool} {cutter now : CutterState} {waiting left : List ℕ} {end : ℕ} {old slots : List Slot}
-    (so_far : Settling told cutter waiting end old slots now left) (front rest : List ℕ) (is : left ≡ front ++ rest)
-    (short : true ≡ (nat_lt now.at end || now.is_within)) where
-  on_more : {next : TargetState} {new : List Slot} (fault : Option Fault)
-      → Changes told now.target (with_rest (cut_to now end front)) slots new next fault
+pub settles_none : {told : Bool} {cutter : CutterState} {waiting : List ℕ} {end : ℕ} {slots : List Slot}
+    → IsAimed cutter.target.aim slots
+    → (length waiting ≡ 0) ⊎ (false ≡ (nat_lt cutter.at end || cutter.is_within))
+    → Settles told cutter waiting end slots slots cutter waiting None
+settles_none {cutter = cutter} {waiting} {end} ready ends = record {
+  chunks = refl;
+  bound = omega arith;
+  sends = sends_as (λ z. z) None (λ z so. so) (λ z so. refl) (λ z so. ap uncut (sym (still_all cutter waiting end z so ends))) (sends_none {target = cutter.target} {So = BeginsBefore cutter end} {from = λ z. uncut z} ready (λ z so. so.0.carries));
+  stands = λ z so. rw (still_all cutter waiting end z so ends) (so.0, sym (drop_at z waiting (length z) refl));
+}
+
+module _ {told : Bool} {cutter : CutterState} (waiting : List ℕ) (end : ℕ) {old : List Slot}
+    (short : true ≡ (nat_lt cutter.at end || cutter.is_within)) where
+  sends_on : {next : TargetState} {new : List Slot} (fault : Option Fault)
+      → Changes told cutter.target (with_rest (cut_to cutter end waiting)) old new next fault
       → Sends told cutter.target (BeginsBefore cutter end) (λ z. uncut z)
-      (λ z. uncut ((z ++ so_far.done) ++ cut_to now end front)) old new next fault
-  on_more fault changes = sends_then so_far.sends (λ z so has. (so, has))
-      (sends_as {Also = λ z. BeginsBefore cutter end z × Carries now.target (uncut (z ++ so_far.done))} (λ z. uncut (z ++ so_far.done)) fault (λ z so. let here = (so_far.stands z so.0).0 in
-      (so.1, name_of (course now) now.chunks.count now.target.place here.all (omega (arith, so.1.placed, some_of (course now) now.chunks.count here.can)))) (λ z so. refl) (λ z so. refl) changes)
+      (λ z. uncut (all_before cutter waiting end z)) old new next fault
+  sends_on fault changes = sends_as (λ z. uncut z) fault
+      (λ z so. (so.0.carries, name_of (course cutter) cutter.chunks.count cutter.target.place so.0.all (omega (arith, so.0.carries.placed, some_of (course cutter) cutter.chunks.count so.0.can))))
+      (λ z so. refl) (λ z so. ap uncut (sym (writes_on cutter end z waiting so short))) changes
 
-  pub settles_more : {next : CutterState} {after : List ℕ} {new : List Slot} {n : ℕ}
-      → WritesTo told now end front slots new next (Ok n) → after ≡ drop n left
-      → Settling told cutter waiting end old new next after
-  settles_more {next} {after} {new} {n} writes waits = let y = cut_to now end front in let step = cutting front writes in record {
-    chunks = writes.chunks ∙ so_far.chunks;
-    done = so_far.done ++ y;
-    both = so_far.both ∙ ap (λ those. so_far.done ++ those) (is ∙ ap (λ front. front ++ rest) (sym (take-append-drop n front)) ∙ append_assoc (take n front) (drop n front) rest
-        ∙ ap (λ y. y ++ (drop n front ++ rest)) writes.count.2 ∙ ap (λ rest. y ++ rest) (sym (drop-append-le n front rest writes.count.1) ∙ ap (drop n) (sym is) ∙ sym waits)) ∙ sym (append_assoc so_far.done y after);
-    at = omega (arith, writes.at, so_far.at, length-append so_far.done y, ap length writes.count.2, length-take n front, writes.count.1);
-    sends = sends_as (λ z. z) None (λ z so. so) (λ z so. refl) (λ z so. ap uncut (append_assoc z so_far.done y)) (on_more None writes.sends);
-    stands = λ z so. let here = so_far.stands z so in rw (← append_assoc z so_far.done y) (
-      has_cut y writes.chunks step.stays (omega (arith, writes.at, ap length writes.count.2, length-take n front, writes.count.1)) writes.within (omega (arith, step.some, ap length writes.count.2)) here.0 ((on_more None writes.sends).carries z so),
-      rw writes.chunks (still_before now end (z ++ so_far.done) front here short),
-    );
-  }
+  pub settles_on : {next : CutterState} {left : List ℕ} {new : List Slot} {n : ℕ}
+      → WritesTo told cutter end waiting old new next (Ok n) → left ≡ drop n waiting
+      → Settles told cutter waiting end old new next left None
+  settles_on {next} {left} {new} {n} writes is = let y = cut_to cutter end waiting in let step = cutting waiting writes in
+      let long : length y ≡ n = omega (arith, ap length writes.count.2, length-take n waiting, writes.count.1) in
+      let sends = sends_on None writes.sends in record {
+        chunks = writes.chunks;
+        bound = omega (arith, writes.at, ap length is, length-drop n waiting, writes.count.1);
+        sends = sends;
+        stands = λ z so. let all = writes_on cutter end z waiting so short in
+            let both : length (z ++ y) ≡ length z + n = omega (arith, length-append z y, long) in (
+              rw all (has_cut y writes.chunks step.stays (omega (arith, writes.at, long)) writes.within (omega (arith, writes.count.0, long)) so.0 (rw all at (sends.carries z so))),
+              is ∙ sym (ap (λ x. drop (length x) (z ++ waiting)) all ∙ ap (λ k. drop k (z ++ waiting)) both ∙ drop-append-add z waiting n),
+            );
+      }
 
-  pub settles_not : {next : CutterState} {after : List ℕ} {new : List Slot} {why : Fault}
-      → WritesTo told now end front slots new next (Err why) → after ≡ left
-      → Settles told cutter waiting end old new next after (Some why)
-  settles_not {next} {after} {new} {why} writes waits = record {
-    chunks = writes.chunks ∙ so_far.chunks;
-    bound = omega (arith, writes.kept, so_far.at, ap length waits, ap length so_far.both, length-append so_far.done left);
-    sends = sends_wider (λ z so. let here = so_far.stands z so in let w = z ++ so_far.done in let unit = cutter.chunks.unit in let delim = cutter.chunks.delim in
-        let on = writes_on now end w front here short in
-        let all : (w ++ front) ++ rest ≡ z ++ waiting = append_assoc w front rest ∙ ap (λ more. w ++ more) (sym is) ∙ append_assoc z so_far.done left ∙ ap (λ more. z ++ more) (sym so_far.both) in
-        begin_so (course cutter) (uncut (w ++ cut_to now end front)) (uncut (all_before cutter waiting end z)) (record {
-          more = [];
-          full = refl;
-          rest = rw (ap (λ (chunks : Chunks). begun_before chunks.unit chunks.delim end (w ++ front)) (sym so_far.chunks) ∙ on) at (subst (λ x. IsBeginning (begun_before unit delim end (w ++ front)) (begun_before unit delim end x)) all (begun_grows unit delim end (w ++ front) rest));
-        })) (on_more (Some why) writes.sends);
+  pub settles_not : {next : CutterState} {new : List Slot} {why : Fault}
+      → WritesTo told cutter end waiting old new next (Err why)
+      → Settles told cutter waiting end old new next waiting (Some why)
+  settles_not {why = why} writes = record {
+    chunks = writes.chunks;
+    bound = omega (arith, writes.kept);
+    sends = sends_on (Some why) writes.sends;
     stands = tt;
-  }
-
--- as far as it goes
-
-module _ {told : Bool} {cutter now : CutterState} {waiting left : List ℕ} {end : ℕ} {old slots : List Slot}
-    (so_far : Settling told cutter waiting end old slots now left) where
-  whole_so : (z : List ℕ) → z ++ waiting ≡ (z ++ so_far.done) ++ left
-  whole_so z = ap (λ more. z ++ more) so_far.both ∙ sym (append_assoc z so_far.done left)
-
-  same_so : (z : List ℕ) → BeginsBefore cutter end z
-      → (length left ≡ 0) ⊎ (false ≡ (nat_lt now.at end || now.is_within))
-      → all_before cutter waiting end z ≡ z ++ so_far.done
-  same_so z so ends = let (has, all) = so_far.stands z so in let w = z ++ so_far.done in let unit = cutter.chunks.unit in let delim = cutter.chunks.delim in
-      let here : begun_before unit delim end w ≡ w = ap (λ (chunks : Chunks). begun_before chunks.unit chunks.delim end w) (sym so_far.chunks) ∙ all in elim ends [
-        | inl none ↦ ap (begun_before unit delim end) (whole_so z ∙ ap (λ rest. w ++ rest) (nil_from_length left none) ∙ append-nil w) ∙ here
-        | inr stops ↦ (let (before, within) = or_parts (nat_lt now.at end) now.is_within (sym stops) in
-            let open_at : open_from unit delim w ≡ length w = ap (λ (chunks : Chunks). open_from chunks.unit chunks.delim w) (sym so_far.chunks) ∙ no_line now.chunks.unit now.chunks.delim w (sym has.within ∙ within) in
-            ap (begun_before unit delim end) (whole_so z) ∙ begun_stays unit delim end w left (omega (arith, open_at, has.at, ltb-false _ _ before)) ∙ here)
-      ]
-
-  pub settles_so : (length left ≡ 0) ⊎ (false ≡ (nat_lt now.at end || now.is_within))
-      → Settles told cutter waiting end old slots now left None
-  settles_so ends = record {
-    chunks = so_far.chunks;
-    bound = omega (arith, so_far.at, ap length so_far.both, length-append so_far.done left);
-    sends = sends_as (λ z. z) None (λ z so. so) (λ z so. refl) (λ z so. ap uncut (sym (same_so z so ends))) so_far.sends;
-    stands = λ z so. rw (same_so z so ends) ((so_far.stands z so).0, sym (ap (drop (length (z ++ so_far.done))) (whole_so z) ∙ drop_at (z ++ so_far.done) left (length (z ++ so_far.done)) refl));
-  }
-
--- Where the input ended, all that waits is cut
-
-pub record Resting (told : Bool) (cutter : CutterState) (waiting : List ℕ) (size : ℕ) (old slots : List Slot)
-    (now : CutterState) (left : List ℕ) : Type 0 where
-  pub done : List ℕ
-  pub both : waiting ≡ done ++ left
-  pub at : now.at ≡ cutter.at + length done
-  pub cuts : Cuts told cutter size done old slots now None
-
-pub rests_none : {told : Bool} {cutter : CutterState} {waiting : List ℕ} {size : ℕ} {slots : List Slot}
-    → IsAimed cutter.target.aim slots → Resting told cutter waiting size slots slots cutter waiting
-rests_none ready = record { done = []; both = refl; at = omega arith; cuts = cuts_nothing ready }
-
-module _ {told : Bool} {cutter now : CutterState} {waiting left : List ℕ} {size : ℕ} {old slots : List Slot}
-    (so_far : Resting told cutter waiting size old slots now left) where
-  pub rests_more : {next : CutterState} {after : List ℕ} {new : List Slot} {n : ℕ} (front rest : List ℕ)
-      → left ≡ front ++ rest → Steps told now size front slots new next (Ok n) → after ≡ drop n left
-      → Resting told cutter waiting size old new next after
-  rests_more {next} {after} {n = n} front rest is (some, few, at, step, going) waits = record {
-    done = so_far.done ++ take n front;
-    both = so_far.both ∙ ap (λ those. so_far.done ++ those) (is ∙ ap (λ front. front ++ rest) (sym (take-append-drop n front)) ∙ append_assoc (take n front) (drop n front) rest
-        ∙ ap (λ rest. take n front ++ rest) (sym (drop-append-le n front rest few) ∙ ap (drop n) (sym is) ∙ sym waits)) ∙ sym (append_assoc so_far.done (take n front) after);
-    at = omega (arith, at, so_far.at, length-append so_far.done (take n front), length-take n front, few);
-    cuts = cuts_again so_far.done (take n front) None so_far.cuts step;
-  }
-
-  pub rests_not : {next : CutterState} {after : List ℕ} {new : List Slot} {why : Fault} (front rest : List ℕ)
-      → left ≡ front ++ rest → Cuts told now size front slots new next (Some why) → length after ≡ 0
-      → CutsHeld told cutter waiting size old new next after (Some why)
-  rests_not {why = why} front rest is stops none = record {
-    bound = omega (arith, none, stops.bound, so_far.at, ap length so_far.both, length-append so_far.done left, ap length is, length-append front rest);
-    cuts = rw (so_far.both, is) (cuts_again so_far.done (front ++ rest) (Some why) so_far.cuts (cuts_wider front rest stops));
-  }
-
-  pub rests_so : length left ≡ 0 → CutsHeld told cutter waiting size old slots now left None
-  rests_so none = record {
-    bound = omega (arith, so_far.at, ap length so_far.both, length-append so_far.done left);
-    cuts = rw (so_far.both ∙ ap (λ rest. so_far.done ++ rest) (nil_from_length left none) ∙ append-nil so_far.done) so_far.cuts;
   }
 
 -- A piece
@@ -257,40 +173,26 @@ module _ {told : Bool} {chunker next : ChunkerState} {piece : List ℕ} {end : �
     (spare : next.spare ≡ chunker.spare)
     (ends : end ≡ chunk_start chunker.cutter.chunks.count (chunker.cutter.at + length (chunker.waiting ++ piece))
     (first_on (course chunker.cutter))) where
-  pub passes_unsaid : (fault : Option Fault)
-      → Settles told chunker.cutter (chunker.waiting ++ piece) end old new next.cutter next.waiting fault
-      → Passes told chunker piece old new next fault
-  passes_unsaid fault settles = record {
-    same = record { can = can; said = same; chunks = settles.chunks };
-    bound = omega (arith, settles.bound, spare, length-append chunker.waiting piece);
-    comes = brings_as (cut_front chunker) fault (λ x holds. let has = is_unsaid said holds in rw (← end_is chunker piece ends has) at (front_before has piece))
-        (λ x holds. sym (decided_is (course chunker.cutter) chunker.cutter.chunks x) ∙ ap (λ (work : Work). work.settled x) (made_none chunker said))
-        (λ x holds. let has = is_unsaid said holds in ap (λ z. part_on (course chunker.cutter) (uncut z)) (to_is chunker piece ends has) ∙ sym (decided_is (course chunker.cutter) chunker.cutter.chunks (x ++ piece)) ∙ ap (λ (work : Work). work.settled (x ++ piece)) (made_none chunker said)) settles.sends.brings;
-    stands = where_well fault settles.stands (λ later x holds. let has = is_unsaid said holds in
-        let (cut, left) = later (cut_front chunker x) (rw (← end_is chunker piece ends has) at (front_before has piece)) in
-        let stays = settles.sends.brings.stays in
-        let on : cut_front next (x ++ piece) ≡ cut_front chunker (x ++ piece) = ap (λ (chunks : Chunks). before_chunk chunks (length (x ++ piece)) (first_on (course next.cutter)) (x ++ piece)) settles.chunks ∙ ap (λ on. before_chunk chunker.cutter.chunks (length (x ++ piece)) (first_on on) (x ++ piece)) stays in
-        let z = cut_front chunker (x ++ piece) in
-        unsaid_is (same ∙ said) (record {
-          cut = rw on (rw (to_is chunker piece ends has) at cut);
-          waits = left ∙ ap (λ z. drop (length z) (cut_front chunker x ++ (chunker.waiting ++ piece))) (to_is chunker piece ends has) ∙ ap (drop (length z)) (came_more has piece) ∙ ap (λ z. drop (length z) (x ++ piece)) (sym on);
-          spare = spare ∙ has.spare;
-        }));
-  }
-
-pub passes_as : {told : Bool} {chunker next : ChunkerState} {piece : List ℕ} {old new : List Slot}
-    (result : Result (Unit {0}) Fault) → Passes told chunker piece old new next (fault_in result)
-    → PassesAs told chunker piece old new next result
-passes_as (Ok done) passes = passes
-passes_as (Err why) passes = inl passes
+  pub passes_unsaid : (result : Result (Unit {0}) Fault)
+      → Settles told chunker.cutter (chunker.waiting ++ piece) end old new next.cutter next.waiting (fault_in result)
+      → PassesAs told chunker piece old new next result
+  passes_unsaid result settles = let fault = fault_in result in passes_at result (record { can = can; said = same; chunks = settles.chunks })
+      (omega (arith, settles.bound, spare, length-append chunker.waiting piece))
+      (brings_as (cut_front chunker) fault (λ x holds. let has = is_unsaid said holds in rw (← end_is chunker piece ends has) at (front_before has piece))
+      (λ x holds. sym (decided_is (course chunker.cutter) chunker.cutter.chunks x) ∙ ap (λ (work : Work). work.settled x) (made_none chunker said))
+      (λ x holds. let has = is_unsaid said holds in ap (λ z. part_on (course chunker.cutter) (uncut z)) (to_is chunker piece ends has) ∙ sym (decided_is (course chunker.cutter) chunker.cutter.chunks (x ++ piece)) ∙ ap (λ (work : Work). work.settled (x ++ piece)) (made_none chunker said)) settles.sends.brings)
+      (where_well fault settles.stands (λ later x holds. let has = is_unsaid said holds in
+      let (cut, left) = later (cut_front chunker x) (rw (← end_is chunker piece ends has) at (front_before has piece)) in
+      let stays = settles.sends.brings.stays in
+      let on : cut_front next (x ++ piece) ≡ cut_front chunker (x ++ piece) = ap (λ (chunks : Chunks). before_chunk chunks (length (x ++ piece)) (first_on (course next.cutter)) (x ++ piece)) settles.chunks ∙ ap (λ on. before_chunk chunker.cutter.chunks (length (x ++ piece)) (first_on on) (x ++ piece)) stays in
+      let z = cut_front chunker (x ++ piece) in
+      unsaid_is (same ∙ said) (record {
+        cut = rw on (rw (to_is chunker piece ends has) at cut);
+        waits = left ∙ ap (λ z. drop (length z) (cut_front chunker x ++ (chunker.waiting ++ piece))) (to_is chunker piece ends has) ∙ ap (drop (length z)) (came_more has piece) ∙ ap (λ z. drop (length z) (x ++ piece)) (sym on);
+        spare = spare ∙ has.spare;
+      })))
 
 -- The end
-
-begun_some : (unit : Counted) (delim place : ℕ) (x : List ℕ) → 0 < place → 0 < length x
-    → 0 < length (begun_before unit delim place x)
-begun_some Bytes delim place x some has = omega (arith, length-take place x, some, has)
-begun_some Lines delim place [] some has = absurd (omega (arith, has))
-begun_some Lines delim place (byte ∷ x) some has = rw (begun_first delim byte place x some) (omega arith)
 
 -- what is settled ends within a line only where nothing waits
 none_waits : (unit : Counted) (delim place : ℕ) (z waiting : List ℕ) → begun_before unit delim place (z ++ waiting) ≡ z
@@ -437,9 +339,9 @@ module _ {told : Bool} {cutter mid : CutterState} {waiting : List ℕ} {size : �
     brings = brings_wider (λ z so. to_whole z so) (brings_first (Some why) ends);
   }
 
-  mid_cut : (ends : EndsFull told cutter size old wet mid None) (z : List ℕ) → IsSettled cutter waiting size z
-      → IsCut mid size z × (length (z ++ waiting) ≤ size)
-  mid_cut ends z so = let sends = ends_first None ends in let stays = sends.brings.stays in (
+  mid_cut : (done : List ℕ) → length done ≤ length waiting → EndsFull told cutter size old wet mid None → (z : List ℕ)
+      → IsSettled cutter waiting size z → IsCut mid size z × (length (z ++ done) ≤ size)
+  mid_cut done few ends z so = let sends = ends_first None ends in let stays = sends.brings.stays in (
     record {
       cut = record {
         can = rw (stays, ends.chunks) so.cut.can;
@@ -450,41 +352,78 @@ module _ {told : Bool} {cutter mid : CutterState} {waiting : List ℕ} {size : �
       };
       fits = omega (arith, so.all);
     },
-    omega (arith, so.all, length-append z waiting),
+    omega (arith, so.all, few, length-append z done),
   )
 
-  brings_rest : {next : AimState} {new : List Slot} (fault : Option Fault)
-      (ends : EndsFull told cutter size old wet mid None)
+  brings_rest : {next : AimState} {new : List Slot} (fault : Option Fault) {done : List ℕ}
+      → length done ≤ length waiting → (ends : EndsFull told cutter size old wet mid None)
       → Brings told (course mid) mid.target.aim next (λ z. IsCut mid size z
-      × (length (z ++ waiting) ≤ size)) (part_so mid size) (λ z. part_so mid size (z ++ waiting)) wet new fault
+      × (length (z ++ done) ≤ size)) (part_so mid size) (λ z. part_so mid size (z ++ done)) wet new fault
       → Brings told (course cutter) cutter.target.aim next (IsSettled cutter waiting size)
       (λ z. part_on (course cutter) (uncut z))
-      (λ z. part_on (course cutter) (chunks_within cutter.chunks size (z ++ waiting))) old new fault
-  brings_rest {next} {new} fault ends brings = let stays = (ends_first None ends).brings.stays in
-      brings_then (brings_first None ends) (λ z so. so) (brings_as (λ z. z) fault (mid_cut ends) (λ z so. ap (λ chunks. part_on (course cutter) (chunks_within chunks size z)) ends.chunks) (λ z so. ap (λ chunks. part_on (course cutter) (chunks_within chunks size (z ++ waiting))) ends.chunks)
+      (λ z. part_on (course cutter) (chunks_within cutter.chunks size (z ++ done))) old new fault
+  brings_rest {next} {new} fault {done} few ends brings = let stays = (ends_first None ends).brings.stays in
+      brings_then (brings_first None ends) (λ z so. so) (brings_as (λ z. z) fault (mid_cut done few ends) (λ z so. ap (λ chunks. part_on (course cutter) (chunks_within chunks size z)) ends.chunks) (λ z so. ap (λ chunks. part_on (course cutter) (chunks_within chunks size (z ++ done))) ends.chunks)
       (rw (← stays) brings))
 
-  pub held_not_cut : {next : CutterState} {left : List ℕ} {new : List Slot} {why : Fault}
-      → EndsFull told cutter size old wet mid None → CutsHeld told mid waiting size wet new next left (Some why)
-      → EndsHeld told cutter waiting size old new next left (Some why)
-  held_not_cut {why = why} ends cuts = record {
-    chunks = cuts.cuts.chunks ∙ ends.chunks;
+  pub held_not_cut : {next : CutterState} {new : List Slot} {why : Fault}
+      → size ≡ cutter.at + length waiting → EndsFull told cutter size old wet mid None
+      → Cuts told mid size (take (min (length waiting) (size - mid.at)) waiting) wet new next (Some why)
+      → EndsHeld told cutter waiting size old new next [] (Some why)
+  held_not_cut {why = why} all ends stopped = let cuts = rw (take_all (min (length waiting) (size - mid.at)) waiting (omega (arith, all, ends.at))) at stopped in record {
+    chunks = cuts.chunks ∙ ends.chunks;
     bound = omega (arith, cuts.bound, ends.at);
-    brings = brings_wider (λ z so. whole_begins (course cutter) (chunks_within cutter.chunks size (z ++ waiting))) (brings_rest (Some why) ends cuts.cuts.brings);
+    brings = brings_wider (λ z so. whole_begins (course cutter) (chunks_within cutter.chunks size (z ++ waiting))) (brings_rest (Some why) (omega arith) ends cuts.brings);
   }
 
-  pub held_ends : {later : CutterState} {next : CutterState} {left : List ℕ} {between new : List Slot}
-      (fault : Option Fault) → EndsFull told cutter size old wet mid None
-      → CutsHeld told mid waiting size wet between later left None
+  -- what is left once the output is complete changes nothing
+  pub held_ends : {later next : CutterState} {left : ℕ} {between new : List Slot} (fault : Option Fault)
+      → size ≡ cutter.at + length waiting → EndsFull told cutter size old wet mid None
+      → CutsAs told mid size waiting wet between later left
       → TargetEnds told later.target between new next.target fault → next.chunks ≡ later.chunks → next.at ≡ later.at
-      → EndsHeld told cutter waiting size old new next left fault
-  held_ends {later} {next} {left} {between} {new} fault ends cuts last chunks at = let first = brings_rest None ends cuts.cuts.brings in record {
+      → EndsHeld told cutter waiting size old new next [] fault
+  held_ends {later} {next} {left} {between} {new} fault all ends cuts last chunks at = record {
     chunks = chunks ∙ cuts.cuts.chunks ∙ ends.chunks;
-    bound = omega (arith, at, cuts.bound, ends.at);
-    brings = brings_then first (λ z so. so) (brings_as (λ z. chunks_within cutter.chunks size (z ++ waiting)) fault
-        (λ z so. let (has, fits) = mid_cut ends z so in rw (cuts.cuts.chunks ∙ ends.chunks) at ((cuts.cuts.stands z has fits).cut.carries)) (λ z so. refl) (λ z so. refl)
-        (rw first.stays at last));
-  }
+    bound = omega (arith, at, cuts.cuts.bound, few, ends.at);
+    brings = brings_then first (λ z so. so) (brings_as (λ z. chunks_within cutter.chunks size (z ++ done)) fault
+        (λ z so. rw is at ((stands z so).cut.carries)) (λ z so. refl) whole (rw first.stays at last));
+  } where
+    done : List ℕ
+    done = take (length waiting - left) waiting
+
+    few : length done ≤ length waiting
+    few = omega (arith, length-take (length waiting - left) waiting)
+
+    is : later.chunks ≡ cutter.chunks
+    is = cuts.cuts.chunks ∙ ends.chunks
+
+    first : Brings told (course cutter) cutter.target.aim later.target.aim (IsSettled cutter waiting size)
+        (λ z. part_on (course cutter) (uncut z))
+        (λ z. part_on (course cutter) (chunks_within cutter.chunks size (z ++ done))) old between None
+    first = brings_rest None few ends cuts.cuts.brings
+
+    stands : (z : List ℕ) → IsSettled cutter waiting size z → IsCut later size (z ++ done)
+    stands z so = let (has, fits) = mid_cut done few ends z so in cuts.cuts.stands z has fits
+
+    whole : (z : List ℕ) → IsSettled cutter waiting size z
+        → whole_on (course cutter) (chunks_within cutter.chunks size (z ++ done))
+        ≡ whole_on (course cutter) (chunks_within cutter.chunks size (z ++ waiting))
+    whole z so = elim cuts.enough [
+      | inl none ↦ used none
+      | inr later ↦ elim later [
+        | inl past ↦
+            let both : (z ++ done) ++ drop (length waiting - left) waiting ≡ z ++ waiting = append_assoc z done _ ∙ ap (λ those. z ++ those) (take-append-drop (length waiting - left) waiting) in
+            let complete : (work_on (course cutter) cutter.chunks (Some size)).is_complete (z ++ done) ≡ true =
+            rw (first.stays, is) at (sym (past_is (stands z so)) ∙ past) in
+            complete_all (course cutter) cutter.chunks size (z ++ done) (drop (length waiting - left) waiting) so.cut.can (stands z so).fits complete
+            ∙ ap (work_on (course cutter) cutter.chunks (Some size)).whole both
+            ∙ whole_is (course cutter) cutter.chunks size (z ++ waiting) ∙ ap (whole_on (course cutter)) (cut_of cutter.chunks size (z ++ waiting) (omega (arith, so.all, length-append z waiting)))
+        | inr full ↦ used (omega (arith, all, full, cuts.at, cuts.few, ends.at))
+      ]
+    ] where
+      used : left ≡ 0 → whole_on (course cutter) (chunks_within cutter.chunks size (z ++ done))
+          ≡ whole_on (course cutter) (chunks_within cutter.chunks size (z ++ waiting))
+      used none = ap (λ those. whole_on (course cutter) (chunks_within cutter.chunks size (z ++ those))) (take_all (length waiting - left) waiting (omega (arith, none)))
 
 -- as the stage ends
 
@@ -497,30 +436,24 @@ well_none : (on : Course) (chunks : Chunks) (x : List ℕ) → (work_on on chunk
 well_none (in_files filing elide) chunks x = refl
 well_none (in_output chunk) chunks x = refl
 
-pub ends_unsaid : {told : Bool} {chunker next : ChunkerState} {size : ℕ} {old new : List Slot} (fault : Option Fault)
+pub ends_unsaid : {told : Bool} {chunker next : ChunkerState} {size : ℕ} {old new : List Slot}
+    (result : Result (Unit {0}) Fault) → IsAimed chunker.cutter.target.aim old
     → chunker.said ≡ None → next.said ≡ chunker.said → next.spare ≡ chunker.spare
     → can_cut (course chunker.cutter) chunker.cutter.chunks.count ≡ true
     → size ≡ chunker.cutter.at + length chunker.waiting
-    → EndsHeld told chunker.cutter chunker.waiting size old new next.cutter next.waiting fault
-    → StageEnds told chunker old new next fault
-ends_unsaid {chunker = chunker} {size = size} fault said same spare can size_is ends = record {
-  same = record { can = can; said = same; chunks = ends.chunks };
-  bound = omega (arith, ends.bound, spare);
-  comes = brings_as (cut_front chunker) fault (λ x holds. let has = is_unsaid said holds in record {
-    cut = has.cut;
-    all = omega (arith, size_is, has.cut.at);
-    is = ap (λ z. before_chunk chunker.cutter.chunks size (first_on (course chunker.cutter)) z) (all_came has) ∙ ap (λ n. before_chunk chunker.cutter.chunks n (first_on (course chunker.cutter)) x) (long x has);
-  })
-      (λ x holds. sym (decided_is (course chunker.cutter) chunker.cutter.chunks x) ∙ ap (λ (work : Work). work.settled x) (made_none chunker said))
-      (λ x holds. let has = is_unsaid said holds in ap (λ z. whole_on (course chunker.cutter) (chunks_within chunker.cutter.chunks size z)) (all_came has) ∙ ap (λ n. whole_on (course chunker.cutter) (chunks_within chunker.cutter.chunks n x)) (long x has)
-      ∙ ap (whole_on (course chunker.cutter)) (sym (cut_of chunker.cutter.chunks (length x) x (omega arith))) ∙ sym (whole_none (course chunker.cutter) chunker.cutter.chunks x) ∙ ap (λ (work : Work). work.whole x) (made_none chunker said)) ends.brings;
-  well = in_any fault (λ x holds. ap (λ (work : Work). work.verdict x) (sym (made_none chunker said)) ∙ well_none (course chunker.cutter) chunker.cutter.chunks x);
-  only_write = λ some. absurd (false≢true (sym some ∙ ap is_none said));
-} where
-  long : (x : List ℕ) → IsUnsaid chunker x → size ≡ length x
-  long x has = omega (arith, size_is, has.cut.at, length-append (cut_front chunker x) chunker.waiting, ap length (all_came has))
-
-pub ends_as : {told : Bool} {chunker next : ChunkerState} {old new : List Slot} (result : Result (Unit {0}) Fault)
-    → StageEnds told chunker old new next (fault_in result) → EndsAs told chunker old new next result
-ends_as (Ok done) ends = ends
-ends_as (Err why) ends = inl ends
+    → EndsHeld told chunker.cutter chunker.waiting size old new next.cutter next.waiting (fault_in result)
+    → EndsAs told chunker old new next result
+ends_unsaid {chunker = chunker} {size = size} result aimed said same spare can size_is ends = let fault = fault_in result in
+    ends_at result aimed (record { can = can; said = same; chunks = ends.chunks }) (omega (arith, ends.bound, spare))
+    (brings_as (cut_front chunker) fault (λ x holds. let has = is_unsaid said holds in record {
+      cut = has.cut;
+      all = omega (arith, size_is, has.cut.at);
+      is = ap (λ z. before_chunk chunker.cutter.chunks size (first_on (course chunker.cutter)) z) (all_came has) ∙ ap (λ n. before_chunk chunker.cutter.chunks n (first_on (course chunker.cutter)) x) (long x has);
+    })
+    (λ x holds. sym (decided_is (course chunker.cutter) chunker.cutter.chunks x) ∙ ap (λ (work : Work). work.settled x) (made_none chunker said))
+    (λ x holds. let has = is_unsaid said holds in ap (λ z. whole_on (course chunker.cutter) (chunks_within chunker.cutter.chunks size z)) (all_came has) ∙ ap (λ n. whole_on (course chunker.cutter) (chunks_within chunker.cutter.chunks n x)) (long x has)
+    ∙ ap (whole_on (course chunker.cutter)) (sym (cut_of chunker.cutter.chunks (length x) x (omega arith))) ∙ sym (whole_none (course chunker.cutter) chunker.cutter.chunks x) ∙ ap (λ (work : Work). work.whole x) (made_none chunker said)) ends.brings)
+    (in_any fault (λ x holds. ap (λ (work : Work). work.verdict x) (sym (made_none chunker said)) ∙ well_none (course chunker.cutter) chunker.cutter.chunks x))
+    (λ some. absurd (false≢true (sym some ∙ ap is_none said))) where
+      long : (x : List ℕ) → IsUnsaid chunker x → size ≡ length x
+      long x has = omega (arith, size_is, has.cut.at, length-append (cut_front chunker x) chunker.waiting, ap length (all_came has))

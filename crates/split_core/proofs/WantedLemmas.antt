@@ -1,28 +1,23 @@
 -- Lemmas on when one chunk is complete, and on how many bytes are wanted until then.
-use Rattle.std.proofs.Common.{◌≡◌, ℕ, ◌+◌, ◌-◌, ◌≤◌, max, nat_lt, take, Bool, true, false, List, ◌++◌, length, Option, Some, None, inl, inr, refl, sym, ◌∙◌, ap, subst, arith}
-use Rattle.std.specs.Option.{is_some}
-use Rattle.std.proofs.lemmas.Bool.{false≢true, cases_lt, leb-true}
-use Rattle.std.proofs.lemmas.List.{append-nil, length-append, take_at}
-use Rattle.ports_core.specs.Engine.{MayGet}
-use Rattle.ports_core.specs.Work.{IsSpare, Work}
-use Rattle.ports_core.proofs.SpareLemmas.{none_spare, spare_within}
+use Rattle.std.{
+  proofs.Common.{◌≡◌, ℕ, ◌+◌, ◌-◌, ◌≤◌, max, nat_lt, take, Bool, true, false, List, ◌++◌, length, Option, Some, None, inl, inr, refl, sym, ◌∙◌, ap, subst, arith},
+  proofs.lemmas.{Bool.{false≢true, cases_lt, leb-true}, List.{append-nil, length-append, take_at}},
+  specs.Option.is_some,
+}
+use Rattle.ports_core.{specs.{Engine.MayGet, Work.{IsSpare, Work}}, proofs.SpareLemmas.{none_spare, spare_within}}
 use Rattle.seg_core.specs.declared.cut.Chunks.{Chunks}
-use Rattle.split_core.specs.Alike.{as_if}
-use Rattle.split_core.specs.Chunks.{chunk_start, has_ended}
-use Rattle.split_core.specs.ChunkWork.{chunk_work}
-use Rattle.split_core.specs.ChunkerState.{ChunkerState, Course, Holds, HoldsBy, IsSaid, course, can_cut, in_files, in_output, work, work_on}
-use Rattle.split_core.specs.Split.{Filing}
+use Rattle.split_core.specs.{
+  Alike.as_if,
+  Chunks.{chunk_start, has_ended},
+  ChunkWork.chunk_work,
+  ChunkerState.{ChunkerState, Course, Holds, HoldsBy, IsSaid, course, can_cut, in_files, in_output, work, work_on},
+  Split.Filing,
+  inner.{Cutter.said_work, Seen.is_past_on},
+  laws.{BegunLaws.open_within, ChunkLaws.{passed_full, passed_open}, WorkLaws.{lawful, work_lawful}},
+}
+use Rattle.split_core.proofs.{AlikeLemmas.complete_as, ChunkerLemmas.{cut_is, is_said, past_is}, ChunkerWays.{holds_can, unsaid_open, works_so}, RoundLemmas.open_after}
 use Rattle.split_core.specs.Ways as ways
 use Rattle.split_core.specs.declared.splitter.Splitter.TheVariants as way
-use Rattle.split_core.specs.inner.Cutter.{said_work}
-use Rattle.split_core.specs.inner.Seen.{is_past_on}
-use Rattle.split_core.specs.laws.BegunLaws.{open_within}
-use Rattle.split_core.specs.laws.ChunkLaws.{passed_full, passed_open}
-use Rattle.split_core.specs.laws.WorkLaws.{lawful, work_lawful}
-use Rattle.split_core.proofs.AlikeLemmas.{complete_as}
-use Rattle.split_core.proofs.ChunkerLemmas.{cut_is, is_said, past_is}
-use Rattle.split_core.proofs.ChunkerWays.{holds_can, unsaid_open, works_so}
-use Rattle.split_core.proofs.RoundLemmas.{open_after}
 
 -- what came in completes the output where what is used does
 complete_by : (said : Option ℕ) (state : ChunkerState) (x : List ℕ) → is_some said ≡ true → HoldsBy said state x

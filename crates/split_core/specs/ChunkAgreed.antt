@@ -1,29 +1,27 @@
 -- What all continuations of an input agree on that is cut into chunks. In the end each of them makes all files, so what
 -- they agree on is said of each output by itself.
 use Rattle.std.specs.Prelude.{◌≡◌, ◌≢◌, ◌⊎◌, ℕ, ◌-◌, ◌<◌, ◌≤◌, suc, nat_lt, true, List, [], ◌∷◌, ◌++◌, get_or, length, take, Option, if◌then◌else◌}
-use Rattle.seg_core.specs.Line.{joined}
-use Rattle.seg_core.specs.declared.cut.Chunks.{Chunks}
-use Rattle.ports_core.specs.Agreed.{CanCome, Spot, file_bytes, output_at, spots_from}
-use Rattle.ports_core.specs.Part.{File, Part, IsBeginning, Begins}
-use Rattle.ports_core.specs.Turn.{AllClosed}
-use Rattle.ports_core.specs.Work.{Work}
-use Rattle.ports_core.specs.declared.slot.State.TheVariants.{Open}
-use Rattle.split_core.specs.Chunks.{in_the_end, is_as_said, pieces_in}
-use Rattle.split_core.specs.ChunkWork.{ChunksPlan, chunks_whole}
+use Rattle.seg_core.specs.{Line.joined, declared.cut.Chunks.Chunks}
+use Rattle.ports_core.specs.{Agreed.{CanCome, Spot, file_bytes, output_at, spots_from}, Part.{File, Part, IsBeginning, Begins}, Turn.AllClosed, Work.Work, declared.slot.State.TheVariants.Open}
+use Rattle.split_core.specs.{Chunks.{in_the_end, is_as_said, pieces_in}, ChunkWork.{ChunksPlan, chunks_whole}}
 
 -- what may still come after x: bytes with which it has the size that was said
 abbrev pub CanFollow : Option ℕ → List ℕ → List ℕ → Type 0
 CanFollow said x y = CanCome y × (is_as_said said (x ++ y) ≡ true)
+
+-- two continuations of x have no more in common at this place
+abbrev pub HasNoMore : (List ℕ → Type 0) → Work → List ℕ → Part → ℕ → Type 0
+HasNoMore comes work x agreed place = (y : List ℕ) × (z : List ℕ) × comes y × comes z
+    × ((front : List ℕ) → IsBeginning front (output_at (work.whole (x ++ y)) place)
+    → IsBeginning front (output_at (work.whole (x ++ z)) place) → length front ≤ length (output_at agreed place))
 
 -- The most that all continuations of x have in common in each output. Where `agreed` has no such output, that is
 -- nothing.
 pub record AgreeAt (comes : List ℕ → Type 0) (work : Work) (x : List ℕ) (agreed : Part) : Type 0 where
   -- in the end every continuation has these outputs, each beginning so
   pub common : (y : List ℕ) → comes y → Begins agreed (work.whole (x ++ y))
-  -- at each place two continuations have no more in common
-  pub longest : (place : ℕ) → (y : List ℕ) × (z : List ℕ) × comes y × comes z
-      × ((front : List ℕ) → IsBeginning front (output_at (work.whole (x ++ y)) place)
-      → IsBeginning front (output_at (work.whole (x ++ z)) place) → length front ≤ length (output_at agreed place))
+  -- and there are two that have no more
+  pub longest : (place : ℕ) → HasNoMore comes work x agreed place
 
 -- two continuations give different things
 abbrev pub TwoDiffer : {A : Type 0} → (List ℕ → Type 0) → (List ℕ → A) → Type 0

@@ -1,27 +1,23 @@
 -- What `split` makes of an input that it cuts into chunks, or of which it writes what one file would have: GNU coreutils
 -- manual, split, `-n N`, `-n l/N`, `-n K/N`, `-n l/K/N` and `-n r/K/N`.
-use Rattle.std.specs.Option.{is_none}
-use Rattle.std.specs.Prelude.{◌≡◌, ℕ, ◌||◌, max, Bool, true, false, List, [], ◌++◌, map, filter, get_or, IsTrue, Option, Some, None, if◌then◌else◌}
-use Rattle.seg_core.specs.Line.{lines_of}
-use Rattle.ports_core.specs.Draft.{Draft, draft_part, part_of, share}
-use Rattle.ports_core.specs.FileWriter.{CanTell}
-use Rattle.ports_core.specs.Name.{Naming}
-use Rattle.ports_core.specs.Part.{Part, only_out}
-use Rattle.ports_core.specs.Slot.{Slot, is_writable}
-use Rattle.ports_core.specs.Work.{Work, always_well, on_output}
-use Rattle.ports_core.specs.declared.fault.Fault.{Fault}
-use Rattle.ports_core.specs.declared.fault.Fault.TheVariants.{Memory}
-use Rattle.ports_core.specs.declared.verdict.Verdict.TheVariants.{Changed}
-use Rattle.ports_core.specs.declared.file_writer.Opening.TheVariants.{Late}
-use Rattle.ports_core.specs.declared.file_writer.Tells.{Tells}
-use Rattle.ports_core.specs.declared.slot.State.TheVariants.{Closed}
-use Rattle.seg_core.specs.declared.cut.Chunks.{Chunks}
-use Rattle.seg_core.specs.declared.cut.Way.{Way}
+use Rattle.std.specs.{Option.is_none, Prelude.{◌≡◌, ℕ, ◌||◌, max, Bool, true, false, List, [], ◌++◌, map, filter, get_or, IsTrue, Option, Some, None, if◌then◌else◌}}
+use Rattle.seg_core.specs.{Line.lines_of, declared.cut.{Chunks.Chunks, Way.Way}}
+use Rattle.ports_core.specs.{
+  Draft.{Draft, draft_part, part_of, share},
+  FileWriter.CanTell,
+  Name.Naming,
+  Part.{Part, only_out},
+  Slot.{Slot, is_writable},
+  Work.{Work, always_well, on_output},
+  declared.{fault.Fault.{Fault, TheVariants.Memory}, verdict.Verdict.TheVariants.Changed, file_writer.{Opening.TheVariants.Late, Tells.Tells}, slot.State.TheVariants.Closed},
+}
+use Rattle.split_core.specs.{
+  Parts.{CutUp, dealt, unless_empty},
+  Chunks.{decided, has_ended, in_the_end, is_as_said, is_longer, pieces_in, undecided},
+  Sharing.CannotOpen,
+  Split.{Filing, HasNames, are_named, has_bytes, is_verbose, manner_of, split_means, split_work},
+}
 use Rattle.seg_core.specs.declared.cut.Way.TheVariants as way
-use Rattle.split_core.specs.Parts.{CutUp, dealt, unless_empty}
-use Rattle.split_core.specs.Chunks.{decided, has_ended, in_the_end, is_as_said, is_longer, pieces_in, undecided}
-use Rattle.split_core.specs.Sharing.{CannotOpen}
-use Rattle.split_core.specs.Split.{Filing, HasNames, are_named, has_bytes, is_verbose, manner_of, split_means, split_work}
 
 -- To files
 

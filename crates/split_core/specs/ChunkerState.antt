@@ -1,14 +1,13 @@
 -- What contracts see of chunks of an input.
 use Rattle.std.specs.Prelude.{◌≡◌, ℕ, ◌+◌, ◌≤◌, max, nat_lt, Bool, true, false, List, [], length, Option, Some, None, IsTrue}
-use Rattle.ports_core.specs.FileWriter.{WriterState, Writes, OwnsFiles, IsReady as CanWrite}
-use Rattle.ports_core.specs.Part.{nothing}
-use Rattle.ports_core.specs.Slot.{Slot, is_writable}
-use Rattle.ports_core.specs.Work.{Work, IsSpare, always_well}
+use Rattle.ports_core.specs.{FileWriter.{WriterState, Writes, OwnsFiles, IsReady as CanWrite}, Part.nothing, Slot.{Slot, is_writable}, Work.{Work, IsSpare, always_well}}
 use Rattle.seg_core.specs.declared.cut.Chunks.{Chunks}
-use Rattle.split_core.specs.Parts.{CutUp}
-use Rattle.split_core.specs.Chunks.{before_chunk, chunks_within, decided, undecided, is_within}
-use Rattle.split_core.specs.ChunkWork.{chunk_work, chunks_work, draft_by}
-use Rattle.split_core.specs.Split.{Filing, TellsNoSizes, are_named, is_verbose, manner_of}
+use Rattle.split_core.specs.{
+  Parts.CutUp,
+  Chunks.{before_chunk, chunks_within, decided, undecided, is_within},
+  ChunkWork.{chunk_work, chunks_work, draft_by},
+  Split.{Filing, TellsNoSizes, are_named, is_verbose, manner_of},
+}
 
 -- Where chunks go
 

@@ -1,13 +1,8 @@
 -- Where the bytes of an input go: into files, of which the first has place 1 among the outputs.
 use Rattle.std.specs.Prelude.{ℕ, ◌+◌, ◌%◌, nat_lt, ◌&&◌, List, [], ◌∷◌, length, take, if◌then◌else◌}
-use Rattle.seg_core.specs.Line.{lines_of, delimiters}
-use Rattle.ports_core.specs.Name.{Naming, has_name}
-use Rattle.ports_core.specs.Work.{Work}
-use Rattle.ports_core.specs.Agreed.{Spot, spot, spots_from, file_bytes}
-use Rattle.seg_core.specs.declared.cut.Cut.{Cut}
-use Rattle.seg_core.specs.declared.cut.Cut.TheVariants.{Parts, Round}
-use Rattle.split_core.specs.Parts.{dealt}
-use Rattle.split_core.specs.Split.{Plan, whole_by}
+use Rattle.seg_core.specs.{Line.{lines_of, delimiters}, declared.cut.Cut.{Cut, TheVariants.{Parts, Round}}}
+use Rattle.ports_core.specs.{Name.{Naming, has_name}, Work.Work, Agreed.{Spot, spot, spots_from, file_bytes}}
+use Rattle.split_core.specs.{Parts.dealt, Split.{Plan, whole_by}}
 
 -- where lines are dealt: the file that byte i goes to, counted from 0, by the line in which it stands
 abbrev pub dealt_to : ℕ → ℕ → List ℕ → ℕ → ℕ

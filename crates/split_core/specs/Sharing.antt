@@ -1,8 +1,6 @@
 -- How files in order get more bytes, and how more of them are opened.
 use Rattle.std.specs.Prelude.{◌≡◌, ℕ, Bool, true, List, ◌⊎◌}
-use Rattle.ports_core.specs.Slot.{Slot, Rose}
-use Rattle.ports_core.specs.declared.fault.Fault.{Fault}
-use Rattle.ports_core.specs.declared.fault.Fault.TheVariants.{Memory, Write, Open}
+use Rattle.ports_core.specs.{Slot.{Slot, Rose}, declared.fault.Fault.{Fault, TheVariants.{Memory, Write, Open}}}
 
 -- a file could not be opened, or there was no room for its name; or standard output broke as it was told of the file
 abbrev pub CannotOpen : Bool → List Slot → List Slot → Fault → Type 0

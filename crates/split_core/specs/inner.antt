@@ -1,5 +1,4 @@
 pub mod Takes
-pub mod Turn
 pub mod Sharing
 pub mod Step
 pub mod Ways

@@ -1,14 +1,12 @@
 //! Cutting an input into chunks.
-ghost use Rattle.std.specs.Prelude.{◌≡◌, ◌+◌, ◌<◌, ◌^◌, ◌||◌, length, min, nat_lt};
+ghost use Rattle.std.specs.Prelude.{◌≡◌, ◌+◌, ◌<◌, ◌^◌, ◌≤◌, ◌||◌, length, min, nat_lt, true};
 ghost use Rattle.ports_core.specs.Turn.{fault_in};
-ghost use Rattle.split_core.specs.Chunks.{chunk_start as start_of};
-ghost use Rattle.split_core.specs.ChunkerState.{IsAimed};
-ghost use Rattle.split_core.specs.inner.Cutter.{CutsHeld, CutsSo, EndsFull, EndsHeld, EndsUp, Settles, Steps, WritesTo, seen_cutter};
+ghost use Rattle.split_core.specs.{Chunks.chunk_start as start_of, ChunkerState.IsAimed, inner.Cutter.{CutsSo, EndsFull, EndsHeld, Settles, Steps, WritesTo, seen_cutter}};
 
 use crate::chunk_cut::{chunk_start, ends_within, next_cut};
 use crate::chunk_target::Target;
+use crate::waiting::Waiting;
 use ports_core::{Fault, Outs};
-use seg_core::byte_window::ByteWindow;
 use seg_core::cut::Chunks;
 
 /// Where an input was cut off so far, and where the chunks go.
@@ -82,12 +80,13 @@ impl ChunkCutter {
         self.end_all(size, outs)
     }
 
-    /// Ends the chunks that end before the bytes that weren't cut off yet.
+    /// The same, where no line is open before the end.
     fn end_all<O: Outs>(&mut self, size: u64, outs: &mut O) -> Result<(), Fault>
         requires ready { IsAimed (seen_cutter self.old).target.aim (O.slots outs.old) }
         requires some { 0 < self.old.chunks.count }
-        ensures { EndsUp O.told (seen_cutter self.old) size (O.slots outs.old) (O.slots outs.new) (seen_cutter self.new)
-            (fault_in result) }
+        requires whole { self.old.is_within ≡ true → size ≤ self.old.at }
+        ensures { EndsFull O.told (seen_cutter self.old) size (O.slots outs.old) (O.slots outs.new)
+            (seen_cutter self.new) (fault_in result) }
     {
         'places: while self.target.place < self.chunks.count
             && chunk_start(self.chunks.count, size, self.target.place + 1) <= self.at
@@ -117,8 +116,8 @@ impl ChunkCutter {
         Ok(n)
     }
 
-    /// Cuts a text, which stands within an input of this size, as long as the output isn't complete, and returns how
-    /// many bytes are left then.
+    /// Cuts what of a text stands within an input of this size, as long as the output isn't complete, and returns how many
+    /// bytes are left then.
     ///
     /// # Errors
     ///
@@ -135,12 +134,17 @@ impl ChunkCutter {
         ensures { CutsSo O.told (seen_cutter self.old) size text.now (O.slots outs.old) (O.slots outs.new)
             (seen_cutter self.new) result }
     {
-        let mut left = text;
-        'stretches: while !left.is_empty() && !self.target.is_past() {
+        let own = text.len().min(size.saturating_sub(self.at) as usize);
+        let past = text.len() - own;
+        let mut left = &text[..own];
+        'stretches: while !left.is_empty() {
+            if self.target.is_past() {
+                return Ok(left.len() + past);
+            }
             let n = self.step(size, left, outs)?;
             left = &left[n..];
         }
-        Ok(left.len())
+        Ok(past)
     }
 
     /// Writes what of the bytes that wait goes with those that were cut off, up to a place of the input.
@@ -150,74 +154,48 @@ impl ChunkCutter {
     /// Those of `Target::put`.
     pub(crate) fn settle<O: Outs>(
         &mut self,
-        window: &mut ByteWindow,
+        waiting: &mut Waiting,
         end: u64,
         outs: &mut O,
     ) -> Result<(), Fault>
         requires ready { IsAimed (seen_cutter self.old).target.aim (O.slots outs.old) }
-        requires fits { self.old.at + length window.old.held < 2 ^ 64 }
-        ensures most { window.new.most ≡ window.old.most }
-        ensures settles { Settles O.told (seen_cutter self.old) window.old.held end (O.slots outs.old)
-            (O.slots outs.new) (seen_cutter self.new) window.new.held (fault_in result) }
+        requires fits { self.old.at + length waiting.old < 2 ^ 64 }
+        ensures { Settles O.told (seen_cutter self.old) waiting.old end (O.slots outs.old) (O.slots outs.new)
+            (seen_cutter self.new) waiting.new (fault_in result) }
     {
-        'stretches: while !window.is_empty() && self.is_short_of(end) {
-            let n = self.write_to(end, window.front(), outs)?;
-            window.drop_front(n as u64);
+        if waiting.is_empty() {
+            return Ok(());
         }
+        if !self.is_short_of(end) {
+            return Ok(());
+        }
+        let n = self.write_to(end, waiting.bytes(), outs)?;
+        waiting.drop_front(n);
         Ok(())
     }
 
-    /// Cuts all that waits, where the input has this size. After a fault nothing waits.
-    ///
-    /// # Errors
-    ///
-    /// Those of `Target::put` and `Target::next`.
-    pub(crate) fn cut_held<O: Outs>(
-        &mut self,
-        window: &mut ByteWindow,
-        size: u64,
-        outs: &mut O,
-    ) -> Result<(), Fault>
-        requires ready { IsAimed (seen_cutter self.old).target.aim (O.slots outs.old) }
-        requires some { 0 < self.old.chunks.count }
-        requires fits { self.old.at + length window.old.held < 2 ^ 64 }
-        ensures most { window.new.most ≡ window.old.most }
-        ensures cuts { CutsHeld O.told (seen_cutter self.old) window.old.held size (O.slots outs.old)
-            (O.slots outs.new) (seen_cutter self.new) window.new.held (fault_in result) }
-    {
-        'stretches: while !window.is_empty() {
-            match self.step(size, window.front(), outs) {
-                Ok(n) => window.drop_front(n as u64),
-                Err(fault) => {
-                    let left = window.len();
-                    window.drop_front(left);
-                    return Err(fault);
-                }
-            }
-        }
-        Ok(())
-    }
-
-    /// Cuts all that waits into the chunks of an input of this size, and ends them.
+    /// Cuts all that waits into the chunks of an input that has no more, and ends them. Nothing waits then, unless one
+    /// could not be ended.
     ///
     /// # Errors
     ///
     /// Those of `Target::put` and `Target::next`.
     pub(crate) fn finish<O: Outs>(
         &mut self,
-        window: &mut ByteWindow,
-        size: u64,
+        waiting: &mut Waiting,
         outs: &mut O,
     ) -> Result<(), Fault>
         requires ready { IsAimed (seen_cutter self.old).target.aim (O.slots outs.old) }
         requires some { 0 < self.old.chunks.count }
-        requires fits { self.old.at + length window.old.held < 2 ^ 64 }
-        ensures most { window.new.most ≡ window.old.most }
-        ensures ends { EndsHeld O.told (seen_cutter self.old) window.old.held size (O.slots outs.old)
-            (O.slots outs.new) (seen_cutter self.new) window.new.held (fault_in result) }
+        requires fits { self.old.at + length waiting.old < 2 ^ 64 }
+        ensures { EndsHeld O.told (seen_cutter self.old) waiting.old (self.old.at + length waiting.old)
+            (O.slots outs.old) (O.slots outs.new) (seen_cutter self.new) waiting.new (fault_in result) }
     {
+        let size = self.at + waiting.len();
         self.end_full(size, outs)?;
-        self.cut_held(window, size, outs)?;
+        let cut = self.cut(size, waiting.bytes(), outs);
+        waiting.clear();
+        cut?;
         self.target.end(outs)
     }
 }

@@ -1,20 +1,15 @@
 //! Laws of chunks, with no code: each stands on the contract of a function whose body is empty.
-ghost use Rattle.std.specs.Prelude.{◌≡◌, ◌<◌, ◌≤◌, ◌+◌, ◌-◌, ◌++◌, ◌/◌, ◌%◌, ℕ, List, [], Option, Some, drop, false, get_or, length, take, true};
-ghost use Rattle.std.specs.List.{filter, flat_map, range_with_len};
-ghost use Rattle.ports_core.specs.Agreed.{ArePlaced, DifferOn, IsAgreed, file_bytes};
-ghost use Rattle.ports_core.specs.Draft.{opening_line};
-ghost use Rattle.ports_core.specs.Part.{only_out, openings_for};
-ghost use Rattle.ports_core.specs.declared.verdict.Verdict.TheVariants.{Changed};
-ghost use Rattle.seg_core.specs.Line.{first_lines, joined, line_count, lines_of};
-ghost use Rattle.seg_core.specs.declared.cut.Chunks.{Chunks};
-ghost use Rattle.seg_core.specs.declared.cut.Cut.TheVariants.{Round};
+ghost use Rattle.std.specs.{Prelude.{◌≡◌, ◌<◌, ◌≤◌, ◌+◌, ◌-◌, ◌++◌, ◌/◌, ◌%◌, ℕ, List, [], Option, Some, drop, false, get_or, length, take, true}, List.{filter, flat_map, range_with_len}};
+ghost use Rattle.ports_core.specs.{Agreed.{ArePlaced, DifferOn, IsAgreed, file_bytes}, Draft.opening_line, Part.{only_out, openings_for}, declared.verdict.Verdict.TheVariants.Changed};
+ghost use Rattle.seg_core.specs.{Line.{first_lines, joined, line_count, lines_of}, declared.{cut.{Chunks.Chunks, Cut.TheVariants.Round}, unit.Unit.TheVariants.{Bytes, Lines}}};
+ghost use Rattle.split_core.specs.{
+  Chunks.{IsInChunk, IsInPiece, chunk_start, chunks_in, is_as_said, is_longer},
+  ChunkAgreed.{AgreeAt, AreMade, CanFollow, TwoDiffer, chunk_spots, one_chunk_spots},
+  Place.beside_output,
+  ChunkWork.{ChunksPlan, chunk_work, chunks_settled, chunks_whole, chunks_work, turn_work, way_work},
+  Split.{Filing, are_named, has_bytes},
+};
 ghost use Rattle.seg_core.specs.declared.cut.Way.TheVariants as way;
-ghost use Rattle.seg_core.specs.declared.unit.Unit.TheVariants.{Bytes, Lines};
-ghost use Rattle.split_core.specs.Chunks.{IsInChunk, IsInPiece, chunk_start, chunks_in, is_as_said, is_longer};
-ghost use Rattle.split_core.specs.ChunkAgreed.{AgreeAt, AreMade, CanFollow, TwoDiffer, chunk_spots, one_chunk_spots};
-ghost use Rattle.split_core.specs.Place.{beside_output};
-ghost use Rattle.split_core.specs.ChunkWork.{ChunksPlan, chunk_work, chunks_settled, chunks_whole, chunks_work, turn_work, way_work};
-ghost use Rattle.split_core.specs.Split.{Filing, are_named, has_bytes};
 
 /// What goes with each chunk of a whole text: there are as many of these pieces as were asked for, and together they
 /// are the text. Chunks of bytes have the bytes from where they begin to where the next one does; all have the same

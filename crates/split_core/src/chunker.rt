@@ -1,21 +1,20 @@
 //! Chunks of an input (GNU coreutils manual, split, `-n N`, `-n l/N`, `-n K/N` and `-n l/K/N`).
-ghost use Rattle.std.specs.Prelude.{◌≡◌, ◌+◌, ◌<◌, ◌≤◌, ◌^◌, [], Some, None, length, true, false, List, ℕ, ◌++◌, IfOk, IfErr, IfSome, IsTrue};
-ghost use Rattle.ports_core.specs.Turn.{fault_in};
-ghost use Rattle.split_core.specs.ChunkerState.{Carries, HasAll, Holds, Ready, can_cut, course, course_of, total, work, work_on};
-ghost use Rattle.split_core.specs.Parts.{uncut};
-ghost use Rattle.ports_core.specs.Engine.{Loads, MayGet};
-ghost use Rattle.ports_core.specs.Source.{is_readable};
-ghost use Rattle.split_core.specs.Alike.{as_if};
+ghost use Rattle.std.specs.Prelude.{◌≡◌, ◌+◌, ◌<◌, ◌^◌, [], Some, None, length, true, List, ℕ, IfSome, IsTrue};
+ghost use Rattle.split_core.specs.{
+  ChunkerState.{Carries, HasAll, Holds, Ready, can_cut, course, course_of, total, work, work_on},
+  Parts.uncut,
+  Alike.as_if,
+  inner.{Seen.seen_target, Chunker.{EndsAs, PassesAs, TakesFront}},
+};
+ghost use Rattle.ports_core.specs.{Engine.{Loads, MayGet}, Source.is_readable};
 ghost use Rattle.split_core.specs.Ways as ways;
 ghost use Rattle.split_core.specs.declared.splitter.Splitter.TheVariants as way;
-ghost use Rattle.split_core.specs.inner.Seen.{seen_target};
-ghost use Rattle.split_core.specs.inner.Chunker.{EndsAs, PassesAs, TakesFront, TakesSaid};
 
 use crate::chunk_cut::chunk_start;
 use crate::chunk_cutter::ChunkCutter;
 use crate::chunk_target::{Aim, Target};
+use crate::waiting::Waiting;
 use ports_core::{Fault, Inputs, Outs, Verdict, pass_over};
-use seg_core::byte_window::ByteWindow;
 use seg_core::cut::Chunks;
 use seg_core::unit::Unit;
 use std::alloc::Global;
@@ -30,67 +29,52 @@ pub struct Chunker {
     said: Option<u64>,
     cutter: ChunkCutter,
     /// The bytes that wait.
-    waiting: ByteWindow,
+    waiting: Waiting,
     /// How many bytes came after the output was complete.
     spare: u64,
 }
 
 impl Model for Chunker {
-    ghost use Rattle.std.specs.Prelude.{◌≡◌, ◌<◌, ◌^◌, ◌+◌, ◌-◌, length, true};
-    ghost use Rattle.split_core.specs.ChunkerState.{ChunkerState, can_cut, course};
-    ghost use Rattle.split_core.specs.inner.Cutter.{seen_cutter};
+    ghost use Rattle.std.specs.Prelude.{◌≡◌, ◌<◌, ◌^◌, ◌+◌, length, true};
+    ghost use Rattle.split_core.specs.{ChunkerState.{ChunkerState, can_cut, course}, inner.Cutter.seen_cutter};
 
     ghost Value = { ChunkerState };
 
     ghost view = { λ c. record {
       said = c.said;
       cutter = seen_cutter c.cutter;
-      waiting = c.waiting.held;
+      waiting = c.waiting;
       spare = c.spare;
     } };
 
     ghost invariant = { λ c. (can_cut (course (seen_cutter c.cutter)) c.cutter.chunks.count ≡ true)
-        × (c.waiting.most ≡ 2 ^ 64 - 1) × (c.cutter.at + length c.waiting.held < 2 ^ 63) };
+        × (c.cutter.at + length c.waiting < 2 ^ 63) };
 }
 
 impl Chunker {
     /// Chunks of an input of which no byte came in yet, which is this long if it said that.
-    ///
-    /// # Errors
-    ///
-    /// `Memory` where there is no room for what waits.
-    pub(crate) fn open(
-        alloc: Global,
-        chunks: Chunks,
-        said: Option<u64>,
-        target: Target,
-    ) -> Result<Chunker, Fault>
+    pub(crate) fn open(alloc: Global, chunks: Chunks, said: Option<u64>, target: Target) -> Chunker
         requires can { can_cut (course_of (seen_target target).aim) chunks.count ≡ true }
         requires all { HasAll (course_of (seen_target target).aim) chunks.count }
         requires long { IfSome said (λ size. 0 < size) }
         requires fresh { Carries (seen_target target) (uncut []) }
-        ensures holds { IfOk result (λ chunker. Holds chunker []) }
-        ensures does { IfOk result (λ chunker. work chunker
-            ≡ work_on (course_of (seen_target target).aim) chunks said) }
-        ensures none { IfOk result (λ chunker. total chunker ≡ 0) }
-        ensures aim { IfOk result (λ chunker. chunker.cutter.target.aim ≡ (seen_target target).aim) }
-        ensures err { IfErr result (λ fault. fault ≡ Fault.Memory) }
+        ensures holds { Holds result [] }
+        ensures does { work result ≡ work_on (course_of (seen_target target).aim) chunks said }
+        ensures none { total result ≡ 0 }
+        ensures aim { result.cutter.target.aim ≡ (seen_target target).aim }
     {
-        let Ok(waiting) = ByteWindow::new(alloc, u64::MAX) else {
-            return Err(Fault::Memory);
-        };
         let cutter = ChunkCutter {
             chunks,
             at: 0,
             is_within: false,
             target,
         };
-        Ok(Chunker {
+        Chunker {
             said,
             cutter,
-            waiting,
+            waiting: Waiting::new(alloc),
             spare: 0,
-        })
+        }
     }
 
     /// Takes in a piece: what is settled with it is written, and what isn't waits.
@@ -165,7 +149,7 @@ impl Chunker {
     {
         match self.said {
             Some(size) => self.finish_said(size, outs),
-            None => self.finish_unsaid(outs),
+            None => self.cutter.finish(&mut self.waiting, outs),
         }
     }
 
@@ -204,19 +188,6 @@ impl Chunker {
         }
     }
 
-    /// Takes in a piece of an input of this size, and returns how many of its bytes don't belong to the output any more.
-    fn take_said<O: Outs>(&mut self, size: u64, piece: &[u8], outs: &mut O) -> Result<usize, Fault>
-        requires ready { Ready self.old (O.slots outs.old) }
-        requires fits { total self.old + length piece.now < 2 ^ 63 }
-        ensures { TakesSaid O.told self.old size piece.now (O.slots outs.old) (O.slots outs.new) self.new result }
-    {
-        let own = piece
-            .len()
-            .min(size.saturating_sub(self.cutter.at) as usize);
-        let left = self.cutter.cut(size, &piece[..own], outs)?;
-        Ok(left + (piece.len() - own))
-    }
-
     /// Takes in a piece of an input of this size.
     fn pass_said<O: Outs>(&mut self, size: u64, piece: &[u8], outs: &mut O) -> Result<(), Fault>
         requires said { self.old.said ≡ Some size }
@@ -224,7 +195,7 @@ impl Chunker {
         requires fits { total self.old + length piece.now < 2 ^ 63 }
         ensures { PassesAs O.told self.old piece.now (O.slots outs.old) (O.slots outs.new) self.new result }
     {
-        let past = self.take_said(size, piece, outs)?;
+        let past = self.cutter.cut(size, piece, outs)?;
         if past > 0 && self.cutter.target.is_each() {
             return Err(Fault::Verdict(Verdict::Changed));
         }
@@ -239,10 +210,7 @@ impl Chunker {
         requires fits { total self.old + length piece.now < 2 ^ 63 }
         ensures { PassesAs O.told self.old piece.now (O.slots outs.old) (O.slots outs.new) self.new result }
     {
-        match self.waiting.put(piece) {
-            Ok(()) => {}
-            Err(_) => return Err(Fault::Memory),
-        }
+        self.waiting.put(piece)?;
         let size = self.cutter.at + self.waiting.len();
         let first = self.cutter.target.first();
         let end = chunk_start(self.cutter.chunks.count, size, first);
@@ -260,15 +228,5 @@ impl Chunker {
             return Err(Fault::Verdict(Verdict::Changed));
         }
         Ok(())
-    }
-
-    /// Ends an input that didn't say its length.
-    fn finish_unsaid<O: Outs>(&mut self, outs: &mut O) -> Result<(), Fault>
-        requires said { self.old.said ≡ None }
-        requires ready { Ready self.old (O.slots outs.old) }
-        ensures { EndsAs O.told self.old (O.slots outs.old) (O.slots outs.new) self.new result }
-    {
-        let size = self.cutter.at + self.waiting.len();
-        self.cutter.finish(&mut self.waiting, size, outs)
     }
 }

@@ -1,4 +1,4 @@
-ghost use Rattle.std.specs.Prelude.{◌≡◌, ◌+◌, ◌-◌, ◌≤◌, ◌<◌, ℕ, List, [], ◌++◌, replicate, length, take, IfSome, IfNone};
+ghost use Rattle.std.specs.Prelude.{◌≡◌, ◌+◌, ◌-◌, ◌≤◌, ◌<◌, ◌++◌, replicate, length, take, IfSome, IfNone};
 ghost use Rattle.seg_core.specs.Line.{delimiters};
 ghost use Rattle.split_core.specs.inner.Ahead.{IsFirstLine, Sees, delimiter_mask};
 

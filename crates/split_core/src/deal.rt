@@ -1,5 +1,4 @@
-ghost use Rattle.std.specs.Prelude.{◌≡◌, ◌+◌, ◌%◌, ◌<◌, ◌≤◌, [], ◌++◌, length, take, slice_index_or, ℕ, IfOk, OnOk};
-ghost use Rattle.seg_core.specs.Line.{delimiters};
+ghost use Rattle.std.specs.Prelude.{◌≡◌, ◌+◌, ◌<◌, ◌≤◌, [], ◌++◌, length, take, slice_index_or, ℕ, IfOk, OnOk};
 ghost use Rattle.ports_core.specs.Slot.{changed_at};
 ghost use Rattle.split_core.specs.inner.Dealt.{Gathers};
 

@@ -1,23 +1,23 @@
-//! Laws of the definitions, with no code: each stands on the contract of a function whose body is empty.
+//! Laws of the definitions, with no code: each stands on the contract of a function that does nothing.
 ghost use Rattle.std.specs.Prelude.{◌≡◌, ◌<◌, ◌≤◌, ◌+◌, ◌*◌, ◌++◌, ℕ, List, [], true, get_or, length, map, take, drop, All, false};
-ghost use Rattle.ports_core.specs.Agreed.{ArePlaced, IsAgreed, IsUndecided};
-ghost use Rattle.ports_core.specs.Draft.{opening_line};
-ghost use Rattle.ports_core.specs.Part.{gets_bytes, openings_for};
-ghost use Rattle.ports_core.specs.Guard.{GuardState, HoldsIn};
-ghost use Rattle.ports_core.specs.Work.{Judges};
-ghost use Rattle.ports_core.specs.declared.slot.State.TheVariants.{Closed};
-ghost use Rattle.ports_core.specs.declared.verdict.Verdict.TheVariants.{Suffixes};
-ghost use Rattle.seg_core.specs.Line.{delimiters, joined, line_count, lines_of};
-ghost use Rattle.seg_core.specs.declared.cut.Limit.TheVariants.{Bytes, LineBytes, Lines};
-ghost use Rattle.seg_core.specs.Cut.{most};
-ghost use Rattle.split_core.specs.Parts.{cut_up, dealt, parts, round_robin, settled_rest, waiting_rest};
-ghost use Rattle.split_core.specs.Place.{beside_output, split_spots};
-ghost use Rattle.split_core.specs.Sections.{AreLineByteParts, byte_parts, line_parts};
-ghost use Rattle.split_core.specs.Split.{Plan, Share, dealt_files, is_short, settled_by, settled_parts, share, split_work, whole_by};
-ghost use Rattle.seg_core.specs.Cut.{IsPositive};
-ghost use Rattle.split_core.specs.Alike.{as_if};
-ghost use Rattle.split_core.specs.Ways.{terms, work};
-ghost use Rattle.split_core.specs.declared.splitter.Splitter.{Splitter};
+ghost use Rattle.ports_core.specs.{
+  Agreed.{ArePlaced, IsAgreed, IsUndecided},
+  Draft.opening_line,
+  Part.{gets_bytes, openings_for},
+  Guard.{GuardState, HoldsIn},
+  Work.Judges,
+  declared.{slot.State.TheVariants.Closed, verdict.Verdict.TheVariants.Suffixes},
+};
+ghost use Rattle.seg_core.specs.{Line.{delimiters, joined, line_count, lines_of}, declared.cut.Limit.TheVariants.{Bytes, LineBytes, Lines}, Cut.{most, IsPositive}};
+ghost use Rattle.split_core.specs.{
+  Parts.{cut_up, dealt, parts, round_robin, settled_rest, waiting_rest},
+  Place.{beside_output, split_spots},
+  Sections.{AreLineByteParts, byte_parts, line_parts},
+  Split.{Plan, Share, dealt_files, is_short, settled_by, settled_parts, share, split_work, whole_by},
+  Alike.as_if,
+  Ways.{terms, work},
+  declared.splitter.Splitter.Splitter,
+};
 
 use crate::Limit;
 

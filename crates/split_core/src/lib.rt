@@ -17,6 +17,7 @@ mod round_splitter;
 mod splitter;
 mod step;
 mod turn;
+mod waiting;
 
 pub use chunk_laws::{
     chunks_agree, chunks_are_even, empty_chunks_are_left_out, lines_are_of_chunk_files,

@@ -1,20 +1,15 @@
 //! Parts of an input that follow one another, each in a file of its own (POSIX.1-2017, XCU split; `-C` is GNU's). They
-//! take memory for names, and for the bytes that wait: fewer than a part has, and only under a limit of bytes for whole
-//! lines.
+//! take memory for names, and for twice the most bytes that waited: fewer than a part has, and only under a limit of bytes for
+//! whole lines.
 ghost use Rattle.std.specs.Prelude.{◌≡◌, ◌+◌, ◌-◌, ◌++◌, ◌<◌, [], length, IfOk, IfErr, OnOk};
-ghost use Rattle.ports_core.specs.FileWriter.{new_writer};
-ghost use Rattle.ports_core.specs.Turn.{fault_in};
-ghost use Rattle.ports_core.specs.declared.file_writer.Keeps.TheVariants.{Open};
+ghost use Rattle.ports_core.specs.{FileWriter.new_writer, Turn.fault_in, declared.file_writer.Keeps.TheVariants.Open};
 ghost use Rattle.seg_core.specs.Cut.{most};
-ghost use Rattle.split_core.specs.PartsState.{IsReady, Stands, parts_work, work};
-ghost use Rattle.split_core.specs.Split.{TellsNoSizes, is_verbose};
-ghost use Rattle.split_core.specs.inner.Takes.{Extends, Finishes, Steps, Takes, Turns};
+ghost use Rattle.split_core.specs.{PartsState.{IsReady, Stands, parts_work, work}, Split.{TellsNoSizes, is_verbose}, inner.Takes.{Extends, Finishes, Steps, Takes, Turns}};
 
 use crate::Limit;
-use crate::files::put_held;
+use crate::files::put_waiting;
 use crate::step::{Step, next_step};
 use ports_core::{Fault, FileWriter, Keeps, Naming, Opening, Outs, Tells};
-use seg_core::byte_window::ByteWindow;
 use std::alloc::Global;
 use std::marker::Model;
 
@@ -27,14 +22,13 @@ pub struct Parts {
     /// Under a limit of bytes for whole lines: whether the part has a complete line.
     has_line: bool,
     /// The bytes that wait: they go to this part or to the next.
-    waiting: ByteWindow,
+    waiting: Vec<u8>,
     writer: FileWriter,
 }
 
 impl Model for Parts {
     ghost use Rattle.ports_core.specs.FileWriter.{seen_writer};
-    ghost use Rattle.split_core.specs.PartsState.{PartsState};
-    ghost use Rattle.split_core.specs.inner.Step.{Fits};
+    ghost use Rattle.split_core.specs.{PartsState.PartsState, inner.Step.Fits};
 
     ghost Value = { PartsState };
 
@@ -42,50 +36,36 @@ impl Model for Parts {
       limit = p.limit;
       left = p.left;
       has_line = p.has_line;
-      waiting = p.waiting.held;
+      waiting = p.waiting.items;
       writer = seen_writer p.writer;
     } };
 
-    ghost invariant = { λ p. Fits p.limit p.left p.has_line p.waiting };
+    ghost invariant = { λ p. Fits p.limit p.left p.has_line p.waiting.items };
 }
 
 impl Parts {
     /// Parts of an input of which no byte came in yet. The number of the limit is at least 1.
-    ///
-    /// # Errors
-    ///
-    /// `Memory` where there is no room for what waits.
-    pub(crate) fn open(
-        alloc: Global,
-        limit: Limit,
-        naming: Naming,
-        tells: Tells,
-    ) -> Result<Parts, Fault>
+    pub(crate) fn open(alloc: Global, limit: Limit, naming: Naming, tells: Tells) -> Parts
         requires some { 0 < most limit }
         requires tells { TellsNoSizes tells }
-        ensures holds { IfOk result (λ parts. Stands parts []) }
-        ensures does { IfOk result (λ parts. work parts
-            ≡ parts_work limit (record { names = naming; verbose = is_verbose tells })) }
-        ensures writer { IfOk result (λ parts. parts.writer ≡ new_writer naming tells Open) }
-        ensures err { IfErr result (λ fault. fault ≡ Fault.Memory) }
+        ensures holds { Stands result [] }
+        ensures does { work result ≡ parts_work limit (record { names = naming; verbose = is_verbose tells }) }
+        ensures writer { result.writer ≡ new_writer naming tells Open }
     {
-        let Ok(waiting) = ByteWindow::new(alloc, limit.most() - 1) else {
-            return Err(Fault::Memory);
-        };
-        Ok(Parts {
+        Parts {
             limit,
             left: limit.most(),
             has_line: false,
-            waiting,
+            waiting: Vec::new(alloc),
             writer: FileWriter::new(alloc, naming, tells, Keeps::Open),
-        })
+        }
     }
 
     /// How many bytes wait.
     pub(crate) fn held(&self) -> u64
         ensures { result ≡ length self.now.waiting }
     {
-        self.waiting.len()
+        self.waiting.len() as u64
     }
 
     /// Writes what waits, and then these bytes, to the part that was begun.
@@ -93,7 +73,7 @@ impl Parts {
         requires { IsReady self.old (O.slots outs.old) }
         ensures { Extends O.told self.old bytes.now (O.slots outs.old) (O.slots outs.new) self.new (fault_in result) }
     {
-        put_held(&mut self.waiting, &mut self.writer, outs)?;
+        put_waiting(&mut self.waiting, &mut self.writer, outs)?;
         self.writer.put(bytes, outs)
     }
 
@@ -103,7 +83,7 @@ impl Parts {
         requires room { length self.old.waiting + length bytes.now < most self.old.limit }
         ensures { Turns O.told self.old bytes.now (O.slots outs.old) (O.slots outs.new) self.new (fault_in result) }
     {
-        let size = self.waiting.len() + bytes.len() as u64;
+        let size = (self.waiting.len() + bytes.len()) as u64;
         self.writer.next(Opening::Late, outs)?;
         self.left = self.limit.most() - size;
         self.has_line = false;
@@ -118,10 +98,7 @@ impl Parts {
             ≡ record self.old { left = self.old.left - length piece.now; waiting = self.old.waiting ++ piece.now }) }
         ensures err { IfErr result (λ fault. (fault ≡ Fault.Memory) × (self.new ≡ self.old)) }
     {
-        match self.waiting.put(piece) {
-            Ok(()) => {}
-            Err(_) => return Err(Fault::Memory),
-        }
+        self.waiting.extend_from_slice(piece)?;
         self.left -= piece.len() as u64;
         Ok(piece.len())
     }
@@ -187,7 +164,7 @@ impl Parts {
         if !self.writer.is_open() {
             return Ok(());
         }
-        put_held(&mut self.waiting, &mut self.writer, outs)?;
+        put_waiting(&mut self.waiting, &mut self.writer, outs)?;
         self.writer.end(outs)
     }
 }

@@ -1,8 +1,6 @@
 ghost use Rattle.std.specs.Prelude.{◌≡◌, ◌+◌, ◌≤◌, ◌<◌, ◌++◌, ◌∷◌, [], true, length, slice_index_or, vec_len, vec_capacity};
-ghost use Rattle.split_core.specs.Round.{AreReady};
+ghost use Rattle.split_core.specs.{Round.AreReady, Split.are_named, inner.Sharing.{Adds, ClosesAll, Opens, only_at}};
 ghost use Rattle.ports_core.specs.Name.{has_name};
-ghost use Rattle.split_core.specs.Split.{are_named};
-ghost use Rattle.split_core.specs.inner.Sharing.{Adds, ClosesAll, Opens, only_at};
 
 use crate::files::write_bytes;
 use crate::gathered::Gathered;

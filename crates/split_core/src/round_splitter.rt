@@ -1,14 +1,12 @@
-ghost use Rattle.std.specs.Prelude.{◌≡◌, ℕ, ◌+◌, ◌%◌, ◌<◌, ◌≤◌, List, [], true, if◌then◌else◌, length, IfOk, IfErr, OnOk};
-ghost use Rattle.seg_core.specs.Line.{delimiters};
-ghost use Rattle.ports_core.specs.Slot.{Slot};
-ghost use Rattle.ports_core.specs.Part.{OutputsAt, StoppedBetween, nothing};
-ghost use Rattle.ports_core.specs.FileWriter.{CanTell};
-ghost use Rattle.split_core.specs.inner.Dealt.{dealt_first};
-ghost use Rattle.split_core.specs.Round.{AreReady, Holds, Owns, Ready, round_plan, work};
-ghost use Rattle.split_core.specs.inner.Ways.{Deals};
-ghost use Rattle.split_core.specs.inner.Sharing.{ClosesAll};
-ghost use Rattle.split_core.specs.Sharing.{CannotOpen};
-ghost use Rattle.split_core.specs.Split.{TellsNoSizes, are_named, is_verbose, output_by, settled_by, split_work};
+ghost use Rattle.std.specs.Prelude.{◌≡◌, ◌<◌, ◌≤◌, List, [], true, if◌then◌else◌, length, IfOk, IfErr, OnOk};
+ghost use Rattle.ports_core.specs.{Slot.Slot, Part.{OutputsAt, StoppedBetween, nothing}, FileWriter.CanTell};
+ghost use Rattle.split_core.specs.{
+  Round.{Holds, Owns, Ready, round_plan, work},
+  inner.{Ways.PassesAs, Sharing.ClosesAll},
+  Sharing.CannotOpen,
+  Split.{TellsNoSizes, are_named, is_verbose, output_by, settled_by, split_work},
+};
+ghost use Rattle.split_core.specs.declared.splitter.Splitter.TheVariants as way;
 
 use crate::deal::Deal;
 use crate::round_files::RoundFiles;
@@ -29,8 +27,7 @@ pub struct RoundSplitter {
 
 impl Model for RoundSplitter {
     ghost use Rattle.std.specs.Prelude.{◌≡◌, true, length};
-    ghost use Rattle.split_core.specs.Split.{are_named};
-    ghost use Rattle.split_core.specs.RoundState.{RoundState};
+    ghost use Rattle.split_core.specs.{Split.are_named, RoundState.RoundState};
 
     ghost Value = { RoundState };
 
@@ -97,7 +94,8 @@ impl RoundSplitter {
     /// output broke, `Open` where a file can't be opened.
     pub(crate) fn pass<O: Outs>(&mut self, piece: &[u8], outs: &mut O) -> Result<(), Fault>
         requires { Ready self.old (O.slots outs.old) }
-        ensures { Deals O.told self.old piece.now (O.slots outs.old) (O.slots outs.new) self.new result }
+        ensures { PassesAs O.told (way.Round self.old) piece.now (O.slots outs.old) (O.slots outs.new)
+            (way.Round self.new) result }
     {
         let reached = self.deal.gather(piece)?;
         self.files.write(self.deal.first(reached), outs)

@@ -1,19 +1,15 @@
 //! The stage of `split`, for all ways to cut.
-ghost use Rattle.std.specs.Prelude.{◌≡◌, ◌+◌, ◌++◌, ◌^◌, ◌<◌, ◌≤◌, [], List, ℕ, false, true, length, IfOk, IfErr, IfSome, OnOk};
-ghost use Rattle.ports_core.specs.Guard.{HoldsIn};
-ghost use Rattle.ports_core.specs.Part.{OutputsAt, StoppedBetween, nothing};
-ghost use Rattle.ports_core.specs.FileWriter.{CanTell};
-ghost use Rattle.ports_core.specs.Slot.{Slot};
-ghost use Rattle.split_core.specs.Split.{TellsNoSizes, is_verbose, output_by, settled_by, split_work};
+ghost use Rattle.std.specs.Prelude.{◌≡◌, ◌^◌, ◌<◌, ◌≤◌, [], List, ℕ, length, IfOk, IfErr, IfSome, OnOk};
+ghost use Rattle.ports_core.specs.{Guard.HoldsIn, Part.{OutputsAt, StoppedBetween, nothing}, Slot.Slot, Engine.MayGet, Work.IsSpare};
+ghost use Rattle.split_core.specs.{
+  Split.{TellsNoSizes, is_verbose},
+  ChunkWork.{CanGive, CannotBegin, HasAllNames, work_by},
+  Alike.as_if,
+  Ways.{Owns, Ready, terms, work},
+  inner.Ways.held,
+  laws.WorkLaws.lawful,
+};
 ghost use Rattle.seg_core.specs.Cut.{IsWay};
-ghost use Rattle.split_core.specs.ChunkWork.{CanGive, CannotBegin, HasAllNames, work_by};
-ghost use Rattle.split_core.specs.Split.{HasNames};
-ghost use Rattle.split_core.specs.Alike.{as_if};
-ghost use Rattle.split_core.specs.Ways.{Owns, Ready, terms, work};
-ghost use Rattle.ports_core.specs.Engine.{MayGet};
-ghost use Rattle.ports_core.specs.Work.{IsSpare};
-ghost use Rattle.split_core.specs.inner.Ways.{held};
-ghost use Rattle.split_core.specs.laws.WorkLaws.{lawful};
 
 use crate::chunk_target::Target;
 use crate::chunker::Chunker;
@@ -29,8 +25,8 @@ use std::alloc::Global;
 /// opened; where lines are dealt, files are closed at the end alone.
 ///
 /// It takes memory for names; under `-C` for the open line after whole ones; where lines are dealt, for a list of the
-/// files and twice the largest share of a piece that each had; and for chunks of an input that didn't say its length, for all that comes after the first one, or
-/// after what stands before the one that is written.
+/// files and twice the largest share of a piece that each had; and for chunks of an input that didn't say its length, for
+/// all that comes after the first one, or after what stands before the one that is written.
 #[derive(Drop)]
 pub enum Splitter {
     /// Into parts that follow one another.
@@ -84,7 +80,7 @@ impl Splitter {
     {
         match way {
             Way::Cut(Cut::Parts(limit)) => {
-                let parts = Parts::open(alloc, limit, naming, tells)?;
+                let parts = Parts::open(alloc, limit, naming, tells);
                 Ok(Guarded::new(Splitter::Parts(parts)))
             }
             Way::Cut(Cut::Round(count, delim)) => {
@@ -93,11 +89,11 @@ impl Splitter {
             }
             Way::Chunks(chunks) => {
                 let target = Target::files(alloc, naming, elide, tells);
-                let chunker = Chunker::open(alloc, chunks, said, target)?;
+                let chunker = Chunker::open(alloc, chunks, said, target);
                 Ok(Guarded::new(Splitter::Chunks(chunker)))
             }
             Way::Chunk(place, chunks) => {
-                let chunker = Chunker::open(alloc, chunks, said, Target::output(place))?;
+                let chunker = Chunker::open(alloc, chunks, said, Target::output(place));
                 Ok(Guarded::new(Splitter::Chunks(chunker)))
             }
             Way::Turn(place, count, delim) => {

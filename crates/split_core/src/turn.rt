@@ -1,7 +1,6 @@
 ghost use Rattle.std.specs.Prelude.{◌≡◌, ◌<◌, [], IfOk, IfErr};
-ghost use Rattle.split_core.specs.ChunkWork.{turn_work};
-ghost use Rattle.split_core.specs.Turn.{Holds, Ready, work};
-ghost use Rattle.split_core.specs.inner.Turn.{Picks};
+ghost use Rattle.split_core.specs.{ChunkWork.turn_work, Turn.{Holds, Ready, work}, inner.Ways.PassesAs};
+ghost use Rattle.split_core.specs.declared.splitter.Splitter.TheVariants as way;
 
 use crate::deal::Deal;
 use crate::files::write_bytes;
@@ -61,7 +60,9 @@ impl Turn {
     /// broke.
     pub(crate) fn pass<O: Outs>(&mut self, piece: &[u8], outs: &mut O) -> Result<(), Fault>
         requires { Ready (O.slots outs.old) }
-        ensures { Picks O.told self.old piece.now (O.slots outs.old) (O.slots outs.new) self.new result }
+        ensures passes { PassesAs O.told (way.Turn self.old) piece.now (O.slots outs.old) (O.slots outs.new)
+            (way.Turn self.new) result }
+        ensures no_room { IfErr result (λ fault. fault ≡ Fault.Memory → O.slots outs.new ≡ O.slots outs.old) }
     {
         self.deal.gather(piece)?;
         write_bytes(0, self.deal.at(self.place), outs)

@@ -1,16 +1,16 @@
 -- What all continuations agree on, of a copied input.
-use Rattle.std.proofs.lemmas.Grind.{common_steps}
-use Rattle.std.proofs.Common.{◌≡◌, ℕ, ◌+◌, ◌<◌, ◌≤◌, nat_lt, zero, suc, List, [], ◌∷◌, ◌++◌, length, map, get_or, Bool, inl, inr, refl, sym, ◌∙◌, ap, arith}
-use Rattle.std.proofs.lemmas.Bool.{cond_both, lt-ltb}
-use Rattle.ports_core.specs.Agreed.{IsAgreed, IsUndecided, Spot, spot, output_at, GoesTo, ArePlaced}
-use Rattle.ports_core.specs.Part.{File, FilesBegin, OutputsAt, file_of, told_file}
-use Rattle.ports_core.specs.Slot.{streams, opened, adds, closes, told_of}
-use Rattle.ports_core.specs.declared.slot.Mode.{Mode}
-use Rattle.ports_core.specs.declared.slot.State.{State}
-use Rattle.ports_core.specs.declared.slot.State.TheVariants.{Open, Closed}
-use Rattle.ports_core.proofs.AgreedLemmas.{agreed_now, nothing_waits}
-use Rattle.tee_core.specs.Copy.{copy_in, tee_work, spots_each, tee_spots}
-use Rattle.tee_core.specs.Run.{all_copied}
+use Rattle.std.proofs.{
+  lemmas.{Grind.common_steps, Bool.{cond_both, lt-ltb}},
+  Common.{◌≡◌, ℕ, ◌+◌, ◌<◌, ◌≤◌, nat_lt, zero, suc, List, [], ◌∷◌, ◌++◌, length, map, get_or, Bool, inl, inr, refl, sym, ◌∙◌, ap, arith},
+}
+use Rattle.ports_core.{
+  specs.Agreed.{IsAgreed, IsUndecided, Spot, spot, output_at, GoesTo, ArePlaced},
+  specs.Part.{File, FilesBegin, OutputsAt, file_of, told_file},
+  specs.Slot.{streams, opened, adds, closes, told_of},
+  specs.declared.slot.{Mode.Mode, State.{State, TheVariants.{Open, Closed}}},
+  proofs.AgreedLemmas.{agreed_now, nothing_waits},
+}
+use Rattle.tee_core.specs.{Copy.{copy_in, tee_work, spots_each, tee_spots}, Run.all_copied}
 
 copies_begin : (mode : Mode) (names : List (List ℕ)) (x y : List ℕ)
     → FilesBegin (map (copy_in mode Open x) names) (map (copy_in mode Closed (x ++ y)) names)

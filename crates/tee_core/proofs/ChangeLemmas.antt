@@ -1,17 +1,18 @@
 -- Lemmas on outputs of which some are changed, on what they get, and on how many broke.
-use Rattle.std.proofs.lemmas.Grind.{common_steps}
-use Rattle.std.proofs.Common.{◌≡◌, ℕ, ◌+◌, ◌<◌, ◌≤◌, zero, suc, List, [], ◌∷◌, length, Bool, true, false, not, ◌&&◌, if◌then◌else◌, ◌⊎◌, inl, inr, refl, sym, ◌∙◌, ap, arith, ◌++◌, take, length-append}
-use Rattle.std.proofs.lemmas.Bool.{false≢true, cases_eq, cases_lt}
-use Rattle.std.proofs.lemmas.Bool.Decides.{nat_tests}
-use Rattle.tee_core.specs.inner.Turns.{Turns}
-use Rattle.ports_core.specs.Slot.{Slot, slot_at, changed_at, is_open, adds, breaks, closes, told_of, with_written, with_broken}
-use Rattle.ports_core.proofs.SlotLemmas.{length-changed_at, slot_at-changed, slot_at-elsewhere, changed_at-again}
-use Rattle.tee_core.specs.Outputs.{ChangesEach, newly_broken, Closes, Gets, gets_all, breaks_off, gets_none, is_closed, fails_to_close, was_broken, IsFile, IsOutput, IsUsable}
-use Rattle.std.proofs.Math.Seq.{take-append-add}
-use Rattle.std.proofs.lemmas.List.{take-append-le}
-use Rattle.ports_core.specs.Write.{BrokeAfter}
-use Rattle.ports_core.proofs.Runs.{adds_both}
-use Rattle.tee_core.specs.TeeState.{TeeState}
+use Rattle.std.proofs.{
+  lemmas.{Grind.common_steps, Bool.{false≢true, cases_eq, cases_lt, Decides.nat_tests}, List.take-append-le},
+  Common.{◌≡◌, ℕ, ◌+◌, ◌<◌, ◌≤◌, zero, suc, List, [], ◌∷◌, length, Bool, true, false, not, ◌&&◌, if◌then◌else◌, ◌⊎◌, inl, inr, refl, sym, ◌∙◌, ap, arith, ◌++◌, take, length-append},
+  Math.Seq.take-append-add,
+}
+use Rattle.tee_core.specs.{
+  inner.Turns.Turns,
+  Outputs.{ChangesEach, newly_broken, Closes, Gets, gets_all, breaks_off, gets_none, is_closed, fails_to_close, was_broken, IsFile, IsOutput, IsUsable},
+  TeeState.TeeState,
+}
+use Rattle.ports_core.{
+  specs.{Slot.{Slot, slot_at, changed_at, is_open, adds, breaks, closes, told_of, with_written, SlotBreaks}, Write.BrokeAfter},
+  proofs.{SlotLemmas.{length-changed_at, slot_at-changed, slot_at-elsewhere, changed_at-again}, Runs.adds_both},
+}
 
 -- an output that is open is there
 pub open_within : (slots : List Slot) (place : ℕ) → is_open (slot_at slots place).state ≡ true → place < length slots
@@ -155,40 +156,40 @@ next_in_turn first n broke more old now new stays so_far turned one = record {
 pub gets_more : (told : Bool) {x y : List ℕ} {old mid new : Slot} → Gets told x old mid → Gets told y mid new
     → Gets told (x ++ y) old new
 gets_more told {x} {y} {old} (gets_all sound) (gets_all again) = rw (adds_both told x y old) (gets_all sound)
-gets_more told {x} {y} {old} (gets_all sound) (breaks_off again n within) =
-    rw (← (ap (λ bytes. breaks (adds (told_of told bytes) old)) (take-append-add x y n) ∙ sym (ap breaks (adds_both told x (take n y) old))))
-    (breaks_off sound (length x + n) (omega (arith, within, length-append x y)))
+gets_more told {x} {y} {old} (gets_all sound) (breaks_off again n why within) =
+    rw (← (ap (λ bytes. breaks why (adds (told_of told bytes) old)) (take-append-add x y n) ∙ sym (ap (breaks why) (adds_both told x (take n y) old))))
+    (breaks_off sound (length x + n) why (omega (arith, within, length-append x y)))
 gets_more told (gets_all sound) (gets_none broken) = absurd (false≢true (sym sound ∙ broken))
-gets_more told (breaks_off sound n within) (gets_all again) = absurd (false≢true (sym again))
-gets_more told (breaks_off sound n within) (breaks_off again m less) = absurd (false≢true (sym again))
-gets_more told {x} {y} {old} (breaks_off sound n within) (gets_none broken) =
-    rw (← (ap (λ bytes. breaks (adds (told_of told bytes) old)) (take-append-le n x y (omega (arith, within)))))
-    (breaks_off sound n (omega (arith, within, length-append x y)))
+gets_more told (breaks_off sound n why within) (gets_all again) = absurd (false≢true (sym again))
+gets_more told (breaks_off sound n why within) (breaks_off again m _ less) = absurd (false≢true (sym again))
+gets_more told {x} {y} {old} (breaks_off sound n why within) (gets_none broken) =
+    rw (← (ap (λ bytes. breaks why (adds (told_of told bytes) old)) (take-append-le n x y (omega (arith, within)))))
+    (breaks_off sound n why (omega (arith, within, length-append x y)))
 gets_more told (gets_none broken) (gets_all again) = absurd (false≢true (sym again ∙ broken))
-gets_more told (gets_none broken) (breaks_off again m less) = absurd (false≢true (sym again ∙ broken))
+gets_more told (gets_none broken) (breaks_off again m why less) = absurd (false≢true (sym again ∙ broken))
 gets_more told (gets_none broken) (gets_none again) = gets_none broken
 
 pub still_broken : (told : Bool) {bytes : List ℕ} (old new : Slot) → Gets told bytes old new → old.is_broken ≡ true
     → new.is_broken ≡ true
 still_broken told old _ (gets_all sound) broken = broken
-still_broken told old _ (breaks_off sound n within) broken = refl
+still_broken told old _ (breaks_off sound n why within) broken = refl
 still_broken told old _ (gets_none was) broken = broken
 
 pub closed_broken : (old new : Slot) → Closes old new → old.is_broken ≡ true → new.is_broken ≡ true
 closed_broken old _ (is_closed sound) broken = broken
-closed_broken old _ (fails_to_close sound) broken = refl
+closed_broken old _ (fails_to_close sound why) broken = refl
 closed_broken old _ (was_broken was) broken = broken
 
 still_usable : (told : Bool) {bytes : List ℕ} {old new : Slot} → Gets told bytes old new → IsUsable old → IsUsable new
 still_usable told (gets_all sound) usable = usable
-still_usable told (breaks_off sound n within) usable = λ sound. absurd (false≢true (sym sound))
+still_usable told (breaks_off sound n why within) usable = λ sound. absurd (false≢true (sym sound))
 still_usable told (gets_none was) usable = usable
 
 -- an output that is sound after it got all
 pub sound_gets : (told : Bool) {bytes : List ℕ} {old new : Slot} → Gets told bytes old new → new.is_broken ≡ false
     → new ≡ adds (told_of told bytes) old
 sound_gets told (gets_all sound) still = refl
-sound_gets told (breaks_off sound n within) still = absurd (false≢true (sym still))
+sound_gets told (breaks_off sound n why within) still = absurd (false≢true (sym still))
 sound_gets told (gets_none broken) still = absurd (false≢true (sym still ∙ broken))
 
 -- the outputs of a tee
@@ -219,8 +220,9 @@ pub written_short : (told : Bool) {piece : List ℕ} {place n : ℕ} {old new : 
     → (slot_at old place).is_broken ≡ false → BrokeAfter told old new place piece n
     → Turns (Gets told piece) (λ other. other ≡ place) old new 1
 written_short told {piece} {place} {n} {old} usable sound broke =
-    turned_one place (λ slot. breaks (adds (told_of told (take n piece)) slot)) (open_within old place (usable sound)) sound refl (breaks_off sound n broke.within)
-    (broke.slots ∙ changed_at-again place (adds (told_of told (take n piece))) breaks old)
+    let (why, slots) = broke.slots in
+    turned_one place (λ slot. breaks why (adds (told_of told (take n piece)) slot)) (open_within old place (usable sound)) sound refl (breaks_off sound n why broke.within)
+    (slots ∙ changed_at-again place (adds (told_of told (take n piece))) (breaks why) old)
 
 pub not_closed : {place : ℕ} {slots : List Slot} → (slot_at slots place).is_broken ≡ true
     → Turns Closes (λ other. other ≡ place) slots slots 0
@@ -232,10 +234,10 @@ pub closed_whole : {place : ℕ} {old new : List Slot} → IsUsable (slot_at old
 closed_whole {place} {old} usable sound is = turned_one place closes (open_within old place (usable sound)) sound sound (is_closed sound) is
 
 pub closed_short : {place : ℕ} {old new : List Slot} → IsUsable (slot_at old place)
-    → (slot_at old place).is_broken ≡ false → new ≡ with_broken place (changed_at place closes old)
+    → (slot_at old place).is_broken ≡ false → SlotBreaks place (changed_at place closes old) new
     → Turns Closes (λ other. other ≡ place) old new 1
-closed_short {place} {old} usable sound is =
-    turned_one place (λ slot. breaks (closes slot)) (open_within old place (usable sound)) sound refl (fails_to_close sound) (is ∙ changed_at-again place closes breaks old)
+closed_short {place} {old} usable sound (why, is) =
+    turned_one place (λ slot. breaks why (closes slot)) (open_within old place (usable sound)) sound refl (fails_to_close sound why) (is ∙ changed_at-again place closes (breaks why) old)
 
 -- standard output, and then the files
 pub fed : (told : Bool) {piece : List ℕ} (tee : TeeState) (broke more : ℕ) {old mid new : List Slot}

@@ -1,55 +1,33 @@
 -- Lemmas on copying: what the outputs have after a piece and at the end, and what is said of those that broke.
-use Rattle.std.proofs.lemmas.Grind.{common_steps}
-use Rattle.std.proofs.lemmas.Bool.Decides.{nat_tests}
-use Rattle.std.proofs.lemmas.Bool.{cond_both, false≢true}
-use Rattle.std.proofs.Common.{◌≡◌, ℕ, ◌+◌, ◌<◌, zero, suc, List, [], ◌∷◌, ◌++◌, length, map, take, codes, get_or, set, Bor, Bool, true, false, if◌then◌else◌, refl, sym, ◌∙◌, ap, arith, append_assoc, ◌≤◌, Option, Some, None, inl, inr, length-append, append-nil}
-use Rattle.std.proofs.Math.ListN.{get_or-map}
-use Rattle.std.proofs.lemmas.List.{append-nil, length-map}
-use Rattle.ports_core.specs.Slot.{Slot, no_slot, slot_at, is_open, changed_at, opened, adds, breaks, told_of}
-use Rattle.ports_core.specs.Text.{Message, message_of}
-use Rattle.ports_core.specs.Message.{SaysOn, SaysAll}
-use Rattle.ports_core.specs.declared.calling.Calling.{Calling}
-use Rattle.ports_core.specs.declared.reason.Reason.{Reason}
-use Rattle.ports_core.specs.declared.fault.Fault.{Fault}
-use Rattle.ports_core.proofs.MessageLemmas.{all_said_state, says_more, says_after}
-use Rattle.tee_core.specs.Run.{output_slot, Break, EachFile, no_file, one_file, output_names, OutputLeft, output_whole, output_cut, fault_in, is_done, lost_as, said_in, said_before, FileLeft, file_whole, file_unopened, file_cut, file_unclosed, said_of_input, standing_before, standing_of, standings_before, tee_called, tells_in}
-use Rattle.tee_core.specs.inner.Steps.{HasStreams, SaysTo, Sees, SeesAll, broken_of, is_lost, said_since, tells, Copies, FileHas, has_all, has_none, has_begun, IsTeeOf, HasCopied}
-use Rattle.std.specs.List.{concat}
-use Rattle.std.proofs.lemmas.List.Folds.{concat-append}
-use Rattle.ports_core.specs.declared.on_broken.OnBroken.{OnBroken}
-use Rattle.ports_core.specs.declared.slot.Mode.{Mode}
-use Rattle.ports_core.specs.Streams.{standard_output, standard_error}
-use Rattle.tee_core.specs.Outputs.{ChangesEach, Gets, gets_all, breaks_off, gets_none, IsFile, IsOutput, IsReady, IsUsable, Closes, is_closed, fails_to_close, was_broken}
-use Rattle.tee_core.specs.TeeState.{TeeState}
-use Rattle.tee_core.specs.declared.standing.Standing.{Standing}
-use Rattle.tee_core.specs.declared.standing.Standing.TheVariants.{Sound, Broken, Gone}
-use Rattle.ports_core.proofs.Runs.{adds_both}
+use Rattle.std.{
+  proofs.lemmas.{Grind.common_steps, Bool.{cond_both, false≢true, Decides.nat_tests}, List.{append-nil, length-map, Folds.concat-append}},
+  proofs.Common.{◌≡◌, ℕ, ◌+◌, ◌<◌, zero, suc, List, [], ◌∷◌, ◌++◌, length, map, take, codes, get_or, set, Bor, Bool, true, false, if◌then◌else◌, refl, sym, ◌∙◌, ap, arith, append_assoc, ◌≤◌, Option, Some, None, inl, inr, length-append, append-nil},
+  proofs.Math.ListN.get_or-map,
+  specs.List.concat,
+}
+use Rattle.ports_core.specs.{
+  Slot.{Slot, no_slot, slot_at, is_open, changed_at, opened, adds, breaks, told_of},
+  Text.{Message, message_of},
+  Message.{SaysOn, SaysAll},
+  declared.{calling.Calling.Calling, reason.Reason.Reason, fault.Fault.Fault, on_broken.OnBroken.OnBroken, slot.Mode.Mode},
+  Streams.{standard_output, standard_error},
+}
+use Rattle.ports_core.proofs.{MessageLemmas.{all_said_state, says_more, says_after}, Runs.adds_both}
+use Rattle.tee_core.specs.{
+  Run.{Break, EachFile, no_file, one_file, output_names, OutputLeft, output_whole, output_cut, fault_in, is_done, lost_for, said_in, said_before, FileLeft, file_whole, file_unopened, file_cut, file_unclosed, said_of_input, standing_before, standing_of, standings_before, tee_called, tells_in, stands_as},
+  inner.Steps.{HasStreams, SaysTo, said_since, standings_of, tells, Copies, FileHas, has_all, has_none, has_begun, IsTeeOf, HasCopied, output_slot},
+  Outputs.{ChangesEach, Gets, gets_all, breaks_off, gets_none, IsFile, IsOutput, IsReady, IsUsable, Closes, is_closed, fails_to_close, was_broken},
+  TeeState.TeeState,
+  declared.standing.Standing.{Standing, TheVariants.{Sound, Broken, Gone}},
+}
+use Rattle.ports_core.specs.declared.reason.Reason.TheVariants as reason
 
 -- how an output stands
 
-sound_is : (now : Standing) → is_lost now ≡ false → now ≡ Sound
-sound_is Sound sound = refl
-sound_is Broken sound = absurd (false≢true (sym sound))
-sound_is Gone sound = absurd (false≢true (sym sound))
-
-abbrev gone_is : Standing → Bool
-gone_is Gone = true
-gone_is other = false
-
-lost_is : (now : Standing) → is_lost now ≡ true → lost_as (gone_is now) ≡ now
-lost_is Sound lost = absurd (false≢true lost)
-lost_is Broken lost = refl
-lost_is Gone lost = refl
-
-is_lost-lost_as : (gone : Bool) → is_lost (lost_as gone) ≡ true
-is_lost-lost_as true = refl
-is_lost-lost_as false = refl
-
--- of one that is known nothing is said
-tells_known : (on_broken : OnBroken) (was now : Standing) → is_lost was ≡ true → tells on_broken was now ≡ false
-tells_known on_broken Sound now lost = absurd (false≢true lost)
-tells_known on_broken Broken now lost = refl
-tells_known on_broken Gone now lost = refl
+-- of one that is known to be lost nothing is said
+tells_known : (on_broken : OnBroken) (why : Reason) (now : Standing) → tells on_broken (lost_for why) now ≡ false
+tells_known on_broken reason.Gone now = refl
+tells_known on_broken why now = refl
 
 tells_same : (on_broken : OnBroken) (was : Standing) → tells on_broken was was ≡ false
 tells_same on_broken Sound = refl
@@ -68,56 +46,58 @@ none_said on_broken fault (name ∷ names) [] = refl
 none_said on_broken fault (name ∷ names) (was ∷ known) = rw (tells_same on_broken was) (none_said on_broken fault names known)
 
 -- outputs up to a place that were looked at, and after it those that weren't
-abbrev SeenTo : ℕ → List Standing → List Bool → List Standing → Type 0
-SeenTo zero known broken nows = nows ≡ known
-SeenTo (suc n) (was ∷ known) (is_broken ∷ broken) (now ∷ nows) = Sees was is_broken now × SeenTo n known broken nows
-SeenTo (suc n) known broken nows = ⊥
+abbrev SeenTo : ℕ → List Standing → List Standing → List Standing → Type 0
+SeenTo zero known stand nows = nows ≡ known
+SeenTo (suc n) (was ∷ known) (one ∷ stand) (now ∷ nows) = (now ≡ one) × SeenTo n known stand nows
+SeenTo (suc n) known stand nows = ⊥
 
-seen_next : (n : ℕ) (known : List Standing) (broken : List Bool) (nows : List Standing) {now : Standing}
-    → n < length known → length broken ≡ length known → SeenTo n known broken nows
-    → Sees (get_or known n Sound) (get_or broken n false) now → SeenTo (suc n) known broken (set nows n now)
-seen_next zero (was ∷ known) (is_broken ∷ broken) nows within many so_far sees = rw so_far (sees, refl)
-seen_next (suc n) (was ∷ known) (is_broken ∷ broken) (now ∷ nows) within many so_far sees = (so_far.0, seen_next n known broken nows (omega arith) (omega (arith, many)) so_far.1 sees)
-seen_next (suc n) (was ∷ known) (is_broken ∷ broken) [] within many so_far sees = absurd so_far
-seen_next n known broken nows within many so_far sees = absurd (omega (arith, many))
+seen_next : (n : ℕ) (known : List Standing) (stand : List Standing) (nows : List Standing) {now : Standing}
+    → n < length known → length stand ≡ length known → SeenTo n known stand nows
+    → now ≡ get_or stand n Sound → SeenTo (suc n) known stand (set nows n now)
+seen_next zero (was ∷ known) (one ∷ stand) nows within many so_far sees = rw so_far (sees, refl)
+seen_next (suc n) (was ∷ known) (one ∷ stand) (now ∷ nows) within many so_far sees = (so_far.0, seen_next n known stand nows (omega arith) (omega (arith, many)) so_far.1 sees)
+seen_next (suc n) (was ∷ known) (one ∷ stand) [] within many so_far sees = absurd so_far
+seen_next n known stand nows within many so_far sees = absurd (omega (arith, many))
 
-get_next : (n : ℕ) (known : List Standing) (broken : List Bool) (nows : List Standing) (other : Standing)
-    → n < length known → length broken ≡ length known → SeenTo n known broken nows
+get_next : (n : ℕ) (known : List Standing) (stand : List Standing) (nows : List Standing) (other : Standing)
+    → n < length known → length stand ≡ length known → SeenTo n known stand nows
     → get_or nows n other ≡ get_or known n Sound
-get_next zero (was ∷ known) (is_broken ∷ broken) nows other within many so_far = rw so_far refl
-get_next (suc n) (was ∷ known) (is_broken ∷ broken) (now ∷ nows) other within many so_far = get_next n known broken nows other (omega arith) (omega (arith, many)) so_far.1
-get_next (suc n) (was ∷ known) (is_broken ∷ broken) [] other within many so_far = absurd so_far
-get_next n known broken nows other within many so_far = absurd (omega (arith, many))
+get_next zero (was ∷ known) (one ∷ stand) nows other within many so_far = rw so_far refl
+get_next (suc n) (was ∷ known) (one ∷ stand) (now ∷ nows) other within many so_far = get_next n known stand nows other (omega arith) (omega (arith, many)) so_far.1
+get_next (suc n) (was ∷ known) (one ∷ stand) [] other within many so_far = absurd so_far
+get_next n known stand nows other within many so_far = absurd (omega (arith, many))
 
-pub seen_all : (known : List Standing) (broken : List Bool) (nows : List Standing) → length broken ≡ length known
-    → SeenTo (length known) known broken nows → SeesAll known broken nows
-seen_all [] [] nows many so_far = rw so_far tt
-seen_all (was ∷ known) (is_broken ∷ broken) (now ∷ nows) many so_far = (so_far.0, seen_all known broken nows (omega (arith, many)) so_far.1)
-seen_all (was ∷ known) (is_broken ∷ broken) [] many so_far = absurd so_far
-seen_all known broken nows many so_far = absurd (omega (arith, many))
+pub seen_all : (known : List Standing) (stand : List Standing) (nows : List Standing) → length stand ≡ length known
+    → SeenTo (length known) known stand nows → nows ≡ stand
+seen_all [] [] nows many so_far = so_far
+seen_all (was ∷ known) (one ∷ stand) (now ∷ nows) many so_far = cc (so_far.0, seen_all known stand nows (omega (arith, many)) so_far.1)
+seen_all (was ∷ known) (one ∷ stand) [] many so_far = absurd so_far
+seen_all known stand nows many so_far = absurd (omega (arith, many))
 
-said_next : (on_broken : OnBroken) (fault : Fault) (names : List (List ℕ)) (known : List Standing) (broken : List Bool)
+said_next : (on_broken : OnBroken) (fault : Fault) (names : List (List ℕ)) (known stand : List Standing)
     (nows : List Standing) (n : ℕ) (now : Standing) → n < length names → length known ≡ length names
-    → length broken ≡ length names → SeenTo n known broken nows
+    → length stand ≡ length names → SeenTo n known stand nows
     → said_since on_broken fault names known (set nows n now)
     ≡ said_since on_broken fault names known nows
     ++ said_one on_broken fault (get_or names n []) (get_or known n Sound) now
-said_next on_broken fault (name ∷ names) (was ∷ known) (is_broken ∷ broken) nows zero now within known_many many so_far =
+said_next on_broken fault (name ∷ names) (was ∷ known) (one ∷ stand) nows zero now within known_many many so_far =
     rw (so_far, tells_same on_broken was, none_said on_broken fault names known) refl
-said_next on_broken fault (name ∷ names) (was ∷ known) (is_broken ∷ broken) (first ∷ nows) (suc n) now within known_many many so_far =
-    let rest = said_next on_broken fault names known broken nows n now (omega arith) (omega (arith, known_many)) (omega (arith, many)) so_far.1 in grind (arith, nat_tests, rest)
-said_next on_broken fault (name ∷ names) (was ∷ known) (is_broken ∷ broken) [] (suc n) now within known_many many so_far = absurd so_far
-said_next on_broken fault names known broken nows n now within known_many many so_far = absurd (omega (arith, known_many, many))
+said_next on_broken fault (name ∷ names) (was ∷ known) (one ∷ stand) (first ∷ nows) (suc n) now within known_many many so_far =
+    let rest = said_next on_broken fault names known stand nows n now (omega arith) (omega (arith, known_many)) (omega (arith, many)) so_far.1 in grind (arith, nat_tests, rest)
+said_next on_broken fault (name ∷ names) (was ∷ known) (one ∷ stand) [] (suc n) now within known_many many so_far = absurd so_far
+said_next on_broken fault names known stand nows n now within known_many many so_far = absurd (omega (arith, known_many, many))
 
 -- where outputs stand
 
-broken_at : (output error : Slot) (files : List Slot) (n : ℕ)
-    → (slot_at (output ∷ error ∷ files) (output_slot n)).is_broken ≡ get_or (broken_of (output ∷ error ∷ files)) n false
-broken_at output error files zero = refl
-broken_at output error files (suc n) = sym (get_or-map (λ (file : Slot). file.is_broken) files n no_slot)
+standing_at : (output error : Slot) (files : List Slot) (n : ℕ)
+    → stands_as (slot_at (output ∷ error ∷ files) (output_slot n))
+    ≡ get_or (standings_of (output ∷ error ∷ files)) n Sound
+standing_at output error files zero = refl
+standing_at output error files (suc n) = sym (get_or-map stands_as files n no_slot)
 
-pub count_broken : {slots : List Slot} {count : ℕ} → HasStreams slots count → length (broken_of slots) ≡ count + 1
-count_broken {count} has = ap (λ those. length (broken_of those)) has.are ∙ (let many : length (map (λ (file : Slot). file.is_broken) has.files) ≡ length has.files = length-map has.files _ in let same : length has.files ≡ count = has.files_are in let e : suc (length (map (λ (file : Slot). file.is_broken) has.files)) ≡ count + 1 = omega arith in e)
+pub count_standings : {slots : List Slot} {count : ℕ} → HasStreams slots count
+    → length (standings_of slots) ≡ count + 1
+count_standings {count} has = ap (λ those. length (standings_of those)) has.are ∙ (let many : length (map stands_as has.files) ≡ length has.files = length-map has.files _ in let same : length has.files ≡ count = has.files_are in let e : suc (length (map stands_as has.files)) ≡ count + 1 = omega arith in e)
 
 -- standard error alone is written
 
@@ -128,10 +108,10 @@ says_too told calling messages message now new {why} has so_far says =
     let first = rw has.are at so_far in let said = says has.output first.0 has.files first.2 in
     rw has.are (said.0, says_more told (tee_called calling) messages message has.error first.0 said.0 first.1 (why, said.1), said.2)
 
-broken_still : (told : Bool) (calling : Calling) (messages : List Message) (output error : Slot) (files now : List Slot)
+stands_still : (told : Bool) (calling : Calling) (messages : List Message) (output error : Slot) (files now : List Slot)
     (n : ℕ) → SaysTo told calling messages (output ∷ error ∷ files) now
-    → (slot_at now (output_slot n)).is_broken ≡ get_or (broken_of (output ∷ error ∷ files)) n false
-broken_still told calling messages output error files now n said = ap (λ those. (slot_at those (output_slot n)).is_broken) said.2 ∙ broken_at output said.0 files n
+    → stands_as (slot_at now (output_slot n)) ≡ get_or (standings_of (output ∷ error ∷ files)) n Sound
+stands_still told calling messages output error files now n said = ap (λ those. stands_as (slot_at those (output_slot n))) said.2 ∙ standing_at output said.0 files n
 
 -- the message for the fault that ended the reading
 pub input_told : (told : Bool) (calling : Calling) {fault : Option Fault} {one : Fault} {count : ℕ}
@@ -144,7 +124,7 @@ input_told told calling {why = why} is has says = rw (is, has.are) (let said = s
 pub record Telling (told : Bool) (calling : Calling) (on_broken : OnBroken) (fault : Fault) (names : List (List ℕ))
     (known_before : List Standing) (n : ℕ) (old now : List Slot) (known : List Standing) : Type 0 where
   pub said : SaysTo told calling (said_since on_broken fault names known_before known) old now
-  pub seen : SeenTo n known_before (broken_of old) known
+  pub seen : SeenTo n known_before (standings_of old) known
 
 pub tells_none : (told : Bool) (calling : Calling) (on_broken : OnBroken) (fault : Fault) (names : List (List ℕ))
     (known : List Standing) {count : ℕ} {slots : List Slot} → HasStreams slots count
@@ -167,7 +147,7 @@ pub tells_next : (told : Bool) {calling : Calling} {on_broken : OnBroken} {fault
     {standing : Standing} → HasStreams old count → length names ≡ count + 1 → length before ≡ count + 1
     → n < length before
     → Telling told calling on_broken fault names before n old now known → name ≡ get_or names n []
-    → Sees (get_or known n other) (slot_at now (output_slot n)).is_broken standing
+    → standing ≡ stands_as (slot_at now (output_slot n))
     → (tells on_broken (get_or known n other) standing ≡ true
     → (why : Reason) × SaysOn told (tee_called calling) why (message_of fault name) now new)
     → (tells on_broken (get_or known n other) standing ≡ false → new ≡ now)
@@ -177,29 +157,29 @@ tells_next told {calling} {on_broken} {fault} {names} {before} {known} other {n}
       said = rw step (cond_both (tells on_broken (get_or known n other) standing) (message_of fault name ∷ []) [] (λ more. SaysTo told calling (messages ++ more) old new)
           (λ is. let (why, said) = says is in says_too told calling messages (message_of fault name) now new has so_far.said said)
           (λ is. rw (append-nil messages, quiet is) so_far.said));
-      seen = seen_next n before (broken_of old) known within (broken_are ∙ sym many) so_far.seen (rw (was, here) at sees);
+      seen = seen_next n before (standings_of old) known within (standings_are ∙ sym many) so_far.seen (sees ∙ here);
     }) where
       messages : List Message
       messages = said_since on_broken fault names before known
 
-      broken_are : length (broken_of old) ≡ count + 1
-      broken_are = count_broken has
+      standings_are : length (standings_of old) ≡ count + 1
+      standings_are = count_standings has
 
-      here : (slot_at now (output_slot n)).is_broken ≡ get_or (broken_of old) n false
-      here = broken_still told calling messages has.output has.error has.files now n (rw has.are at so_far.said) ∙ ap (λ those. get_or (broken_of those) n false) (sym has.are)
+      here : stands_as (slot_at now (output_slot n)) ≡ get_or (standings_of old) n Sound
+      here = stands_still told calling messages has.output has.error has.files now n (rw has.are at so_far.said) ∙ ap (λ those. get_or (standings_of those) n Sound) (sym has.are)
 
       was : get_or known n other ≡ get_or before n Sound
-      was = get_next n before (broken_of old) known other within (broken_are ∙ sym many) so_far.seen
+      was = get_next n before (standings_of old) known other within (standings_are ∙ sym many) so_far.seen
 
       step : said_since on_broken fault names before (set known n standing)
           ≡ messages ++ (if tells on_broken (get_or known n other) standing then message_of fault name ∷ [] else [])
-      step = cc (said_next on_broken fault names before (broken_of old) known n standing (omega (arith, names_many, within, many)) (many ∙ sym names_many) (broken_are ∙ sym names_many) so_far.seen, named, was)
+      step = cc (said_next on_broken fault names before (standings_of old) known n standing (omega (arith, names_many, within, many)) (many ∙ sym names_many) (standings_are ∙ sym names_many) so_far.seen, named, was)
 
 pub told_all : (told : Bool) {calling : Calling} {on_broken : OnBroken} {fault : Fault} {names : List (List ℕ)}
     {before known : List Standing} {n count : ℕ} {old now : List Slot} → HasStreams old count
     → length before ≡ count + 1 → n ≡ length before → Telling told calling on_broken fault names before n old now known
-    → SeesAll before (broken_of old) known
-told_all told {before} {known} {old = old} has many all so_far = seen_all before (broken_of old) known (count_broken has ∙ sym many) (rw all at so_far.seen)
+    → known ≡ standings_of old
+told_all told {before} {known} {old = old} has many all so_far = seen_all before (standings_of old) known (count_standings has ∙ sym many) (rw all at so_far.seen)
 
 pub count_names : (names : List (Bor (List ℕ)))
     → length (output_names (map (λ name. name.now) names)) ≡ length names + 1
@@ -216,36 +196,35 @@ pub record Marks (call : ℕ) (before after : Option Break) (now : Standing) : T
   pub now_is : standing_before (suc call) after ≡ now
   pub stands : standing_of after ≡ now
 
-pub marked_none : {call : ℕ} {now : Standing} → is_lost now ≡ false → Marks call None None now
-marked_none {call} {now} sound = rw (sound_is now sound) (record { said = λ on_broken. refl; older = λ on_broken other less. refl; sooner = λ other within. refl; then_is = refl; now_is = refl; stands = refl })
+pub marked_none : {call : ℕ} → Marks call None None Sound
+marked_none {call} = record { said = λ on_broken. refl; older = λ on_broken other less. refl; sooner = λ other within. refl; then_is = refl; now_is = refl; stands = refl }
 
-abbrev pub break_now : ℕ → Standing → Break
-break_now call now = record { call = call; is_gone = gone_is now }
+abbrev pub break_now : ℕ → Reason → Break
+break_now call why = record { call = call; why = why }
 
 not_in : (on_broken : OnBroken) (call : ℕ) (broke : Break) → (broke.call ≡ call → ⊥)
     → tells_in on_broken call (Some broke) ≡ false
 not_in on_broken call broke differs = grind (arith, nat_tests, differs)
 
-pub marked_now : {call : ℕ} {now : Standing} → is_lost now ≡ true → Marks call None (Some (break_now call now)) now
-marked_now {call} {now} lost = let is = lost_is now lost in record {
-  said = λ on_broken. grind (arith, nat_tests, is);
-  older = λ on_broken other less. not_in on_broken other (break_now call now) (λ same. omega (arith, same, less));
+pub marked_now : {call : ℕ} (why : Reason) → Marks call None (Some (break_now call why)) (lost_for why)
+marked_now {call} why = record {
+  said = λ on_broken. grind (arith, nat_tests);
+  older = λ on_broken other less. not_in on_broken other (break_now call why) (λ same. omega (arith, same, less));
   sooner = λ other within. grind (arith, nat_tests, within);
   then_is = grind (arith, nat_tests);
-  now_is = grind (arith, nat_tests, is);
-  stands = is;
+  now_is = grind (arith, nat_tests);
+  stands = refl;
 }
 
-marked_before : {call : ℕ} {now : Standing} (broke : Break) → broke.call < call → is_lost now ≡ true
-    → (is_lost (lost_as broke.is_gone) ≡ true → is_lost now ≡ true → now ≡ lost_as broke.is_gone)
-    → Marks call (Some broke) (Some broke) now
-marked_before {call} {now} broke less lost kept = let known = is_lost-lost_as broke.is_gone in let is = kept known lost in record {
-  said = λ on_broken. not_in on_broken call broke (λ same. omega (arith, same, less)) ∙ sym (tells_known on_broken (lost_as broke.is_gone) now known);
+marked_before : {call : ℕ} (broke : Break) → broke.call < call
+    → Marks call (Some broke) (Some broke) (lost_for broke.why)
+marked_before {call} broke less = record {
+  said = λ on_broken. not_in on_broken call broke (λ same. omega (arith, same, less)) ∙ sym (tells_known on_broken broke.why (lost_for broke.why));
   older = λ on_broken other sooner. refl;
   sooner = λ other within. refl;
   then_is = grind (arith, nat_tests, less);
-  now_is = grind (arith, nat_tests, less, is);
-  stands = sym is;
+  now_is = grind (arith, nat_tests, less);
+  stands = refl;
 }
 
 pub data AllMark (call : ℕ) : List (Option Break) → List (Option Break) → List Standing → Type 0 where
@@ -307,10 +286,10 @@ whole_now : (told : Bool) (pieces : List (List ℕ)) (piece : List ℕ) (start :
     ≡ adds (told_of told (concat (pieces ++ piece ∷ []))) start
 whole_now told pieces piece start = grind (arith, common_steps, adds_both, joined_more)
 
-begun_now : (told : Bool) (pieces : List (List ℕ)) (piece : List ℕ) (n : ℕ) (start : Slot)
-    → breaks (adds (told_of told (take n piece)) (adds (told_of told (concat pieces)) start))
-    ≡ breaks (adds (told_of told (concat pieces ++ take n piece)) start)
-begun_now told pieces piece n start = ap breaks (adds_both told (concat pieces) (take n piece) start)
+begun_now : (told : Bool) (why : Reason) (pieces : List (List ℕ)) (piece : List ℕ) (n : ℕ) (start : Slot)
+    → breaks why (adds (told_of told (take n piece)) (adds (told_of told (concat pieces)) start))
+    ≡ breaks why (adds (told_of told (concat pieces ++ take n piece)) start)
+begun_now told why pieces piece n start = ap (breaks why) (adds_both told (concat pieces) (take n piece) start)
 
 still_there : {pieces : List (List ℕ)} (before after : List (List ℕ)) (piece more : List ℕ)
     → pieces ≡ before ++ piece ∷ after → pieces ++ more ∷ [] ≡ before ++ piece ∷ (after ++ more ∷ [])
@@ -321,62 +300,52 @@ pub call_before : {pieces : List (List ℕ)} (before after : List (List ℕ)) (p
     → pieces ≡ before ++ piece ∷ after → suc (length before) < suc (length pieces)
 call_before before after piece is = omega (arith, length-append before (piece ∷ after), ap length is)
 
--- an output that stands so now is so after a call, with what that adds to what broke when
-abbrev pub Marked : (Option Break → Slot → Type 0) → ℕ → Option Break → Standing → Slot → Type 0
-Marked Is call first now new = (after : Option Break) × Is after new × Marks call first after now
+-- an output is so after a call, with what that adds to what broke when
+abbrev pub Marked : (Option Break → Slot → Type 0) → ℕ → Option Break → Slot → Type 0
+Marked Is call first new = (after : Option Break) × Is after new × Marks call first after (stands_as new)
 
 output_more : (told : Bool) {pieces : List (List ℕ)} {piece : List ℕ} {first : Option Break} {old new : Slot}
-    {now : Standing} → OutputLeft told pieces first old → Gets told piece old new
-    → Sees (standing_of first) new.is_broken now
-    → Marked (OutputLeft told (pieces ++ piece ∷ [])) (suc (length pieces)) first now new
-output_more told {pieces} {piece} output_whole (gets_all sound) sees = (None, rw (whole_now told pieces piece standard_output) output_whole, marked_none sees.broken)
-output_more told {pieces} {piece} {now = now} output_whole (breaks_off sound n within) sees =
-    (Some (break_now (suc (length pieces)) now), rw (begun_now told pieces piece n standard_output) (output_cut pieces piece [] n refl within), marked_now sees.broken)
-output_more told output_whole (gets_none broken) sees = absurd (false≢true broken)
-output_more told (output_cut before that after n is within) (gets_all again) sees = absurd (false≢true (sym again))
-output_more told (output_cut before that after n is within) (breaks_off again m less) sees = absurd (false≢true (sym again))
-output_more told {piece} (output_cut {is_gone} before that after n is within) (gets_none broken) sees =
-    (Some (record { call = suc (length before); is_gone = is_gone }), output_cut before that (after ++ piece ∷ []) n (still_there before after that piece is) within, marked_before _ (call_before before after that is) sees.broken sees.kept)
+    → OutputLeft told pieces first old → Gets told piece old new
+    → Marked (OutputLeft told (pieces ++ piece ∷ [])) (suc (length pieces)) first new
+output_more told {pieces} {piece} output_whole (gets_all sound) = (None, rw (whole_now told pieces piece standard_output) output_whole, marked_none)
+output_more told {pieces} {piece} output_whole (breaks_off sound n why within) =
+    (Some (break_now (suc (length pieces)) why), rw (begun_now told why pieces piece n standard_output) (output_cut pieces piece [] n refl within), marked_now why)
+output_more told output_whole (gets_none broken) = absurd (false≢true broken)
+output_more told (output_cut before that after n is within) (gets_all again) = absurd (false≢true (sym again))
+output_more told (output_cut before that after n is within) (breaks_off again m why less) = absurd (false≢true (sym again))
+output_more told {piece} (output_cut {why} before that after n is within) (gets_none broken) =
+    (Some (break_now (suc (length before)) why), output_cut before that (after ++ piece ∷ []) n (still_there before after that piece is) within, marked_before _ (call_before before after that is))
 
 file_more : (told : Bool) {mode : Mode} {pieces : List (List ℕ)} {piece : List ℕ} {name : List ℕ} {first : Option Break}
-    {old new : Slot} {now : Standing} → FileHas told mode pieces name first old → Gets told piece old new
-    → Sees (standing_of first) new.is_broken now
-    → Marked (FileHas told mode (pieces ++ piece ∷ []) name) (suc (length pieces)) first now new
-file_more told {mode} {pieces} {piece} {name} has_all (gets_all sound) sees = (None, rw (whole_now told pieces piece (opened name mode)) has_all, marked_none sees.broken)
-file_more told {mode} {pieces} {piece} {name} {now = now} has_all (breaks_off sound n within) sees =
-    (Some (break_now (suc (length pieces)) now), rw (begun_now told pieces piece n (opened name mode)) (has_begun pieces piece [] n refl within), marked_now sees.broken)
-file_more told has_all (gets_none broken) sees = absurd (false≢true broken)
-file_more told (has_none kept named) (gets_all again) sees = absurd (false≢true (sym again))
-file_more told (has_none kept named) (breaks_off again m less) sees = absurd (false≢true (sym again))
-file_more told (has_none {is_gone} kept named) (gets_none broken) sees = (Some (record { call = 0; is_gone = is_gone }), has_none kept named, marked_before _ (omega arith) sees.broken sees.kept)
-file_more told (has_begun before that after n is within) (gets_all again) sees = absurd (false≢true (sym again))
-file_more told (has_begun before that after n is within) (breaks_off again m less) sees = absurd (false≢true (sym again))
-file_more told {piece} (has_begun {is_gone} before that after n is within) (gets_none broken) sees =
-    (Some (record { call = suc (length before); is_gone = is_gone }), has_begun before that (after ++ piece ∷ []) n (still_there before after that piece is) within, marked_before _ (call_before before after that is) sees.broken sees.kept)
+    {old new : Slot} → FileHas told mode pieces name first old → Gets told piece old new
+    → Marked (FileHas told mode (pieces ++ piece ∷ []) name) (suc (length pieces)) first new
+file_more told {mode} {pieces} {piece} {name} has_all (gets_all sound) = (None, rw (whole_now told pieces piece (opened name mode)) has_all, marked_none)
+file_more told {mode} {pieces} {piece} {name} has_all (breaks_off sound n why within) =
+    (Some (break_now (suc (length pieces)) why), rw (begun_now told why pieces piece n (opened name mode)) (has_begun pieces piece [] n refl within), marked_now why)
+file_more told has_all (gets_none broken) = absurd (false≢true broken)
+file_more told (has_none kept named) (gets_all again) = absurd (false≢true (sym again))
+file_more told (has_none kept named) (breaks_off again m why less) = absurd (false≢true (sym again))
+file_more told (has_none {why} kept named) (gets_none broken) = (Some (break_now 0 why), has_none kept named, marked_before _ (omega arith))
+file_more told (has_begun before that after n is within) (gets_all again) = absurd (false≢true (sym again))
+file_more told (has_begun before that after n is within) (breaks_off again m why less) = absurd (false≢true (sym again))
+file_more told {piece} (has_begun {why} before that after n is within) (gets_none broken) =
+    (Some (break_now (suc (length before)) why), has_begun before that (after ++ piece ∷ []) n (still_there before after that piece is) within, marked_before _ (call_before before after that is))
 
--- the files
-
-abbrev pub flags : List Slot → List Bool
-flags files = map (λ (file : Slot). file.is_broken) files
-
--- each is changed by the call
+-- each of the files is changed by the call
 pub files_go : {Is Then : List ℕ → Option Break → Slot → Type 0} {Change : Slot → Slot → Type 0} {call : ℕ}
     {names : List (List ℕ)} {broke : List (Option Break)} {olds : List Slot}
-    → ((name : List ℕ) (first : Option Break) (old new : Slot) (now : Standing) → Is name first old → Change old new
-    → Sees (standing_of first) new.is_broken now → Marked (Then name) call first now new)
-    → (news : List Slot) (nows : List Standing)
-    → length news ≡ length olds → ((n : ℕ) → n < length olds → Change (slot_at olds n) (slot_at news n))
-    → SeesAll (map standing_of broke) (flags news) nows → EachFile Is names broke olds
-    → (after : List (Option Break)) × EachFile Then names after news × AllMark call broke after nows
-files_go go [] [] many changes sees no_file = ([], no_file, none_marked)
-files_go go [] (now ∷ nows) many changes sees no_file = absurd sees
-files_go go (new ∷ news) nows many changes sees no_file = absurd (omega (arith, many))
-files_go go [] nows many changes sees (one_file name names first broke old olds one rest) = absurd (omega (arith, many))
-files_go go (new ∷ news) [] many changes sees (one_file name names first broke old olds one rest) = absurd sees
-files_go go (new ∷ news) (now ∷ nows) many changes sees (one_file name names first broke old olds one rest) =
-    let here = go name first old new now one (changes 0 (omega arith)) sees.0 in
-    let there = files_go go news nows (omega (arith, many)) (λ n within. changes (suc n) (omega arith)) sees.1 rest in
-    (here.0 ∷ there.0, one_file name names here.0 there.0 new news here.1 there.1, all_marked first here.0 now broke there.0 nows here.2 there.2)
+    → ((name : List ℕ) (first : Option Break) (old new : Slot) → Is name first old → Change old new
+    → Marked (Then name) call first new)
+    → (news : List Slot) → length news ≡ length olds
+    → ((n : ℕ) → n < length olds → Change (slot_at olds n) (slot_at news n)) → EachFile Is names broke olds
+    → (after : List (Option Break)) × EachFile Then names after news × AllMark call broke after (map stands_as news)
+files_go go [] many changes no_file = ([], no_file, none_marked)
+files_go go (new ∷ news) many changes no_file = absurd (omega (arith, many))
+files_go go [] many changes (one_file name names first broke old olds one rest) = absurd (omega (arith, many))
+files_go go (new ∷ news) many changes (one_file name names first broke old olds one rest) =
+    let here = go name first old new one (changes 0 (omega arith)) in
+    let there = files_go go news (omega (arith, many)) (λ n within. changes (suc n) (omega arith)) rest in
+    (here.0 ∷ there.0, one_file name names here.0 there.0 new news here.1 there.1, all_marked first here.0 (stands_as new) broke there.0 (map stands_as news) here.2 there.2)
 
 -- the outputs of a run
 
@@ -453,26 +422,21 @@ module _ (told : Bool) (calling : Calling) (mode : Mode) (on_broken : OnBroken) 
       {known nows : List Standing} {tee : TeeState}
       → IsTeeOf names tee → (copies : Copies told calling mode on_broken names pieces messages old known) → (call : ℕ)
       → length mid ≡ length old → slot_at mid 1 ≡ slot_at old 1
-      → ((now : Standing) (output : Slot) → slot_at mid 0 ≡ output
-      → Sees (standing_of copies.first) output.is_broken now → Marked OutputIs call copies.first now output)
+      → ((output : Slot) → slot_at mid 0 ≡ output → Marked OutputIs call copies.first output)
       → ((place : ℕ) → IsFile tee place → Change (slot_at old place) (slot_at mid place))
-      → ((name : List ℕ) (first : Option Break) (old new : Slot) (now : Standing)
-      → FileHas told mode pieces name first old → Change old new → Sees (standing_of first) new.is_broken now
-      → Marked (FileIs name) call first now new)
-      → SeesAll known (broken_of mid) nows → After OutputIs FileIs call copies mid nows
-  called {OutputIs} {FileIs} {Change} {mid = mid} {nows = nows} is copies call count error one changes go sees = by mid nows refl (rw copies.known_are at sees) where
-    by : (those : List Slot) (stand : List Standing) → mid ≡ those
-        → SeesAll (map standing_of (copies.first ∷ copies.broke)) (broken_of those) stand
-        → After OutputIs FileIs call copies mid stand
-    by [] stand short see = absurd (omega (arith, ap length short, count, ap length copies.are))
-    by (output ∷ []) stand short see = absurd (omega (arith, ap length short, count, ap length copies.are))
-    by (output ∷ other ∷ files) [] are see = absurd see
-    by (output ∷ other ∷ files) (now ∷ stand) are see =
+      → ((name : List ℕ) (first : Option Break) (old new : Slot)
+      → FileHas told mode pieces name first old → Change old new → Marked (FileIs name) call first new)
+      → nows ≡ standings_of mid → After OutputIs FileIs call copies mid nows
+  called {OutputIs} {FileIs} {Change} {mid = mid} is copies call count error one changes go sees = rw sees (by mid refl) where
+    by : (those : List Slot) → mid ≡ those → After OutputIs FileIs call copies mid (standings_of those)
+    by [] short = absurd (omega (arith, ap length short, count, ap length copies.are))
+    by (output ∷ []) short = absurd (omega (arith, ap length short, count, ap length copies.are))
+    by (output ∷ other ∷ files) are =
         let same : other ≡ copies.error = sym (ap (λ those. slot_at those 1) are) ∙ error ∙ ap (λ those. slot_at those 1) copies.are in
-        let here = one now output (ap (λ those. slot_at those 0) are) see.0 in let many = length-files copies.files_have in
-        let rest = files_go go files stand (omega (arith, ap length are, count, ap length copies.are))
+        let here = one output (ap (λ those. slot_at those 0) are) in let many = length-files copies.files_have in
+        let rest = files_go go files (omega (arith, ap length are, count, ap length copies.are))
         (λ n within. rw (ap (λ those. slot_at those (suc (suc n))) are) at (rw (ap (λ those. slot_at those (suc (suc n))) copies.are) at
-        (changes (suc (suc n)) (place_file n is (omega (arith, within, many)))))) see.1 copies.files_have in
+        (changes (suc (suc n)) (place_file n is (omega (arith, within, many)))))) copies.files_have in
         record {
           output = output;
           files = files;
@@ -481,7 +445,7 @@ module _ (told : Bool) (calling : Calling) (mode : Mode) (on_broken : OnBroken) 
           are = are ∙ ap (λ slot. output ∷ slot ∷ files) same;
           output_is = here.1;
           files_are = rest.1;
-          marked = all_marked copies.first here.0 now copies.broke rest.0 stand here.2 rest.2;
+          marked = all_marked copies.first here.0 (stands_as output) copies.broke rest.0 (map stands_as files) here.2 rest.2;
         }
 
   -- what is on standard error once it was told
@@ -505,12 +469,12 @@ module _ (told : Bool) (calling : Calling) (mode : Mode) (on_broken : OnBroken) 
   pub fed_next : {pieces : List (List ℕ)} {piece : List ℕ} {messages : List Message} {old mid : List Slot}
       {known nows : List Standing} {tee : TeeState} → IsTeeOf names tee
       → (copies : Copies told calling mode on_broken names pieces messages old known)
-      → ChangesEach (Gets told piece) (IsOutput tee) old mid → SeesAll known (broken_of mid) nows
+      → ChangesEach (Gets told piece) (IsOutput tee) old mid → nows ≡ standings_of mid
       → After (OutputLeft told (pieces ++ piece ∷ [])) (FileHas told mode (pieces ++ piece ∷ []))
       (suc (length pieces)) copies mid nows
   fed_next {pieces} {piece} {mid = mid} is copies gets sees = called is copies (suc (length pieces)) gets.count (gets.others 1 (error_no_output is))
-      (λ now output here see. output_more told copies.output_has (rw here at (rw (ap (λ those. slot_at those 0) copies.are) at (gets.each 0 (inl refl)))) see)
-      (λ place file. gets.each place (inr file)) (λ name first old new now has got see. file_more told has got see) sees
+      (λ output here. output_more told copies.output_has (rw here at (rw (ap (λ those. slot_at those 0) copies.are) at (gets.each 0 (inl refl)))))
+      (λ place file. gets.each place (inr file)) (λ name first old new has got. file_more told has got) sees
 
   -- the message for it was said
   pub piece_said : {pieces : List (List ℕ)} (piece : List ℕ) {old mid new : List Slot} {known nows : List Standing}
@@ -572,27 +536,25 @@ module _ (told : Bool) (calling : Calling) (mode : Mode) (on_broken : OnBroken) 
   known_many copies = let count = ap length copies.known_are ∙ length-map (copies.first ∷ copies.broke) standing_of in omega (arith, count, length-broke copies.files_have)
 
 -- an output that isn't closed
-output_kept : (told : Bool) {pieces : List (List ℕ)} {first : Option Break} {output : Slot} {now : Standing}
-    → OutputLeft told pieces first output → Sees (standing_of first) output.is_broken now
-    → Marks (suc (length pieces)) first first now
-output_kept told output_whole sees = marked_none sees.broken
-output_kept told (output_cut before that after n is within) sees = marked_before _ (call_before before after that is) sees.broken sees.kept
+output_kept : (told : Bool) {pieces : List (List ℕ)} {first : Option Break} {output : Slot}
+    → OutputLeft told pieces first output → Marks (suc (length pieces)) first first (stands_as output)
+output_kept told output_whole = marked_none
+output_kept told (output_cut before that after n is within) = marked_before _ (call_before before after that is)
 
 -- a file that is
 file_ends : (told : Bool) {mode : Mode} {pieces : List (List ℕ)} {name : List ℕ} {first : Option Break} {old new : Slot}
-    {now : Standing} → FileHas told mode pieces name first old → Closes old new
-    → Sees (standing_of first) new.is_broken now
-    → Marked (FileLeft told mode pieces name) (suc (length pieces)) first now new
-file_ends told has_all (is_closed sound) sees = (None, file_whole, marked_none sees.broken)
-file_ends told {pieces = pieces} {now = now} has_all (fails_to_close sound) sees = (Some (break_now (suc (length pieces)) now), file_unclosed, marked_now sees.broken)
-file_ends told has_all (was_broken broken) sees = absurd (false≢true broken)
-file_ends told (has_none kept named) (is_closed sound) sees = absurd (false≢true (sym sound))
-file_ends told (has_none kept named) (fails_to_close sound) sees = absurd (false≢true (sym sound))
-file_ends told (has_none {is_gone} kept named) (was_broken broken) sees = (Some (record { call = 0; is_gone = is_gone }), file_unopened kept named, marked_before _ (omega arith) sees.broken sees.kept)
-file_ends told (has_begun before that after n is within) (is_closed sound) sees = absurd (false≢true (sym sound))
-file_ends told (has_begun before that after n is within) (fails_to_close sound) sees = absurd (false≢true (sym sound))
-file_ends told (has_begun {is_gone} before that after n is within) (was_broken broken) sees =
-    (Some (record { call = suc (length before); is_gone = is_gone }), file_cut before that after n is within, marked_before _ (call_before before after that is) sees.broken sees.kept)
+    → FileHas told mode pieces name first old → Closes old new
+    → Marked (FileLeft told mode pieces name) (suc (length pieces)) first new
+file_ends told has_all (is_closed sound) = (None, file_whole, marked_none)
+file_ends told {pieces = pieces} has_all (fails_to_close sound why) = (Some (break_now (suc (length pieces)) why), file_unclosed, marked_now why)
+file_ends told has_all (was_broken broken) = absurd (false≢true broken)
+file_ends told (has_none kept named) (is_closed sound) = absurd (false≢true (sym sound))
+file_ends told (has_none kept named) (fails_to_close sound why) = absurd (false≢true (sym sound))
+file_ends told (has_none {why} kept named) (was_broken broken) = (Some (break_now 0 why), file_unopened kept named, marked_before _ (omega arith))
+file_ends told (has_begun before that after n is within) (is_closed sound) = absurd (false≢true (sym sound))
+file_ends told (has_begun before that after n is within) (fails_to_close sound why) = absurd (false≢true (sym sound))
+file_ends told (has_begun {why} before that after n is within) (was_broken broken) =
+    (Some (break_now (suc (length before)) why), file_cut before that after n is within, marked_before _ (call_before before after that is))
 
 module _ (told : Bool) (calling : Calling) (mode : Mode) (on_broken : OnBroken) (names : List (List ℕ)) where
   -- a message more on standard error, while the files are open
@@ -620,14 +582,14 @@ module _ (told : Bool) (calling : Calling) (mode : Mode) (on_broken : OnBroken) 
   pub closed_next : {pieces : List (List ℕ)} {messages : List Message} {old mid : List Slot}
       {known nows : List Standing} {tee : TeeState} → IsTeeOf names tee
       → (copies : Copies told calling mode on_broken names pieces messages old known)
-      → ChangesEach Closes (IsFile tee) old mid → SeesAll known (broken_of mid) nows
+      → ChangesEach Closes (IsFile tee) old mid → nows ≡ standings_of mid
       → After told calling mode on_broken names (OutputLeft told pieces) (FileLeft told mode pieces)
       (suc (length pieces)) copies mid nows
   closed_next {pieces} is copies closes sees =
       called told calling mode on_broken names is copies (suc (length pieces)) closes.count (closes.others 1 (λ file. error_no_output is (inr file)))
-      (λ now output here see. let same = sym here ∙ closes.others 0 (λ file. let there = file_place 0 is file in omega (arith, there.1)) ∙ ap (λ those. slot_at those 0) copies.are in
-      let left : OutputLeft told pieces copies.first output = rw same copies.output_has in (copies.first, left, output_kept told left see))
-      closes.each (λ name first old new now has ends see. file_ends told has ends see) sees
+      (λ output here. let same = sym here ∙ closes.others 0 (λ file. let there = file_place 0 is file in omega (arith, there.1)) ∙ ap (λ those. slot_at those 0) copies.are in
+      let left : OutputLeft told pieces copies.first output = rw same copies.output_has in (copies.first, left, output_kept told left))
+      closes.each (λ name first old new has ends. file_ends told has ends) sees
 
   pub closing_said : {pieces : List (List ℕ)} {fault : Option Fault} {old mid new : List Slot}
       {known nows : List Standing}

@@ -1,27 +1,29 @@
 -- Lemmas on what a run reads of its input, and on how it ends.
-use Rattle.std.proofs.lemmas.Grind.{common_steps}
-use Rattle.std.proofs.Common.{◌≡◌, ℕ, ◌+◌, ◌<◌, ◌≤◌, ◌^◌, List, [], ◌∷◌, ◌++◌, length, take, Bool, true, false, Option, Some, None, IsTrue, ◌⊎◌, refl, sym, ◌∙◌, ap, subst, arith, length-append, length-take, append-nil, inl, inr, All, zero, suc, map, not, ◌&&◌, ◌||◌, if◌then◌else◌, is_none, get_or, replicate, set}
-use Rattle.std.specs.List.{concat, list_any}
-use Rattle.std.proofs.lemmas.Bool.{cases_Bool, false≢true}
-use Rattle.std.proofs.lemmas.Bool.Decides.{nat_tests}
-use Rattle.ports_core.specs.Slot.{Slot, changed_at, slot_at, adds, closes, opened, streams, told_of}
-use Rattle.ports_core.specs.Source.{Content, Source, counted, source_at, unshown, is_readable, fails, gives, BrokeOff, Gave, IsFresh}
-use Rattle.ports_core.specs.declared.fault.Fault.{Fault}
-use Rattle.ports_core.specs.declared.fault.Fault.TheVariants.{Read, Memory}
-use Rattle.ports_core.specs.declared.on_broken.OnBroken.{OnBroken}
-use Rattle.ports_core.specs.declared.on_broken.OnBroken.TheVariants.{Warn, Exit, WarnNoPipe, ExitNoPipe, Signal}
-use Rattle.ports_core.specs.declared.calling.Calling.{Calling}
-use Rattle.ports_core.specs.declared.reason.Reason.{Reason}
-use Rattle.ports_core.specs.declared.slot.Mode.{Mode}
+use Rattle.std.{
+  proofs.lemmas.{Grind.common_steps, Bool.{cases_Bool, false≢true, Decides.nat_tests}},
+  proofs.Common.{◌≡◌, ℕ, ◌+◌, ◌<◌, ◌≤◌, ◌^◌, List, [], ◌∷◌, ◌++◌, length, take, Bool, true, false, Option, Some, None, IsTrue, ◌⊎◌, refl, sym, ◌∙◌, ap, subst, arith, length-append, length-take, append-nil, inl, inr, All, zero, suc, map, not, ◌&&◌, ◌||◌, if◌then◌else◌, is_none},
+  specs.List.{concat, list_any},
+}
+use Rattle.ports_core.specs.{
+  Slot.{Slot, changed_at, slot_at, adds, closes, opened, streams, told_of},
+  Source.{ReadFails, Content, Source, counted, source_at, unshown, is_readable, gives, BrokeOff, Gave, IsFresh},
+  declared.fault.Fault.{Fault, TheVariants.{Read, Memory}},
+  declared.on_broken.OnBroken.{OnBroken, TheVariants.{Warn, Exit, WarnNoPipe, ExitNoPipe, Signal}},
+  declared.calling.Calling.Calling,
+  declared.reason.Reason.{Reason, TheVariants.Other},
+  declared.slot.Mode.Mode,
+  Inputs.{CameFrom, largest_piece, OfContent, empty},
+  Text.status_after,
+  Message.{TellsOn, output_reason},
+  Streams.{standard_output, standard_error},
+}
 use Rattle.ports_core.proofs.InputsLemmas.{HasRead, changed_source, came_broken, came_sound, still_readable, read_broken, read_failed, read_more, read_none_more, read_to_end, of_content}
-use Rattle.ports_core.specs.Inputs.{CameFrom, largest_piece, OfContent, empty}
-use Rattle.tee_core.specs.Run.{AreSound, EachStandsFor, StandsFor, lost_for, output_slot, GaveLast, IsRead, LeavesOf, to_end, to_break, to_limit, to_broken_output, EndsAs, copied, no_room, FileLeft, file_whole, file_unopened, file_cut, file_unclosed, FilesLeft, no_file, one_file, ComesIn, IsAsFound, OutputLeft, output_whole, output_cut, Break, all_copied, any_is, are_sound, ends_run, forgives, gone_status, is_done, is_same, lost_as, messages_of, output_names, said_before, said_in, standing_of, standings_before, status_for, status_of, tee_called}
-use Rattle.tee_core.specs.declared.standing.Standing.{Standing}
-use Rattle.tee_core.specs.declared.standing.Standing.TheVariants.{Sound, Broken, Gone}
-use Rattle.tee_core.specs.inner.Steps.{Copies, CopiesRead, HasCopied, Sees, is_lost}
-use Rattle.ports_core.specs.Text.{status_after}
-use Rattle.ports_core.specs.Message.{TellsOn, output_named}
-use Rattle.ports_core.specs.Streams.{standard_output, standard_error}
+use Rattle.tee_core.specs.{
+  Run.{AreSound, lost_for, GaveLast, IsRead, LeavesOf, to_end, to_break, to_limit, to_broken_output, EndsAs, copied, no_room, FileLeft, file_whole, file_unopened, file_cut, file_unclosed, FilesLeft, no_file, one_file, ComesIn, IsAsFound, OutputLeft, output_whole, output_cut, Break, all_copied, any_is, are_sound, ends_run, forgives, gone_status, is_done, is_same, messages_of, output_names, said_before, said_in, standing_of, standings_before, status_for, status_of, tee_called},
+  declared.standing.Standing.{Standing, TheVariants.{Sound, Broken, Gone}},
+  inner.Steps.{Copies, CopiesRead, HasCopied},
+}
+use Rattle.ports_core.specs.declared.reason.Reason.TheVariants as reason
 
 nothing_more : {x : List ℕ} (rest : List ℕ) → x ≡ x ++ rest → rest ≡ []
 nothing_more [] is = refl
@@ -47,7 +49,7 @@ whole false there x breaks source has came = (record { bytes = x; breaks_off = b
 -- the read failed
 pub seen_broken : (told : Bool) (there : Content) (x : List ℕ) (size : ℕ) (sources new : List Source)
     → (told ≡ true → HasRead there x 0 sources) → IsTrue (is_readable sources 0)
-    → (told ≡ true → BrokeOff (source_at sources 0).left) → new ≡ changed_at 0 (fails size) sources
+    → (told ≡ true → BrokeOff (source_at sources 0).left) → ReadFails 0 size sources new
     → SeenWhole told there x true (source_at new 0)
 seen_broken told there x size sources new read can broke failed = whole told there x true (source_at new 0)
     (λ t. let all = read_broken there x 0 sources (read t) (broke t) in
@@ -149,93 +151,45 @@ pub reads_copied : {told_in : Bool} (told : Bool) {calling : Calling} {mode : Mo
     → CopiesRead told_in told calling mode on_broken names content source slots known fault
 reads_copied {told_in} told {content} {source} {known} {fault} {came} {pieces} joined vain sized few met ended last reads read copies = grind (arith, common_steps)
 
--- why outputs stand as they do
-
-sound_at : (n place : ℕ) → get_or (replicate n Sound) place Sound ≡ Sound
-sound_at zero place = refl
-sound_at (suc n) zero = refl
-sound_at (suc n) (suc place) = sound_at n place
-
-pub all_sound : (breaks_for : ℕ → Reason → Bool) (known : List Standing) (n : ℕ) → known ≡ replicate n Sound
-    → EachStandsFor breaks_for known
-all_sound breaks_for known n is place = subst (StandsFor (breaks_for (output_slot place))) (sym (ap (λ those. get_or those place Sound) is ∙ sound_at n place)) tt
-
-stands_one : (may : Reason → Bool) (was now : Standing) {is_broken : Bool} → StandsFor may was → Sees was is_broken now
-    → (is_lost was ≡ false → is_lost now ≡ true → (why : Reason) × IsTrue (may why) × (now ≡ lost_for why))
-    → StandsFor may now
-stands_one may was Sound before sees broke = tt
-stands_one may Sound Broken before sees broke = broke refl refl
-stands_one may Sound Gone before sees broke = broke refl refl
-stands_one may Broken Broken before sees broke = before
-stands_one may Gone Gone before sees broke = before
-stands_one may Broken Gone before sees broke = subst (StandsFor may) (sym (sees.kept refl refl)) before
-stands_one may Gone Broken before sees broke = subst (StandsFor may) (sym (sees.kept refl refl)) before
-
-each_set : (P : ℕ → Standing → Type 0) (known : List Standing) (n place : ℕ) (now : Standing)
-    → ((at : ℕ) → P at (get_or known at Sound)) → P n now → P place (get_or (set known n now) place Sound)
-each_set P [] n place now all one = all place
-each_set P (first ∷ known) zero zero now all one = one
-each_set P (first ∷ known) zero (suc place) now all one = all (suc place)
-each_set P (first ∷ known) (suc n) zero now all one = all zero
-each_set P (first ∷ known) (suc n) (suc place) now all one = each_set (λ at. P (suc at)) known n place now (λ at. all (suc at)) one
-
-get_or-default : (known : List Standing) (n : ℕ) (one other : Standing) → n < length known
-    → get_or known n one ≡ get_or known n other
-get_or-default [] n one other within = absurd (omega (arith, within))
-get_or-default (first ∷ known) zero one other within = refl
-get_or-default (first ∷ known) (suc n) one other within = get_or-default known n one other (omega arith)
-
-pub stands_next : (breaks_for : ℕ → Reason → Bool) (old known : List Standing) (other : Standing) {n : ℕ}
-    {now : Standing} {is_broken : Bool} → (EachStandsFor breaks_for old → EachStandsFor breaks_for known)
-    → EachStandsFor breaks_for old → n < length known
-    → Sees (get_or known n other) is_broken now
-    → (is_lost (get_or known n other) ≡ false → is_lost now ≡ true
-    → (why : Reason) × IsTrue (breaks_for (output_slot n) why) × (now ≡ lost_for why))
-    → EachStandsFor breaks_for (set known n now)
-stands_next breaks_for old known other {n} {now} step stand within sees broke place =
-    each_set (λ at. StandsFor (breaks_for (output_slot at))) known n place now (step stand)
-    (stands_one (breaks_for (output_slot n)) (get_or known n other) now (subst (StandsFor (breaks_for (output_slot n))) (get_or-default known n Sound other within) (step stand n)) sees broke)
-
 -- the end
 
-pub ends_copied : {told_in : Bool} (told : Bool) {breaks_for : ℕ → Reason → Bool} {calling : Calling} {mode : Mode}
+pub ends_copied : {told_in : Bool} (told : Bool) {calling : Calling} {mode : Mode}
     {on_broken : OnBroken} {names : List (List ℕ)} {content : Content} {source : Source} {pieces : List (List ℕ)}
     {fault : Option Fault} {status : ℕ} {slots : List Slot} {before known : List Standing}
-    → status ≡ status_for on_broken known fault → EachStandsFor breaks_for known
-    → ComesIn told_in content source (is_done on_broken before) pieces fault
+    → status ≡ status_for on_broken known fault → ComesIn told_in content source (is_done on_broken before) pieces fault
     → HasCopied told calling mode on_broken names pieces fault before slots known
-    → EndsAs told_in told breaks_for calling mode on_broken names content source slots status
-ends_copied {told_in} told {on_broken = on_broken} {content} {source} {pieces} {fault} is stand read left =
-    copied pieces fault left.first left.broke left.output left.error left.files (subst (λ standings. ComesIn told_in content source (is_done on_broken standings) pieces fault) (sym left.before_are) read) left.goes_on left.output_left left.files_left (rw left.known_are at stand) left.said left.are
+    → EndsAs told_in told calling mode on_broken names content source slots status
+ends_copied {told_in} told {on_broken = on_broken} {content} {source} {pieces} {fault} is read left =
+    copied pieces fault left.first left.broke left.output left.error left.files (subst (λ standings. ComesIn told_in content source (is_done on_broken standings) pieces fault) (sym left.before_are) read) left.goes_on left.output_left left.files_left left.said left.are
     (is ∙ ap (λ standings. status_for on_broken standings fault) left.known_are)
 
 -- there was no memory
 
 -- the fault was told, and the run has this status
 abbrev pub ToldSo : Bool → Calling → Fault → List Slot → List Slot → ℕ → Type 0
-ToldSo told calling fault mid new status = (why : Reason) × TellsOn told (tee_called calling) why fault (output_named mid fault) mid new
-    × (status ≡ status_after fault calling why)
+ToldSo told calling fault mid new status = TellsOn told (tee_called calling) fault mid new
+    × (status ≡ status_after fault calling (output_reason mid fault))
 
-ends_nowhere : {told_in : Bool} (told : Bool) {breaks_for : ℕ → Reason → Bool} {calling : Calling} {mode : Mode}
+ends_nowhere : {told_in : Bool} (told : Bool) {calling : Calling} {mode : Mode}
     {on_broken : OnBroken} {names : List (List ℕ)} {content : Content} {source : Source} {mid new : List Slot}
     {fault : Fault} {status : ℕ} → fault ≡ Memory → mid ≡ streams → IsAsFound told_in content source
     → ToldSo told calling fault mid new status
-    → EndsAs told_in told breaks_for calling mode on_broken names content source new status
+    → EndsAs told_in told calling mode on_broken names content source new status
 ends_nowhere told {calling} {mid = mid} {new} {status = status} is at unread says =
-    let (why, tells, one) = subst (λ (those : Fault). ToldSo told calling those mid new status) is says in
+    let (tells, one) = subst (λ (those : Fault). ToldSo told calling those mid new status) is says in
     let said = tells standard_output standard_error [] at in
-    no_room said.0 (said.0, (why, said.1), refl) unread said.2 one
+    no_room said.0 (said.0, (Other, said.1), refl) unread said.2 one
 
-pub ends_at_once : {told_in : Bool} (told : Bool) {breaks_for : ℕ → Reason → Bool} {calling : Calling} {mode : Mode}
+pub ends_at_once : {told_in : Bool} (told : Bool) {calling : Calling} {mode : Mode}
     {on_broken : OnBroken} {names : List (List ℕ)} {old new_sources : List Source} {first mid new : List Slot}
     {fault : Fault} {status : ℕ} → fault ≡ Memory → IsFresh old → first ≡ streams → mid ≡ first → new_sources ≡ old
     → ToldSo told calling fault mid new status
     → OfContent told_in (source_at old 0).left
-    (λ content. EndsAs told_in told breaks_for calling mode on_broken names content (source_at new_sources 0) new status
+    (λ content. EndsAs told_in told calling mode on_broken names content (source_at new_sources 0) new status
     × CameFrom told_in content (source_at new_sources 0))
-ends_at_once {told_in} told {breaks_for} {calling} {mode} {on_broken} {names} {old} {new_sources} {new = new} {status = status} is fresh at same sources says =
+ends_at_once {told_in} told {calling} {mode} {on_broken} {names} {old} {new_sources} {new = new} {status = status} is fresh at same sources says =
     let unread = ap (λ those. source_at those 0) (sources ∙ fresh.only) in
-    of_content told_in (source_at old 0).left empty (source_at new_sources 0) (λ content. EndsAs told_in told breaks_for calling mode on_broken names content (source_at new_sources 0) new status)
+    of_content told_in (source_at old 0).left empty (source_at new_sources 0) (λ content. EndsAs told_in told calling mode on_broken names content (source_at new_sources 0) new status)
     (λ _. ends_nowhere told is (same ∙ at) (fresh.standard, unread, λ _. sym (ap (λ those. (source_at those 0).left) fresh.only)) says)
     (λ untold. ends_nowhere told is (same ∙ at) (fresh.standard, unread, λ tells. absurd (false≢true (sym untold ∙ tells))) says)
     (ap (λ (source : Source). source.is_open) unread) (sym (ap (λ (source : Source). source.is_broken) unread))
@@ -306,11 +260,11 @@ pub sound_if : (broke : List (Option Break)) → any_is Broken (map standing_of 
     → any_is Gone (map standing_of broke) ≡ false → are_sound broke ≡ true
 sound_if [] whole left = refl
 sound_if (None ∷ broke) whole left = sound_if broke whole left
-sound_if (Some one ∷ broke) whole left = by one.is_gone whole left where
-  by : (gone : Bool) → any_is Broken (lost_as gone ∷ map standing_of broke) ≡ false
-      → any_is Gone (lost_as gone ∷ map standing_of broke) ≡ false → false ≡ true
-  by true none left = absurd (false≢true (sym left))
-  by false none left = absurd (false≢true (sym none))
+sound_if (Some one ∷ broke) whole left = by one.why whole left where
+  by : (why : Reason) → any_is Broken (lost_for why ∷ map standing_of broke) ≡ false
+      → any_is Gone (lost_for why ∷ map standing_of broke) ≡ false → false ≡ true
+  by reason.Gone none left = absurd (false≢true (sym left))
+  by why none left = absurd (false≢true (sym none))
 
 gone_fails : (on_broken : OnBroken) (failed : Bool) → forgives on_broken ≡ false → gone_status on_broken failed ≡ 0 → ⊥
 gone_fails Warn failed strict zero_is = omega (arith, zero_is)
@@ -378,13 +332,13 @@ well_of on_broken fault {first} {broke} left rest at sound zero_is = elim (cases
   | inr strict ↦ status_zero on_broken (first ∷ broke) fault strict zero_is
 ]
 
-pub whole_if : {told_in : Bool} (told : Bool) {breaks_for : ℕ → Reason → Bool} {calling : Calling} {mode : Mode}
+pub whole_if : {told_in : Bool} (told : Bool) {calling : Calling} {mode : Mode}
     {on_broken : OnBroken} {names : List (List ℕ)} {content : Content} {source : Source} {new : List Slot} {status : ℕ}
     → status ≡ 0 → (forgives on_broken ≡ true → AreSound new)
-    → EndsAs told_in told breaks_for calling mode on_broken names content source new status
+    → EndsAs told_in told calling mode on_broken names content source new status
     → new ≡ all_copied told mode names content.bytes
 whole_if told zero_is sound (no_room error said left at one) = absurd (omega (arith, zero_is, one))
-whole_if told {mode = mode} {on_broken} {names} zero_is sound (copied pieces fault first broke output error files read some output_left files_left stand said at is) =
+whole_if told {mode = mode} {on_broken} {names} zero_is sound (copied pieces fault first broke output error files read some output_left files_left said at is) =
     let good = well_of on_broken fault output_left files_left at sound (sym is ∙ zero_is) in let sounds = sound_first first (are_sound broke) good.1 in
     let silent = quiet fault (length pieces) (first ∷ broke) good.0 good.1 in
     at ∙ ap (λ slot. slot ∷ error ∷ files) (whole_output told pieces first output sounds.0 output_left)
@@ -397,10 +351,10 @@ whole_if told {mode = mode} {on_broken} {names} zero_is sound (copied pieces fau
           ap (λ texts. (texts ++ []) ++ said_in on_broken (suc pieces) (output_names names) broke) (nothing_before on_broken (suc pieces) (output_names names) broke sound) ∙ nothing_in on_broken (suc pieces) (output_names names) broke sound
       quiet (Some fault) pieces broke ended sound = absurd (false≢true ended)
 
-pub whole_of : {told_in : Bool} (told : Bool) {breaks_for : ℕ → Reason → Bool} {calling : Calling} {mode : Mode}
+pub whole_of : {told_in : Bool} (told : Bool) {calling : Calling} {mode : Mode}
     {on_broken : OnBroken} {names : List (List ℕ)} (there : Content) {source : Source} {new : List Slot} {status : ℕ}
     → told_in ≡ true → status ≡ 0 → (forgives on_broken ≡ true → AreSound new)
     → OfContent told_in there
-    (λ content. EndsAs told_in told breaks_for calling mode on_broken names content source new status
+    (λ content. EndsAs told_in told calling mode on_broken names content source new status
     × CameFrom told_in content source) → new ≡ all_copied told mode names there.bytes
 whole_of told {mode = mode} {names = names} there tells zero_is sound (content, is, holds) = cc (whole_if told zero_is sound holds.0, is tells)

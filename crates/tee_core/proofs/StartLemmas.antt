@@ -1,26 +1,24 @@
 -- Lemmas on a run's start: files that are opened one after another, and the messages for those that could not be.
-use Rattle.std.proofs.lemmas.Bool.Decides.{nat_tests}
-use Rattle.std.proofs.lemmas.Grind.{common_steps}
-use Rattle.std.proofs.Common.{◌≡◌, ℕ, ◌+◌, ◌-◌, ◌^◌, ◌<◌, ◌≤◌, zero, suc, List, [], ◌∷◌, ◌++◌, length, map, take, drop, get_or, Bor, true, inl, inr, refl, sym, ◌∙◌, ap, arith, append_assoc, length-append, replicate, Bool, false, Option, Some, None}
-use Rattle.std.proofs.lemmas.List.{append-nil, get_or-append-add, get_or_append_left, length-map}
-use Rattle.std.proofs.lemmas.Bool.{false≢true}
-use Rattle.std.specs.List.{list_any}
-use Rattle.ports_core.specs.Slot.{Slot, no_slot, slot_at, opened, unopened, is_open, FailsToOpen, broke, changed_at, streams}
-use Rattle.ports_core.specs.declared.on_broken.OnBroken.{OnBroken}
-use Rattle.ports_core.specs.declared.on_broken.OnBroken.TheVariants.{Warn, Exit, WarnNoPipe, ExitNoPipe, Signal}
-use Rattle.ports_core.specs.declared.calling.Calling.{Calling}
-use Rattle.ports_core.specs.declared.slot.Mode.{Mode}
-use Rattle.tee_core.specs.Opening.{OpensAs, is_opened, is_unopened, OpensEach, no_more, one_more, Opens, OpensSome}
-use Rattle.tee_core.specs.inner.Opening.{OpensOne}
-use Rattle.tee_core.specs.Outputs.{IsOutput, IsReady, IsUsable}
-use Rattle.tee_core.specs.TeeState.{TeeState}
-use Rattle.ports_core.proofs.Runs.{adds-nil}
-use Rattle.ports_core.specs.Streams.{standard_output, standard_error}
-use Rattle.tee_core.specs.Run.{Break, EachFile, no_file, one_file, output_whole, ends_run, fault_in, is_done, output_names, standing_of, standings_before}
-use Rattle.tee_core.specs.inner.Steps.{Copies, FileHas, has_all, has_none, HasStreams, IsTeeOf, SaysTo, Sees, SeesAll, broken_of, said_since}
-use Rattle.tee_core.specs.declared.standing.Standing.{Standing}
-use Rattle.tee_core.specs.declared.standing.Standing.TheVariants.{Sound, Broken, Gone}
-use Rattle.tee_core.proofs.CopyLemmas.{AllMark, Marked, all_marked, break_now, flags, marked_none, marked_now, none_marked, said_marked, stand_now, stand_so}
+use Rattle.std.{
+  proofs.lemmas.{Bool.{false≢true, Decides.nat_tests}, Grind.common_steps, List.{append-nil, get_or-append-add, get_or_append_left, length-map}},
+  proofs.Common.{◌≡◌, ℕ, ◌+◌, ◌-◌, ◌^◌, ◌<◌, ◌≤◌, zero, suc, List, [], ◌∷◌, ◌++◌, length, map, take, drop, get_or, Bor, true, inl, inr, refl, sym, ◌∙◌, ap, arith, append_assoc, length-append, replicate, Bool, false, Option, Some, None},
+  specs.List.list_any,
+}
+use Rattle.ports_core.{
+  specs.Slot.{Slot, no_slot, slot_at, opened, unopened, is_open, FailsToOpen, broke, changed_at, streams},
+  specs.declared.{on_broken.OnBroken.OnBroken, calling.Calling.Calling, slot.Mode.Mode},
+  specs.Streams.{standard_output, standard_error},
+  proofs.Runs.adds-nil,
+}
+use Rattle.tee_core.specs.{
+  Opening.{OpensAs, is_opened, is_unopened, OpensEach, no_more, one_more, Opens, OpensSome},
+  inner.{Opening.OpensOne, Steps.{Copies, FileHas, has_all, has_none, HasStreams, IsTeeOf, SaysTo, standings_of, said_since}},
+  Outputs.{IsOutput, IsReady, IsUsable},
+  TeeState.TeeState,
+  Run.{Break, EachFile, no_file, one_file, output_whole, ends_run, fault_in, is_done, output_names, standing_of, standings_before, stands_as},
+  declared.standing.Standing.{Standing, TheVariants.Sound},
+}
+use Rattle.tee_core.proofs.CopyLemmas.{AllMark, Marked, all_marked, break_now, marked_none, marked_now, none_marked, said_marked, stand_now, stand_so}
 use Rattle.ports_core.specs.declared.fault.Fault.TheVariants as fault
 
 -- one file
@@ -32,7 +30,7 @@ opened_one {mode} {name} is = record { slot = opened name mode; opens = is_opene
 pub in_vain : {mode : Mode} {name : List ℕ} {old new : List Slot} {slot : ℕ}
     → FailsToOpen old name new (fault.Open slot)
     → (slot ≡ length old) × OpensOne mode name old new
-in_vain {slot} (broke _ kept is named made) = (is, record { slot = unopened kept; opens = is_unopened kept named; slots = made })
+in_vain {slot} (broke _ kept why is named made) = (is, record { slot = unopened why kept; opens = is_unopened kept why named; slots = made })
 
 -- one after another
 
@@ -88,7 +86,7 @@ opens_more {names} {left} {old} {now} so_far number small one = record {
 
 opened_usable : {mode : Mode} {name : List ℕ} {slot : Slot} → OpensAs mode name slot → IsUsable slot
 opened_usable is_opened = λ sound. refl
-opened_usable (is_unopened kept named) = λ sound. absurd (false≢true (sym sound))
+opened_usable (is_unopened kept why named) = λ sound. absurd (false≢true (sym sound))
 
 since_usable : {mode : Mode} (names : List (List ℕ)) (slots : List Slot) (place : ℕ) → OpensEach mode names slots
     → place < length slots → IsUsable (slot_at slots place)
@@ -152,40 +150,27 @@ pub in_range : {mode : Mode} {names : List (List ℕ)} {old new : List Slot} →
     → length new ≡ length old + length names
 in_range {names} {old} opens = grind (arith, common_steps, length-since)
 
-file_starts : (told : Bool) {mode : Mode} {name : List ℕ} {file : Slot} {now : Standing} → OpensAs mode name file
-    → Sees Sound file.is_broken now → Marked (FileHas told mode [] name) 0 None now file
-file_starts told {mode} {name} is_opened sees = (None, rw (← (adds-nil told (opened name mode))) has_all, marked_none sees.broken)
-file_starts told {now = now} (is_unopened kept named) sees = (Some (break_now 0 now), has_none kept named, marked_now sees.broken)
+file_starts : (told : Bool) {mode : Mode} {name : List ℕ} {file : Slot} → OpensAs mode name file
+    → Marked (FileHas told mode [] name) 0 None file
+file_starts told {mode} {name} is_opened = (None, rw (← (adds-nil told (opened name mode))) has_all, marked_none)
+file_starts told (is_unopened kept why named) = (Some (break_now 0 why), has_none kept named, marked_now why)
 
-abbrev FilesStart : Bool → Mode → List (List ℕ) → List Slot → List Standing → Type 0
-FilesStart told mode names files nows =
-    (broke : List (Option Break)) × EachFile (FileHas told mode []) names broke files
-    × AllMark 0 (replicate (length names) None) broke nows
-
-files_start : (told : Bool) {mode : Mode} {names : List (List ℕ)} {files : List Slot} (nows : List Standing)
-    → OpensEach mode names files → SeesAll (replicate (length names) Sound) (flags files) nows
-    → FilesStart told mode names files nows
-files_start told [] no_more sees = ([], no_file, none_marked)
-files_start told (now ∷ nows) no_more sees = absurd sees
-files_start told [] (one_more name names file files one rest) sees = absurd sees
-files_start told (now ∷ nows) (one_more name names file files one rest) sees =
-    let here = file_starts told one sees.0 in
-    let there = files_start told nows rest sees.1 in
-    (here.0 ∷ there.0, one_file name names here.0 there.0 file files here.1 there.1, all_marked None here.0 now _ there.0 nows here.2 there.2)
+files_start : (told : Bool) {mode : Mode} {names : List (List ℕ)} {files : List Slot} → OpensEach mode names files
+    → (broke : List (Option Break)) × EachFile (FileHas told mode []) names broke files
+    × AllMark 0 (replicate (length names) None) broke (map stands_as files)
+files_start told no_more = ([], no_file, none_marked)
+files_start told (one_more name names file files one rest) =
+    let here = file_starts told one in
+    let there = files_start told rest in
+    (here.0 ∷ there.0, one_file name names here.0 there.0 file files here.1 there.1, all_marked None here.0 (stands_as file) _ there.0 (map stands_as files) here.2 there.2)
 
 -- standard output, which nothing has broken, and the files
-abbrev AllStart : Bool → Mode → List (List ℕ) → List Slot → List Standing → Type 0
-AllStart told mode names files nows =
-    (broke : List (Option Break)) × EachFile (FileHas told mode []) names broke files
-    × AllMark 0 (None ∷ replicate (length names) None) (None ∷ broke) nows
-
-all_start : (told : Bool) {mode : Mode} {names : List (List ℕ)} {files : List Slot} (nows : List Standing)
-    → OpensEach mode names files
-    → SeesAll (Sound ∷ replicate (length names) Sound) (broken_of (standard_output ∷ standard_error ∷ files)) nows
-    → AllStart told mode names files nows
-all_start told [] each sees = absurd sees
-all_start told (now ∷ nows) each sees =
-    let files = files_start told nows each sees.1 in (files.0, files.1, all_marked None None now _ files.0 nows (marked_none sees.0.broken) files.2)
+all_start : (told : Bool) {mode : Mode} {names : List (List ℕ)} {files : List Slot} → OpensEach mode names files
+    → (broke : List (Option Break)) × EachFile (FileHas told mode []) names broke files
+    × AllMark 0 (None ∷ replicate (length names) None) (None ∷ broke)
+    (standings_of (standard_output ∷ standard_error ∷ files))
+all_start told {files = files} each =
+    let rest = files_start told each in (rest.0, rest.1, all_marked None None Sound _ rest.0 (map stands_as files) marked_none rest.2)
 
 pub opened_streams : {mode : Mode} {names : List (List ℕ)} {slots : List Slot} → Opens mode names streams slots
     → HasStreams slots (length names)
@@ -211,10 +196,11 @@ pub starts : (told : Bool) {calling : Calling} {mode : Mode} (on_broken : OnBrok
     {old new : List Slot} {known nows : List Standing} → Opens mode names streams old
     → known ≡ replicate (length names + 1) Sound
     → SaysTo told calling (said_since on_broken (fault_in 0) (output_names names) known nows) old new
-    → SeesAll known (broken_of old) nows → Copies told calling mode on_broken names [] [] new nows
+    → nows ≡ standings_of old → Copies told calling mode on_broken names [] [] new nows
 starts told {calling} on_broken {names} {old} {new} {known} {nows} opens unknown says sees =
     let known_is : known ≡ Sound ∷ replicate (length names) Sound = unknown ∙ ap (λ n. replicate n Sound) (let e : length names + 1 ≡ suc (length names) = omega arith in e) in
-    let all = all_start told nows opens.each (rw (known_is, ap broken_of opens.slots) at sees) in
+    let stand : nows ≡ standings_of (standard_output ∷ standard_error ∷ opens.since) = sees ∙ ap standings_of opens.slots in
+    let all = all_start told opens.each in
     let unbroken : known ≡ map standing_of (None ∷ replicate (length names) None) = known_is ∙ sym (ap (λ rest. Sound ∷ rest) (standing_none (length names))) in
     record {
       output = standard_output;
@@ -226,10 +212,10 @@ starts told {calling} on_broken {names} {old} {new} {known} {nows} opens unknown
       output_has = rw (← (adds-nil told standard_output)) output_whole;
       files_have = all.1;
       said = rw (ap (λ those. said_since on_broken (fault_in 0) (output_names names) those nows) unbroken
-          ∙ sym (said_marked on_broken (output_names names) all.2) ∙ sym (append-nil _)) at (rw (ap (λ those. slot_at those 1) opens.slots) at says.1);
-      known_are = stand_so all.2;
+          ∙ ap (said_since on_broken (fault_in 0) (output_names names) (map standing_of (None ∷ replicate (length names) None))) stand ∙ sym (said_marked on_broken (output_names names) all.2) ∙ sym (append-nil _)) at (rw (ap (λ those. slot_at those 1) opens.slots) at says.1);
+      known_are = stand ∙ stand_so all.2;
       goes_on = goes_at_first on_broken all.0;
-      are_known = stand_now all.2;
+      are_known = stand_now all.2 ∙ sym stand;
     }
 
 pub length-names : (names : List (Bor (List ℕ))) {known : List Standing} → known ≡ replicate (length names + 1) Sound

@@ -1,14 +1,15 @@
 -- What `tee` makes of an input where no output breaks, and where its bytes go: POSIX.1-2017, XCU tee.
 use Rattle.std.specs.Prelude.{ℕ, ◌+◌, nat_lt, true, false, List, [], ◌∷◌, length, map, if◌then◌else◌}
-use Rattle.ports_core.specs.Agreed.{Spot, spot}
-use Rattle.ports_core.specs.Part.{File, Part, gets_bytes}
-use Rattle.ports_core.specs.Work.{Work, always_well, no_needs}
-use Rattle.ports_core.specs.declared.slot.Mode.{Mode}
-use Rattle.ports_core.specs.declared.slot.State.{State}
-use Rattle.ports_core.specs.declared.slot.State.TheVariants.{Open, Closed}
+use Rattle.ports_core.specs.{
+  declared.{reason.Reason.TheVariants.Other, slot.{Mode.Mode, State.{State, TheVariants.{Open, Closed}}}},
+  Agreed.{Spot, spot},
+  Part.{File, Part, gets_bytes},
+  Work.{Work, always_well, no_needs},
+}
 
 abbrev pub copy_in : Mode → State → List ℕ → List ℕ → File
-copy_in mode state x name = record { name = name; mode = mode; bytes = x; state = state; is_broken = false }
+copy_in mode state x name =
+    record { name = name; mode = mode; bytes = x; state = state; is_broken = false; reason = Other }
 
 -- standard output and each file have all of it
 abbrev pub copies : Mode → List (List ℕ) → State → List ℕ → Part

@@ -1,12 +1,11 @@
 -- How the files of a tee are opened.
 use Rattle.std.specs.Prelude.{◌≡◌, ℕ, List, [], ◌∷◌, ◌++◌, ◌⊎◌}
-use Rattle.ports_core.specs.Slot.{Slot, opened, unopened}
-use Rattle.ports_core.specs.declared.slot.Mode.{Mode}
+use Rattle.ports_core.specs.{Slot.{Slot, opened, unopened}, declared.{reason.Reason.Reason, slot.Mode.Mode}}
 
 -- a file was opened under its name; or it could not be, and its name is lost where there was no memory to keep it
 pub data OpensAs (mode : Mode) (name : List ℕ) : Slot → Type 0 where
   is_opened : OpensAs mode name (opened name mode)
-  is_unopened : (kept : List ℕ) → (kept ≡ name) ⊎ (kept ≡ []) → OpensAs mode name (unopened kept)
+  is_unopened : (kept : List ℕ) (why : Reason) → (kept ≡ name) ⊎ (kept ≡ []) → OpensAs mode name (unopened why kept)
 
 -- one output for each name, in order
 pub data OpensEach (mode : Mode) : List (List ℕ) → List Slot → Type 0 where

@@ -1,6 +1,6 @@
 -- The outputs of a tee, and what each of its calls makes of them.
 use Rattle.std.specs.Prelude.{◌≡◌, ℕ, ◌+◌, ◌≤◌, ◌<◌, Bool, true, false, not, ◌&&◌, List, [], ◌∷◌, length, take, ◌⊎◌, if◌then◌else◌}
-use Rattle.ports_core.specs.Slot.{Slot, slot_at, is_open, adds, breaks, closes, told_of}
+use Rattle.ports_core.specs.{Slot.{Slot, slot_at, is_open, adds, breaks, closes, told_of}, declared.reason.Reason.Reason}
 use Rattle.tee_core.specs.TeeState.{TeeState}
 
 -- the output at this place is one of its files
@@ -22,14 +22,14 @@ IsReady tee slots = (place : ℕ) → IsOutput tee place → IsUsable (slot_at s
 -- Some bytes came: an output took all of them; or it took a beginning and broke; or it was broken before.
 pub data Gets (told : Bool) (bytes : List ℕ) (old : Slot) : Slot → Type 0 where
   gets_all : old.is_broken ≡ false → Gets told bytes old (adds (told_of told bytes) old)
-  breaks_off : old.is_broken ≡ false → (n : ℕ) → n < length bytes
-      → Gets told bytes old (breaks (adds (told_of told (take n bytes)) old))
+  breaks_off : old.is_broken ≡ false → (n : ℕ) (why : Reason) → n < length bytes
+      → Gets told bytes old (breaks why (adds (told_of told (take n bytes)) old))
   gets_none : old.is_broken ≡ true → Gets told bytes old old
 
 -- The end came: a file was closed, or broke as it was; or it was broken before.
 pub data Closes (old : Slot) : Slot → Type 0 where
   is_closed : old.is_broken ≡ false → Closes old (closes old)
-  fails_to_close : old.is_broken ≡ false → Closes old (breaks (closes old))
+  fails_to_close : old.is_broken ≡ false → (why : Reason) → Closes old (breaks why (closes old))
   was_broken : old.is_broken ≡ true → Closes old old
 
 -- each of these outputs was changed so, whatever became of the others, and nothing else was changed

@@ -1,24 +1,24 @@
 -- What a run of `tee` leaves, of its input and of what broke when.
-use Rattle.std.specs.Prelude.{is_none, ◌≡◌, ℕ, ◌≤◌, ◌<◌, ◌^◌, zero, suc, ◌==◌, ◌&&◌, ◌||◌, ◌+◌, not, nat_lt, All, Bool, true, false, List, [], ◌∷◌, ◌++◌, length, map, take, Option, Some, None, ◌⊎◌, codes, if◌then◌else◌, get_or, IsTrue}
-use Rattle.std.specs.List.{concat, list_any}
-use Rattle.ports_core.specs.Slot.{Slot, opened, slot_at, unopened, adds, breaks, closes, told_of}
-use Rattle.ports_core.specs.Inputs.{largest_piece}
-use Rattle.ports_core.specs.Source.{Content, Source, source_of}
-use Rattle.ports_core.specs.Text.{Message, message_of}
-use Rattle.ports_core.specs.Message.{SaysAll}
-use Rattle.ports_core.specs.declared.calling.Calling.{Calling}
-use Rattle.ports_core.specs.declared.calling.Speaker.{Speaker}
-use Rattle.ports_core.specs.declared.reason.Reason.{Reason}
+use Rattle.std.specs.{
+  Prelude.{is_none, ◌≡◌, ℕ, ◌≤◌, ◌<◌, ◌^◌, zero, suc, ◌==◌, ◌&&◌, ◌||◌, ◌+◌, not, nat_lt, All, Bool, true, false, List, [], ◌∷◌, ◌++◌, length, map, take, Option, Some, None, ◌⊎◌, codes, if◌then◌else◌},
+  List.{concat, list_any},
+}
+use Rattle.ports_core.specs.{
+  Slot.{Slot, opened, slot_at, unopened, adds, breaks, closes, told_of},
+  Inputs.largest_piece,
+  Source.{Content, Source, source_of},
+  Text.{Message, message_of},
+  Message.SaysAll,
+  declared.calling.{Calling.Calling, Speaker.Speaker},
+  declared.reason.Reason.Reason,
+  declared.on_broken.OnBroken.{OnBroken, TheVariants.{Warn, Exit, WarnNoPipe, ExitNoPipe, Signal}},
+  declared.slot.Mode.Mode,
+  declared.tool.Tool.TheVariants.Tee,
+  declared.fault.Fault.{Fault, TheVariants.{Memory, Write, Read, Open, TooLong}},
+  Streams.{standard_output, standard_error, streams_with},
+}
+use Rattle.tee_core.specs.declared.standing.Standing.{Standing, TheVariants.{Sound, Broken, Gone}}
 use Rattle.ports_core.specs.declared.reason.Reason.TheVariants as reason
-use Rattle.ports_core.specs.declared.on_broken.OnBroken.{OnBroken}
-use Rattle.ports_core.specs.declared.on_broken.OnBroken.TheVariants.{Warn, Exit, WarnNoPipe, ExitNoPipe, Signal}
-use Rattle.ports_core.specs.declared.slot.Mode.{Mode}
-use Rattle.ports_core.specs.declared.tool.Tool.TheVariants.{Tee}
-use Rattle.ports_core.specs.declared.fault.Fault.{Fault}
-use Rattle.ports_core.specs.declared.fault.Fault.TheVariants.{Memory, Write, Read, Open, TooLong}
-use Rattle.ports_core.specs.Streams.{standard_output, standard_error, streams_with}
-use Rattle.tee_core.specs.declared.standing.Standing.{Standing}
-use Rattle.tee_core.specs.declared.standing.Standing.TheVariants.{Sound, Broken, Gone}
 
 -- who speaks in its messages
 abbrev pub tee_called : Calling → Speaker
@@ -27,45 +27,29 @@ tee_called calling = record { calling = calling; tool = Tee }
 -- The calls of a run are numbered: call 0 opens the files, one call follows for each piece of the input, and the last
 -- one closes the files. What broke when is a list: for standard output and then for each file, how it broke, if it did.
 
--- an output broke in this call, and is gone where nobody read it any more
+-- an output broke in this call, for this reason
 pub record Break : Type 0 where
   pub call : ℕ
-  pub is_gone : Bool
+  pub why : Reason
 
--- how an output stands that broke so, and one of which this is said
-abbrev pub lost_as : Bool → Standing
-lost_as true = Gone
-lost_as false = Broken
-
-abbrev pub standing_of : Option Break → Standing
-standing_of None = Sound
-standing_of (Some broke) = lost_as broke.is_gone
-
--- how an output stands that broke for this reason
+-- how an output stands that broke for this reason: it is gone where nobody reads it any more
 abbrev pub lost_for : Reason → Standing
 lost_for reason.Gone = Gone
 lost_for why = Broken
 
--- an output stands so for a reason for which it can break
-abbrev pub StandsFor : (Reason → Bool) → Standing → Type 0
-StandsFor may Sound = Unit {0}
-StandsFor may lost = (why : Reason) × IsTrue (may why) × (lost ≡ lost_for why)
+-- how an output stands by its slot
+abbrev pub stands_as : Slot → Standing
+stands_as slot = if slot.is_broken then lost_for slot.reason else Sound
 
--- the number of an output: standard error stands between standard output and the files
-abbrev pub output_slot : ℕ → ℕ
-output_slot zero = 0
-output_slot (suc n) = suc (suc n)
-
--- so does each
-abbrev pub EachStandsFor : (ℕ → Reason → Bool) → List Standing → Type 0
-EachStandsFor breaks_for standings =
-    (place : ℕ) → StandsFor (breaks_for (output_slot place)) (get_or standings place Sound)
+abbrev pub standing_of : Option Break → Standing
+standing_of None = Sound
+standing_of (Some broke) = lost_for broke.why
 
 -- how the outputs stand by what broke before this call
 
 abbrev pub standing_before : ℕ → Option Break → Standing
 standing_before call None = Sound
-standing_before call (Some broke) = if nat_lt broke.call call then lost_as broke.is_gone else Sound
+standing_before call (Some broke) = if nat_lt broke.call call then lost_for broke.why else Sound
 
 abbrev pub standings_before : ℕ → List (Option Break) → List Standing
 standings_before call broke = map (standing_before call) broke
@@ -110,7 +94,7 @@ is_told on_broken Gone = not (is_quiet on_broken)
 -- an output broke in this call, and there is a message for it
 abbrev pub tells_in : OnBroken → ℕ → Option Break → Bool
 tells_in on_broken call None = false
-tells_in on_broken call (Some broke) = broke.call == call && is_told on_broken (lost_as broke.is_gone)
+tells_in on_broken call (Some broke) = broke.call == call && is_told on_broken (lost_for broke.why)
 
 -- what a call couldn't do with an output that broke in it; the number stands in no message
 abbrev pub fault_in : ℕ → Fault
@@ -221,25 +205,25 @@ pub record ComesIn (told : Bool) (content : Content) (source : Source) (is_vain 
 -- Standard output: it has all that was copied; or it broke in a piece, and has a beginning.
 pub data OutputLeft (told : Bool) (pieces : List (List ℕ)) : Option Break → Slot → Type 0 where
   output_whole : OutputLeft told pieces None (adds (told_of told (concat pieces)) standard_output)
-  output_cut : {is_gone : Bool} (before : List (List ℕ)) (piece : List ℕ) (after : List (List ℕ)) (n : ℕ)
+  output_cut : {why : Reason} (before : List (List ℕ)) (piece : List ℕ) (after : List (List ℕ)) (n : ℕ)
       → pieces ≡ before ++ piece ∷ after → n < length piece
-      → OutputLeft told pieces (Some (record { call = suc (length before); is_gone = is_gone }))
-      (breaks (adds (told_of told (concat before ++ take n piece)) standard_output))
+      → OutputLeft told pieces (Some (record { call = suc (length before); why = why }))
+      (breaks why (adds (told_of told (concat before ++ take n piece)) standard_output))
 
 -- A file: it has all that was copied, and was closed; or it couldn't be opened, and its name is lost where there was no
 -- memory to keep it; or it broke in a piece, and has a beginning; or it has all, and broke as it was closed.
 pub data FileLeft (told : Bool) (mode : Mode) (pieces : List (List ℕ)) (name : List ℕ) : Option Break → Slot → Type 0
   where
     file_whole : FileLeft told mode pieces name None (closes (adds (told_of told (concat pieces)) (opened name mode)))
-    file_unopened : {is_gone : Bool} (kept : List ℕ) → (kept ≡ name) ⊎ (kept ≡ [])
-        → FileLeft told mode pieces name (Some (record { call = 0; is_gone = is_gone })) (unopened kept)
-    file_cut : {is_gone : Bool} (before : List (List ℕ)) (piece : List ℕ) (after : List (List ℕ)) (n : ℕ)
+    file_unopened : {why : Reason} (kept : List ℕ) → (kept ≡ name) ⊎ (kept ≡ [])
+        → FileLeft told mode pieces name (Some (record { call = 0; why = why })) (unopened why kept)
+    file_cut : {why : Reason} (before : List (List ℕ)) (piece : List ℕ) (after : List (List ℕ)) (n : ℕ)
         → pieces ≡ before ++ piece ∷ after → n < length piece
-        → FileLeft told mode pieces name (Some (record { call = suc (length before); is_gone = is_gone }))
-        (breaks (adds (told_of told (concat before ++ take n piece)) (opened name mode)))
-    file_unclosed : {is_gone : Bool}
-        → FileLeft told mode pieces name (Some (record { call = suc (length pieces); is_gone = is_gone }))
-        (breaks (closes (adds (told_of told (concat pieces)) (opened name mode))))
+        → FileLeft told mode pieces name (Some (record { call = suc (length before); why = why }))
+        (breaks why (adds (told_of told (concat before ++ take n piece)) (opened name mode)))
+    file_unclosed : {why : Reason}
+        → FileLeft told mode pieces name (Some (record { call = suc (length pieces); why = why }))
+        (breaks why (closes (adds (told_of told (concat pieces)) (opened name mode))))
 
 -- each file is so, by its name and how it broke, whatever became of the others
 pub data EachFile (Is : List ℕ → Option Break → Slot → Type 0) : List (List ℕ) → List (Option Break) → List Slot
@@ -253,26 +237,24 @@ abbrev pub FilesLeft : Bool → Mode → List (List ℕ) → List (List ℕ) →
 FilesLeft told mode pieces = EachFile (FileLeft told mode pieces)
 
 -- A run ended so: as each piece was read, the outputs that were broken didn't end it, and where they did the reading
--- ended with that; standard output and each file were left as they must be by what broke when, and each broke for a
--- reason for which it can; the messages for that were said, each with some reason, and the status tells whether anything went wrong; or there was no memory for the run
--- at all, and nothing was opened or read.
-pub data EndsAs (told_in told : Bool) (breaks_for : ℕ → Reason → Bool) (calling : Calling) (mode : Mode)
-    (on_broken : OnBroken) (names : List (List ℕ)) (content : Content) (source : Source) (new : List Slot)
-    (status : ℕ) : Type 0 where
+-- ended with that; standard output and each file were left as they must be by what broke when and why; the messages for
+-- that were said, each with some reason, and the status tells whether anything went wrong; or there was no memory for
+-- the run at all, and nothing was opened or read.
+pub data EndsAs (told_in told : Bool) (calling : Calling) (mode : Mode) (on_broken : OnBroken)
+    (names : List (List ℕ)) (content : Content) (source : Source) (new : List Slot) (status : ℕ) : Type 0 where
   copied : (pieces : List (List ℕ)) (fault : Option Fault) (first : Option Break) (broke : List (Option Break))
       (output error : Slot) (files : List Slot)
       → ComesIn told_in content source (is_done on_broken (standings_before (suc (length pieces)) (first ∷ broke)))
       pieces fault
       → is_done on_broken (standings_before (length pieces) (first ∷ broke)) ≡ false
       → OutputLeft told pieces first output → FilesLeft told mode pieces names broke files
-      → EachStandsFor breaks_for (map standing_of (first ∷ broke))
       → SaysAll told (tee_called calling) (messages_of on_broken names (first ∷ broke) (length pieces) fault)
       standard_error error
       → new ≡ output ∷ error ∷ files → status ≡ status_of on_broken (first ∷ broke) fault
-      → EndsAs told_in told breaks_for calling mode on_broken names content source new status
+      → EndsAs told_in told calling mode on_broken names content source new status
   no_room : (error : Slot) → SaysAll told (tee_called calling) (message_of Memory [] ∷ []) standard_error error
       → IsAsFound told_in content source → new ≡ streams_with error → status ≡ 1
-      → EndsAs told_in told breaks_for calling mode on_broken names content source new status
+      → EndsAs told_in told calling mode on_broken names content source new status
 
 -- where nothing breaks: standard output and every file have these bytes, the files are closed, and nothing was said
 abbrev pub all_copied : Bool → Mode → List (List ℕ) → List ℕ → List Slot

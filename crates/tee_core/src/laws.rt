@@ -1,10 +1,7 @@
 //! Laws of the definitions, with no code: each stands on the contract of a function whose body is empty.
 ghost use Rattle.std.specs.Prelude.{Bool, List, [], ℕ};
-ghost use Rattle.ports_core.specs.Agreed.{ArePlaced, IsAgreed, IsUndecided};
-ghost use Rattle.ports_core.specs.Part.{OutputsAt};
-ghost use Rattle.ports_core.specs.Slot.{streams};
-ghost use Rattle.tee_core.specs.Copy.{tee_spots, tee_work};
-ghost use Rattle.tee_core.specs.Run.{all_copied};
+ghost use Rattle.ports_core.specs.{Agreed.{ArePlaced, IsAgreed, IsUndecided}, Part.OutputsAt, Slot.streams};
+ghost use Rattle.tee_core.specs.{Copy.{tee_spots, tee_work}, Run.all_copied};
 
 use ports_core::Mode;
 

@@ -1,20 +1,19 @@
 //! A whole run of `tee`.
 ghost use Rattle.std.specs.Prelude.{◌≡◌, ◌∷◌, ◌+◌, ◌<◌, ◌≤◌, ◌^◌, ◌-◌, replicate, ◌++◌, ℕ, List, Option, [], true, false, map, length, get_or, IfOk, IfErr, IfSome, IsTrue, codes};
-ghost use Rattle.ports_core.specs.declared.calling.Speaker.{Speaker};
-ghost use Rattle.ports_core.specs.declared.fault.Fault.{Fault};
-ghost use Rattle.ports_core.specs.declared.on_broken.OnBroken.{OnBroken};
-ghost use Rattle.ports_core.specs.declared.reason.Reason.{Reason};
-ghost use Rattle.ports_core.specs.declared.slot.Mode.{Mode};
-ghost use Rattle.ports_core.specs.Slot.{is_open, slot_at, streams};
-ghost use Rattle.ports_core.specs.Text.{Message, message_of};
-ghost use Rattle.ports_core.specs.Message.{SaysOn};
-ghost use Rattle.ports_core.specs.Source.{source_at, is_readable, IsFresh};
-ghost use Rattle.ports_core.specs.Inputs.{CameFrom, KeepsOthers, OfContent, AsksAtMost, largest_piece};
-ghost use Rattle.tee_core.specs.Opening.{Opens};
-ghost use Rattle.tee_core.specs.Run.{AreSound, EachStandsFor, EndsAs, all_copied, forgives, is_done, lost_for, output_names, output_slot, said_of_input, status_for, tee_called};
-ghost use Rattle.tee_core.specs.inner.Steps.{HasCopied, Copies, CopiesRead, HasStreams, IsTeeOf, SaysTo, Sees, SeesAll, broken_of, is_lost, said_since, tells};
-ghost use Rattle.tee_core.specs.declared.standing.Standing.{Standing};
-ghost use Rattle.tee_core.specs.declared.standing.Standing.TheVariants.{Sound};
+ghost use Rattle.ports_core.specs.{
+  declared.{fault.Fault.Fault, slot.Mode.Mode},
+  Slot.{is_open, slot_at, streams},
+  Text.{Message, message_of},
+  Message.SaysOn,
+  Source.{source_at, is_readable, IsFresh},
+  Inputs.{CameFrom, KeepsOthers, OfContent, AsksAtMost, largest_piece},
+};
+ghost use Rattle.tee_core.specs.{
+  Opening.Opens,
+  Run.{AreSound, EndsAs, all_copied, forgives, is_done, output_names, said_of_input, tee_called, stands_as},
+  inner.Steps.{HasCopied, Copies, CopiesRead, HasStreams, IsTeeOf, SaysTo, said_since, standings_of, tells, output_slot},
+  declared.standing.Standing.TheVariants.Sound,
+};
 
 use crate::standing::{Standing, is_done, is_told, lost_for, status_for};
 use crate::tee::Tee;
@@ -60,7 +59,7 @@ pub fn run_tee<I: Inputs, O: Outs>(
     requires fresh { IsFresh (I.sources inputs.old) }
     requires outputs { O.slots outs.old ≡ streams }
     ensures ends { OfContent I.told (source_at (I.sources inputs.old) 0).left
-        (λ content. EndsAs I.told O.told O.breaks_for calling mode on_broken (map (λ name. name.now) names.now) content
+        (λ content. EndsAs I.told O.told calling mode on_broken (map (λ name. name.now) names.now) content
         (source_at (I.sources inputs.new) 0) (O.slots outs.new) result
         × CameFrom I.told content (source_at (I.sources inputs.new) 0)) }
     ensures whole { I.told ≡ true → result ≡ 0 → (forgives on_broken ≡ true → AreSound (O.slots outs.new))
@@ -105,7 +104,7 @@ fn copy_input<I: Inputs, O: Outs>(
     requires fresh { IsFresh (I.sources inputs.old) }
     requires outputs { O.slots outs.old ≡ streams }
     ensures copied { IfOk result (λ status. OfContent I.told (source_at (I.sources inputs.old) 0).left
-        (λ content. EndsAs I.told O.told O.breaks_for job.now.calling mode job.now.on_broken
+        (λ content. EndsAs I.told O.told job.now.calling mode job.now.on_broken
         (map (λ name. name.now) job.now.names.now) content (source_at (I.sources inputs.new) 0) (O.slots outs.new)
         status × CameFrom I.told content (source_at (I.sources inputs.new) 0))) }
     ensures err { IfErr result
@@ -140,7 +139,7 @@ fn copy_all<I: Inputs, O: Outs>(
     requires unknown { known.old ≡ replicate (length job.now.names.now + 1) Sound }
     ensures copied { (mode : Mode) → Opens mode (map (λ name. name.now) job.now.names.now) streams (O.slots outs.old)
         → OfContent I.told (source_at (I.sources inputs.old) 0).left
-        (λ content. EndsAs I.told O.told O.breaks_for job.now.calling mode job.now.on_broken
+        (λ content. EndsAs I.told O.told job.now.calling mode job.now.on_broken
         (map (λ name. name.now) job.now.names.now) content (source_at (I.sources inputs.new) 0) (O.slots outs.new)
         result × CameFrom I.told content (source_at (I.sources inputs.new) 0)) }
     ensures others { KeepsOthers 0 (I.sources inputs.old) (I.sources inputs.new) }
@@ -180,7 +179,6 @@ fn copy_pieces<I: Inputs, O: Outs>(
         (λ content. CopiesRead I.told O.told job.now.calling mode job.now.on_broken
         (map (λ name. name.now) job.now.names.now) content (source_at (I.sources inputs.new) 0) (O.slots outs.new)
         known.new result × CameFrom I.told content (source_at (I.sources inputs.new) 0)) }
-    ensures stand { EachStandsFor O.breaks_for known.old → EachStandsFor O.breaks_for known.new }
     ensures others { KeepsOthers 0 (I.sources inputs.old) (I.sources inputs.new) }
     ensures asked { (source_at (I.sources inputs.old) 0).asked ≤ length buffer.old
         → (source_at (I.sources inputs.new) 0).asked ≤ length buffer.old }
@@ -220,7 +218,6 @@ fn copy_piece<O: Outs>(
         (O.slots outs.old) known.old
         → Copies O.told job.now.calling mode job.now.on_broken (map (λ name. name.now) job.now.names.now)
         (pieces ++ piece.now ∷ []) [] (O.slots outs.new) known.new }
-    ensures stand { EachStandsFor O.breaks_for known.old → EachStandsFor O.breaks_for known.new }
 {
     tee.feed(piece, outs);
     tell_broken(job, &Fault::Write(0), known, outs);
@@ -237,7 +234,6 @@ fn close_all<O: Outs>(job: &Job<'_>, tee: &mut Tee, known: &mut [Standing], outs
         (said_of_input fault) (O.slots outs.old) known.old
         → HasCopied O.told job.now.calling mode job.now.on_broken (map (λ name. name.now) job.now.names.now) pieces
         fault known.old (O.slots outs.new) known.new }
-    ensures stand { EachStandsFor O.breaks_for known.old → EachStandsFor O.breaks_for known.new }
 {
     tee.close(outs);
     tell_broken(job, &Fault::Write(0), known, outs);
@@ -247,8 +243,8 @@ fn close_all<O: Outs>(job: &Job<'_>, tee: &mut Tee, known: &mut [Standing], outs
 fn tell_input<I: Inputs, O: Outs>(job: &Job<'_>, fault: &Option<Fault>, inputs: &I, outs: &mut O)
     requires { (count : ℕ) × HasStreams (O.slots outs.old) count }
     ensures told { SaysTo O.told job.now.calling (said_of_input fault.now) (O.slots outs.old) (O.slots outs.new) }
-    ensures reason { IfSome fault.now (λ fault. (why : Reason) × IsTrue (I.breaks_for 0 why)
-        × SaysOn O.told (tee_called job.now.calling) why (message_of fault (codes "standard input")) (O.slots outs.old)
+    ensures reason { IfSome fault.now (λ fault. SaysOn O.told (tee_called job.now.calling)
+        (source_at (I.sources inputs.now) 0).reason (message_of fault (codes "standard input")) (O.slots outs.old)
         (O.slots outs.new)) }
 {
     if let Some(fault) = fault {
@@ -272,8 +268,7 @@ fn tell_broken<O: Outs>(job: &Job<'_>, fault: &Fault, known: &mut [Standing], ou
     ensures said { SaysTo O.told job.now.calling
         (said_since job.now.on_broken fault.now (output_names (map (λ name. name.now) job.now.names.now)) known.old
         known.new) (O.slots outs.old) (O.slots outs.new) }
-    ensures seen { SeesAll known.old (broken_of (O.slots outs.old)) known.new }
-    ensures stand { EachStandsFor O.breaks_for known.old → EachStandsFor O.breaks_for known.new }
+    ensures seen { known.new ≡ standings_of (O.slots outs.old) }
 {
     for n in 0..known.len() {
         let name = output_name(job.names, n);
@@ -292,28 +287,31 @@ fn tell_one<O: Outs>(
     outs: &mut O,
 ) -> Standing
     requires { is_open (slot_at (O.slots outs.old) 1).state ≡ true }
-    ensures sees { Sees known (slot_at (O.slots outs.old) slot).is_broken result }
-    ensures reason { is_lost known ≡ false → is_lost result ≡ true
-        → (why : Reason) × IsTrue (O.breaks_for slot why) × (result ≡ lost_for why) }
+    ensures stands { result ≡ stands_as (slot_at (O.slots outs.old) slot) }
     ensures told { tells job.now.on_broken known result ≡ true
-        → (why : Reason) × IsTrue (O.breaks_for slot why) × (result ≡ lost_for why)
-        × SaysOn O.told (tee_called job.now.calling) why (message_of fault.now name.now) (O.slots outs.old)
-        (O.slots outs.new) }
+        → SaysOn O.told (tee_called job.now.calling) (slot_at (O.slots outs.old) slot).reason
+        (message_of fault.now name.now) (O.slots outs.old) (O.slots outs.new) }
     ensures quiet { tells job.now.on_broken known result ≡ false → O.slots outs.new ≡ O.slots outs.old }
 {
     if !outs.broken(slot) {
         return Standing::Sound;
     }
-    let Standing::Sound = known else {
-        return known;
-    };
     let why = outs.reason(slot);
     let standing = lost_for(why);
-    if !is_told(job.on_broken, standing) {
-        return standing;
+    if tells(job.on_broken, known, standing) {
+        say(job.alloc, tee_called(job.calling), why, fault, name, outs);
     }
-    say(job.alloc, tee_called(job.calling), why, fault, name, outs);
     standing
+}
+
+/// Whether there is a message for an output that was known to stand so, and now stands otherwise.
+fn tells(on_broken: OnBroken, known: Standing, standing: Standing) -> bool
+    ensures { result ≡ tells on_broken known standing }
+{
+    match known {
+        Standing::Sound => is_told(on_broken, standing),
+        Standing::Broken | Standing::Gone => false,
+    }
 }
 
 /// What messages call an output: standard output, and then the files.

@@ -1,11 +1,12 @@
 //! An input's copies.
-ghost use Rattle.std.specs.Prelude.{◌≡◌, ◌++◌, ◌∷◌, [], ◌+◌, ◌≤◌, ◌<◌, ◌^◌, ◌-◌, ℕ, List, true, false, length, map, IfOk, IfErr, OnOk};
+ghost use Rattle.std.specs.Prelude.{◌≡◌, ◌++◌, ◌+◌, ◌≤◌, ◌<◌, ◌^◌, ◌-◌, ℕ, List, true, false, length, map, IfOk, IfErr, OnOk};
 ghost use Rattle.ports_core.specs.Slot.{Slot, adds, is_open, slot_at, told_of};
-ghost use Rattle.tee_core.specs.Opening.{Opens, OpensSome};
-ghost use Rattle.tee_core.specs.inner.Opening.{OpensOne};
-ghost use Rattle.tee_core.specs.inner.Turns.{Turns};
-ghost use Rattle.tee_core.specs.Outputs.{ChangesEach, Closes, Gets, IsFile, IsOutput, IsReady, IsUsable, newly_broken};
-ghost use Rattle.tee_core.specs.TeeState.{TeeState};
+ghost use Rattle.tee_core.specs.{
+  Opening.{Opens, OpensSome},
+  inner.{Opening.OpensOne, Turns.Turns},
+  Outputs.{ChangesEach, Closes, Gets, IsFile, IsOutput, IsReady, IsUsable, newly_broken},
+  TeeState.TeeState,
+};
 
 use ports_core::{Fault, Mode, Outs, write_whole};
 use std::alloc::Global;

@@ -1,4 +1,4 @@
-//! Tests of `seg_core`, `bre_core` and `scan_core`: lines, counts, windows and patterns.
+//! Tests of `seg_core`, `bre_core`, `plain_core` and `scan_core`: lines, counts, windows and patterns.
 #![tactic(auto)]
 
 #[cfg(test)]

@@ -1,48 +1,34 @@
 -- Lemmas on opening a tool's engine.
-use Rattle.std.proofs.lemmas.Grind.{common_steps}
-use Rattle.std.proofs.Common.{◌≡◌, ℕ, ◌-◌, ◌<◌, ◌≤◌, ◌^◌, zero, suc, Bool, true, false, IsTrue, if◌then◌else◌, List, [], length, Result, Ok, Err, IfOk, IfErr, IsErr, OnOk, refl, sym, ◌∙◌, ap, arith, Option, Some, None, option_map, replicate, inl, inr}
-use Rattle.ports_core.specs.Slot.{Slot, is_writable}
-use Rattle.ports_core.specs.declared.calling.Calling.TheVariants.{Cutters}
-use Rattle.ports_core.specs.Part.{OutputsAt, StoppedBetween, nothing, only_out}
-use Rattle.csplit_core.specs.Output.{manner_of}
-use Rattle.ports_core.specs.Work.{Work, Needs}
-use Rattle.ports_core.specs.Guard.{GuardState, HoldsIn}
-use Rattle.ports_core.specs.Engine.{Terms, is_verdict}
-use Rattle.ports_core.specs.declared.fault.Fault.{Fault}
-use Rattle.ports_core.specs.declared.fault.Fault.TheVariants.{Memory, Write, Open, Verdict}
-use Rattle.ports_core.specs.declared.verdict.Verdict.TheVariants.{Suffixes}
-use Rattle.ports_core.proofs.PartLemmas.{nothing_out, nothing_begins_part, stopped_here}
-use Rattle.ports_core.proofs.SlotSteps.{none_past, swept_none}
-use Rattle.seg_core.specs.declared.cut.Way.{Way}
-use Rattle.seg_core.specs.declared.cut.Way.TheVariants as way
-use Rattle.ports_core.specs.Name.{Naming}
-use Rattle.ports_core.specs.declared.file_writer.Tells.{Tells}
-use Rattle.split_core.specs.ChunkWork.{CannotBegin, way_work, work_by}
-use Rattle.split_core.specs.Split.{Filing, is_verbose, tells_by}
-use Rattle.seg_core.specs.declared.unit.Unit.{Unit as Counted}
-use Rattle.seg_core.specs.declared.unit.Unit.TheVariants.{Lines, Bytes}
-use Rattle.ends_core.specs.Ends.{after_of, head_of, tail_of}
-use Rattle.ends_core.proofs.KeptLemmas.{first_of-nil}
-use Rattle.ends_core.specs.Head.{head_work}
-use Rattle.ends_core.specs.Tail.{tail_work}
-use Rattle.ends_core.specs.Shown.{head_in, head_shown, place_of, tail_in, tail_shown}
-use Rattle.ends_core.specs.Stage as ends
-use Rattle.ends_core.specs.declared.ends.Ends.{Ends}
-use Rattle.seg_core.specs.declared.cut.Chunks.{Chunks}
-use Rattle.run_core.specs.Feeding.{Stops, call_of}
-use Rattle.run_core.specs.RunSteps.{IsShown, OnlyLooked, Opens, OpensShort}
-use Rattle.ports_core.specs.Source.{Source, count_shown, source_at}
-use Rattle.ports_core.proofs.LoadLemmas.{looked_none}
-use Rattle.std.proofs.lemmas.List.{length-replicate}
-use Rattle.words_core.specs.EndsWords.{EndsAsked}
-use Rattle.words_core.specs.SplitWords.{SplitAsked}
+use Rattle.std.proofs.{
+  lemmas.{Grind.common_steps, List.length-replicate, Bool.false≢true},
+  Common.{◌≡◌, ℕ, ◌-◌, ◌<◌, ◌≤◌, ◌^◌, zero, suc, Bool, true, false, IsTrue, if◌then◌else◌, List, [], length, Result, Ok, Err, IfOk, IfErr, IsErr, OnOk, refl, sym, ◌∙◌, ap, arith, Option, Some, None, option_map, replicate, inl, inr},
+}
+use Rattle.ports_core.specs.{
+  Slot.{Slot, is_writable},
+  declared.{calling.Calling.TheVariants.Cutters, fault.Fault.{Fault, TheVariants.{Memory, Write, Open, Verdict}}, verdict.Verdict.TheVariants.Suffixes, file_writer.Tells.Tells},
+  Part.{OutputsAt, StoppedBetween, nothing, only_out},
+  Work.{Work, Needs},
+  Guard.{GuardState, HoldsIn},
+  Engine.{Terms, is_verdict},
+  Name.Naming,
+  Source.{Source, count_shown, source_at},
+  Swept.Swept,
+  FileWriter.Breaks,
+}
+use Rattle.ports_core.proofs.{PartLemmas.{nothing_out, nothing_begins_part, stopped_here}, SlotSteps.{none_past, swept_none}, LoadLemmas.looked_none}
+use Rattle.csplit_core.specs.{Output.manner_of, Csplit.csplit_work}
+use Rattle.seg_core.specs.declared.{cut.{Way.Way, Chunks.Chunks}, unit.Unit.{Unit as Counted, TheVariants.{Lines, Bytes}}}
+use Rattle.split_core.specs.{ChunkWork.{CannotBegin, way_work, work_by}, Split.{Filing, is_verbose, tells_by}}
+use Rattle.ends_core.{
+  specs.{Ends.{after_of, head_of, tail_of}, Head.head_work, Tail.tail_work, Shown.{head_in, head_shown, place_of, tail_in, tail_shown}, declared.ends.Ends.Ends},
+  proofs.KeptLemmas.first_of-nil,
+}
+use Rattle.run_core.specs.{Feeding.{Stops, call_of}, RunSteps.{IsShown, OnlyLooked, Opens, OpensShort}}
+use Rattle.words_core.specs.{EndsWords.EndsAsked, SplitWords.SplitAsked}
 use Rattle.tools_core.specs.Tasks.{is_minus, is_plus, head_task, naming_of, split_task, tail_task}
-use Rattle.std.proofs.lemmas.Bool.{false≢true}
-use Rattle.ports_core.specs.Swept.{Swept}
-use Rattle.csplit_core.specs.Csplit.{csplit_work}
-use Rattle.operand_core.specs.Style.{Style}
-use Rattle.ports_core.specs.FileWriter.{Breaks}
-use Rattle.operand_core.specs.declared.operand.Operand.{Operand}
+use Rattle.operand_core.specs.{Style.Style, declared.operand.Operand.Operand}
+use Rattle.seg_core.specs.declared.cut.Way.TheVariants as way
+use Rattle.ends_core.specs.Stage as ends
 
 head_of-nil : (delim : ℕ) (unit : Counted) (but_last : Bool) (n : ℕ) → head_of delim unit but_last n [] ≡ []
 head_of-nil delim unit false n = first_of-nil delim unit n
@@ -148,7 +134,8 @@ pub split_halts : (way : Way) (elide : Bool) (names : Naming) (tells : Tells) (s
     → CannotBegin way (is_verbose tells) old new fault
     → (is_verdict fault ≡ false)
     × Stops (call_of (work_by way elide names tells said) (record { memory = true; files = true }) [] nothing
-    ((work_by way elide names tells said).settled [])) new fault × Swept (work_by way elide names tells said).clears (length old) new new
+    ((work_by way elide names tells said).settled [])) new fault
+    × Swept (work_by way elide names tells said).clears (length old) new new
 split_halts (way.Cut cut) elide names tells said old new fault (inl is) = rw is (refl, refl, refl)
 split_halts (way.Cut cut) elide names tells said old new fault (inr (inl (told, is, rose))) =
     rw is (refl, ((λ at. rw told refl), (λ none. refl), rose.1), refl)

@@ -1,61 +1,55 @@
 -- What a run leaves that a fault stopped is a beginning of what one leaves that none stopped; and what a run of `tee` tells of its
 -- outputs, and what these have.
-use Rattle.std.proofs.lemmas.Grind.{common_steps}
-use Rattle.std.proofs.Common.{◌≡◌, ℕ, ◌+◌, ◌≤◌, ◌<◌, zero, suc, Bool, true, false, List, [], ◌∷◌, ◌++◌, length, map, Option, Some, inl, inr, ◌⊎◌, refl, sym, ◌∙◌, ap, arith, append-nil, rules, cond, take, None, subst, append_assoc, codes, All, not, ◌&&◌, ◌==◌, ◌||◌}
-use Rattle.std.proofs.lemmas.Bool.{and_parts, cases_eq, false≢true, cases_lt, cond_both, eq-eqb, eqb-true, lt-ltb}
-use Rattle.std.proofs.Math.Bool.{and_assoc, or-true}
-use Rattle.ports_core.specs.declared.reason.Reason.{Reason}
-use Rattle.ports_core.specs.Slot.{Slot, breaks, changed_at, slot_at, unopened, adds}
-use Rattle.ports_core.specs.Source.{Content, Source, unshown}
-use Rattle.ports_core.specs.Streams.{streams_with, standard_error, standard_output}
-use Rattle.ports_core.specs.Part.{Begins, File, FilesBegin, Marks, Output, OutputsAt, Part, StoppedBetween, only_out, IsBeginning, file_of}
-use Rattle.ports_core.specs.Swept.{Swept}
-use Rattle.ports_core.specs.Work.{IsLawful, Needs, Work}
-use Rattle.ports_core.specs.Inputs.{largest_piece}
-use Rattle.ports_core.specs.declared.fault.Fault.{Fault}
-use Rattle.ports_core.specs.declared.fault.Fault.TheVariants.{Write, Open}
-use Rattle.ports_core.specs.Name.{has_suffix, name_count}
-use Rattle.ports_core.proofs.PartLemmas.{nothing_begins, nothing_begins_part, part_begins_itself, part_trans, begins_itself, begins_trans, take_begins_after}
-use Rattle.ports_core.proofs.SlotLemmas.{slot_at-changed, slot_at-elsewhere}
-use Rattle.seg_core.specs.declared.cut.Cut.{Cut}
-use Rattle.seg_core.specs.Cut.{IsWay}
-use Rattle.seg_core.specs.declared.cut.Cut.TheVariants.{Parts, Round}
-use Rattle.seg_core.specs.declared.cut.Way.{Way}
-use Rattle.seg_core.specs.declared.cut.Way.TheVariants as way
-use Rattle.split_core.specs.ChunkWork.{HasAllNames, way_work}
-use Rattle.split_core.specs.laws.ChunkWorkLaws.{chunk_lawful, chunks_lawful, turn_lawful}
-use Rattle.split_core.specs.Split.{Filing, are_named, split_work, whole_by}
-use Rattle.split_core.specs.Round.{round_plan}
-use Rattle.split_core.specs.Split.{HasNames}
-use Rattle.split_core.proofs.RoundLemmas.{not_short}
-use Rattle.words_core.specs.SplitWords.{SplitAsked, AreNamed, CanSplit, IsInLimits, first_number}
-use Rattle.tools_core.specs.Tasks.{naming_of, speaker_of}
-use Rattle.split_core.specs.laws.WorkLaws.{parts_lawful, round_lawful}
-use Rattle.split_core.proofs.AgreedLemmas.{plan_by}
-use Rattle.run_core.specs.Feeding.{HasAll, IsCall, Step, enough, is_enough, made_of, to_end, opens, feeds, closes}
-use Rattle.run_core.specs.Input.{Input}
-use Rattle.run_core.specs.RunEnds.{EndsAs, RunStep, as_defined, calling as call_step, heading, no_room, stopped, unheaded, unopened as unopened_step}
-use Rattle.run_core.specs.Task.{Task, after_part, are_missing, header_text, is_missing, made_by, of_content, of_input, of_inputs}
+use Rattle.std.{
+  proofs.lemmas.{Grind.common_steps, Bool.{and_parts, cases_eq, false≢true, cases_lt, cond_both, eq-eqb, eqb-true, lt-ltb}, List.{Elements.{All-append, All-cons, All-nil}, Folds.concat-append}},
+  proofs.Common.{◌≡◌, ℕ, ◌+◌, ◌≤◌, ◌<◌, zero, suc, Bool, true, false, List, [], ◌∷◌, ◌++◌, length, map, Option, Some, inl, inr, ◌⊎◌, refl, sym, ◌∙◌, ap, arith, append-nil, rules, cond, take, None, subst, append_assoc, codes, All, not, ◌&&◌, ◌==◌, ◌||◌},
+  proofs.Math.Bool.{and_assoc, or-true},
+  specs.List.concat,
+}
+use Rattle.ports_core.specs.{
+  declared.{reason.Reason.Reason, fault.Fault.{Fault, TheVariants.{Write, Open}}, slot.{Mode.Mode, State.State}, calling.{Calling.Calling, Speaker.Speaker}, on_broken.OnBroken.OnBroken},
+  Slot.{Slot, breaks, changed_at, slot_at, unopened, adds},
+  Source.{Content, Source, unshown},
+  Streams.{streams_with, standard_error, standard_output},
+  Part.{Begins, File, FilesBegin, Marks, Output, OutputsAt, Part, StoppedBetween, only_out, IsBeginning, file_of},
+  Swept.Swept,
+  Work.{IsLawful, Needs, Work},
+  Inputs.largest_piece,
+  Name.{has_suffix, name_count},
+  Message.SaysAll,
+  Text.{Message, message_of},
+}
+use Rattle.ports_core.proofs.{
+  PartLemmas.{nothing_begins, nothing_begins_part, part_begins_itself, part_trans, begins_itself, begins_trans, take_begins_after},
+  SlotLemmas.{slot_at-changed, slot_at-elsewhere},
+}
+use Rattle.seg_core.specs.{declared.cut.{Cut.{Cut, TheVariants.{Parts, Round}}, Way.Way}, Cut.IsWay}
+use Rattle.split_core.{
+  specs.ChunkWork.{HasAllNames, way_work},
+  specs.laws.{ChunkWorkLaws.{chunk_lawful, chunks_lawful, turn_lawful}, WorkLaws.{parts_lawful, round_lawful}},
+  specs.Split.{Filing, are_named, split_work, whole_by, HasNames},
+  specs.Round.round_plan,
+  proofs.{RoundLemmas.not_short, AgreedLemmas.plan_by},
+}
+use Rattle.words_core.specs.{SplitWords.{SplitAsked, AreNamed, CanSplit, IsInLimits, first_number}, TeeWords.TeeAsked, declared.settings.Settings.{Settings, TheVariants.Tee}}
+use Rattle.tools_core.{
+  specs.{Tasks.{naming_of, speaker_of}, Promises.{BeginsAs, BrokeAt, IsCalled, Run, SaysLines, StopsRun, TellsMet, failing}, About.{TellsText, no_text, text_cut, text_whole}},
+  proofs.LeftLemmas.{Kept, slots_at, swept_kept, outputs_of, slot_of, slots_of, copy, tee_made, text_made, HasLine, has_after, has_before, one_line},
+}
+use Rattle.run_core.specs.{
+  Feeding.{HasAll, IsCall, Step, enough, is_enough, made_of, to_end, opens, feeds, closes},
+  Input.Input,
+  RunEnds.{EndsAs, RunStep, as_defined, calling as call_step, heading, no_room, stopped, unheaded, unopened as unopened_step},
+  Task.{Task, after_part, are_missing, header_text, is_missing, made_by, of_content, of_input, of_inputs},
+}
 use Rattle.run_core.proofs.StopLemmas.{after_assoc, begins_after, nothing_after}
-use Rattle.tools_core.specs.Promises.{BeginsAs, BrokeAt, IsCalled, Run, SaysLines, StopsRun, TellsMet, failing}
-use Rattle.tools_core.proofs.LeftLemmas.{Kept, slots_at, swept_kept, outputs_of, slot_of, slots_of, copy, tee_made, text_made, HasLine, has_after, has_before, one_line}
-use Rattle.std.specs.List.{concat}
-use Rattle.std.proofs.lemmas.List.Elements.{All-append, All-cons, All-nil}
-use Rattle.std.proofs.lemmas.List.Folds.{concat-append}
-use Rattle.ports_core.specs.Message.{SaysAll}
-use Rattle.ports_core.specs.Text.{Message, message_of}
-use Rattle.ports_core.specs.declared.slot.Mode.{Mode}
-use Rattle.ports_core.specs.declared.calling.Calling.{Calling}
-use Rattle.ports_core.specs.declared.calling.Speaker.{Speaker}
-use Rattle.ports_core.specs.declared.on_broken.OnBroken.{OnBroken}
-use Rattle.tools_core.specs.About.{TellsText, no_text, text_cut, text_whole}
+use Rattle.tee_core.specs.{
+  declared.standing.Standing.TheVariants.{Broken, Gone},
+  Run.{Break, FileLeft, FilesLeft, IsRead, OutputLeft, are_sound, fault_in, messages_of, output_names, said_before, said_in, said_of_input},
+}
+use Rattle.ports_core.specs.declared.reason.Reason.TheVariants as reason
+use Rattle.seg_core.specs.declared.cut.Way.TheVariants as way
 use Rattle.tee_core.specs.Run as tee
-use Rattle.tee_core.specs.declared.standing.Standing.TheVariants.{Broken, Gone}
-use Rattle.tee_core.specs.Run.{Break, FileLeft, FilesLeft, IsRead, OutputLeft, are_sound, fault_in, messages_of, output_names, said_before, said_in, said_of_input}
-use Rattle.words_core.specs.TeeWords.{TeeAsked}
-use Rattle.words_core.specs.declared.settings.Settings.{Settings}
-use Rattle.words_core.specs.declared.settings.Settings.TheVariants.{Tee}
-use Rattle.ports_core.specs.declared.slot.State.{State}
 use Rattle.ports_core.specs.declared.slot.State.TheVariants as state
 
 -- nothing is a beginning of anything
@@ -86,35 +80,36 @@ begins_kept kept begins = grind (arith, common_steps)
 -- What a fault leaves in the slots by itself: it breaks one of them, or adds one that couldn't be opened.
 
 abbrev pub IsMarked : Fault → ℕ → List Slot → Slot → Type 0
-IsMarked (Write slot) place before new = (place ≡ slot) × (place < length before) × (new ≡ breaks (slot_at before place))
-IsMarked (Open slot) place before new = (place ≡ slot) × ((kept : List ℕ) × (new ≡ unopened kept))
+IsMarked (Write slot) place before new = (place ≡ slot) × (place < length before)
+    × ((why : Reason) × (new ≡ breaks why (slot_at before place)))
+IsMarked (Open slot) place before new = (place ≡ slot) × ((kept : List ℕ) × (why : Reason) × (new ≡ unopened why kept))
 IsMarked fault place before new = ⊥
 
-pub unopened_at : (kept : List ℕ) (place : ℕ) (slots : List Slot)
-    → (slot_at (slots ++ unopened kept ∷ []) place ≡ slot_at slots place)
-    ⊎ ((place ≡ length slots) × (slot_at (slots ++ unopened kept ∷ []) place ≡ unopened kept))
-unopened_at kept zero [] = inr (refl, refl)
-unopened_at kept (suc place) (slot ∷ slots) = elim (unopened_at kept place slots) [ inl same ↦ inl same | inr (here, is) ↦ inr (ap suc here, is) ]
-unopened_at kept place slots = inl refl
+pub one_more_at : (one : Slot) (place : ℕ) (slots : List Slot)
+    → (slot_at (slots ++ one ∷ []) place ≡ slot_at slots place)
+    ⊎ ((place ≡ length slots) × (slot_at (slots ++ one ∷ []) place ≡ one))
+one_more_at one zero [] = inr (refl, refl)
+one_more_at one (suc place) (slot ∷ slots) = elim (one_more_at one place slots) [ inl same ↦ inl same | inr (here, is) ↦ inr (ap suc here, is) ]
+one_more_at one place slots = inl refl
 
 pub marked_at : (IsDue : List ℕ → Type 0) (fault : Fault) (before after : List Slot) (place : ℕ)
     → Marks IsDue fault before after → (slot_at after place ≡ slot_at before place)
     ⊎ IsMarked fault place before (slot_at after place)
-marked_at IsDue (Write slot) before after place (within, is) = elim (cases_eq place slot) [
+marked_at IsDue (Write slot) before after place (within, (why, is)) = elim (cases_eq place slot) [
   | inl here ↦ let there : place < length before = omega (arith, here, within) in
-      inr (here, there, ap (λ slots. slot_at slots place) is ∙ ap (λ which. slot_at (changed_at which breaks before) place) (sym here) ∙ slot_at-changed place breaks before there)
-  | inr differs ↦ inl (ap (λ slots. slot_at slots place) is ∙ slot_at-elsewhere slot place breaks before differs)
+      inr (here, there, (why, ap (λ slots. slot_at slots place) is ∙ ap (λ which. slot_at (changed_at which (breaks why) before) place) (sym here) ∙ slot_at-changed place (breaks why) before there))
+  | inr differs ↦ inl (ap (λ slots. slot_at slots place) is ∙ slot_at-elsewhere slot place (breaks why) before differs)
 ]
-marked_at IsDue (Open slot) before after place (number, (name, kept, due, is, slots)) = elim (unopened_at kept place before) [
+marked_at IsDue (Open slot) before after place (number, (name, kept, why, due, is, slots)) = elim (one_more_at (unopened why kept) place before) [
   | inl same ↦ inl (ap (λ those. slot_at those place) slots ∙ same)
-  | inr (here, is) ↦ inr (here ∙ sym number, (kept, ap (λ those. slot_at those place) slots ∙ is))
+  | inr (here, is) ↦ inr (here ∙ sym number, (kept, why, ap (λ those. slot_at those place) slots ∙ is))
 ]
 marked_at IsDue fault before after place marks = inl (ap (λ slots. slot_at slots place) marks)
 
 mark_begins : (fault : Fault) (place : ℕ) (before : List Slot) {new other : Slot} → IsMarked fault place before new
     → BeginsAs (slot_at before place) other → BeginsAs new other
 mark_begins (Write slot) place before marked begins = grind (arith, common_steps)
-mark_begins (Open slot) place before marked begins = empty_begins (ap (λ (slot : Slot). slot.written) marked.1.1)
+mark_begins (Open slot) place before (here, (kept, why, is)) begins = empty_begins (ap (λ (slot : Slot). slot.written) is)
 mark_begins fault place before marked begins = absurd marked
 
 -- The outputs of a part that begins another
@@ -193,7 +188,10 @@ step_begins {task} {shown} is_first name {so_far} grows (call_step content call 
 
 made_after : (task : Task) (is_first : Bool) (before : List Input) (input : Input) (after : List Input)
     → (of_inputs task is_first (before ++ input ∷ after)).part
-    ≡ after_part (of_inputs task is_first before).part (after_part (of_content task (task.work input.shown) (is_first && are_missing before) input.name input.content).part (of_inputs task (is_first && are_missing before && is_missing input.content) after).part)
+    ≡ after_part (of_inputs task is_first before).part
+    (after_part
+    (of_content task (task.work input.shown) (is_first && are_missing before) input.name input.content).part
+    (of_inputs task (is_first && are_missing before && is_missing input.content) after).part)
 made_after task is_first [] input after = grind (arith, common_steps)
 made_after task is_first (first ∷ before) input after =
     let now = is_first && is_missing first.content in
@@ -219,13 +217,13 @@ step_in_all {task} before input after {step = step} grows are at =
 
 -- A run over any inputs
 
-pub begins_whole : {breaks_for : ℕ → Reason → Bool} {task : Task} {inputs : List Input} {sources : List Source}
+pub begins_whole : {task : Task} {inputs : List Input} {sources : List Source}
     {new : List Slot} {status : ℕ} {place : ℕ}
     → ((shown : Option (List ℕ)) (content : Content) → IsGrowing (task.work shown) content) → (place ≡ 1 → ⊥)
-    → EndsAs true true breaks_for task inputs sources new status
+    → EndsAs true true task inputs sources new status
     → BeginsAs (slot_at new place) (slot_at (slots_of (made_by task inputs).part) place)
 begins_whole {new} grows differs (as_defined error reached says outputs swept done status_is) = left_begins _ new (part_begins_itself _) differs outputs swept
-begins_whole {task} {new} grows differs (stopped fault why before input after said error step reached are done untouched at stops between swept says is_why tells status_is) =
+begins_whole {task} {new} grows differs (stopped fault before input after said error step reached are done untouched at stops between swept says tells status_is) =
     stopped_begins (task.work input.shown).clears new (step_in_all before input after grows are at) differs between swept
 begins_whole {place} grows differs (no_room error says slots untouched count status_is) = still_begins place slots (bare_begins error place differs)
 
@@ -318,7 +316,7 @@ call_are : (Line : Message → Type 0) (on_broken : OnBroken) (call : ℕ) (name
 call_are Line on_broken call name None lines tells are = are
 call_are Line on_broken call name (Some broke) lines tells are =
     cond_both (tee.tells_in on_broken call (Some broke)) (message_of (fault_in call) name ∷ lines) lines (All Line)
-    (λ is. All-cons Line _ lines (rw (eqb-true broke.call call (and_parts (broke.call == call) (tee.is_told on_broken (tee.lost_as broke.is_gone)) is).0) at (tells broke refl)) are) (λ differs. are)
+    (λ is. All-cons Line _ lines (rw (eqb-true broke.call call (and_parts (broke.call == call) (tee.is_told on_broken (tee.lost_for broke.why)) is).0) at (tells broke refl)) are) (λ differs. are)
 
 in_call_are : (Line : Message → Type 0) (on_broken : OnBroken) (call : ℕ) (names : List (List ℕ))
     (broke : List (Option Break)) → TellsOutputs Line names broke → All Line (said_in on_broken call names broke)
@@ -371,23 +369,23 @@ record HasSaid (on_broken : OnBroken) (names : List (List ℕ)) (broke : List (O
   pub line : HasLine (message_of (failing place output.state) name) (said_in on_broken call names broke)
 
 -- an output that broke is told, but where nothing is said of one that is gone
-told_loud : (on_broken : OnBroken) (gone : Bool) → tee.is_quiet on_broken ≡ false
-    → tee.is_told on_broken (tee.lost_as gone) ≡ true
-told_loud on_broken true loud = ap not loud
-told_loud on_broken false loud = refl
+told_loud : (on_broken : OnBroken) (why : Reason) → tee.is_quiet on_broken ≡ false
+    → tee.is_told on_broken (tee.lost_for why) ≡ true
+told_loud on_broken reason.Gone loud = ap not loud
+told_loud on_broken why loud = refl
 
 -- nothing is kept back: in no mode, or since no output is gone
 abbrev pub IsLoud : OnBroken → List (Option Break) → Type 0
 IsLoud on_broken broke = (tee.is_quiet on_broken ≡ false) ⊎ (tee.any_is Gone (map tee.standing_of broke) ≡ false)
 
 loud_here : (on_broken : OnBroken) (one : Break) (broke : List (Option Break)) → IsLoud on_broken (Some one ∷ broke)
-    → tee.is_told on_broken (tee.lost_as one.is_gone) ≡ true
-loud_here on_broken one broke (inl loud) = told_loud on_broken one.is_gone loud
-loud_here on_broken one broke (inr none) = by one.is_gone none where
-  by : (gone : Bool) → (tee.is_same (tee.lost_as gone) Gone || tee.any_is Gone (map tee.standing_of broke)) ≡ false
-      → tee.is_told on_broken (tee.lost_as gone) ≡ true
-  by true none = absurd (false≢true (sym none))
-  by false none = refl
+    → tee.is_told on_broken (tee.lost_for one.why) ≡ true
+loud_here on_broken one broke (inl loud) = told_loud on_broken one.why loud
+loud_here on_broken one broke (inr none) = by one.why none where
+  by : (why : Reason) → (tee.is_same (tee.lost_for why) Gone || tee.any_is Gone (map tee.standing_of broke)) ≡ false
+      → tee.is_told on_broken (tee.lost_for why) ≡ true
+  by reason.Gone none = absurd (false≢true (sym none))
+  by why none = refl
 
 loud_rest : (on_broken : OnBroken) (first : Option Break) (broke : List (Option Break))
     → IsLoud on_broken (first ∷ broke) → IsLoud on_broken broke
@@ -469,7 +467,8 @@ past_line : (on_broken : OnBroken) (name : List ℕ) (names : List (List ℕ)) (
 past_line on_broken name names first broke (call, line, within, has) = (call, line, within, said_by (tee.tells_in on_broken call first) (message_of (fault_in call) name) has)
 
 here_line : (on_broken : OnBroken) (name : List ℕ) (names : List (List ℕ)) (one : Break) (broke : List (Option Break))
-    {last : ℕ} → one.is_gone ≡ false → one.call ≤ last → LineOf on_broken (name ∷ names) (Some one ∷ broke) last
+    {last : ℕ} → tee.lost_for one.why ≡ Broken → one.call ≤ last
+    → LineOf on_broken (name ∷ names) (Some one ∷ broke) last
 here_line on_broken name names one broke kept within = (one.call, message_of (fault_in one.call) name, within, rw (eq-eqb one.call one.call refl, kept) ([], said_in on_broken one.call names broke, refl))
 
 line_or : (on_broken : OnBroken) (name : List ℕ) (names : List (List ℕ)) (when : Option Break)
@@ -478,12 +477,12 @@ line_or : (on_broken : OnBroken) (name : List ℕ) (names : List (List ℕ)) (wh
     → tee.any_is Broken (map tee.standing_of (when ∷ broke)) ≡ true
     → LineOf on_broken (name ∷ names) (when ∷ broke) last
 line_or on_broken name names None broke output sound rest is = past_line on_broken name names None broke (rest is)
-line_or on_broken name names (Some one) broke {last} output (within, called, same, broken) rest is = by one.is_gone refl is where
-  by : (gone : Bool) → one.is_gone ≡ gone
-      → (tee.is_same (tee.lost_as gone) Broken || tee.any_is Broken (map tee.standing_of broke)) ≡ true
+line_or on_broken name names (Some one) broke {last} output (within, called, same, broken) rest is = by one.why refl is where
+  by : (why : Reason) → tee.lost_for one.why ≡ tee.lost_for why
+      → (tee.is_same (tee.lost_for why) Broken || tee.any_is Broken (map tee.standing_of broke)) ≡ true
       → LineOf on_broken (name ∷ names) (Some one ∷ broke) last
-  by true at is = past_line on_broken name names (Some one) broke (rest is)
-  by false at is = here_line on_broken name names one broke at within
+  by reason.Gone at is = past_line on_broken name names (Some one) broke (rest is)
+  by why at is = here_line on_broken name names one broke at within
 
 files_line : (on_broken : OnBroken) {mode : Mode} {pieces names : List (List ℕ)} {broke : List (Option Break)}
     {files : List Slot} → FilesLeft true mode pieces names broke files
@@ -578,15 +577,15 @@ unsound_broke (tee.output_cut before piece after n is few) rest sound = search r
 
 -- Standard output has a beginning of a text about a tool.
 
-pub text_begins : {breaks_for : ℕ → Reason → Bool} {which : Speaker} {text : List ℕ} {new : List Slot} {status : ℕ}
-    (place : ℕ) → (place ≡ 1 → ⊥) → TellsText true breaks_for which text new status
+pub text_begins : {which : Speaker} {text : List ℕ} {new : List Slot} {status : ℕ}
+    (place : ℕ) → (place ≡ 1 → ⊥) → TellsText true which text new status
     → BeginsAs (slot_at new place) (slot_at (slots_of (text_made text).part) place)
 text_begins (suc zero) differs tells = absurd (differs refl)
 text_begins place differs (no_text error says slots is) = still_begins place slots (bare_begins error place differs)
 text_begins {text} zero differs (text_whole slots is) = rw slots (record { bytes = begins_itself text; named = inl refl })
-text_begins {text} zero differs (text_cut n short why error is_why says slots is) = rw slots (record { bytes = take_begins_after n [] text; named = inl refl })
+text_begins {text} zero differs (text_cut n short why error says slots is) = rw slots (record { bytes = take_begins_after n [] text; named = inl refl })
 text_begins (suc (suc place)) differs (text_whole slots is) = rw slots (empty_begins refl)
-text_begins (suc (suc place)) differs (text_cut n short why error is_why says slots is) = rw slots (empty_begins refl)
+text_begins (suc (suc place)) differs (text_cut n short why error says slots is) = rw slots (empty_begins refl)
 
 -- Each output has a beginning of the input.
 
@@ -623,12 +622,12 @@ files_begin all (tee.one_file name names _ broke _ files (tee.file_unopened kept
 files_begin all (tee.one_file name names first broke file files tee.file_whole rest) zero = grind (arith, common_steps)
 files_begin all (tee.one_file name names first broke file files tee.file_unclosed rest) zero = grind (arith, common_steps)
 
-pub tee_begins : {breaks_for : ℕ → Reason → Bool} {calling : Calling} {asked : TeeAsked} {content : Content}
+pub tee_begins : {calling : Calling} {asked : TeeAsked} {content : Content}
     {source : Source} {new : List Slot} {status : ℕ} (place : ℕ) → (place ≡ 1 → ⊥)
-    → tee.EndsAs true true breaks_for calling asked.mode asked.on_broken asked.names content source new status
+    → tee.EndsAs true true calling asked.mode asked.on_broken asked.names content source new status
     → BeginsAs (slot_at new place) (slot_at (slots_of (tee_made asked content).part) place)
 tee_begins place differs (tee.no_room error says unread slots failed) = still_begins place slots (bare_begins error place differs)
-tee_begins {asked} {content} place differs (tee.copied pieces fault first broke output error files comes going out_left files_left stand says slots is) = still_begins place slots (at place differs) where
+tee_begins {asked} {content} place differs (tee.copied pieces fault first broke output error files comes going out_left files_left says slots is) = still_begins place slots (at place differs) where
   at : (place : ℕ) → (place ≡ 1 → ⊥)
       → BeginsAs (slot_at (output ∷ error ∷ files) place) (slot_at (slots_of (tee_made asked content).part) place)
   at zero differs = output_begins (read_begins _ comes.read) out_left

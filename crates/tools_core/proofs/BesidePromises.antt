@@ -1,46 +1,34 @@
 -- Over the inputs that any run found there is a run that no fault stops.
-use Rattle.std.proofs.Common.{◌≡◌, ℕ, ◌+◌, ◌≤◌, ◌<◌, ◌^◌, suc, zero, Bool, true, false, ◌||◌, cond, List, [], ◌∷◌, ◌++◌, length, map, Option, Some, None, inl, inr, ◌⊎◌, refl, sym, ◌∙◌, ap, subst, arith, lit<, append_assoc, length-append, get_or}
-use Rattle.std.specs.List.{concat}
-use Rattle.std.proofs.Math.Seq.{get_or-append_seam}
-use Rattle.std.proofs.lemmas.Bool.{cases_Bool, cases_lt, false≢true}
-use Rattle.std.proofs.lemmas.List.{length-map}
-use Rattle.std.proofs.lemmas.List.Elements.{All-map}
-use Rattle.ports_core.specs.declared.reason.Reason.{Reason}
-use Rattle.ports_core.specs.Inputs.{CameFrom, largest_piece}
-use Rattle.ports_core.specs.Message.{SaysAll, whole}
-use Rattle.ports_core.specs.Part.{File, OutputsAt, Part, file_of, told_file}
-use Rattle.ports_core.specs.Slot.{Slot, adds, closes, has_file, opened, slot_at}
-use Rattle.ports_core.specs.Source.{Content, Source, missing, source_at, source_of}
-use Rattle.ports_core.specs.Streams.{standard_error, standard_output, streams_with}
-use Rattle.ports_core.specs.Swept.{Cleared, Swept, SweptFrom}
+use Rattle.std.{
+  proofs.Common.{◌≡◌, ℕ, ◌+◌, ◌≤◌, ◌<◌, ◌^◌, suc, zero, Bool, true, false, ◌||◌, cond, List, [], ◌∷◌, ◌++◌, length, map, Option, Some, None, inl, inr, ◌⊎◌, refl, sym, ◌∙◌, ap, subst, arith, lit<, append_assoc, length-append},
+  proofs.Math.Seq.get_or-append_seam,
+  proofs.lemmas.{Bool.{cases_Bool, cases_lt, false≢true}, List.{length-map, Elements.All-map}},
+  specs.List.concat,
+}
+use Rattle.ports_core.specs.{
+  Inputs.{CameFrom, largest_piece},
+  Message.{SaysAll, whole},
+  Part.{File, OutputsAt, Part, file_of, told_file},
+  Slot.{Slot, adds, closes, has_file, opened, slot_at},
+  Source.{Content, Source, missing, source_at, source_of},
+  Streams.{standard_error, standard_output, streams_with},
+  Swept.{Cleared, Swept},
+  Work.{IsNeeded, Work},
+  declared.{fault.Fault.{Fault, TheVariants.Read}, slot.Mode.Mode, calling.{Calling.Calling, Speaker.Speaker}, reason.Reason.TheVariants.Other},
+  Text.{Message, line_of},
+}
+use Rattle.run_core.{
+  proofs.FeedingLemmas.needed_within,
+  specs.{Input.{World, shown_of, input_of, inputs_at, inputs_from, is_dash, standard_input}, Reading.{AreDone, IsLeft}, RunEnds.{EndsAs, as_defined}, Task.{Task, made_by, status_of}},
+}
+use Rattle.tee_core.{proofs.EndLemmas.{sound_goes_on, sound_status}, specs.Run.{Break, FilesLeft, tee_called, IsRead, LeavesOf, are_sound, said_of_input}}
+use Rattle.words_core.specs.{TeeWords.TeeAsked, Words.HasOperands, declared.settings.Settings.{Settings, TheVariants.{Head, Tail, Split, Csplit, Tee, About}}}
+use Rattle.tools_core.{
+  specs.{About.text_whole, Outcome.DoesAsked, Promises.{Completes, FindAlike, HasLong, IsUnstopped, Ran, Run, Unstopped}, Tasks.{csplit_task, head_task, names_of, split_task, tail_task}},
+  proofs.{SameLemmas.all_alike, LeftLemmas.{gone, met_by, outputs_of, quiet_outputs, slot_of}},
+}
 use Rattle.ports_core.specs.Swept as swept_so
-use Rattle.ports_core.specs.Work.{IsNeeded, Work}
-use Rattle.ports_core.specs.declared.fault.Fault.{Fault}
-use Rattle.ports_core.specs.declared.fault.Fault.TheVariants.{Read}
-use Rattle.ports_core.specs.declared.slot.Mode.{Mode}
-use Rattle.ports_core.specs.Text.{Message, line_of}
-use Rattle.ports_core.specs.declared.calling.Calling.{Calling}
-use Rattle.ports_core.specs.declared.calling.Speaker.{Speaker}
-use Rattle.ports_core.specs.declared.reason.Reason.TheVariants.{Other}
-use Rattle.run_core.proofs.FeedingLemmas.{needed_within}
-use Rattle.run_core.specs.Input.{World, shown_of, input_of, inputs_at, inputs_from, is_dash, standard_input}
-use Rattle.run_core.specs.Reading.{AreDone, IsLeft}
-use Rattle.run_core.specs.RunEnds.{EndsAs, as_defined}
-use Rattle.run_core.specs.Task.{Task, made_by, status_of}
-use Rattle.tee_core.proofs.EndLemmas.{sound_goes_on, sound_status}
 use Rattle.tee_core.specs.Run as tee
-use Rattle.tee_core.specs.declared.standing.Standing.TheVariants.{Sound}
-use Rattle.tee_core.specs.Run.{Break, FilesLeft, tee_called, IsRead, LeavesOf, are_sound, messages_of, said_of_input}
-use Rattle.words_core.specs.TeeWords.{TeeAsked}
-use Rattle.words_core.specs.Words.{HasOperands}
-use Rattle.words_core.specs.declared.settings.Settings.{Settings}
-use Rattle.words_core.specs.declared.settings.Settings.TheVariants.{Head, Tail, Split, Csplit, Tee, About}
-use Rattle.tools_core.specs.About.{text_whole}
-use Rattle.tools_core.specs.Outcome.{DoesAsked}
-use Rattle.tools_core.specs.Promises.{Completes, FindAlike, HasLong, IsUnstopped, Ran, Run, Unstopped}
-use Rattle.tools_core.specs.Tasks.{csplit_task, head_task, names_of, split_task, tail_task}
-use Rattle.tools_core.proofs.SameLemmas.{all_alike}
-use Rattle.tools_core.proofs.LeftLemmas.{gone, met_by, outputs_of, quiet_outputs, slot_of}
 
 -- Of an input a tool reads a front: as far as it has enough of it, and no further.
 
@@ -68,7 +56,7 @@ record LeftFor (work : Work) (there : Option Content) : Type 0 where
   pub is : (slot : ℕ) → IsLeft true work largest_piece slot there source
 
 left_for : (work : Option (List ℕ) → Work) (there : Option Content) → LeftFor (work (shown_of there)) there
-left_for work None = record { source = missing; is = λ slot. refl }
+left_for work None = record { source = missing Other; is = λ slot. refl }
 left_for work (Some content) =
     let front = front_from (work (shown_of (Some content))) [] content.bytes (inl refl) in record {
       source = record (source_of content) { left = record content { bytes = front.rest }; taken = front.read; reached = length front.read; ended = true };
@@ -114,7 +102,9 @@ name_done : (dash : Bool) (work : Option (List ℕ) → Work) (world : World) (w
     (names : List (List ℕ)) (more : List Source) → slot ≡ suc (length more) → AreDoneFrom work world names
     → AreDone true work largest_piece
     (input_of world was_read slot name dash ∷ inputs_from world (was_read || dash) (cond dash slot (slot + 1)) names)
-    (((left_for work (Some world.standard)).source ∷ more) ++ cond dash (files_for work world slot names) ((left_for work (world.laid slot name)).source ∷ files_for work world (slot + 1) names))
+    (((left_for work (Some world.standard)).source ∷ more)
+    ++ cond dash (files_for work world slot names)
+    ((left_for work (world.laid slot name)).source ∷ files_for work world (slot + 1) names))
 name_done true work world true slot name names more is again = (tt, again true slot more is)
 name_done true work world false slot name names more is again = ((omega arith, (left_for work (Some world.standard)).is 0), again true slot more is)
 name_done false work world true slot name names more is again = file_done work world true slot name names more is again
@@ -173,16 +163,16 @@ cleans true output error files = record { new = output ∷ error ∷ map gone fi
 
 -- So a run over any inputs can end well.
 
-record EndsWell (breaks_for : ℕ → Reason → Bool) (task : Task) (world : World) (names : List (List ℕ)) : Type 0 where
+record EndsWell (task : Task) (world : World) (names : List (List ℕ)) : Type 0 where
   pub sources : List Source
   pub new : List Slot
   pub status : ℕ
-  pub ends : EndsAs true true breaks_for task (inputs_at world names) sources new status
+  pub ends : EndsAs true true task (inputs_at world names) sources new status
   pub unstopped : IsUnstopped ends
 
-ends_well : (breaks_for : ℕ → Reason → Bool) (task : Task) (world : World) (names : List (List ℕ))
-    → EndsWell breaks_for task world names
-ends_well breaks_for task world names =
+ends_well : (task : Task) (world : World) (names : List (List ℕ))
+    → EndsWell task world names
+ends_well task world names =
     let made = made_by task (inputs_at world names) in
     let lines = took_lines task.speaker made.messages standard_error refl in
     let left = cleans made.sweeps (adds made.part.out standard_output) lines.error (map slot_of made.part.files) in record {
@@ -215,24 +205,13 @@ copies_left : (mode : Mode) (pieces names : List (List ℕ))
 copies_left mode pieces [] = tee.no_file
 copies_left mode pieces (name ∷ names) = tee.one_file name names None (unbroken names) _ _ tee.file_whole (copies_left mode pieces names)
 
--- outputs that stand soundly broke for no reason
-all_stand : (names : List (List ℕ)) (place : ℕ) → get_or (map tee.standing_of (unbroken names)) place Sound ≡ Sound
-all_stand [] place = refl
-all_stand (name ∷ names) zero = refl
-all_stand (name ∷ names) (suc place) = all_stand names place
-
-stand_sound : (breaks_for : ℕ → Reason → Bool) (names : List (List ℕ))
-    → tee.EachStandsFor breaks_for (map tee.standing_of (None ∷ unbroken names))
-stand_sound breaks_for names zero = tt
-stand_sound breaks_for names (suc place) = subst (tee.StandsFor (breaks_for (suc (suc place)))) (sym (all_stand names place)) tt
-
 -- what settings ask for was done
-record DoesWell (breaks_for : ℕ → Reason → Bool) (calling : Calling) (asked : Settings) (world : World) : Type 0 where
+record DoesWell (calling : Calling) (asked : Settings) (world : World) : Type 0 where
   pub sources : List Source
   pub new : List Slot
   pub status : ℕ
-  pub does : DoesAsked calling true true breaks_for asked (inputs_at world (names_of asked)) sources new status
-  pub unstopped : Unstopped breaks_for calling asked (inputs_at world (names_of asked)) sources new status does
+  pub does : DoesAsked calling true true asked (inputs_at world (names_of asked)) sources new status
+  pub unstopped : Unstopped calling asked (inputs_at world (names_of asked)) sources new status does
 
 read_all : (bytes : List ℕ) (breaks_off : Bool) {shown : Option (List ℕ)} (Leaves : List ℕ → Type 0) → Leaves []
     → IsRead (record { bytes = bytes; breaks_off = breaks_off; shown = shown }) Leaves false (concat (pieces_of bytes))
@@ -244,9 +223,9 @@ met_or_sound : (breaks_off : Bool) → (met_by breaks_off ≡ Some (Read 0)) ⊎
 met_or_sound true = inl refl
 met_or_sound false = inr refl
 
-tee_well : (breaks_for : ℕ → Reason → Bool) (calling : Calling) (asked : TeeAsked) (world : World)
-    → length world.standard.bytes < 2 ^ 63 → DoesWell breaks_for calling (Tee asked) world
-tee_well breaks_for calling asked world few = record {
+tee_well : (calling : Calling) (asked : TeeAsked) (world : World)
+    → length world.standard.bytes < 2 ^ 63 → DoesWell calling (Tee asked) world
+tee_well calling asked world few = record {
   sources = source ∷ [];
   new = left lines.error;
   status = tee.status_of asked.on_broken (None ∷ unbroken asked.names) fault;
@@ -271,7 +250,7 @@ tee_well breaks_for calling asked world few = record {
   left : Slot → List Slot
   left error = adds (concat pieces) standard_output ∷ error ∷ map (λ name. closes (adds (concat pieces) (opened name asked.mode))) asked.names
 
-  ends : tee.EndsAs true true breaks_for calling asked.mode asked.on_broken asked.names content source
+  ends : tee.EndsAs true true calling asked.mode asked.on_broken asked.names content source
       (left lines.error) (tee.status_of asked.on_broken (None ∷ unbroken asked.names) fault)
   ends = tee.copied pieces fault None (unbroken asked.names) _ lines.error _
       (record {
@@ -283,7 +262,7 @@ tee_well breaks_for calling asked world few = record {
         last = λ told vain. absurd (false≢true (sym (sound_goes_on asked.on_broken (suc (length pieces)) None (unbroken asked.names) (all_sound asked.names)) ∙ vain));
         reads = ap (λ vain. length pieces + cond vain 0 1) (sym (sound_goes_on asked.on_broken (suc (length pieces)) None (unbroken asked.names) (all_sound asked.names)));
       })
-      (sound_goes_on asked.on_broken (length pieces) None (unbroken asked.names) (all_sound asked.names)) tee.output_whole (copies_left asked.mode pieces asked.names) (stand_sound breaks_for asked.names)
+      (sound_goes_on asked.on_broken (length pieces) None (unbroken asked.names) (all_sound asked.names)) tee.output_whole (copies_left asked.mode pieces asked.names)
       (rw (quiet_outputs asked.on_broken asked.names (None ∷ unbroken asked.names) (length pieces) fault (all_sound asked.names)) lines.says) refl refl
 
   all : (breaks_off : Bool) → tee.status_of asked.on_broken (None ∷ unbroken asked.names) (met_by breaks_off) ≡ 0
@@ -293,16 +272,16 @@ tee_well breaks_for calling asked world few = record {
   all false well = ap left (took_lines (tee_called calling) (said_of_input (met_by false)) standard_error refl).says ∙ ap (λ those. adds those standard_output ∷ standard_error ∷ map (λ name. closes (adds those (opened name asked.mode))) asked.names) (pieces_are content.bytes)
 
 does_well : (run : Run) (asked : Settings) → HasOperands asked → (HasLong run asked → ⊥)
-    → DoesWell run.breaks_for run.calling asked run.world
-does_well run (Head asked) can short = let e = ends_well run.breaks_for (head_task run.calling asked) run.world asked.names in record { sources = e.sources; new = e.new; status = e.status; does = e.ends; unstopped = e.unstopped }
-does_well run (Tail asked) can short = let e = ends_well run.breaks_for (tail_task run.calling asked.ends) run.world asked.ends.names in record { sources = e.sources; new = e.new; status = e.status; does = e.ends; unstopped = e.unstopped }
-does_well run (Split asked) can short = let e = ends_well run.breaks_for (split_task run.calling asked) run.world (asked.input ∷ []) in record { sources = e.sources; new = e.new; status = e.status; does = e.ends; unstopped = e.unstopped }
+    → DoesWell run.calling asked run.world
+does_well run (Head asked) can short = let e = ends_well (head_task run.calling asked) run.world asked.names in record { sources = e.sources; new = e.new; status = e.status; does = e.ends; unstopped = e.unstopped }
+does_well run (Tail asked) can short = let e = ends_well (tail_task run.calling asked.ends) run.world asked.ends.names in record { sources = e.sources; new = e.new; status = e.status; does = e.ends; unstopped = e.unstopped }
+does_well run (Split asked) can short = let e = ends_well (split_task run.calling asked) run.world (asked.input ∷ []) in record { sources = e.sources; new = e.new; status = e.status; does = e.ends; unstopped = e.unstopped }
 does_well run (Csplit asked) (operands, asks) short =
-    let e = ends_well run.breaks_for (csplit_task run.calling asked operands) run.world (asked.input ∷ []) in
+    let e = ends_well (csplit_task run.calling asked operands) run.world (asked.input ∷ []) in
     record { sources = e.sources; new = e.new; status = e.status; does = record { operands = operands; asks = asks; ends = e.ends }; unstopped = e.unstopped }
 does_well run (About which topic) can short = record { sources = []; new = _; status = 0; does = text_whole refl refl; unstopped = refl }
 does_well run (Tee asked) can short = elim (cases_lt (length run.world.standard.bytes) (2 ^ 63)) [
-  | inl few ↦ tee_well run.breaks_for run.calling asked run.world few
+  | inl few ↦ tee_well run.calling asked run.world few
   | inr many ↦ absurd (short (standard_input run.world.standard, run.world.standard, ([], [], refl), refl, many))
 ]
 

@@ -1,31 +1,18 @@
 -- What `split` leaves of an input that gives fewer or more bytes than it showed before.
 use Rattle.std.proofs.Common.{◌≡◌, ℕ, ◌<◌, true, false, List, [], ◌∷◌, length, map, drop, Option, Some, None, is_some, refl, sym, ◌∙◌, ap, subst, append-nil}
-use Rattle.ports_core.specs.Part.{Part}
-use Rattle.ports_core.specs.Slot.{Slot, slot_at}
-use Rattle.ports_core.specs.Source.{Content}
-use Rattle.ports_core.specs.Work.{Work}
-use Rattle.ports_core.specs.declared.calling.Calling.TheVariants.{Cutters}
-use Rattle.ports_core.specs.declared.verdict.Verdict.{Verdict}
-use Rattle.ports_core.specs.declared.verdict.Verdict.TheVariants.{Changed}
-use Rattle.seg_core.specs.Line.{joined as joined_texts}
-use Rattle.seg_core.specs.declared.cut.Chunks.{Chunks}
-use Rattle.seg_core.specs.declared.cut.Way.{Way}
+use Rattle.ports_core.specs.{Part.Part, Slot.{Slot, slot_at}, Source.Content, Work.Work, declared.{calling.Calling.TheVariants.Cutters, verdict.Verdict.{Verdict, TheVariants.Changed}}}
+use Rattle.seg_core.specs.{Line.joined as joined_texts, declared.cut.{Chunks.Chunks, Way.Way}}
+use Rattle.split_core.{
+  specs.{ChunkWork.{ChunksPlan, HasAllNames, chunk_work, chunks_work, way_work}, Chunks.has_ended},
+  proofs.{ChunkAgreedLemmas.whole_files, ChunkMadeLemmas.{changed_all, changed_alone, changed_told}},
+}
+use Rattle.run_core.specs.{Input.{Input, inputs_at}, Task.{Outcome, Task, joined, made_by, no_outcome, of_content, verdict_messages}}
+use Rattle.words_core.specs.{SplitWords.{CanSplit, IsInLimits, SplitAsked}, declared.settings.Settings.TheVariants.Split}
+use Rattle.tools_core.{
+  specs.{Outcome.names_at, Promises.{Completes, GivesOther, IsChunkAsShown, IsCutAsShown, Run, TellsMet, contents_of, removes_files}, Tasks.{filing_of, naming_of, names_of, speaker_of, split_task}},
+  proofs.{BeginLemmas.all_have_names, LeftLemmas.{Fits, IsLeft, LeftBy, completes_left, left_says}, RunLemmas.can_run, SplitPromises.bytes_written},
+}
 use Rattle.seg_core.specs.declared.cut.Way.TheVariants as way
-use Rattle.split_core.specs.ChunkWork.{ChunksPlan, HasAllNames, chunk_work, chunks_work, way_work}
-use Rattle.split_core.specs.Chunks.{has_ended}
-use Rattle.split_core.proofs.ChunkAgreedLemmas.{whole_files}
-use Rattle.split_core.proofs.ChunkMadeLemmas.{changed_all, changed_alone, changed_told}
-use Rattle.run_core.specs.Input.{Input, inputs_at}
-use Rattle.run_core.specs.Task.{Outcome, Task, joined, made_by, no_outcome, of_content, verdict_messages}
-use Rattle.words_core.specs.SplitWords.{CanSplit, IsInLimits, SplitAsked}
-use Rattle.words_core.specs.declared.settings.Settings.TheVariants.{Split}
-use Rattle.tools_core.specs.Outcome.{names_at}
-use Rattle.tools_core.specs.Promises.{Completes, GivesOther, IsChunkAsShown, IsCutAsShown, Run, TellsMet, contents_of, removes_files}
-use Rattle.tools_core.specs.Tasks.{filing_of, naming_of, names_of, speaker_of, split_task}
-use Rattle.tools_core.proofs.BeginLemmas.{all_have_names}
-use Rattle.tools_core.proofs.LeftLemmas.{Fits, IsLeft, LeftBy, completes_left, left_says}
-use Rattle.tools_core.proofs.RunLemmas.{can_run}
-use Rattle.tools_core.proofs.SplitPromises.{bytes_written}
 
 -- what is made of an input that ends, where its work has this whole and this verdict
 abbrev made_at : Task → List ℕ → Part → Option Verdict → Outcome

@@ -1,46 +1,40 @@
 -- What `csplit` leaves of its input.
-use Rattle.std.proofs.lemmas.Grind.{common_steps}
-use Rattle.std.proofs.Common.{◌≡◌, ℕ, ◌+◌, drop, Bool, true, false, eqb, List, [], ◌∷◌, Option, Some, None, refl, ◌∙◌, ◌-◌, ◌<◌, ◌≤◌, ◌++◌, length, map, sym, ap, subst, arith, cond}
-use Rattle.operand_core.specs.declared.operand.Operand.{Operand}
-use Rattle.operand_core.specs.declared.operand.Target.{Target}
-use Rattle.operand_core.specs.declared.operand.Target.TheVariants.{Number, Search}
-use Rattle.operand_core.specs.declared.operand.Times.{Times}
-use Rattle.operand_core.specs.declared.operand.Times.TheVariants.{Count}
-use Rattle.operand_core.specs.Reading.{Aim, line, match, Spelled, Aimed, aims, fails, Words, AreRead, Asks, IsTarget, aim_of, failed, least_after, no_more, times_by, with_operand, words_from, words_of}
-use Rattle.operand_core.specs.Word.{Spelling, number, search, spelling, closed_at, repeated, numbered}
-use Rattle.csplit_core.specs.Operand.{is_kept, Line, has_more}
-use Rattle.tools_core.specs.Promises.{SkipNothing, skips, Run, Does, HasInput, AreNumbered, AreSections, IsSound, contents_of, files_of, in_turn, last_section, left_out, text_at}
-use Rattle.std.proofs.lemmas.Bool.{cond_both, false≢true, lt-ltb}
-use Rattle.std.proofs.lemmas.List.{append-nil, length-map, map-append}
-use Rattle.std.proofs.lemmas.List.Elements.{All-append, All-cons, All-map, All-nil}
-use Rattle.seg_core.specs.Line.{joined, lines_of}
-use Rattle.seg_core.proofs.FirstLines.{joined-append}
-use Rattle.seg_core.proofs.LinesOf.{joined-lines_of}
-use Rattle.ports_core.specs.Name.{name_at}
-use Rattle.ports_core.proofs.OrderLemmas.{no_two}
-use Rattle.ports_core.specs.Part.{File}
-use Rattle.ports_core.specs.Slot.{Slot}
-use Rattle.ports_core.specs.declared.slot.Mode.TheVariants.{Fresh}
-use Rattle.operand_core.specs.Style.{Style}
-use Rattle.csplit_core.specs.Csplit.{verdict_of}
-use Rattle.csplit_core.specs.Input.{all_lines, marked, newline}
-use Rattle.csplit_core.specs.Output.{file_in, manner_of, naming_of, shares_in, state_in}
-use Rattle.ports_core.specs.Draft.{Share, share, file_at, files_from, made_of}
-use Rattle.ports_core.specs.declared.file_writer.Opening.TheVariants.{Never, Late, AtOnce}
-use Rattle.std.specs.List.{flat_map}
-use Rattle.csplit_core.specs.Plan.{State, start, line_after, operands_after, step_of, Step, Ending, below, Runs, is_used_up, misses, is_above, is_below, cuts}
-use Rattle.csplit_core.specs.Planned.{plan}
-use Rattle.csplit_core.specs.Section.{Section, section_of, bytes_of, is_final, is_last_kept, lines_between, lines_in, whole_sections}
-use Rattle.csplit_core.specs.laws.PlanLaws.{plan_runs}
-use Rattle.csplit_core.specs.laws.SectionLaws.{are_within, bytes-append}
+use Rattle.std.{
+  proofs.lemmas.{Grind.common_steps, Bool.{cond_both, false≢true, lt-ltb}, List.{append-nil, length-map, map-append, Elements.{All-append, All-cons, All-map, All-nil}}},
+  proofs.Common.{◌≡◌, ℕ, ◌+◌, drop, Bool, true, false, eqb, List, [], ◌∷◌, Option, Some, None, refl, ◌∙◌, ◌-◌, ◌<◌, ◌≤◌, ◌++◌, length, map, sym, ap, subst, arith, cond},
+  specs.List.flat_map,
+}
+use Rattle.operand_core.specs.{
+  declared.operand.{Operand.Operand, Target.{Target, TheVariants.{Number, Search}}, Times.{Times, TheVariants.Count}},
+  Reading.{Aim, line, match, Spelled, Aimed, aims, fails, Words, AreRead, Asks, IsTarget, aim_of, failed, least_after, no_more, times_by, with_operand, words_from, words_of},
+  Word.{Spelling, number, search, spelling, closed_at, repeated, numbered},
+  Style.Style,
+}
+use Rattle.csplit_core.specs.{
+  Operand.{is_kept, Line, has_more},
+  Csplit.verdict_of,
+  Input.{all_lines, marked, newline},
+  Output.{file_in, manner_of, naming_of, shares_in, state_in},
+  Plan.{State, start, line_after, operands_after, step_of, Step, Ending, below, Runs, is_used_up, misses, is_above, is_below, cuts},
+  Planned.plan,
+  Section.{Section, section_of, bytes_of, is_final, is_last_kept, lines_between, lines_in, whole_sections},
+  laws.{PlanLaws.plan_runs, SectionLaws.{are_within, bytes-append}},
+}
 use Rattle.csplit_core.proofs.WholeLemmas.{ends_after_all, none_lost_at_end, between_rest, rest_is_all}
-use Rattle.words_core.specs.CsplitWords.{CsplitAsked}
-use Rattle.words_core.specs.declared.settings.Settings.TheVariants.{Csplit}
-use Rattle.ports_core.specs.declared.calling.Calling.TheVariants.{Cutters}
-use Rattle.tools_core.specs.Tasks.{csplit_task}
-use Rattle.tools_core.proofs.SplitPromises.{formatted_in_order, AreNamed, bytes_written, named_step}
-use Rattle.tools_core.proofs.LeftLemmas.{each_made, each_section, slot_of}
-use Rattle.tools_core.proofs.PromiseLemmas.{did_one, one_made}
+use Rattle.tools_core.{
+  specs.{Promises.{SkipNothing, skips, Run, Does, HasInput, AreNumbered, AreSections, IsSound, contents_of, files_of, in_turn, last_section, left_out, text_at}, Tasks.csplit_task},
+  proofs.{SplitPromises.{formatted_in_order, AreNamed, bytes_written, named_step}, LeftLemmas.{each_made, each_section, slot_of}, PromiseLemmas.{did_one, one_made}},
+}
+use Rattle.seg_core.{specs.Line.{joined, lines_of}, proofs.{FirstLines.joined-append, LinesOf.joined-lines_of}}
+use Rattle.ports_core.specs.{
+  Name.name_at,
+  Part.File,
+  Slot.Slot,
+  declared.{slot.Mode.TheVariants.Fresh, file_writer.Opening.TheVariants.{Never, Late, AtOnce}, calling.Calling.TheVariants.Cutters},
+  Draft.{Share, share, file_at, files_from, made_of},
+}
+use Rattle.ports_core.proofs.OrderLemmas.{no_two}
+use Rattle.words_core.specs.{CsplitWords.CsplitAsked, declared.settings.Settings.TheVariants.Csplit}
 use Rattle.split_core.proofs.CutLaws.{bytes_of_shares}
 
 -- Where no word of `csplit`'s operands skips a section, each operand keeps its section.

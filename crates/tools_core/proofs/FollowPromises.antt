@@ -1,38 +1,32 @@
 -- What `tail` writes of one file that only grows, where it follows it and meets no fault.
-use Rattle.std.proofs.lemmas.Grind.{common_steps}
-use Rattle.std.proofs.Common.{◌≡◌, ℕ, ◌+◌, ◌<◌, ◌≤◌, max, zero, suc, Bool, true, false, List, [], ◌∷◌, ◌++◌, length, drop, Option, Some, None, Ok, refl, sym, ◌∙◌, ap, subst, arith, append_assoc, append-nil, ◌&&◌, cond, is_some, not, ◌||◌, inl, inr, rules}
-use Rattle.std.proofs.Math.Seq.{drop-append_seam as drop_front}
-use Rattle.watch_core.specs.Snapshot.{Snapshot, waiting}
-use Rattle.follow_core.specs.Ending.{seen_first, FollowEndsAs, looked, no_room, stopped}
-use Rattle.follow_core.specs.Gain.{gains_later}
-use Rattle.follow_core.specs.Run.{AreKept, name_text}
-use Rattle.follow_core.specs.Version.{Entry, entries_led, entries_later, entries_of, open_after, open_after_later, version_in}
-use Rattle.follow_core.proofs.AgreeLemmas.{grown}
-use Rattle.follow_core.proofs.RunLemmas.{text_is_gains}
-use Rattle.tools_core.specs.Promises.{AsksToFollow, OnlyGrows, Follows, IsBare, IsOfProgram, Ran, Run, showing}
-use Rattle.std.proofs.lemmas.Bool.{cond_both, or_parts, cases_lt, false≢true}
-use Rattle.follow_core.specs.Followed.{any_failed, text_from}
-use Rattle.follow_core.specs.Look.{Fate, Look, Ways, entries_in, fate_at, is_dropped, is_first, sound, unled, unopened, unmeasured, unsought, unread, snapshots, ways_of}
-use Rattle.follow_core.specs.Notice.{is_missing}
-use Rattle.follow_core.specs.Share.{Share, bytes_of, gain, gains_from, missing_share, no_share, share_by, share_of, shares_from}
-use Rattle.follow_core.proofs.LookLemmas.{failed_sound, looks_give_text}
-use Rattle.std.proofs.lemmas.List.{length-map}
+use Rattle.std.proofs.{
+  lemmas.{Grind.common_steps, Bool.{cond_both, or_parts, cases_lt, false≢true}, List.length-map},
+  Common.{◌≡◌, ℕ, ◌+◌, ◌<◌, ◌≤◌, max, zero, suc, Bool, true, false, List, [], ◌∷◌, ◌++◌, length, drop, Option, Some, None, Ok, refl, sym, ◌∙◌, ap, subst, arith, append_assoc, append-nil, ◌&&◌, cond, is_some, not, ◌||◌, inl, inr, rules},
+  Math.Seq.drop-append_seam as drop_front,
+}
+use Rattle.watch_core.specs.{Snapshot.{Snapshot, waiting}, Watched.Watched}
+use Rattle.follow_core.specs.{
+  Ending.{seen_first, FollowEndsAs, looked, no_room, stopped},
+  Gain.gains_later,
+  Run.{AreKept, name_text},
+  Version.{Entry, entries_led, entries_later, entries_of, open_after, open_after_later, version_in},
+  Followed.{any_failed, text_from},
+  Look.{Fate, Look, Ways, entries_in, fate_at, is_dropped, is_first, sound, unled, unopened, unmeasured, unsought, unread, snapshots, ways_of},
+  Notice.is_missing,
+  Share.{Share, bytes_of, gain, gains_from, missing_share, no_share, share_by, share_of, shares_from},
+  FollowState.is_alive,
+}
+use Rattle.follow_core.proofs.{AgreeLemmas.grown, RunLemmas.text_is_gains, LookLemmas.{failed_sound, looks_give_text}}
+use Rattle.tools_core.{
+  specs.Promises.{AsksToFollow, OnlyGrows, Follows, IsBare, IsOfProgram, Ran, Run, showing},
+  specs.Following.{FollowingEndsAt, is_name, start_of},
+  specs.Program.{ProgramEndsAt, looks_at},
+  specs.Tasks.{has_headers, is_plus},
+  proofs.LeftLemmas.{status_some, unfailed},
+}
 use Rattle.ends_core.specs.Ends.{tail_of}
-use Rattle.ports_core.specs.declared.reason.Reason.{Reason}
-use Rattle.ports_core.specs.Slot.{Slot, slot_at, streams}
-use Rattle.watch_core.specs.Watched.{Watched}
-use Rattle.follow_core.specs.FollowState.{is_alive}
-use Rattle.words_core.specs.EndsWords.{EndsAsked}
-use Rattle.words_core.specs.declared.value.Followed.{Followed}
-use Rattle.tools_core.specs.Following.{FollowingEndsAt, is_name, start_of}
-use Rattle.tools_core.specs.Program.{ProgramEndsAt, looks_at}
-use Rattle.tools_core.specs.Tasks.{has_headers, is_plus}
-use Rattle.words_core.specs.Words.{follows, looks, settings_of}
-use Rattle.ports_core.specs.declared.calling.Calling.{Calling}
-use Rattle.tools_core.proofs.LeftLemmas.{status_some}
-use Rattle.words_core.specs.declared.settings.Settings.{Settings}
-use Rattle.ports_core.specs.Source.{source_of}
-use Rattle.tools_core.proofs.LeftLemmas.{unfailed}
+use Rattle.ports_core.specs.{Slot.{Slot, slot_at, streams}, declared.calling.Calling.Calling, Source.source_of}
+use Rattle.words_core.specs.{EndsWords.EndsAsked, declared.{value.Followed.Followed, settings.Settings.Settings}, Words.{follows, looks, settings_of}}
 
 -- The text of a name whose file only grows: its start part at the first look, and then all that came.
 
@@ -196,14 +190,14 @@ pub record WroteText (ways : Ways) (name : List ℕ) (shows : ℕ → Snapshot) 
       × (◌≡◌ {A = Bool} true true → is_alive ways (name ∷ []) looks ≡ false)
   pub is : (slot_at new 0).written ≡ name_text ways.start (entries_of ways.by_name name seen)
 
-wrote_text : {breaks_for : ℕ → Reason → Bool} {calling : Calling} (ways : Ways) (name : List ℕ) (shows : ℕ → Snapshot)
+wrote_text : {calling : Calling} (ways : Ways) (name : List ℕ) (shows : ℕ → Snapshot)
     (count : ℕ) (seen : List Snapshot) (watched : List Watched) (new : List Slot)
     → (seen ≡ seen_first shows (length seen) → AreKept (entries_of ways.by_name name seen))
-    → FollowEndsAs true true breaks_for calling ways false (name ∷ []) count shows streams seen watched new 0
+    → FollowEndsAs true true calling ways false (name ∷ []) count shows streams seen watched new 0
     → WroteText ways name shows count seen new
 wrote_text ways name shows count seen watched new keeps_bytes (looked looks shares seen_is broken made few full are found leaves) =
     let ends : length looks < count → (0 < length looks) × (◌≡◌ {A = Bool} true true → is_alive ways (name ∷ []) looks ≡ false) = (λ fewer. ((full fewer).0, (full fewer).1)) in grind (arith, common_steps, unfailed, length-map, wrote_all, looks_give_text)
-wrote_text ways name shows count seen watched new keeps_bytes (stopped mid fault why stop is_why says failed) = absurd (status_some fault _ why (sym failed))
+wrote_text ways name shows count seen watched new keeps_bytes (stopped mid fault stop says failed) = absurd (status_some fault _ _ (sym failed))
 wrote_text ways name shows count seen watched new keeps_bytes (no_room why unseen unwatched says failed) = absurd (omega (arith, failed))
 
 -- each look of it, which begins within the pause that it asks for
@@ -219,10 +213,10 @@ pub follows_text : {run : Run} {count : ℕ} {options : EndsAsked} {followed : F
     (paused run followed follows.read.0) count run.seen run.outputs
 follows_text {run} {count} {options} {followed} {name} follows bare named keeps_bytes =
     let ways = ways_of 0 (is_name followed) (start_of options) in
-    let ends = subst (FollowingEndsAt run.calling true true run.breaks_for run.words count run.shows run.seen run.watched run.outputs run.status) follows.read.1 follows.ends in
-    let one = subst (λ names. FollowEndsAs true true run.breaks_for run.calling ways (has_headers options.headers options.names) names count (paused run followed follows.read.0) streams run.seen run.watched run.outputs run.status) named ends in
-    let headless = subst (λ headers. FollowEndsAs true true run.breaks_for run.calling ways headers (name ∷ []) count (paused run followed follows.read.0) streams run.seen run.watched run.outputs run.status) bare one in
-    wrote_text ways name (paused run followed follows.read.0) count run.seen run.watched run.outputs keeps_bytes (subst (FollowEndsAs true true run.breaks_for run.calling ways false (name ∷ []) count (paused run followed follows.read.0) streams run.seen run.watched run.outputs) follows.well headless)
+    let ends = subst (FollowingEndsAt run.calling true true run.words count run.shows run.seen run.watched run.outputs run.status) follows.read.1 follows.ends in
+    let one = subst (λ names. FollowEndsAs true true run.calling ways (has_headers options.headers options.names) names count (paused run followed follows.read.0) streams run.seen run.watched run.outputs run.status) named ends in
+    let headless = subst (λ headers. FollowEndsAs true true run.calling ways headers (name ∷ []) count (paused run followed follows.read.0) streams run.seen run.watched run.outputs run.status) bare one in
+    wrote_text ways name (paused run followed follows.read.0) count run.seen run.watched run.outputs keeps_bytes (subst (FollowEndsAs true true run.calling ways false (name ∷ []) count (paused run followed follows.read.0) streams run.seen run.watched run.outputs) follows.well headless)
 
 pub tells_all : (run : Run) (options : EndsAsked) (followed : Followed) (name came : List ℕ) (file n : ℕ)
     → Follows run (n + 1) options followed → IsBare options → options.names ≡ name ∷ []
@@ -243,9 +237,9 @@ tells_all run options followed name came file n follows bare named grows is =
 -- A run of the program is a run of one of both kinds, by what its words ask for.
 
 ends_at : (run : Run) {looks : Option ℕ} → IsOfProgram run → looks_at (settings_of run.calling run.words) ≡ looks
-    → ProgramEndsAt run.calling true true true run.breaks_for run.words run.world.laid
+    → ProgramEndsAt run.calling true true true run.words run.world.laid
     (source_of run.world.standard ∷ []) run.inputs run.shows run.seen run.watched run.outputs run.status looks
-ends_at run ends is = subst (ProgramEndsAt run.calling true true true run.breaks_for run.words run.world.laid (source_of run.world.standard ∷ []) run.inputs run.shows run.seen run.watched run.outputs run.status) is ends
+ends_at run ends is = subst (ProgramEndsAt run.calling true true true run.words run.world.laid (source_of run.world.standard ∷ []) run.inputs run.shows run.seen run.watched run.outputs run.status) is ends
 
 pub runs_tool : (run : Run) (asked : Settings) → IsOfProgram run → settings_of run.calling run.words ≡ Ok asked
     → follows asked ≡ false → Ran run asked × (run.seen ≡ []) × (run.watched ≡ [])

@@ -1,74 +1,69 @@
 -- What is true of the outcome of any inputs: which messages it has, and that its files are live; and what a run leaves that no fault
 -- stopped: just what its inputs make, but for files that were to be removed.
-use Rattle.std.proofs.lemmas.Grind.{common_steps}
-use Rattle.std.proofs.Common.{◌≡◌, ℕ, ◌+◌, ◌<◌, zero, suc, Bool, true, false, ◌&&◌, cond, is_some, List, [], ◌∷◌, ◌++◌, length, map, Option, Some, None, inl, inr, ◌⊎◌, refl, sym, ◌∙◌, ap, arith, append_assoc, append-nil, not, subst, All, rules, ◌≤◌, ◌^◌, is_none, Ok, codes, length-append, option_map}
-use Rattle.std.proofs.lemmas.Bool.{and_parts, false≢true, not-false, or_cases, or_left, or_parts, or_right, cases_Bool}
-use Rattle.std.proofs.lemmas.List.Elements.{All-append, All-cons, All-head, All-map, All-nil, All-tail}
-use Rattle.ports_core.specs.Slot.{Slot, adds, has_file, slot_at, closes, opened, removes}
-use Rattle.ports_core.specs.Source.{Content, Source}
-use Rattle.ports_core.specs.Streams.{standard_error, standard_output, streams_with}
-use Rattle.ports_core.specs.Inputs.{largest_piece}
-use Rattle.ports_core.specs.Draft as made
-use Rattle.ports_core.specs.Draft.{Draft, Manner, shares_of}
-use Rattle.ports_core.specs.Name.{has_name}
-use Rattle.ports_core.specs.Part.{File, FilesBegin, Part, nothing, only_out, OutputsAt, file_of, told_file}
-use Rattle.ports_core.specs.Text.{Message, is_quiet, message_of, status_after}
-use Rattle.ports_core.specs.declared.calling.Calling.{Calling}
-use Rattle.ports_core.specs.declared.calling.Calling.TheVariants.{Cutters}
-use Rattle.ports_core.specs.declared.calling.Speaker.{Speaker}
-use Rattle.ports_core.specs.declared.on_broken.OnBroken.{OnBroken}
-use Rattle.ports_core.specs.declared.reason.Reason.{Reason}
-use Rattle.ports_core.specs.Work.{Judges, Needs, Work}
-use Rattle.ports_core.specs.declared.fault.Fault.{Fault}
-use Rattle.ports_core.specs.declared.fault.Fault.TheVariants.{Open as CannotOpen, Read, Write}
-use Rattle.ports_core.specs.declared.fault.Fault.TheVariants as fault_is
-use Rattle.ports_core.specs.declared.verdict.Verdict.{Verdict}
-use Rattle.ports_core.specs.declared.slot.State.{State}
-use Rattle.ports_core.specs.declared.slot.State.TheVariants.{Open, Closed}
-use Rattle.seg_core.specs.declared.cut.Cut.{Cut}
-use Rattle.seg_core.specs.declared.cut.Cut.TheVariants.{Parts, Round}
-use Rattle.seg_core.specs.declared.cut.Way.{Way}
-use Rattle.seg_core.specs.declared.cut.Way.TheVariants as way
-use Rattle.split_core.specs.ChunkWork.{ChunksPlan, chunks_work, draft_by, way_work}
-use Rattle.split_core.specs.Chunks.{decided}
-use Rattle.seg_core.specs.declared.unit.Unit.{Unit as Counted}
+use Rattle.std.proofs.{
+  lemmas.{Grind.common_steps, Bool.{and_parts, false≢true, not-false, or_cases, or_left, or_parts, or_right, cases_Bool}, List.Elements.{All-append, All-cons, All-head, All-map, All-nil, All-tail}},
+  Common.{◌≡◌, ℕ, ◌+◌, ◌<◌, zero, suc, Bool, true, false, ◌&&◌, cond, is_some, List, [], ◌∷◌, ◌++◌, length, map, Option, Some, None, inl, inr, ◌⊎◌, refl, sym, ◌∙◌, ap, arith, append_assoc, append-nil, not, subst, All, rules, ◌≤◌, ◌^◌, is_none, Ok, codes, length-append, option_map},
+}
+use Rattle.ports_core.specs.{
+  Slot.{Slot, adds, has_file, slot_at, closes, opened, removes},
+  Source.{Content, Source},
+  Streams.{standard_error, standard_output, streams_with},
+  Inputs.largest_piece,
+  Draft.{Draft, Manner, shares_of},
+  Name.has_name,
+  Part.{File, FilesBegin, Part, nothing, only_out, OutputsAt, file_of, told_file},
+  Text.{Message, is_quiet, message_of, status_after},
+  declared.calling.{Calling.{Calling, TheVariants.Cutters}, Speaker.Speaker},
+  declared.on_broken.OnBroken.OnBroken,
+  declared.reason.Reason.Reason,
+  declared.fault.Fault.{Fault, TheVariants.{Open as CannotOpen, Read, Write}},
+  declared.verdict.Verdict.Verdict,
+  declared.slot.{State.{State, TheVariants.{Open, Closed}}, Mode.Mode},
+  Work.{Judges, Needs, Work},
+  Message.SaysAll,
+  Swept.{Cleared, Swept},
+}
+use Rattle.seg_core.specs.declared.{cut.{Cut.{Cut, TheVariants.{Parts, Round}}, Way.Way, Limit.Limit}, unit.Unit.Unit as Counted}
+use Rattle.split_core.specs.{
+  ChunkWork.{ChunksPlan, chunks_work, draft_by, way_work},
+  Chunks.decided,
+  inner.{CutLaws.named, Sharing.file_at},
+  Split.{Filing, Plan, Share, dealt_files, settled_parts, settled_shares, share, split_work},
+}
 use Rattle.ends_core.specs.Shown.{head_in, tail_in}
-use Rattle.tools_core.proofs.SameLemmas.{all_made_alike, head_knows, tail_knows, way_knows}
-use Rattle.seg_core.specs.declared.cut.Limit.{Limit}
-use Rattle.split_core.specs.inner.CutLaws.{named}
-use Rattle.split_core.specs.Split.{Filing, Plan, Share, dealt_files, settled_parts, settled_shares, share, split_work}
-use Rattle.split_core.specs.inner.Sharing.{file_at}
-use Rattle.operand_core.specs.Style.{Style}
-use Rattle.operand_core.specs.declared.operand.Operand.{Operand}
-use Rattle.csplit_core.specs.Csplit.{csplit_work}
-use Rattle.csplit_core.specs.Output.{file_in, manner_of, shares_in, state_in}
-use Rattle.csplit_core.specs.Input.{all_lines, complete_lines}
-use Rattle.csplit_core.specs.Section.{Section, settled_sections, whole_sections}
-use Rattle.csplit_core.specs.Planned.{plan}
-use Rattle.run_core.specs.Feeding.{IsCall, Step, closes as ends_call, feeds, is_enough, opens}
-use Rattle.run_core.specs.Input.{Input, inputs_at, standard_input}
-use Rattle.run_core.specs.RunEnds.{RunStep, calling as call_step, heading, unheaded, unopened, EndsAs, as_defined}
-use Rattle.run_core.specs.Task.{Outcome, Task, after_part, header_text, is_missing, joined, of_content, of_input, of_inputs, verdict_messages, made_by, status_of}
-use Rattle.tools_core.specs.Promises.{AllAlike, AreAlike, GivesBytes, are_same, give_same, SaysLines, Completes, FindAlike, IsCopied, IsFound, IsGone, IsTask, IsUnstopped, LeaveAlike, Ran, Run, TellsMet, Unstopped, broken_off, failing, judged, missing, removes_files}
-use Rattle.ports_core.specs.Message.{SaysAll}
-use Rattle.ports_core.specs.Swept.{Cleared, Swept}
-use Rattle.ports_core.specs.Swept as swept_so
-use Rattle.ports_core.specs.declared.slot.Mode.{Mode}
-use Rattle.ports_core.specs.declared.slot.State.TheVariants as state
-use Rattle.operand_core.proofs.ReadingLemmas.{asks_once}
-use Rattle.operand_core.specs.Reading.{Asks}
+use Rattle.tools_core.{
+  proofs.SameLemmas.{all_made_alike, head_knows, tail_knows, way_knows},
+  specs.Promises.{AllAlike, AreAlike, GivesBytes, are_same, give_same, SaysLines, Completes, FindAlike, IsCopied, IsFound, IsGone, IsTask, IsUnstopped, LeaveAlike, Ran, Run, TellsMet, Unstopped, broken_off, failing, judged, missing, removes_files},
+  specs.About.{TellsText, no_text, text_cut, text_whole},
+  specs.Outcome.{DoesAsked, RefusesOperands},
+  specs.Tasks.{csplit_task, filing_of, head_task, is_minus, is_plus, names_of, speaker_of, split_task, tail_task, by},
+}
+use Rattle.operand_core.{specs.{Style.Style, declared.operand.Operand.Operand, Reading.Asks}, proofs.ReadingLemmas.asks_once}
+use Rattle.csplit_core.specs.{
+  Csplit.csplit_work,
+  Output.{file_in, manner_of, shares_in, state_in},
+  Input.{all_lines, complete_lines},
+  Section.{Section, settled_sections, whole_sections},
+  Planned.plan,
+}
+use Rattle.run_core.specs.{
+  Feeding.{IsCall, Step, closes as ends_call, feeds, is_enough, opens},
+  Input.{Input, inputs_at, standard_input},
+  RunEnds.{RunStep, calling as call_step, heading, unheaded, unopened, EndsAs, as_defined},
+  Task.{Outcome, Task, after_part, header_text, is_missing, joined, of_content, of_input, of_inputs, verdict_messages, made_by, status_of},
+}
 use Rattle.run_core.proofs.StopLemmas.{beside_error, swept_error}
+use Rattle.tee_core.{
+  specs.Run.{Break, IsRead, are_sound, tee_called, messages_of, said_of_input},
+  proofs.EndLemmas.{nothing_before, nothing_in, sound_first, sound_goes_on, sound_status, whole_files, whole_output},
+}
+use Rattle.words_core.specs.{TeeWords.TeeAsked, Words.settings_of, declared.settings.Settings.{Settings, TheVariants.{Head, Tail, Split, Csplit, Tee, About}}, Help.text_about}
+use Rattle.ports_core.specs.Draft as made
+use Rattle.ports_core.specs.declared.fault.Fault.TheVariants as fault_is
+use Rattle.seg_core.specs.declared.cut.Way.TheVariants as way
+use Rattle.ports_core.specs.Swept as swept_so
+use Rattle.ports_core.specs.declared.slot.State.TheVariants as state
 use Rattle.tee_core.specs.Run as tee
-use Rattle.tee_core.specs.Run.{Break, IsRead, are_sound, tee_called, messages_of, output_names, said_in, said_of_input}
-use Rattle.tee_core.proofs.EndLemmas.{nothing_before, nothing_in, sound_first, sound_goes_on, sound_status, whole_files, whole_output}
-use Rattle.words_core.specs.TeeWords.{TeeAsked}
-use Rattle.words_core.specs.Words.{settings_of}
-use Rattle.words_core.specs.declared.settings.Settings.{Settings}
-use Rattle.words_core.specs.declared.settings.Settings.TheVariants.{Head, Tail, Split, Csplit, Tee, About}
-use Rattle.words_core.specs.Help.{text_about}
-use Rattle.tools_core.specs.About.{TellsText, no_text, text_cut, text_whole}
-use Rattle.tools_core.specs.Outcome.{DoesAsked, RefusesOperands}
-use Rattle.tools_core.specs.Tasks.{csplit_task, filing_of, head_task, is_minus, is_plus, names_of, speaker_of, split_task, tail_task, by}
 
 -- One of the lines
 
@@ -97,7 +92,14 @@ one_line Line line is = All-cons Line line [] is (All-nil Line)
 -- Files that are open or closed, and not broken
 
 abbrev pub slot_of : File → Slot
-slot_of file = record { name = file.name; mode = file.mode; written = file.bytes; state = file.state; is_broken = file.is_broken }
+slot_of file = record {
+  name = file.name;
+  mode = file.mode;
+  written = file.bytes;
+  state = file.state;
+  is_broken = file.is_broken;
+  reason = file.reason;
+}
 
 abbrev pub IsLive : Slot → Type 0
 IsLive slot = (slot.is_broken ≡ false) × (has_file slot.state ≡ true)
@@ -465,7 +467,7 @@ cleared_kept place {old} (swept_so.removed has) = record {
   fails = λ at. sym (failing_file old.state has);
   broke = λ sound broken. absurd (false≢true (sym sound ∙ broken));
 }
-cleared_kept place {old} (swept_so.stuck has) = record {
+cleared_kept place {old} (swept_so.stuck why has) = record {
   name = refl;
   mode = refl;
   written = refl;
@@ -485,7 +487,7 @@ swept_kept true old new swept (suc zero) = kept_same true 1 refl (swept.before 1
 
 cleared_gone : {old output : Slot} → Cleared old output → IsGone output
 cleared_gone (swept_so.removed has) = inl refl
-cleared_gone (swept_so.stuck has) = inr refl
+cleared_gone (swept_so.stuck why has) = inr refl
 cleared_gone (swept_so.none lacks) = inl lacks
 
 pub swept_gone : (sweeps : Bool) (old new : List Slot) → sweeps ≡ true → Swept sweeps 2 old new → (place : ℕ)
@@ -586,11 +588,11 @@ pub quiet_outputs : (on_broken : OnBroken) (names : List (List ℕ)) (broke : Li
     → messages_of on_broken names broke pieces fault ≡ said_of_input fault
 quiet_outputs on_broken names broke pieces fault sound = search (rules, nothing_before, nothing_in)
 
-pub tee_left : {breaks_for : ℕ → Reason → Bool} {calling : Calling} {asked : TeeAsked} {content : Content}
+pub tee_left : {calling : Calling} {asked : TeeAsked} {content : Content}
     {source : Source} {new : List Slot} {status : ℕ}
-    (ends : tee.EndsAs true true breaks_for calling asked.mode asked.on_broken asked.names content source new status)
+    (ends : tee.EndsAs true true calling asked.mode asked.on_broken asked.names content source new status)
     → IsCopied ends → IsLeft (tee_called calling) (tee_made asked content) new status
-tee_left {asked} {content} (tee.copied pieces fault first broke output error files comes some left rest stand says slots is) (sound, all) =
+tee_left {asked} {content} (tee.copied pieces fault first broke output error files comes some left rest says slots is) (sound, all) =
     let sounds = sound_first first (are_sound broke) sound in
     let met = met_is _ (sound_goes_on asked.on_broken (suc (length pieces)) first broke sound) all comes.few comes.read in record {
       error = error;
@@ -612,10 +614,10 @@ status_some fault calling why = by_quiet (is_quiet fault calling why) where
   by_quiet true is = omega (arith, is)
   by_quiet false is = omega (arith, is)
 
-text_left : {breaks_for : ℕ → Reason → Bool} {which : Speaker} {text : List ℕ} {new : List Slot} {status : ℕ}
-    → TellsText true breaks_for which text new status → status ≡ 0 → IsLeft which (text_made text) new status
+text_left : {which : Speaker} {text : List ℕ} {new : List Slot} {status : ℕ}
+    → TellsText true which text new status → status ≡ 0 → IsLeft which (text_made text) new status
 text_left (text_whole slots is) well = record { error = standard_error; says = refl; swept = rw slots refl; is = is }
-text_left (text_cut n short why error is_why says slots is) well = absurd (status_some (Write 0) _ why (sym is ∙ well))
+text_left (text_cut n short why error says slots is) well = absurd (status_some (Write 0) _ why (sym is ∙ well))
 text_left (no_text error says slots is) well = absurd (omega (arith, is, well))
 
 -- All tools
@@ -668,7 +670,7 @@ task_lives calling (About which topic) task is = absurd is
 
 ends_left : {run : Run} {asked : Settings} {task : Task} → IsTask run.calling asked task
     → Makes asked (inputs_at run.world (names_of asked)) (made_by task (inputs_at run.world (names_of asked)))
-    → (ends : EndsAs true true run.breaks_for task
+    → (ends : EndsAs true true task
     (inputs_at run.world (names_of asked)) run.inputs run.outputs run.status) → IsUnstopped ends → LeftBy run asked
 ends_left {run} {asked} {task} of makes (as_defined error reached says outputs swept done is) unstopped =
     let found = inputs_at run.world (names_of asked) in record {
@@ -692,9 +694,9 @@ made_so : (run : Run) (task : Task) (names : List (List ℕ))
 made_so run task names = made_alike task (by Cutters task.speaker.tool) true (inputs_at run.world names)
 
 does_left : (run : Run) (asked : Settings)
-    (does : DoesAsked run.calling true true run.breaks_for asked
+    (does : DoesAsked run.calling true true asked
     (inputs_at run.world (names_of asked)) run.inputs run.outputs run.status)
-    → Unstopped run.breaks_for run.calling asked
+    → Unstopped run.calling asked
     (inputs_at run.world (names_of asked)) run.inputs run.outputs run.status does → LeftBy run asked
 does_left run (Head asked) does unstopped = ends_left {asked = Head asked} refl (made_so run (head_task run.calling asked) asked.names) does unstopped
 does_left run (Tail asked) does unstopped = ends_left {asked = Tail asked} refl (made_so run (tail_task run.calling asked.ends) asked.ends.names) does unstopped
@@ -719,7 +721,7 @@ not_refused (inl did) = inl did
 not_refused (inr (same, refuses)) = inr refuses
 
 pub ran_over : {run : Run} {asked : Settings} → Ran run asked
-    → DoesAsked run.calling true true run.breaks_for asked
+    → DoesAsked run.calling true true asked
     (inputs_at run.world (names_of asked)) run.inputs run.outputs run.status
     ⊎ RefusesOperands true run.words asked run.outputs run.status
 ran_over ran =

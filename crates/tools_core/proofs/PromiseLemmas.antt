@@ -1,39 +1,27 @@
 -- What a run that met no fault leaves: just its part, as its definition says, and nothing on standard error; so what `head`, `tail` and
 -- `tee` leave of one input, and that what any run leaves is a beginning of it.
-use Rattle.std.proofs.lemmas.Grind.{common_steps}
-use Rattle.std.proofs.Common.{◌≡◌, ℕ, Bool, true, false, if◌then◌else◌, List, [], ◌∷◌, Option, Some, None, inl, inr, refl, sym, ◌∙◌, ap, arith, ◌+◌, ◌-◌, ◌++◌, map, drop, subst, length, option_map}
-use Rattle.ports_core.specs.declared.reason.Reason.{Reason}
-use Rattle.ports_core.specs.Slot.{Slot, slot_at}
-use Rattle.run_core.specs.Input.{Input, World, shown_of, input_of, inputs_at, is_dash}
-use Rattle.run_core.specs.Task.{Outcome, Task, made_by, joined, no_outcome, of_content, header_text}
-use Rattle.words_core.specs.declared.settings.Settings.{Settings}
-use Rattle.tools_core.specs.Tasks.{filing_of, head_task, tail_task, names_of, is_minus, is_plus}
-use Rattle.tools_core.specs.Promises.{GivesBytes, IsSteady, counted, Completes, Does, FindAlike, HasInput, Ran, Run, IsHead, IsTail, IsBare, CountAlike, output_of, AreCopies, IsSound, files_of, BeginsAs, BeginsEach}
-use Rattle.tools_core.proofs.BeginLemmas.{all_have_names, ending, is_way, part_of, bare_begins, begins_kept, begins_whole, lawful_grows, way_grows, still_begins, tee_begins, text_begins}
-use Rattle.tools_core.proofs.LeftLemmas.{Makes, completes_left, left_whole, same_made, slots_of, copies_are, copy, tee_made, left_at, ran_over}
-use Rattle.tools_core.proofs.StoppedPromises.{completes_or, silent_completes}
-use Rattle.seg_core.specs.declared.count.Sign.{Sign}
-use Rattle.seg_core.specs.declared.unit.Unit.{Unit as Counted}
-use Rattle.seg_core.specs.declared.unit.Unit.TheVariants.{Lines, Bytes}
-use Rattle.ports_core.specs.Work.{Work}
-use Rattle.ports_core.specs.declared.calling.Calling.TheVariants.{Cutters}
-use Rattle.ends_core.specs.Head.{head_work}
-use Rattle.ends_core.specs.Tail.{tail_work}
-use Rattle.seg_core.specs.declared.count.Sign.TheVariants.{Plain, Minus, Plus}
-use Rattle.ends_core.specs.Ends.{head_of, tail_of, after_of, first_of}
-use Rattle.ends_core.specs.laws.EndsLaws.{first_then_after, ends_together}
-use Rattle.words_core.specs.declared.settings.Settings.TheVariants.{Tee, Head, Tail, Split, Csplit, About}
-use Rattle.words_core.specs.EndsWords.{EndsAsked}
-use Rattle.std.proofs.lemmas.List.Elements.{All-map}
-use Rattle.ports_core.specs.Source.{Content, Source}
-use Rattle.ports_core.specs.declared.slot.Mode.{Mode}
-use Rattle.words_core.specs.TeeWords.{TeeAsked}
+use Rattle.std.proofs.{
+  lemmas.{Grind.common_steps, List.Elements.All-map},
+  Common.{◌≡◌, ℕ, Bool, true, false, if◌then◌else◌, List, [], ◌∷◌, Option, Some, None, inl, inr, refl, sym, ◌∙◌, ap, arith, ◌+◌, ◌-◌, ◌++◌, map, drop, subst, length, option_map},
+}
+use Rattle.ports_core.specs.{Slot.{Slot, slot_at}, Work.Work, declared.{calling.Calling.{Calling, TheVariants.Cutters}, slot.Mode.Mode}, Source.{Content, Source}}
+use Rattle.run_core.specs.{Input.{Input, World, shown_of, input_of, inputs_at, is_dash}, Task.{Outcome, Task, made_by, joined, no_outcome, of_content, header_text}}
+use Rattle.words_core.specs.{declared.settings.Settings.{Settings, TheVariants.{Tee, Head, Tail, Split, Csplit, About}}, EndsWords.EndsAsked, TeeWords.TeeAsked, Words.CanRun}
+use Rattle.tools_core.specs.{
+  Tasks.{filing_of, head_task, tail_task, names_of, is_minus, is_plus},
+  Promises.{GivesBytes, IsSteady, counted, Completes, Does, FindAlike, HasInput, Ran, Run, IsHead, IsTail, IsBare, CountAlike, output_of, AreCopies, IsSound, files_of, BeginsAs, BeginsEach},
+  Outcome.{DoesAsked, names_at},
+}
+use Rattle.tools_core.proofs.{
+  BeginLemmas.{all_have_names, ending, is_way, part_of, bare_begins, begins_kept, begins_whole, lawful_grows, way_grows, still_begins, tee_begins, text_begins},
+  LeftLemmas.{Makes, completes_left, left_whole, same_made, slots_of, copies_are, copy, tee_made, left_at, ran_over},
+  StoppedPromises.{completes_or, silent_completes},
+  RunLemmas.can_run,
+  SameLemmas.{KnowsNoMore, head_in-None, head_in_lawful, head_knows, steady_made, tail_in-None, tail_in_lawful, tail_knows},
+}
+use Rattle.seg_core.specs.declared.{count.Sign.{Sign, TheVariants.{Plain, Minus, Plus}}, unit.Unit.{Unit as Counted, TheVariants.{Lines, Bytes}}}
+use Rattle.ends_core.specs.{Head.head_work, Tail.tail_work, Ends.{head_of, tail_of, after_of, first_of}, laws.EndsLaws.{first_then_after, ends_together}}
 use Rattle.csplit_core.specs.laws.InputLaws as csplit_law
-use Rattle.words_core.specs.Words.{CanRun}
-use Rattle.ports_core.specs.declared.calling.Calling.{Calling}
-use Rattle.tools_core.specs.Outcome.{DoesAsked, names_at}
-use Rattle.tools_core.proofs.RunLemmas.{can_run}
-use Rattle.tools_core.proofs.SameLemmas.{KnowsNoMore, head_in-None, head_in_lawful, head_knows, steady_made, tail_in-None, tail_in_lawful, tail_knows}
 
 completes : {run : Run} {asked : Settings} → Does run asked → Completes run asked
 completes {run} {asked} does = elim (completes_or run asked does.ran) [
@@ -213,15 +201,15 @@ is_copied {asked} {input} does has =
 abbrev BeginsMade : Settings → List Input → List Slot → Type 0
 BeginsMade asked inputs new = (made : Outcome) × Makes asked inputs made × ((place : ℕ) → (place ≡ 1 → ⊥) → BeginsAs (slot_at new place) (slot_at (slots_of made.part) place))
 
-begins_made : (breaks_for : ℕ → Reason → Bool) (calling : Calling) (asked : Settings) (inputs : List Input)
+begins_made : (calling : Calling) (asked : Settings) (inputs : List Input)
     (sources : List Source) (new : List Slot) (status : ℕ) → CanRun asked
-    → DoesAsked calling true true breaks_for asked inputs sources new status → BeginsMade asked inputs new
-begins_made breaks_for calling (Head asked) inputs sources new status can does = (_, refl, λ place differs. begins_whole (λ shown. lawful_grows (head_in_lawful _ _ _ _ shown)) differs does)
-begins_made breaks_for calling (Tail asked) inputs sources new status can does = (_, refl, λ place differs. begins_whole (λ shown. lawful_grows (tail_in_lawful _ _ _ _ shown)) differs does)
-begins_made breaks_for calling (Split asked) inputs sources new status can does = (_, refl, λ place differs. begins_whole (λ shown. way_grows asked.way asked.elide (filing_of asked) (option_map length shown) (is_way asked can) (all_have_names asked can.named)) differs does)
-begins_made breaks_for calling (Csplit asked) inputs sources new status can does = (_, (does.operands, does.asks, refl), λ place differs. begins_whole (λ shown. lawful_grows (csplit_law.lawful asked.style does.operands)) differs does.ends)
-begins_made breaks_for calling (Tee asked) inputs sources new status can does = (_, (does.content, does.input, refl), λ place differs. tee_begins place differs does.ends)
-begins_made breaks_for calling (About which topic) inputs sources new status can does = (_, refl, λ place differs. text_begins place differs does)
+    → DoesAsked calling true true asked inputs sources new status → BeginsMade asked inputs new
+begins_made calling (Head asked) inputs sources new status can does = (_, refl, λ place differs. begins_whole (λ shown. lawful_grows (head_in_lawful _ _ _ _ shown)) differs does)
+begins_made calling (Tail asked) inputs sources new status can does = (_, refl, λ place differs. begins_whole (λ shown. lawful_grows (tail_in_lawful _ _ _ _ shown)) differs does)
+begins_made calling (Split asked) inputs sources new status can does = (_, refl, λ place differs. begins_whole (λ shown. way_grows asked.way asked.elide (filing_of asked) (option_map length shown) (is_way asked can) (all_have_names asked can.named)) differs does)
+begins_made calling (Csplit asked) inputs sources new status can does = (_, (does.operands, does.asks, refl), λ place differs. begins_whole (λ shown. lawful_grows (csplit_law.lawful asked.style does.operands)) differs does.ends)
+begins_made calling (Tee asked) inputs sources new status can does = (_, (does.content, does.input, refl), λ place differs. tee_begins place differs does.ends)
+begins_made calling (About which topic) inputs sources new status can does = (_, refl, λ place differs. text_begins place differs does)
 
 pub begins_each : (run well : Run) (asked : Settings) → Ran run asked → Completes well asked → FindAlike run well
     → BeginsEach run well
@@ -229,7 +217,7 @@ begins_each run well asked ran whole same =
     let all = completes_left whole in
     elim (ran_over ran) [
       | inl does ↦ λ place differs.
-          let (made, makes, begins) = begins_made run.breaks_for run.calling asked _ run.inputs run.outputs run.status (can_run run.calling run.words ran.read) does in
+          let (made, makes, begins) = begins_made run.calling asked _ run.inputs run.outputs run.status (can_run run.calling run.words ran.read) does in
           let same_too = same_made run well ran.read whole.read same makes all.of in
           begins_kept (left_at all.left place differs) (subst (λ (those : Outcome). BeginsAs (slot_at run.outputs place) (slot_at (slots_of those.part) place)) (sym same_too) (begins place differs))
       | inr (fault, bad, refuses) ↦ λ place differs. still_begins place refuses.slots (bare_begins refuses.error place differs)

@@ -1,56 +1,49 @@
 -- How a run ends, by its words.
-use Rattle.std.specs.Option.{unwrap_or}
-use Rattle.std.proofs.Common.{◌≡◌, ℕ, List, [], ◌∷◌, Option, Some, None, option_map, Result, Ok, Err, refl, sym, ◌∙◌, ap, subst, Bool, true, false, length, map, Bor, inl, inr, codes, arith, max}
-use Rattle.ports_core.specs.declared.reason.Reason.{Reason}
-use Rattle.ports_core.specs.declared.fault.Fault.{Fault}
-use Rattle.ports_core.specs.declared.tool.Tool.{Tool}
-use Rattle.words_core.specs.declared.settings.Settings.{Settings}
-use Rattle.words_core.specs.declared.tail_words.TailSettings.{TailSettings}
-use Rattle.follow_core.proofs.LookedLemmas.{ends_by, most_made}
-use Rattle.words_core.specs.declared.settings.Settings.TheVariants.{Head, Tail, Split, Csplit, Tee, About}
-use Rattle.words_core.specs.declared.settings.Topic.{Topic}
-use Rattle.words_core.specs.CsplitWords.{HasBadOperand, csplit_asked, CsplitAsked}
-use Rattle.words_core.specs.EndsWords.{ends_asked, EndsAsked}
-use Rattle.words_core.specs.SplitWords.{split_asked}
-use Rattle.words_core.specs.TailWords.{tail_asked}
-use Rattle.words_core.specs.TeeWords.{tee_asked, TeeAsked}
-use Rattle.words_core.specs.Given.{Given}
-use Rattle.words_core.specs.Spelling.{given_by, IsRefused}
-use Rattle.words_core.specs.Value.{then_check}
-use Rattle.words_core.specs.Table.{ToolRow, row_named, tools}
-use Rattle.words_core.specs.Words.{about_or, topic_in, work_for, program_asked, settings_for, settings_of, tool_settings, topic_named, CanRun, HasBadOperands, looks}
-use Rattle.tools_core.specs.Outcome.{speaker, RefusesFor, RunEndsAt, TeeEndsAs, names_at}
-use Rattle.tools_core.specs.Tasks.{by, speaker_of, tool_of}
-use Rattle.ports_core.specs.declared.calling.Calling.{Calling}
-use Rattle.ports_core.specs.declared.calling.Calling.TheVariants.{Cutters, OwnName}
-use Rattle.tools_core.specs.About.{no_text}
+use Rattle.std.{
+  specs.Option.unwrap_or,
+  proofs.Common.{◌≡◌, ℕ, List, [], ◌∷◌, Option, Some, None, option_map, Result, Ok, Err, refl, sym, ◌∙◌, ap, subst, Bool, true, false, length, map, Bor, inl, inr, codes, arith, max},
+  proofs.lemmas.Bool.false≢true,
+}
+use Rattle.ports_core.specs.{
+  declared.fault.{Fault.{Fault, TheVariants.{Memory, Usage}}, UsageKind.TheVariants.BadFollow},
+  declared.tool.Tool.Tool,
+  declared.calling.Calling.{Calling, TheVariants.{Cutters, OwnName}},
+  declared.on_broken.OnBroken.OnBroken,
+  declared.slot.Mode.Mode,
+  Slot.{Slot, changed_at, slot_at},
+  Source.{Content, Source, source_at, IsFresh},
+  Text.message_of,
+  Message.{Says, SaysAll, SaysFor},
+  Inputs.{CameFrom, OfContent, empty},
+  Streams.standard_error,
+}
+use Rattle.words_core.specs.{
+  declared.{settings.{Settings.{Settings, TheVariants.{Head, Tail, Split, Csplit, Tee, About}}, Topic.Topic, Headers.Headers}, tail_words.TailSettings.TailSettings, value.Followed.Followed},
+  CsplitWords.{HasBadOperand, csplit_asked, CsplitAsked},
+  EndsWords.{ends_asked, EndsAsked},
+  SplitWords.split_asked,
+  TailWords.tail_asked,
+  TeeWords.{tee_asked, TeeAsked},
+  Given.Given,
+  Spelling.{given_by, IsRefused},
+  Value.then_check,
+  Table.{ToolRow, row_named, tools},
+  Words.{about_or, topic_in, work_for, program_asked, settings_for, settings_of, tool_settings, topic_named, CanRun, HasBadOperands, looks},
+}
 use Rattle.words_core.proofs.LimitLemmas.{read-can}
-use Rattle.std.proofs.lemmas.Bool.{false≢true}
-use Rattle.ports_core.specs.Slot.{Slot, changed_at, slot_at}
-use Rattle.ports_core.specs.Source.{Content, Source, source_at, IsFresh}
-use Rattle.ports_core.specs.Text.{message_of}
-use Rattle.ports_core.specs.Message.{Says, SaysAll, SaysFor}
-use Rattle.ports_core.specs.declared.fault.Fault.TheVariants.{Memory, Usage}
-use Rattle.ports_core.specs.declared.on_broken.OnBroken.{OnBroken}
-use Rattle.ports_core.specs.declared.slot.Mode.{Mode}
-use Rattle.ports_core.specs.Inputs.{CameFrom, OfContent, empty}
-use Rattle.run_core.specs.Input.{Finds, standard_input}
-use Rattle.run_core.specs.RunEnds.{no_room, RunsOver}
-use Rattle.ports_core.specs.Streams.{standard_error}
-use Rattle.run_core.specs.RunSteps.{world_of}
-use Rattle.run_core.proofs.InputLemmas.{none_touched}
-use Rattle.seg_core.specs.declared.count.Count.{Count}
-use Rattle.seg_core.specs.declared.unit.Unit.{Unit as Counted}
+use Rattle.follow_core.{proofs.LookedLemmas.{ends_by, most_made}, specs.Ending.{no_room as no_room_yet, shows_by}}
+use Rattle.tools_core.specs.{
+  Outcome.{speaker, RefusesFor, RunEndsAt, TeeEndsAs, names_at},
+  Tasks.{by, speaker_of, tool_of},
+  About.no_text,
+  Following.{FollowingEnds, FollowingEndsAt, FollowsTail, is_name},
+  Program.{ProgramEnds, ProgramEndsAt, looks_at},
+}
+use Rattle.run_core.{specs.{Input.{Finds, standard_input}, RunEnds.{no_room, RunsOver}, RunSteps.world_of}, proofs.InputLemmas.none_touched}
+use Rattle.seg_core.specs.declared.{count.Count.Count, unit.Unit.Unit as Counted}
 use Rattle.tee_core.specs.Run.{AreSound, IsAsFound, all_copied, forgives, EndsAs as TeeCopies}
 use Rattle.operand_core.specs.Reading.{no_memory}
-use Rattle.words_core.specs.declared.settings.Headers.{Headers}
-use Rattle.ports_core.specs.declared.fault.UsageKind.TheVariants.{BadFollow}
-use Rattle.watch_core.specs.Snapshot.{Snapshot, waiting}
-use Rattle.watch_core.specs.Watched.{Watched}
-use Rattle.follow_core.specs.Ending.{no_room as no_room_yet, shows_by}
-use Rattle.words_core.specs.declared.value.Followed.{Followed}
-use Rattle.tools_core.specs.Following.{FollowingEnds, FollowingEndsAt, FollowsTail, is_name}
-use Rattle.tools_core.specs.Program.{ProgramEnds, ProgramEndsAt, looks_at}
+use Rattle.watch_core.specs.{Snapshot.{Snapshot, waiting}, Watched.Watched}
 use Rattle.ports_core.specs.declared.tool.Tool.TheVariants as tool
 use Rattle.tee_core.specs.Run as copies
 use Rattle.operand_core.specs.declared.operand_fault.OperandFaultKind.TheVariants as kind
@@ -144,17 +137,17 @@ finds_standard {laid} sources {content} there = record {
   there = λ t. ap (λ (those : Content). standard_input those ∷ []) (there t);
 }
 
-pub tee_runs : {told_in told : Bool} {breaks_for : ℕ → Reason → Bool} {calling : Calling}
+pub tee_runs : {told_in told : Bool} {calling : Calling}
     {laid : ℕ → List ℕ → Option Content} {asked : TeeAsked} {mode : Mode} {on_broken : OnBroken} {names : List (List ℕ)}
     (old : List Source) {sources : List Source} {new : List Slot} {status : ℕ} → mode ≡ asked.mode
     → on_broken ≡ asked.on_broken → names ≡ asked.names
     → OfContent told_in (source_at old 0).left
-    (λ content. TeeCopies told_in told breaks_for calling mode on_broken names content (source_at sources 0) new status
+    (λ content. TeeCopies told_in told calling mode on_broken names content (source_at sources 0) new status
     × CameFrom told_in content (source_at sources 0))
     → (told_in ≡ true → status ≡ 0 → (forgives on_broken ≡ true → AreSound new)
     → new ≡ all_copied told mode names (source_at old 0).left.bytes)
     → RunsOver told_in (world_of laid old) (codes "-" ∷ [])
-    (λ found. TeeEndsAs calling told_in told breaks_for asked found sources new status)
+    (λ found. TeeEndsAs calling told_in told asked found sources new status)
 tee_runs {told} {mode} {names} old mode_is broken_is names_is (content, there, (ends, came)) whole = (
   standard_input content ∷ [],
   finds_standard old there,
@@ -208,12 +201,12 @@ says_as : {told : Bool} (calling : Calling) (words : List (List ℕ)) {settings 
     → SaysAll told (speaker_of calling settings) (message_of Memory [] ∷ []) standard_error refuses.error
 says_as calling words is refuses = (refuses.error, memory_by calling (runs_as_named calling words is) refuses.says, refl)
 
-module _ (calling : Calling) (told_in told : Bool) (breaks_for : ℕ → Reason → Bool) (words : List (List ℕ))
+module _ (calling : Calling) (told_in told : Bool) (words : List (List ℕ))
     (laid : ℕ → List ℕ → Option Content) (sources : List Source) (new : List Slot) (status : ℕ)
     (fresh : IsFresh sources) where
   -- no input was touched by a run of words that mean this
   abbrev pub EndsUnread : Result Settings Fault → Type 0
-  EndsUnread meant = RunsOver told_in (world_of laid sources) (names_at meant) (λ found. RunEndsAt calling told_in told breaks_for words found sources sources new status meant)
+  EndsUnread meant = RunsOver told_in (world_of laid sources) (names_at meant) (λ found. RunEndsAt calling told_in told words found sources sources new status meant)
 
   -- the words ask for something whose operands can't be read
   operands_refused : (settings : Settings) (fault : Fault) → HasBadOperands settings fault
@@ -251,14 +244,14 @@ shows_by-waiting OwnName true milliseconds shows = refl
 shows_by-waiting OwnName false milliseconds shows = refl
 shows_by-waiting Cutters by_name milliseconds shows = refl
 
-module _ (calling : Calling) (told_in told : Bool) (breaks_for : ℕ → Reason → Bool) (words : List (List ℕ)) (looks : ℕ)
+module _ (calling : Calling) (told_in told : Bool) (words : List (List ℕ)) (looks : ℕ)
     (shows : ℕ → Snapshot) (seen : List Snapshot) (watched : List Watched) (new : List Slot) (status : ℕ)
     (unseen : seen ≡ []) (unwatched : watched ≡ []) where
   -- words that weren't read for want of memory
 
   unread_tail : (asked : TailSettings) (followed : Option Followed) → speaker words ≡ tool.Tail
       → RefusesFor told words Memory new status
-      → FollowsTail calling told_in told breaks_for words asked followed looks shows seen watched new status
+      → FollowsTail calling told_in told words asked followed looks shows seen watched new status
   unread_tail asked None speaks refuses = (unseen, unwatched, refused_memory words (Usage BadFollow 0) refuses)
   unread_tail asked (Some followed) speaks refuses =
       let (most, are, above) = most_made told_in asked.process (λ n. waiting (max asked.pause 1) (shows_by calling (is_name followed) shows n)) looks 0 (omega arith) (λ t. omega arith) in
@@ -271,7 +264,7 @@ module _ (calling : Calling) (told_in told : Bool) (breaks_for : ℕ → Reason 
 
   unread_files : (meant : Result Settings Fault) → settings_of calling words ≡ meant
       → RefusesFor told words Memory new status
-      → FollowingEndsAt calling told_in told breaks_for words looks shows seen watched new status meant
+      → FollowingEndsAt calling told_in told words looks shows seen watched new status meant
   unread_files (Ok (Tail asked)) is refuses = unread_tail asked asked.followed (runs_as_named calling words is) refuses
   unread_files (Ok (Csplit asked)) is refuses = inr (unseen, unwatched, (Memory, lacks_memory asked, refuses))
   unread_files (Ok asked) is refuses = inl (tt, (unseen, unwatched, refused_memory words (Usage BadFollow 0) refuses))
@@ -279,13 +272,13 @@ module _ (calling : Calling) (told_in told : Bool) (breaks_for : ℕ → Reason 
 
   operands_unread : (settings : Settings) (fault : Fault) → HasBadOperands settings fault
       → RefusesFor told words fault new status
-      → FollowingEndsAt calling told_in told breaks_for words looks shows seen watched new status (Ok settings)
+      → FollowingEndsAt calling told_in told words looks shows seen watched new status (Ok settings)
   operands_unread (Csplit asked) fault bad refuses = inr (unseen, unwatched, (fault, bad, refuses))
   operands_unread asked fault bad refuses = absurd bad
 
   pub refused_words : {fault : Fault} → IsRefused HasBadOperands (settings_of calling words) fault
       → RefusesFor told words fault new status
-      → FollowingEnds calling told_in told breaks_for words looks shows seen watched new status
+      → FollowingEnds calling told_in told words looks shows seen watched new status
   refused_words (inr (inl is)) refuses = rw is (unseen, unwatched, refuses)
   refused_words {fault} (inr (inr (settings, is, bad))) refuses = rw is (operands_unread settings fault bad refuses)
   refused_words (inl is) refuses = unread_files (settings_of calling words) refl (rw is at refuses)
@@ -293,15 +286,15 @@ module _ (calling : Calling) (told_in told : Bool) (breaks_for : ℕ → Reason 
 -- Which of both runs the words ask for.
 
 -- what words leave that are refused, whichever run they ask for
-pub program_refuses : (calling : Calling) (told_in told_watched : Bool) {told : Bool} (breaks_for : ℕ → Reason → Bool)
+pub program_refuses : (calling : Calling) (told_in told_watched : Bool) {told : Bool}
     (words : List (List ℕ)) (laid : ℕ → List ℕ → Option Content) {sources : List Source} (shows : ℕ → Snapshot)
     {seen : List Snapshot} {watched : List Watched} {fault : Fault} {new : List Slot} {status : ℕ} → IsFresh sources
     → seen ≡ [] → watched ≡ [] → IsRefused HasBadOperands (settings_of calling words) fault
     → RefusesFor told words fault new status
-    → ProgramEnds calling told_in told_watched told breaks_for words laid sources sources shows seen watched new status
-program_refuses calling told_in told_watched {told} breaks_for words laid {sources} shows {seen} {watched} {new} {status} fresh unseen unwatched refused refuses = by (looks_at (settings_of calling words)) where
+    → ProgramEnds calling told_in told_watched told words laid sources sources shows seen watched new status
+program_refuses calling told_in told_watched {told} words laid {sources} shows {seen} {watched} {new} {status} fresh unseen unwatched refused refuses = by (looks_at (settings_of calling words)) where
   by : (asked : Option ℕ)
-      → ProgramEndsAt calling told_in told_watched told breaks_for words laid sources sources shows seen watched new
+      → ProgramEndsAt calling told_in told_watched told words laid sources sources shows seen watched new
       status asked
-  by (Some looks) = (refl, refused_words calling told_watched told breaks_for words looks shows seen watched new status unseen unwatched refused refuses)
-  by None = (unseen, unwatched, refused_or_memory calling told_in told breaks_for words laid sources new status fresh refused refuses)
+  by (Some looks) = (refl, refused_words calling told_watched told words looks shows seen watched new status unseen unwatched refused refuses)
+  by None = (unseen, unwatched, refused_or_memory calling told_in told words laid sources new status fresh refused refuses)

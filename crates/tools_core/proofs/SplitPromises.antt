@@ -1,67 +1,65 @@
 -- What `split` leaves of its input, and that names by places are in order.
-use Rattle.std.proofs.lemmas.Grind.{common_steps}
-use Rattle.std.proofs.Common.{◌≡◌, ℕ, ◌+◌, ◌-◌, ◌/◌, ◌%◌, ◌^◌, ◌<◌, ◌≤◌, zero, suc, List, [], ◌∷◌, ◌++◌, length, inl, inr, refl, sym, ◌∙◌, ap, arith, append_assoc, length-append, Less, nat_cmp, append-nil, div-add-mod', rules, ◌*◌, min, Bool, true, false, IsTrue, not, cond, map, take, drop, subst, filter, get_or, Some, None, All, suc-mul}
-use Rattle.std.specs.Cmp.Lexicographic.{slice_cmp}
-use Rattle.std.specs.List.{flat_map, range_with_len}
-use Rattle.std.specs.Prelude.{Option, nat_lt}
-use Rattle.std.proofs.lemmas.Bool.{cases_lt, cond_both, false≢true, lt-ltb, ltb-false, ltb-true}
-use Rattle.ports_core.specs.Name.{ordered_count, IsWide, keeps_order, Naming, has_name, name_at}
-use Rattle.ports_core.specs.declared.numbering.Numbering.TheVariants.{Formatted}
-use Rattle.ports_core.specs.declared.form.Form.{Form}
+use Rattle.std.proofs.{
+  lemmas.Grind.common_steps,
+  lemmas.Bool.{cases_lt, cond_both, false≢true, lt-ltb, ltb-false, ltb-true},
+  lemmas.List.{get_or_append_left, length-map, length-take, length-take-le, length-drop, get_or-take, get_or_past, take-append-drop, take-append-le, take_all},
+  lemmas.List.FromFn.{get_or-map-range_with_len, length-map-range_with_len},
+  lemmas.List.Elements.{All-cons, All-map, All-nil},
+  lemmas.Nat.mod_below,
+  Common.{◌≡◌, ℕ, ◌+◌, ◌-◌, ◌/◌, ◌%◌, ◌^◌, ◌<◌, ◌≤◌, zero, suc, List, [], ◌∷◌, ◌++◌, length, inl, inr, refl, sym, ◌∙◌, ap, arith, append_assoc, length-append, Less, nat_cmp, append-nil, div-add-mod', rules, ◌*◌, min, Bool, true, false, IsTrue, not, cond, map, take, drop, subst, filter, get_or, Some, None, All, suc-mul},
+  Math.Seq.{take-append_seam, drop-append_seam, take-append-add},
+}
+use Rattle.std.specs.{Cmp.Lexicographic.slice_cmp, List.{flat_map, range_with_len}, Prelude.{Option, nat_lt}}
+use Rattle.ports_core.specs.{
+  Name.{ordered_count, IsWide, keeps_order, Naming, has_name, name_at},
+  declared.numbering.Numbering.TheVariants.Formatted,
+  declared.form.Form.Form,
+  declared.verdict.Verdict.TheVariants.Suffixes,
+  declared.slot.{Mode.TheVariants.Fresh, State.TheVariants.Closed},
+  declared.calling.Calling.TheVariants.Cutters,
+  Draft.{opening_line, part_of, told_of_files},
+  Part.{File, only_out},
+  Slot.{Slot, slot_at},
+}
 use Rattle.ports_core.proofs.OrderLemmas.{in_order}
-use Rattle.tools_core.specs.Promises.{AreChunks, AreEven, AreInOrder, KeepLines, Splits, makes_files, text_at, Run, Does, HasInput, AreListed, ArePieces, AreLinePieces, AreUncut, AreDealt, EndsLine, IsFilled, IsSound, contents_of, files_of, lines_telling, output_of}
-use Rattle.std.proofs.lemmas.List.{get_or_append_left, length-map, length-take, length-take-le, length-drop, get_or-take, get_or_past, take-append-drop, take-append-le, take_all}
-use Rattle.std.proofs.lemmas.List.FromFn.{get_or-map-range_with_len, length-map-range_with_len}
-use Rattle.std.proofs.lemmas.Nat.{mod_below}
-use Rattle.std.proofs.lemmas.List.Elements.{All-cons, All-map, All-nil}
-use Rattle.seg_core.specs.Line.{joined, lines_of, line_count, delimiters, ends_with, first_lines, after_lines}
-use Rattle.seg_core.proofs.Delimiters.{delimiters-append, delimiters-le-length}
-use Rattle.seg_core.proofs.LastLines.{first_lines-whole}
-use Rattle.std.proofs.Math.Seq.{take-append_seam, drop-append_seam, take-append-add}
-use Rattle.seg_core.proofs.LinesOf.{joined-lines_of}
-use Rattle.seg_core.proofs.FirstLines.{delimiters-first_lines, first_lines-append, first_lines-full, first_lines-more, first_lines-short, length-first_lines-le, lines_of-first_lines, lines_of-after_lines}
-use Rattle.seg_core.proofs.LineCounts.{line_count-open, line_count_near}
-use Rattle.seg_core.specs.declared.cut.Chunks.{Chunks}
-use Rattle.seg_core.specs.declared.cut.Cut.TheVariants.{Round}
-use Rattle.seg_core.specs.declared.cut.Way.{Way}
-use Rattle.seg_core.specs.declared.cut.Way.TheVariants as way
-use Rattle.seg_core.specs.declared.unit.Unit.TheVariants.{Bytes, Lines}
+use Rattle.tools_core.{
+  specs.Promises.{AreChunks, AreEven, AreInOrder, KeepLines, Splits, makes_files, text_at, Run, Does, HasInput, AreListed, ArePieces, AreLinePieces, AreUncut, AreDealt, EndsLine, IsFilled, IsSound, contents_of, files_of, lines_telling, output_of},
+  specs.Tasks.{filing_of, naming_of, split_task},
+  proofs.{SameLemmas.way_knows, BeginLemmas.all_have_names, RunLemmas.can_run, LeftLemmas.{named_each, slot_of, slots_of}, PromiseLemmas.{DidOne, IsMade, did_one, one_made}},
+}
+use Rattle.seg_core.specs.{
+  Line.{joined, lines_of, line_count, delimiters, ends_with, first_lines, after_lines},
+  declared.{cut.{Chunks.Chunks, Cut.TheVariants.Round, Way.Way}, unit.Unit.TheVariants.{Bytes, Lines}},
+}
+use Rattle.seg_core.proofs.{
+  Delimiters.{delimiters-append, delimiters-le-length},
+  LastLines.first_lines-whole,
+  LinesOf.joined-lines_of,
+  FirstLines.{delimiters-first_lines, first_lines-append, first_lines-full, first_lines-more, first_lines-short, length-first_lines-le, lines_of-first_lines, lines_of-after_lines},
+  LineCounts.{line_count-open, line_count_near},
+}
 use Rattle.run_core.specs.Task.{after_part}
-use Rattle.split_core.specs.Chunks.{chunks_in, chunks_of, in_the_end, size_by}
-use Rattle.split_core.specs.ChunkWork.{files_by, kept, piece_at, way_work}
-use Rattle.split_core.specs.laws.ChunkLaws.{map_same, rest_none}
-use Rattle.split_core.proofs.ChunkLemmas.{all_pieces, count_chunks, join_chunks, lines_in_chunks, longer_chunk, shorter_chunk}
-use Rattle.ports_core.specs.Draft.{opening_line, part_of, told_of_files}
-use Rattle.ports_core.specs.Part.{File, only_out}
-use Rattle.ports_core.specs.Slot.{Slot, slot_at}
-use Rattle.ports_core.specs.declared.verdict.Verdict.TheVariants.{Suffixes}
-use Rattle.ports_core.specs.declared.slot.Mode.TheVariants.{Fresh}
-use Rattle.ports_core.specs.declared.slot.State.TheVariants.{Closed}
+use Rattle.split_core.specs.{
+  Chunks.{chunks_in, chunks_of, in_the_end, size_by},
+  ChunkWork.{files_by, kept, piece_at, way_work},
+  laws.{ChunkLaws.{map_same, rest_none}, CutLaws.{whole_of_lines, whole_of_none}, DealLaws.share_none, ChunkWorkLaws.length-kept},
+  Parts.{parts, round_robin, whole_lines},
+  Sections.AreLineByteParts,
+  inner.{CutLaws.named, Sharing.file_at, Dealt.share_of},
+  Split.{Filing, manner_of, output_by, Share, share, are_named, has_bytes, dealt_files, pieces_of},
+}
+use Rattle.split_core.proofs.{
+  ChunkLemmas.{all_pieces, count_chunks, join_chunks, lines_in_chunks, longer_chunk, shorter_chunk},
+  CutLaws.{first_then_after, bytes_of_shares},
+  AgreedLemmas.{bytes_named, each_named},
+  RoundLemmas.{joined_files, named_fewer, named_at},
+  SectionLemmas.{line_at, all_dealt, first_files, joined_parts, part_lines, part_bytes, lines_count, bytes_count, line_bytes_are_parts, line_bytes_once, line_bytes_within},
+  ChunkAgreedLemmas.joined-kept,
+}
+use Rattle.words_core.specs.{declared.settings.Settings.TheVariants.Split, SplitWords.{SplitAsked, AreNamed as HasNumbers, CanSplit, IsInLimits}}
+use Rattle.seg_core.specs.declared.cut.Way.TheVariants as way
 use Rattle.seg_core.specs.declared.cut.Limit.TheVariants as limit
-use Rattle.split_core.specs.Parts.{parts, round_robin, whole_lines}
-use Rattle.split_core.specs.Sections.{AreLineByteParts}
 use Rattle.split_core.specs.Sections as piece
-use Rattle.split_core.specs.inner.CutLaws.{named}
-use Rattle.split_core.specs.Split.{Filing, manner_of, output_by, Share, share, are_named, has_bytes, dealt_files, pieces_of}
-use Rattle.split_core.specs.inner.Sharing.{file_at}
-use Rattle.split_core.specs.inner.Dealt.{share_of}
-use Rattle.split_core.specs.laws.CutLaws.{whole_of_lines, whole_of_none}
-use Rattle.split_core.specs.laws.DealLaws.{share_none}
-use Rattle.split_core.proofs.CutLaws.{first_then_after, bytes_of_shares}
-use Rattle.split_core.proofs.AgreedLemmas.{bytes_named, each_named}
-use Rattle.split_core.proofs.RoundLemmas.{joined_files, named_fewer, named_at}
-use Rattle.split_core.proofs.SectionLemmas.{line_at, all_dealt, first_files, joined_parts, part_lines, part_bytes, lines_count, bytes_count, line_bytes_are_parts, line_bytes_once, line_bytes_within}
-use Rattle.words_core.specs.declared.settings.Settings.TheVariants.{Split}
-use Rattle.words_core.specs.SplitWords.{SplitAsked, AreNamed as HasNumbers, CanSplit, IsInLimits}
-use Rattle.ports_core.specs.declared.calling.Calling.TheVariants.{Cutters}
-use Rattle.tools_core.specs.Tasks.{filing_of, naming_of, split_task}
-use Rattle.tools_core.proofs.SameLemmas.{way_knows}
-use Rattle.tools_core.proofs.BeginLemmas.{all_have_names}
-use Rattle.tools_core.proofs.RunLemmas.{can_run}
-use Rattle.tools_core.proofs.LeftLemmas.{named_each, slot_of, slots_of}
-use Rattle.tools_core.proofs.PromiseLemmas.{DidOne, IsMade, did_one, one_made}
-use Rattle.split_core.specs.laws.ChunkWorkLaws.{length-kept}
-use Rattle.split_core.proofs.ChunkAgreedLemmas.{joined-kept}
 
 by_places : (names : List (List ℕ))
     → ((k : ℕ) → k + 1 < length names → slice_cmp nat_cmp (text_at names k) (text_at names (suc k)) ≡ Less)

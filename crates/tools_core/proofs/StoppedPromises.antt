@@ -1,55 +1,52 @@
 -- A run that a fault stopped told it, and which outputs are broken then.
-use Rattle.std.proofs.lemmas.Grind.{common_steps}
-use Rattle.std.proofs.Common.{None, ◌≡◌, ℕ, ◌^◌, ◌≤◌, suc, Bool, true, false, cond, is_none, List, [], not, ◌||◌, map, ◌∷◌, ◌++◌, length, length-append, Option, Some, codes, inl, inr, ◌⊎◌, refl, sym, ◌∙◌, ap, subst, arith, take, zero, rules, get_or, IsTrue}
-use Rattle.std.specs.List.{concat}
-use Rattle.std.proofs.lemmas.Bool.{cases_Bool, false≢true}
-use Rattle.std.proofs.Math.Seq.{get_or-append_seam}
-use Rattle.std.proofs.lemmas.List.{get_or_push}
-use Rattle.std.proofs.lemmas.List.Elements.{All-append}
-use Rattle.ports_core.specs.Message.{IsWhy, Says, SaysAll, TellsIf, output_named}
+use Rattle.std.{
+  proofs.lemmas.{Grind.common_steps, Bool.{cases_Bool, false≢true, or_cases}, List.{get_or_push, Elements.All-append}},
+  proofs.Common.{None, ◌≡◌, ℕ, ◌^◌, ◌≤◌, suc, Bool, true, false, cond, is_none, List, [], not, ◌||◌, map, ◌∷◌, ◌++◌, length, length-append, Option, Some, codes, inl, inr, ◌⊎◌, refl, sym, ◌∙◌, ap, subst, arith, take, zero, rules, get_or},
+  proofs.Math.Seq.get_or-append_seam,
+  specs.List.concat,
+}
+use Rattle.ports_core.specs.{
+  Message.{Says, SaysAll, TellsIf, output_named, output_reason},
+  declared.calling.{Calling.{Calling, TheVariants.{Cutters, OwnName}}, Speaker.Speaker},
+  declared.fault.{UsageKind.UsageKind, Fault.{Fault, TheVariants.{Memory, Write, Open, Read, TooLong, Usage}}},
+  declared.on_broken.OnBroken.{OnBroken, TheVariants.{Warn, Exit, WarnNoPipe, ExitNoPipe, Signal}},
+  declared.reason.Reason.Reason,
+  declared.slot.Mode.Mode,
+  declared.tool.Tool.Tool,
+  Part.{Output, IsAt, IsNext, Marks, Part, StoppedBetween},
+  Slot.{Slot, adds, breaks, no_slot, slot_at, unopened},
+  Source.{Content, Source},
+  Streams.{standard_error, standard_output, streams_with},
+  Swept.Swept,
+  Text.{Message, is_quiet, message_of},
+  Work.{Needs, Work},
+}
 use Rattle.ports_core.proofs.MessageLemmas.{says_more}
-use Rattle.ports_core.specs.declared.calling.Calling.{Calling}
-use Rattle.ports_core.specs.declared.calling.Calling.TheVariants.{Cutters, OwnName}
-use Rattle.ports_core.specs.declared.calling.Speaker.{Speaker}
-use Rattle.ports_core.specs.declared.fault.UsageKind.{UsageKind}
-use Rattle.ports_core.specs.declared.on_broken.OnBroken.TheVariants.{Warn, Exit, WarnNoPipe, ExitNoPipe, Signal}
-use Rattle.ports_core.specs.Part.{Output, IsAt, IsNext, Marks, Part, StoppedBetween}
-use Rattle.ports_core.specs.Slot.{Slot, adds, breaks, no_slot, slot_at, unopened}
-use Rattle.ports_core.specs.Source.{Content, Source}
-use Rattle.ports_core.specs.Streams.{standard_error, standard_output, streams_with}
-use Rattle.ports_core.specs.Swept.{Swept}
-use Rattle.ports_core.specs.Text.{Message, is_quiet, message_of}
-use Rattle.ports_core.specs.Work.{Needs, Work}
-use Rattle.ports_core.specs.declared.fault.Fault.{Fault}
-use Rattle.ports_core.specs.declared.fault.Fault.TheVariants.{Memory, Write, Open, Read, TooLong, Usage}
-use Rattle.ports_core.specs.declared.on_broken.OnBroken.{OnBroken}
-use Rattle.ports_core.specs.declared.reason.Reason.{Reason}
+use Rattle.run_core.specs.{
+  Feeding.{IsCall, Step, Stops, closes as ends_call, enough, feeds, opens, to_end},
+  Input.{inputs_at, standard_input},
+  RunEnds.{EndsAs, RunStep, as_defined, calling as call_step, no_room, stopped},
+  Task.{Task, made_by},
+}
+use Rattle.tee_core.{
+  specs.{Run.{Break, FilesLeft, IsRead, OutputLeft, are_sound, messages_of, output_names, said_before, said_in}, declared.standing.Standing.{Standing, TheVariants.{Broken, Gone}}},
+  proofs.EndLemmas.{sound_goes_on, sound_if, sound_status, well_of},
+}
+use Rattle.words_core.specs.{Words.HasBadOperands, TeeWords.TeeAsked, declared.settings.{Settings.{Settings, TheVariants.{Head, Tail, Split, Csplit, Tee, About}}, Topic.Topic}, Help.text_about}
+use Rattle.tools_core.specs.{
+  About.{TellsText, no_text, text_cut, text_whole},
+  Outcome.{DoesAsked, refuser, speaker, word_of},
+  Tasks.{by, names_of, speaker_of, tool_of},
+  Promises.{BrokeAt, Completes, Does, HasGone, HasLong, IsCalled, IsCopied, IsGone, IsSilent, IsStopped, IsTask, IsUnstopped, Ran, Run, SaysLines, SaysWhy, StopsRun, Tells, TellsMet, Unstopped, WhyBroken, broken_off, failing, named, removes_files},
+}
+use Rattle.tools_core.proofs.{
+  BeginLemmas.{broken_tells, IsLoud, IsMarked, TellsOfInput, failing_stops, marked_at, tee_lines, tee_tells, unsound_broke},
+  LeftLemmas.{HasLine, LeftBy, all_tell, completes_left, left_at, left_says, one_line, ran_over, slots_at, swept_gone, swept_kept, speaker_is, AreLive, IsSoundAt, has_after, has_before, inputs_fit, live_begin, outputs_live, says_line, step_live, task_lives},
+  RunLemmas.{memory_by, runs_as_named},
+}
 use Rattle.ports_core.specs.declared.reason.Reason.TheVariants as reason
-use Rattle.ports_core.specs.declared.slot.Mode.{Mode}
 use Rattle.ports_core.specs.declared.slot.State.TheVariants as state
-use Rattle.run_core.specs.Feeding.{IsCall, Step, Stops, closes as ends_call, enough, feeds, opens, to_end}
-use Rattle.run_core.specs.Input.{inputs_at, standard_input}
-use Rattle.run_core.specs.RunEnds.{EndsAs, RunStep, as_defined, calling as call_step, no_room, stopped}
-use Rattle.run_core.specs.Task.{Task, made_by}
-use Rattle.tee_core.specs.Run.{Break, FilesLeft, IsRead, OutputLeft, are_sound, messages_of, output_names, said_before, said_in}
 use Rattle.tee_core.specs.Run as tee
-use Rattle.tee_core.specs.declared.standing.Standing.{Standing}
-use Rattle.tee_core.specs.declared.standing.Standing.TheVariants.{Sound, Broken, Gone}
-use Rattle.tee_core.proofs.EndLemmas.{sound_goes_on, sound_if, sound_status, well_of}
-use Rattle.words_core.specs.Words.{HasBadOperands}
-use Rattle.words_core.specs.TeeWords.{TeeAsked}
-use Rattle.words_core.specs.declared.settings.Settings.{Settings}
-use Rattle.words_core.specs.declared.settings.Settings.TheVariants.{Head, Tail, Split, Csplit, Tee, About}
-use Rattle.words_core.specs.declared.settings.Topic.{Topic}
-use Rattle.words_core.specs.Help.{text_about}
-use Rattle.ports_core.specs.declared.tool.Tool.{Tool}
-use Rattle.tools_core.specs.About.{TellsText, no_text, text_cut, text_whole}
-use Rattle.tools_core.specs.Outcome.{DoesAsked, refuser, speaker, word_of}
-use Rattle.tools_core.specs.Tasks.{by, names_of, speaker_of, tool_of}
-use Rattle.tools_core.specs.Promises.{BrokeAt, Completes, Does, HasGone, HasLong, IsCalled, IsCopied, IsGone, IsSilent, IsStopped, IsTask, IsUnstopped, Ran, Run, SaysLines, SaysWhy, StopsRun, Tells, TellsMet, Unstopped, WhyBroken, broken_off, failing, named, removes_files}
-use Rattle.tools_core.proofs.BeginLemmas.{broken_tells, IsLoud, IsMarked, TellsOfInput, failing_stops, marked_at, tee_lines, tee_tells, unsound_broke}
-use Rattle.tools_core.proofs.LeftLemmas.{HasLine, LeftBy, all_tell, completes_left, left_at, left_says, one_line, ran_over, slots_at, swept_gone, swept_kept, speaker_is, AreLive, IsSoundAt, has_after, has_before, inputs_fit, live_begin, outputs_live, says_line, step_live, task_lives}
-use Rattle.tools_core.proofs.RunLemmas.{memory_by, runs_as_named}
 
 -- What was read of an input is a beginning of it.
 
@@ -77,8 +74,8 @@ record IsBlamed (fault : Fault) (place : ℕ) (old new : Slot) : Type 0 where
 
 blamed : (fault : Fault) (place : ℕ) (before : List Slot) {new : Slot} → IsSoundAt before place
     → IsMarked fault place before new → IsBlamed fault place (slot_at before place) new
-blamed (Write slot) place before sound (here, there, is) = grind (arith, common_steps)
-blamed (Open slot) place before sound (here, (kept, is)) = grind (arith, common_steps)
+blamed (Write slot) place before sound (here, there, (why, is)) = grind (arith, common_steps)
+blamed (Open slot) place before sound (here, (kept, why, is)) = grind (arith, common_steps)
 blamed fault place before sound marked = absurd marked
 
 -- the output at its place
@@ -105,11 +102,11 @@ stops_run : (run : Run) (asked : Settings) (IsDue : List ℕ → Type 0) (step :
     → Swept clears 2 reached run.outputs → StopsRun run asked (output_named run.outputs fault) fault
 stops_run run asked IsDue step clears place count before reached (Write slot) long sound two from stops marks swept =
     let differs : slot ≡ 1 → ⊥ = λ one. elim from [ inl is ↦ omega (arith, is, one) | inr is ↦ omega (arith, is, one) ] in broke_at run IsDue clears slot before reached (Write slot) differs stops.2 (sound slot differs) marks swept
-stops_run run asked IsDue step clears place count before reached (Open slot) long sound two from stops (number, (name, kept, due, is, slots)) swept =
+stops_run run asked IsDue step clears place count before reached (Open slot) long sound two from stops (number, (name, kept, reason, due, is, slots)) swept =
     let differs : slot ≡ 1 → ⊥ = λ one. omega (arith, number, two, one) in
     broke_at run IsDue clears slot before reached (Open slot) differs
-    (ap (λ (output : Slot). output.is_broken) (ap (λ those. slot_at those slot) slots ∙ get_or_push before (unopened kept) no_slot slot (sym number)))
-    (sound slot differs) (number, (name, kept, due, is, slots)) swept
+    (ap (λ (output : Slot). output.is_broken) (ap (λ those. slot_at those slot) slots ∙ get_or_push before (unopened reason kept) no_slot slot (sym number)))
+    (sound slot differs) (number, (name, kept, reason, due, is, slots)) swept
 stops_run run asked IsDue step clears place count before reached Memory long sound two from stops marks swept = tt
 stops_run run asked IsDue step clears place count before reached TooLong long sound two from stops marks swept = long stops
 stops_run run asked IsDue step clears place count before reached fault long sound two from stops marks swept = absurd stops
@@ -190,12 +187,17 @@ quiet_own (Write slot) Cutters why is = absurd (false≢true is)
 quiet_own fault Cutters why is = absurd (false≢true is)
 
 -- of a reader that is gone
-quiet_gone : (breaks_for : ℕ → Reason → Bool) (fault : Fault) (calling : Calling) (why : Reason)
-    → is_quiet fault calling why ≡ true → IsWhy breaks_for fault why
-    → (place : ℕ) × IsTrue (breaks_for place reason.Gone)
-quiet_gone breaks_for (Write slot) OwnName reason.Gone is can = (slot, can)
-quiet_gone breaks_for (Write slot) OwnName why is can = absurd (false≢true is)
-quiet_gone breaks_for fault calling why is can = absurd (false≢true is)
+
+gone_reason : (slot : ℕ) (calling : Calling) (why : Reason) → is_quiet (Write slot) calling why ≡ true
+    → why ≡ reason.Gone
+gone_reason slot OwnName reason.Gone is = refl
+gone_reason slot OwnName why is = absurd (false≢true is)
+gone_reason slot Cutters why is = absurd (false≢true is)
+
+quiet_gone : (run : Run) (asked : Settings) (name : List ℕ) (fault : Fault) (calling : Calling)
+    → is_quiet fault calling (output_reason run.outputs fault) ≡ true → StopsRun run asked name fault → HasGone run
+quiet_gone run asked name (Write slot) calling is (differs, called, broken, fails) = (slot, differs, broken, gone_reason slot calling (slot_at run.outputs slot).reason is)
+quiet_gone run asked name fault calling is stops = absurd (false≢true is)
 
 called_so : (run : Run) (task : Task) (asked : Settings) → IsTask run.calling asked task
     → task.speaker.calling ≡ OwnName → run.calling ≡ OwnName
@@ -216,10 +218,10 @@ abbrev Unless : Run → Settings → Type 0 → Type 0
 Unless run asked Whole = Whole ⊎ IsStop (removes_files asked) run asked ⊎ IsSilent run asked
 
 ends_or : {run : Run} {asked : Settings} {task : Task} → IsTask run.calling asked task
-    → (ends : EndsAs true true run.breaks_for task
+    → (ends : EndsAs true true task
     (inputs_at run.world (names_of asked)) run.inputs run.outputs run.status) → Unless run asked (IsUnstopped ends)
 ends_or of (as_defined error reached says outputs swept done is) = inl tt
-ends_or {run} {asked} {task} of (stopped fault why before input after said error step reached are done untouched at stops between swept_as says is_why tells is) =
+ends_or {run} {asked} {task} of (stopped fault before input after said error step reached are done untouched at stops between swept_as says tells is) =
     let living = task_lives run.calling asked task of in
     let swept = rw (living.clears_all input.shown) at swept_as in
     let slots = ap length (slots_at between.outputs) in
@@ -229,8 +231,8 @@ ends_or {run} {asked} {task} of (stopped fault why before input after said error
     let live = step_live (living.each input.shown) fits.live at in
     let stop = stops_run run asked (IsNext between.part step.high) step (removes_files asked) between.place (length between.part.files) between.reached reached fault
     (λ many. let (content, there, long) = step_long at many in (input, content, (before, after, are), there, long)) (sound_before live between) (omega (arith, slots)) between.from stops between.marks swept in
-    by (is_quiet fault task.speaker.calling why) refl tells is (λ told_so ends.
-    let all = says_more true task.speaker lines (message_of fault name) standard_error said error says (why, told_so) in
+    by (is_quiet fault task.speaker.calling (output_reason run.outputs fault)) refl tells is stop (λ told_so ends.
+    let all = says_more true task.speaker lines (message_of fault name) standard_error said error says (output_reason run.outputs fault, told_so) in
     let told : SaysLines run asked (lines ++ message_of fault name ∷ []) =
     record { are = All-append (TellsMet run asked) lines _ fits.are (one_line (TellsMet run asked) (message_of fault name) (fault, name, inl stop, refl)); said = rw (stopped_error (removes_files asked) run.outputs between swept) (subst (λ which. SaysAll true which (lines ++ message_of fault name ∷ []) standard_error error) (speaker_is run.calling asked task of) all) } in record {
       failed = ends;
@@ -241,17 +243,18 @@ ends_or {run} {asked} {task} of (stopped fault why before input after said error
       broke = stopped_broke asked lines live between swept told;
     }) where
       Loud : Type 0
-      Loud = TellsIf false true task.speaker why (message_of fault (output_named run.outputs fault)) said error → run.status ≡ 1 → IsStop (removes_files asked) run asked
+      Loud = TellsIf false true task.speaker (output_reason run.outputs fault) (message_of fault (output_named run.outputs fault)) said error → run.status ≡ 1 → IsStop (removes_files asked) run asked
 
-      by : (quiet : Bool) → quiet ≡ is_quiet fault task.speaker.calling why
-          → TellsIf quiet true task.speaker why (message_of fault (output_named run.outputs fault)) said error
-          → run.status ≡ cond quiet 141 1 → Loud
+      by : (quiet : Bool) → quiet ≡ is_quiet fault task.speaker.calling (output_reason run.outputs fault)
+          → TellsIf quiet true task.speaker (output_reason run.outputs fault)
+          (message_of fault (output_named run.outputs fault)) said error
+          → run.status ≡ cond quiet 141 1 → StopsRun run asked (output_named run.outputs fault) fault → Loud
           → Unless run asked
           (IsUnstopped
-          (stopped fault why before input after said error step reached are done untouched at stops between swept_as
-          says is_why tells is))
-      by true own same ends loud = inr (inr (silent_by run task asked of (quiet_own fault task.speaker.calling why (sym own)) (quiet_gone run.breaks_for fault task.speaker.calling why (sym own) is_why) ends))
-      by false own told_so ends loud = inr (inl (loud told_so ends))
+          (stopped fault before input after said error step reached are done untouched at stops between swept_as says
+          tells is))
+      by true own same ends stop loud = inr (inr (silent_by run task asked of (quiet_own fault task.speaker.calling (output_reason run.outputs fault) (sym own)) (quiet_gone run asked (output_named run.outputs fault) fault task.speaker.calling (sym own) stop) ends))
+      by false own told_so ends stop loud = inr (inl (loud told_so ends))
 ends_or {run} {asked} {task} of (no_room error says slots untouched count is) = inr (inl (stop_early Memory [] tt (subst (λ which. SaysAll true which (message_of Memory [] ∷ []) standard_error error) (speaker_is run.calling asked task of) says) slots is))
 
 -- `tee`
@@ -333,26 +336,57 @@ tee_by on_broken Leaves {pieces = pieces} {names} {first} {broke} fault true lou
       (says_line (has_before (said_in on_broken (suc (length pieces)) (output_names names) (first ∷ broke)) (has_after (said_before on_broken (suc (length pieces)) (output_names names) (first ∷ broke)) ([], [], refl))) (rw met at says)))
 ]
 
--- an output that is gone can be
-gone_why : (why : Reason) → Gone ≡ tee.lost_for why → why ≡ reason.Gone
+-- one that is gone broke for that reason
+
+gone_why : (why : Reason) → tee.lost_for why ≡ Gone → why ≡ reason.Gone
 gone_why reason.Gone is = refl
 gone_why why is = absurd (cc)
 
-any_gone : (may : ℕ → Reason → Bool) (standings : List Standing) → tee.any_is Gone standings ≡ true
-    → ((n : ℕ) → tee.StandsFor (may n) (get_or standings n Sound)) → (n : ℕ) × IsTrue (may n reason.Gone)
-any_gone may [] gone stand = absurd (false≢true gone)
-any_gone may (Gone ∷ standings) gone stand = let (why, can, is) = stand 0 in (0, subst (λ those. IsTrue (may 0 those)) (gone_why why is) can)
-any_gone may (Sound ∷ standings) gone stand = let (n, can) = any_gone (λ n. may (suc n)) standings gone (λ n. stand (suc n)) in (suc n, can)
-any_gone may (Broken ∷ standings) gone stand = let (n, can) = any_gone (λ n. may (suc n)) standings gone (λ n. stand (suc n)) in (suc n, can)
+gone_is : (one : Standing) → tee.is_same one Gone ≡ true → one ≡ Gone
+gone_is Gone is = refl
+gone_is one is = absurd (false≢true is)
+
+abbrev IsGoneFor : Slot → Type 0
+IsGoneFor output = (output.is_broken ≡ true) × (output.reason ≡ reason.Gone)
+
+output_gone : {pieces : List (List ℕ)} {when : Option Break} {output : Slot} → OutputLeft true pieces when output
+    → tee.standing_of when ≡ Gone → IsGoneFor output
+output_gone tee.output_whole gone = absurd (cc)
+output_gone (tee.output_cut {why} before piece after n is few) gone = (refl, gone_why why gone)
+
+file_gone : {mode : Mode} {pieces : List (List ℕ)} {name : List ℕ} {when : Option Break} {file : Slot}
+    → tee.FileLeft true mode pieces name when file → tee.standing_of when ≡ Gone → IsGoneFor file
+file_gone tee.file_whole gone = absurd (cc)
+file_gone (tee.file_unopened {why} kept is) gone = (refl, gone_why why gone)
+file_gone (tee.file_cut {why} before piece after n is few) gone = (refl, gone_why why gone)
+file_gone (tee.file_unclosed {why}) gone = (refl, gone_why why gone)
+
+files_gone : {mode : Mode} {pieces names : List (List ℕ)} {broke : List (Option Break)} {files : List Slot}
+    → FilesLeft true mode pieces names broke files → tee.any_is Gone (map tee.standing_of broke) ≡ true
+    → (place : ℕ) × IsGoneFor (slot_at files place)
+files_gone tee.no_file gone = absurd (false≢true gone)
+files_gone (tee.one_file name names when broke file files left rest) gone = elim (or_cases (tee.is_same (tee.standing_of when) Gone) (tee.any_is Gone (map tee.standing_of broke)) gone) [
+  | inl here ↦ (0, file_gone left (gone_is (tee.standing_of when) here))
+  | inr later ↦ let (place, is) = files_gone rest later in (suc place, is)
+]
+
+any_gone : (run : Run) {mode : Mode} {pieces names : List (List ℕ)} {first : Option Break} {broke : List (Option Break)}
+    {output error : Slot} {files : List Slot} → OutputLeft true pieces first output
+    → FilesLeft true mode pieces names broke files → run.outputs ≡ output ∷ error ∷ files
+    → tee.any_is Gone (map tee.standing_of (first ∷ broke)) ≡ true → HasGone run
+any_gone run {first = first} {broke} left rest slots gone = elim (or_cases (tee.is_same (tee.standing_of first) Gone) (tee.any_is Gone (map tee.standing_of broke)) gone) [
+  | inl here ↦ let (broken, why) = output_gone left (gone_is (tee.standing_of first) here) in (0, (λ is. omega (arith, is)), rw slots broken, rw slots why)
+  | inr later ↦ let (place, (broken, why)) = files_gone rest later in (suc (suc place), (λ is. omega (arith, is)), rw slots broken, rw slots why)
+]
 
 tee_or : {run : Run} (asked : TeeAsked) {mode : Mode} {names : List (List ℕ)} {content : Content} {source : Source}
     → inputs_at run.world (names_of (Tee asked)) ≡ standard_input content ∷ []
-    → (ends : tee.EndsAs true true run.breaks_for run.calling mode asked.on_broken names content source run.outputs
+    → (ends : tee.EndsAs true true run.calling mode asked.on_broken names content source run.outputs
     run.status)
     → Unless run (Tee asked) (IsCopied ends)
-tee_or {run} asked {content = content} only (tee.copied pieces fault first broke output error files comes some left rest stand says slots is) = elim (cases_Bool (tee.is_quiet asked.on_broken)) [
+tee_or {run} asked {content = content} only (tee.copied pieces fault first broke output error files comes some left rest says slots is) = elim (cases_Bool (tee.is_quiet asked.on_broken)) [
   | inl quiet ↦ elim (cases_Bool (tee.any_is Gone (map tee.standing_of (first ∷ broke)))) [
-    | inl gone ↦ inr (inr (quiet, let (n, can) = any_gone (λ n. run.breaks_for (tee.output_slot n)) (map tee.standing_of (first ∷ broke)) gone stand in (tee.output_slot n, can)))
+    | inl gone ↦ inr (inr (quiet, any_gone run left rest slots gone))
     | inr none ↦ loudly (inr none)
   ]
   | inr loud ↦ loudly (inl loud)
@@ -370,7 +404,8 @@ tee_or asked only (tee.no_room error says unread slots is) = inr (inl (stop_earl
 
 text_stops : {run : Run} {which : Tool} {topic : Topic} (n : ℕ) {error : Slot}
     → Says true (by run.calling which) (message_of (Write 0) (codes "standard output")) standard_error error
-    → run.outputs ≡ breaks (adds (take n (text_about which topic)) standard_output) ∷ error ∷ [] → run.status ≡ 1
+    → {why : Reason} → run.outputs ≡ breaks why (adds (take n (text_about which topic)) standard_output) ∷ error ∷ []
+    → run.status ≡ 1
     → IsStop false run (About which topic)
 text_stops {run} {which} {topic} n {error} says slots is = record {
   failed = is;
@@ -393,25 +428,25 @@ text_stops {run} {which} {topic} n {error} says slots is = record {
   broke (suc (suc place)) differs broken = absurd (false≢true (rw slots at broken))
 
 about_or : {run : Run} {which : Tool} {topic : Topic}
-    → TellsText true run.breaks_for (by run.calling which) (text_about which topic) run.outputs run.status
+    → TellsText true (by run.calling which) (text_about which topic) run.outputs run.status
     → Unless run (About which topic) (run.status ≡ 0)
 about_or (text_whole slots is) = inl is
-about_or {run} {which} {topic} (text_cut n short why error is_why tells slots is) = ends (is_quiet (Write 0) run.calling why) refl tells is where
+about_or {run} {which} {topic} (text_cut n short why error tells slots is) = ends (is_quiet (Write 0) run.calling why) refl tells is where
   ends : (quiet : Bool) → quiet ≡ is_quiet (Write 0) run.calling why
       → TellsIf quiet true (by run.calling which) why
       (message_of (Write 0) (codes "standard output")) standard_error error → run.status ≡ cond quiet 141 1
       → Unless run (About which topic) (run.status ≡ 0)
-  ends true own same is = inr (inr (quiet_own (Write 0) run.calling why (sym own), quiet_gone run.breaks_for (Write 0) run.calling why (sym own) is_why, is))
+  ends true own same is = inr (inr (quiet_own (Write 0) run.calling why (sym own), (0, (λ is. omega (arith, is)), rw slots refl, rw slots (gone_reason 0 run.calling why (sym own))), is))
   ends false own says is = inr (inl (text_stops n (why, says) slots is))
 about_or (no_text error says slots is) = inr (inl (stop_early Memory [] tt (error, says, refl) slots is))
 
 -- All tools
 
 does_or : {run : Run} (asked : Settings)
-    (does : DoesAsked run.calling true true run.breaks_for asked
+    (does : DoesAsked run.calling true true asked
     (inputs_at run.world (names_of asked)) run.inputs run.outputs run.status)
     → Unless run asked
-    (Unstopped run.breaks_for run.calling asked
+    (Unstopped run.calling asked
     (inputs_at run.world (names_of asked)) run.inputs run.outputs run.status does)
 does_or (Head asked) does = ends_or {asked = Head asked} refl does
 does_or (Tail asked) does = ends_or {asked = Tail asked} refl does
@@ -457,10 +492,10 @@ ran_so {run} {asked} ran = elim (ran_over ran) [
 -- a `tee` that met no fault has copied all, where nothing is said of what is gone
 
 whole_copied : (run : Run) (asked : TeeAsked) {content : Content} {source : Source}
-    (ends : tee.EndsAs true true run.breaks_for run.calling asked.mode asked.on_broken asked.names content source
+    (ends : tee.EndsAs true true run.calling asked.mode asked.on_broken asked.names content source
     run.outputs run.status)
     → run.status ≡ 0 → (tee.forgives asked.on_broken ≡ true → tee.AreSound run.outputs) → IsCopied ends
-whole_copied run asked (tee.copied pieces fault first broke output error files comes some left rest stand says slots is) well sound =
+whole_copied run asked (tee.copied pieces fault first broke output error files comes some left rest says slots is) well sound =
     let good = well_of asked.on_broken fault left rest slots sound (sym is ∙ well) in (
       good.1,
       elim (read_or _ (sound_goes_on asked.on_broken (suc (length pieces)) first broke good.1) comes.read) [
@@ -520,9 +555,9 @@ quiet_line on_broken {names = names} {first} {broke} None left rest quiet one = 
 
 tee_why : (run : Run) (asked : TeeAsked) {mode : Mode} {names : List (List ℕ)} {content : Content} {source : Source}
     → inputs_at run.world (names_of (Tee asked)) ≡ standard_input content ∷ [] → tee.is_quiet asked.on_broken ≡ true
-    → tee.EndsAs true true run.breaks_for run.calling mode asked.on_broken names content source run.outputs run.status
+    → tee.EndsAs true true run.calling mode asked.on_broken names content source run.outputs run.status
     → run.status ≡ 1 → SaysWhy run (Tee asked)
-tee_why run asked only quiet (tee.copied pieces fault first broke output error files comes some left rest stand says slots is) one =
+tee_why run asked only quiet (tee.copied pieces fault first broke output error files comes some left rest says slots is) one =
     let (line, has) = quiet_line asked.on_broken fault left rest quiet (sym is ∙ one) in told_one (tee_lines asked asked.on_broken fault slots left rest (input_tells run asked _ only comes.read) says) has
 tee_why run asked only quiet (tee.no_room error says unread slots is) one =
     let stop : IsStop false run (Tee asked) = stop_early Memory [] tt says slots is in (stop.why, stop.name, inl stop.stops, stop.line)

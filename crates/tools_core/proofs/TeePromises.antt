@@ -1,30 +1,28 @@
 -- What a run of `tee` leaves, and what ended it.
-use Rattle.std.proofs.Common.{◌≡◌, ◌⊎◌, ◌||◌, ℕ, ◌≤◌, ◌<◌, ◌^◌, ◌+◌, get_or, map, not, zero, suc, Bool, true, false, List, [], ◌∷◌, ◌++◌, length, take, Option, None, Some, cond, if◌then◌else◌, nat_lt, inl, inr, refl, sym, ◌∙◌, ap, subst, arith, append-nil, append_assoc, All, length-append}
-use Rattle.std.proofs.lemmas.Bool.{lt-ltb, not-true, or_parts, false≢true, or_cases}
-use Rattle.std.proofs.lemmas.Bool.Decides.{nat_tests}
-use Rattle.std.proofs.Math.Bool.{or-true}
+use Rattle.std.proofs.{
+  Common.{◌≡◌, ◌⊎◌, ◌||◌, ℕ, ◌≤◌, ◌<◌, ◌^◌, ◌+◌, get_or, map, not, zero, suc, Bool, true, false, List, [], ◌∷◌, ◌++◌, length, take, Option, None, Some, cond, if◌then◌else◌, nat_lt, inl, inr, refl, sym, ◌∙◌, ap, subst, arith, append-nil, append_assoc, All, length-append},
+  lemmas.{Bool.{lt-ltb, not-true, or_parts, false≢true, or_cases, Decides.nat_tests}, List.Folds.concat-append},
+  Math.Bool.or-true,
+}
 use Rattle.std.specs.List.{concat, list_any}
-use Rattle.std.proofs.lemmas.List.Folds.{concat-append}
-use Rattle.ports_core.specs.Inputs.{largest_piece}
-use Rattle.ports_core.specs.Slot.{Slot, slot_at}
-use Rattle.ports_core.specs.Source.{Content, Source, source_at}
-use Rattle.ports_core.specs.Streams.{streams_with}
-use Rattle.ports_core.specs.declared.fault.Fault.{Fault}
-use Rattle.ports_core.specs.declared.fault.Fault.TheVariants.{Memory}
-use Rattle.ports_core.specs.declared.on_broken.OnBroken.{OnBroken}
-use Rattle.ports_core.specs.declared.slot.State.TheVariants.{Unopened}
-use Rattle.ports_core.specs.declared.slot.Mode.{Mode}
+use Rattle.ports_core.specs.{
+  declared.{reason.Reason.Reason, fault.Fault.{Fault, TheVariants.Memory}, on_broken.OnBroken.OnBroken, slot.{State.TheVariants.Unopened, Mode.Mode}},
+  Inputs.largest_piece,
+  Slot.{Slot, slot_at},
+  Source.{Content, Source, source_at},
+  Streams.streams_with,
+  Part.IsBeginning,
+  Text.message_of,
+}
 use Rattle.ports_core.proofs.PartLemmas.{begins_itself, begins_more, begins_trans, take_begins_after}
-use Rattle.ports_core.specs.Part.{IsBeginning}
+use Rattle.tee_core.specs.{
+  Run.{Break, FileLeft, FilesLeft, IsRead, LeavesOf, OutputLeft, any_is, ends_run, is_done, is_same, lost_for, stands_as, standing_before, standing_of, standings_before},
+  declared.standing.Standing.{Standing, TheVariants.Sound},
+}
+use Rattle.words_core.specs.{TeeWords.TeeAsked, declared.settings.Settings.TheVariants.Tee}
+use Rattle.tools_core.{specs.Promises.{EndsWithBreak, HasUpTo, OneIs, Ran, Run, Tells, TellsMet}, proofs.LeftLemmas.{one_line, ran_over, same_content}}
+use Rattle.ports_core.specs.declared.reason.Reason.TheVariants as reason
 use Rattle.tee_core.specs.Run as tee
-use Rattle.tee_core.specs.Run.{Break, FileLeft, FilesLeft, IsRead, LeavesOf, OutputLeft, any_is, ends_run, is_done, is_same, lost_as, standing_before, standing_of, standings_before}
-use Rattle.tee_core.specs.declared.standing.Standing.{Standing}
-use Rattle.tee_core.specs.declared.standing.Standing.TheVariants.{Sound}
-use Rattle.words_core.specs.TeeWords.{TeeAsked}
-use Rattle.words_core.specs.declared.settings.Settings.TheVariants.{Tee}
-use Rattle.tools_core.specs.Promises.{EndsWithBreak, HasUpTo, OneIs, Ran, Run, Tells, TellsMet}
-use Rattle.ports_core.specs.Text.{message_of}
-use Rattle.tools_core.proofs.LeftLemmas.{one_line, ran_over, same_content}
 
 -- which outputs end the run that broke before a call
 
@@ -35,11 +33,11 @@ abbrev some_end : OnBroken → ℕ → List (Option Break) → Bool
 some_end on_broken call broke = list_any (λ standing. ends_run standing on_broken) (standings_before call broke)
 
 -- one that ends it in the last call, and no sooner
-ends_now : (on_broken : OnBroken) (call at : ℕ) (gone : Bool)
-    → Ends on_broken call (Some (record { call = at; is_gone = gone })) ≡ false
-    → ends_run (lost_as gone) on_broken ≡ true → nat_lt at call ≡ false
-ends_now on_broken call at gone late ends = by (nat_lt at call) late where
-  by : (sooner : Bool) → ends_run (cond sooner (lost_as gone) Sound) on_broken ≡ false → sooner ≡ false
+ends_now : (on_broken : OnBroken) (call at : ℕ) (why : Reason)
+    → Ends on_broken call (Some (record { call = at; why = why })) ≡ false
+    → ends_run (lost_for why) on_broken ≡ true → nat_lt at call ≡ false
+ends_now on_broken call at why late ends = by (nat_lt at call) late where
+  by : (sooner : Bool) → ends_run (cond sooner (lost_for why) Sound) on_broken ≡ false → sooner ≡ false
   by true late = absurd (false≢true (sym late ∙ ends))
   by false late = refl
 
@@ -48,32 +46,28 @@ ends_still : (on_broken : OnBroken) (call : ℕ) (when : Option Break) → Ends 
     → ends_run (standing_of when) on_broken ≡ true
 ends_still on_broken call None ends = absurd (false≢true ends)
 ends_still on_broken call (Some one) ends = by (nat_lt one.call call) ends where
-  by : (sooner : Bool) → ends_run (cond sooner (lost_as one.is_gone) Sound) on_broken ≡ true
-      → ends_run (lost_as one.is_gone) on_broken ≡ true
+  by : (sooner : Bool) → ends_run (cond sooner (lost_for one.why) Sound) on_broken ≡ true
+      → ends_run (lost_for one.why) on_broken ≡ true
   by true ends = ends
   by false ends = absurd (false≢true ends)
 
 -- one that could not be opened ended it before any later call
-first_ends : (on_broken : OnBroken) (call : ℕ) (gone : Bool) → ends_run (lost_as gone) on_broken ≡ true
-    → Ends on_broken (suc call) (Some (record { call = 0; is_gone = gone })) ≡ true
-first_ends on_broken call gone ends = by (nat_lt 0 (suc call)) (lt-ltb 0 (suc call) (omega arith)) where
-  by : (sooner : Bool) → sooner ≡ true → ends_run (cond sooner (lost_as gone) Sound) on_broken ≡ true
+first_ends : (on_broken : OnBroken) (call : ℕ) (why : Reason) → ends_run (lost_for why) on_broken ≡ true
+    → Ends on_broken (suc call) (Some (record { call = 0; why = why })) ≡ true
+first_ends on_broken call why ends = by (nat_lt 0 (suc call)) (lt-ltb 0 (suc call) (omega arith)) where
+  by : (sooner : Bool) → sooner ≡ true → ends_run (cond sooner (lost_for why) Sound) on_broken ≡ true
   by true is = ends
   by false is = absurd (false≢true is)
 
-lost_gone : (gone : Bool) → true ≡ not (is_same Sound (lost_as gone))
-lost_gone true = refl
-lost_gone false = refl
-
-never_sound : (gone : Bool) → lost_as gone ≡ Sound → ⊥
-never_sound true is = cc
-never_sound false is = cc
+never_sound : (why : Reason) → lost_for why ≡ Sound → ⊥
+never_sound reason.Gone is = cc
+never_sound why is = cc
 
 -- one that is sound in the end was so before
 sound_before : (call : ℕ) (when : Option Break) → standing_of when ≡ Sound
     → is_same (standing_before call when) Sound ≡ true
 sound_before call None is = refl
-sound_before call (Some one) is = absurd (never_sound one.is_gone is)
+sound_before call (Some one) is = absurd (never_sound one.why is)
 
 -- all pieces but the last, and the last
 
@@ -116,26 +110,27 @@ module _ (run : Run) (on_broken : OnBroken) (pieces : List (List ℕ)) where
   abbrev NoneRead : Bool → Type 0
   NoneRead ends = ends ≡ true → pieces ≡ [] → (source_at run.inputs 0).reads ≡ 0
 
-  has_whole : (standing : Standing) (output : Slot) → output.is_broken ≡ not (is_same Sound standing)
-      → (output.state ≡ Unopened → ⊥) → output.written ≡ concat pieces → IsUpTo standing output
-  has_whole standing output broken opened is = let all = is ∙ all_are pieces in record {
-    broken = broken;
+  has_whole : (standing : Standing) (output : Slot) → standing ≡ stands_as output → (output.state ≡ Unopened → ⊥)
+      → output.written ≡ concat pieces → IsUpTo standing output
+  has_whole standing output stands opened is = let all = is ∙ all_are pieces in record {
+    stands = stands;
     no_more = rw all (begins_itself _);
     sound = λ sound. all;
     some = λ ends. (last_of pieces, all);
     unopened = λ ends unopened. absurd (opened unopened);
   }
 
-  has_cut : (before : List (List ℕ)) (piece : List ℕ) (after : List (List ℕ)) (n : ℕ) (gone : Bool) (output : Slot)
+  has_cut : (before : List (List ℕ)) (piece : List ℕ) (after : List (List ℕ)) (n : ℕ) (why : Reason) (output : Slot)
       → pieces ≡ before ++ piece ∷ after
-      → Ends on_broken (length pieces) (Some (record { call = suc (length before); is_gone = gone })) ≡ false
-      → output.written ≡ concat before ++ take n piece → output.is_broken ≡ true → (output.state ≡ Unopened → ⊥)
-      → IsUpTo (lost_as gone) output
-  has_cut before piece after n gone output is late has broken opened = record {
-    broken = broken ∙ lost_gone gone;
+      → Ends on_broken (length pieces) (Some (record { call = suc (length before); why = why })) ≡ false
+      → output.written ≡ concat before ++ take n piece → lost_for why ≡ stands_as output
+      → (output.state ≡ Unopened → ⊥)
+      → IsUpTo (lost_for why) output
+  has_cut before piece after n why output is late has stands opened = record {
+    stands = stands;
     no_more = rw has (begins_trans _ _ _ (take_begins_after n (concat before) piece) (rw (sym (all_are pieces) ∙ ap concat is ∙ concat-append before (piece ∷ after) ∙ sym (append_assoc (concat before) piece (concat after))) (begins_more _ _)));
-    sound = λ sound. absurd (never_sound gone sound);
-    some = λ ends. last_one after is (ends_now on_broken (length pieces) (suc (length before)) gone late ends);
+    sound = λ sound. absurd (never_sound why sound);
+    some = λ ends. last_one after is (ends_now on_broken (length pieces) (suc (length before)) why late ends);
     unopened = λ ends unopened. absurd (opened unopened);
   } where
     last_one : (after : List (List ℕ)) → pieces ≡ before ++ piece ∷ after
@@ -146,26 +141,26 @@ module _ (run : Run) (on_broken : OnBroken) (pieces : List (List ℕ)) where
   output_up_to : {when : Option Break} {output : Slot} → Ends on_broken (length pieces) when ≡ false
       → OutputLeft true pieces when output → IsUpTo (standing_of when) output
   output_up_to late tee.output_whole = has_whole Sound _ refl (λ is. cc) refl
-  output_up_to late (tee.output_cut {is_gone = gone} before piece after n is few) = has_cut before piece after n gone _ is late refl refl (λ is. cc)
+  output_up_to late (tee.output_cut {why} before piece after n is few) = has_cut before piece after n why _ is late refl refl (λ is. cc)
 
   file_up_to : {mode : Mode} {name : List ℕ} {when : Option Break} {file : Slot}
       → Ends on_broken (length pieces) when ≡ false → NoneRead (Ends on_broken (suc (length pieces)) when)
       → FileLeft true mode pieces name when file → IsUpTo (standing_of when) file
   file_up_to late none tee.file_whole = has_whole Sound _ refl (λ is. cc) refl
-  file_up_to late none (tee.file_unopened {is_gone = gone} kept named) = record {
-    broken = lost_gone gone;
+  file_up_to late none (tee.file_unopened {why} kept named) = record {
+    stands = refl;
     no_more = (front_of pieces ++ last_of pieces, refl);
-    sound = λ sound. absurd (never_sound gone sound);
+    sound = λ sound. absurd (never_sound why sound);
     some = λ ends. rw (at_first ends) (begins_itself []);
-    unopened = λ ends unopened. none (first_ends on_broken (length pieces) gone ends) (at_first ends);
+    unopened = λ ends unopened. none (first_ends on_broken (length pieces) why ends) (at_first ends);
   } where
-    at_first : ends_run (lost_as gone) on_broken ≡ true → pieces ≡ []
-    at_first ends = by pieces (ends_now on_broken (length pieces) 0 gone late ends) where
+    at_first : ends_run (lost_for why) on_broken ≡ true → pieces ≡ []
+    at_first ends = by pieces (ends_now on_broken (length pieces) 0 why late ends) where
       by : (pieces : List (List ℕ)) → nat_lt 0 (length pieces) ≡ false → pieces ≡ []
       by [] none = refl
       by (piece ∷ pieces) none = absurd (grind (arith, nat_tests, none))
-  file_up_to late none (tee.file_cut {is_gone = gone} before piece after n is few) = has_cut before piece after n gone _ is late refl refl (λ is. cc)
-  file_up_to late none (tee.file_unclosed {is_gone = gone}) = has_whole (lost_as gone) _ (lost_gone gone) (λ is. cc) refl
+  file_up_to late none (tee.file_cut {why} before piece after n is few) = has_cut before piece after n why _ is late refl refl (λ is. cc)
+  file_up_to late none (tee.file_unclosed {why}) = has_whole (lost_for why) _ refl (λ is. cc) refl
 
   files_up_to : {mode : Mode} {names : List (List ℕ)} {broke : List (Option Break)} {files : List Slot} (place : ℕ)
       → some_end on_broken (length pieces) broke ≡ false → NoneRead (some_end on_broken (suc (length pieces)) broke)
@@ -234,9 +229,9 @@ none_read {pieces} on_broken first broke is ends none =
 
 ends_with_break : (run : Run) (asked : TeeAsked) {mode : Mode} {names : List (List ℕ)}
     → length run.world.standard.bytes < 2 ^ 63
-    → tee.EndsAs true true run.breaks_for run.calling mode asked.on_broken names run.world.standard
+    → tee.EndsAs true true run.calling mode asked.on_broken names run.world.standard
     (source_at run.inputs 0) run.outputs run.status → EndsWithBreak run asked
-ends_with_break run asked few (tee.copied pieces fault first broke output error files comes goes left rest stand says slots is) =
+ends_with_break run asked few (tee.copied pieces fault first broke output error files comes goes left rest says slots is) =
     let (more, bytes, unread, over) = read_up_to (source_at run.inputs 0) few comes.read in
     let (early, later) = or_parts (Ends asked.on_broken (length pieces) first) (some_end asked.on_broken (length pieces) broke) (or_parts (some_end asked.on_broken (length pieces) (first ∷ broke)) _ goes).0 in record {
       before = front_of pieces;
@@ -246,17 +241,12 @@ ends_with_break run asked few (tee.copied pieces fault first broke output error 
       left = unread;
       small = last_small pieces comes.sizes;
       stands = stand_at first broke;
-      outputs = λ place differs within. (stands_at place differs, subst (λ outputs. HasUpTo run asked.on_broken (front_of pieces) (last_of pieces) (stand_at first broke place) (slot_at outputs place)) (sym slots) (at early later place differs (rw slots at within)));
+      outputs = λ place differs within. subst (λ outputs. HasUpTo run asked.on_broken (front_of pieces) (last_of pieces) (stand_at first broke place) (slot_at outputs place)) (sym slots) (at early later place differs (rw slots at within));
       ended = elim over [
         | inl all ↦ inl all
         | inr vain ↦ inr (ended vain)
       ];
     } where
-      stands_at : (place : ℕ) → (place ≡ 1 → ⊥) → tee.StandsFor (run.breaks_for place) (stand_at first broke place)
-      stands_at zero differs = stand 0
-      stands_at (suc zero) differs = absurd (differs refl)
-      stands_at (suc (suc place)) differs = stand (suc place)
-
       at : Ends asked.on_broken (length pieces) first ≡ false → some_end asked.on_broken (length pieces) broke ≡ false
           → (place : ℕ) → (place ≡ 1 → ⊥) → place < length (output ∷ error ∷ files)
           → HasUpTo run asked.on_broken (front_of pieces) (last_of pieces) (stand_at first broke place)
@@ -267,7 +257,8 @@ ends_with_break run asked few (tee.copied pieces fault first broke output error 
 
       ended : is_done asked.on_broken (standings_before (suc (length pieces)) (first ∷ broke)) ≡ true
           → OneIs run (stand_at first broke) (λ standing. ends_run standing asked.on_broken ≡ true)
-          ⊎ (OneIs run (stand_at first broke) (λ standing. standing ≡ Sound) → ⊥) ⊎ (((source_at run.inputs 0).reads ≡ 0) × Tells run (Tee asked) Memory [])
+          ⊎ (OneIs run (stand_at first broke) (λ standing. standing ≡ Sound) → ⊥)
+          ⊎ (((source_at run.inputs 0).reads ≡ 0) × Tells run (Tee asked) Memory [])
       ended vain = elim (or_cases (some_end asked.on_broken (suc (length pieces)) (first ∷ broke)) _ vain) [
         | inl one ↦ inl (elim (or_cases (Ends asked.on_broken (suc (length pieces)) first) _ one) [
           | inl here ↦ (0, (λ same. omega (arith, same)), rw slots (omega arith), ends_still asked.on_broken (suc (length pieces)) first here)
@@ -283,7 +274,7 @@ ends_with_break run asked few (tee.no_room error says (there, unread, same) slot
   left = ap (λ (source : Source). source.left.bytes) unread ∙ ap (λ (content : Content). content.bytes) (same refl);
   small = omega arith;
   stands = λ place. Sound;
-  outputs = λ place differs within. (tt, subst (λ outputs. HasUpTo run asked.on_broken [] [] Sound (slot_at outputs place)) (sym slots) (at place differs (rw slots at within)));
+  outputs = λ place differs within. subst (λ outputs. HasUpTo run asked.on_broken [] [] Sound (slot_at outputs place)) (sym slots) (at place differs (rw slots at within));
   ended = inr (inr (inr (ap (λ (source : Source). source.reads) unread, ([], [], record { are = one_line (TellsMet run (Tee asked)) (message_of Memory []) (Memory, [], inl tt, refl); said = rw slots says }))));
 } where
   at : (place : ℕ) → (place ≡ 1 → ⊥) → place < 2

@@ -1,26 +1,15 @@
 -- What a run of `tail` leaves that follows its files, by its words: POSIX.1-2017, XCU tail, `-f`; names that are
 -- followed are GNU's.
 use Rattle.std.specs.Prelude.{◌≡◌, ℕ, max, Bool, true, false, List, [], Option, Some, None, Result, Ok, Err, ◌⊎◌}
-use Rattle.ports_core.specs.Slot.{Slot, streams}
-use Rattle.ports_core.specs.declared.calling.Calling.{Calling}
-use Rattle.ports_core.specs.declared.reason.Reason.{Reason}
-use Rattle.ports_core.specs.declared.fault.Fault.{Fault}
-use Rattle.ports_core.specs.declared.fault.Fault.TheVariants.{Usage}
-use Rattle.ports_core.specs.declared.fault.UsageKind.TheVariants.{BadFollow}
-use Rattle.watch_core.specs.Snapshot.{Snapshot, waiting}
-use Rattle.watch_core.specs.Watched.{Watched}
-use Rattle.follow_core.specs.declared.start.Start.{Start}
-use Rattle.follow_core.specs.Ending.{FollowEndsBy, shows_by}
-use Rattle.follow_core.specs.Look.{ways_of}
-use Rattle.words_core.specs.declared.settings.Settings.{Settings}
-use Rattle.words_core.specs.declared.tail_words.TailSettings.{TailSettings}
-use Rattle.words_core.specs.declared.settings.Settings.TheVariants.{Tail}
-use Rattle.words_core.specs.declared.value.Followed.{Followed}
-use Rattle.words_core.specs.declared.value.Followed.TheVariants.{Descriptor, Name}
-use Rattle.words_core.specs.EndsWords.{EndsAsked}
-use Rattle.words_core.specs.Words.{HasOperands, settings_of}
-use Rattle.tools_core.specs.Outcome.{RefusesFor, RefusesOperands}
-use Rattle.tools_core.specs.Tasks.{has_headers, is_plus}
+use Rattle.ports_core.specs.{Slot.{Slot, streams}, declared.{calling.Calling.Calling, fault.{Fault.{Fault, TheVariants.Usage}, UsageKind.TheVariants.BadFollow}}}
+use Rattle.watch_core.specs.{Snapshot.{Snapshot, waiting}, Watched.Watched}
+use Rattle.follow_core.specs.{declared.start.Start.Start, Ending.{FollowEndsBy, shows_by}, Look.ways_of}
+use Rattle.words_core.specs.{
+  declared.{settings.Settings.{Settings, TheVariants.Tail}, tail_words.TailSettings.TailSettings, value.Followed.{Followed, TheVariants.{Descriptor, Name}}},
+  EndsWords.EndsAsked,
+  Words.{HasOperands, settings_of},
+}
+use Rattle.tools_core.specs.{Outcome.{RefusesFor, RefusesOperands}, Tasks.{has_headers, is_plus}}
 
 -- the part of a file that the first look writes
 abbrev pub start_of : EndsAsked → Start
@@ -38,10 +27,10 @@ is_name Name = true
 -- these files are followed, in as many looks or until the process is gone that is asked for, and the run ends so that
 -- it gave exactly what these looks give; each begins within the pause that is asked for, 1 ms at least; by its own name
 -- `tail` that follows names takes one that can't be read for one that is missing
-abbrev pub FollowsAs : Calling → (told_in told : Bool) → (ℕ → Reason → Bool) → TailSettings → Followed → (looks : ℕ)
+abbrev pub FollowsAs : Calling → (told_in told : Bool) → TailSettings → Followed → (looks : ℕ)
     → (ℕ → Snapshot) → List Snapshot → List Watched → List Slot → (status : ℕ) → Type 0
-FollowsAs calling told_in told breaks_for asked followed looks shows seen watched new status =
-    FollowEndsBy asked.process told_in told breaks_for calling (ways_of 0 (is_name followed) (start_of asked.ends))
+FollowsAs calling told_in told asked followed looks shows seen watched new status =
+    FollowEndsBy asked.process told_in told calling (ways_of 0 (is_name followed) (start_of asked.ends))
     (has_headers asked.ends.headers asked.ends.names) asked.ends.names looks
     (λ n. waiting (max asked.pause 1) (shows_by calling (is_name followed) shows n)) streams seen watched new status
 
@@ -55,29 +44,29 @@ abbrev pub RefusesToFollow : Bool → List (List ℕ) → List Snapshot → List
 RefusesToFollow told words seen watched new status =
     RefusesUnseen told words (Usage BadFollow 0) seen watched new status
 
-abbrev pub FollowsTail : Calling → (told_in told : Bool) → (ℕ → Reason → Bool) → List (List ℕ) → TailSettings
+abbrev pub FollowsTail : Calling → (told_in told : Bool) → List (List ℕ) → TailSettings
     → Option Followed → ℕ → (ℕ → Snapshot) → List Snapshot → List Watched → List Slot → ℕ → Type 0
-FollowsTail calling told_in told breaks_for words asked (Some followed) looks shows seen watched new status =
-    FollowsAs calling told_in told breaks_for asked followed looks shows seen watched new status
-FollowsTail calling told_in told breaks_for words asked None looks shows seen watched new status =
+FollowsTail calling told_in told words asked (Some followed) looks shows seen watched new status =
+    FollowsAs calling told_in told asked followed looks shows seen watched new status
+FollowsTail calling told_in told words asked None looks shows seen watched new status =
     RefusesToFollow told words seen watched new status
 
 -- What was asked for was followed; or the words were refused: for operands that can't be read, where they have such
 -- ones, and else since they follow nothing.
-abbrev pub FollowingEndsAt : Calling → (told_in told : Bool) → (ℕ → Reason → Bool) → List (List ℕ) → ℕ → (ℕ → Snapshot)
+abbrev pub FollowingEndsAt : Calling → (told_in told : Bool) → List (List ℕ) → ℕ → (ℕ → Snapshot)
     → List Snapshot → List Watched → List Slot → ℕ → Result Settings Fault → Type 0
-FollowingEndsAt calling told_in told breaks_for words looks shows seen watched new status (Ok (Tail asked)) =
-    FollowsTail calling told_in told breaks_for words asked asked.followed looks shows seen watched new status
-FollowingEndsAt calling told_in told breaks_for words looks shows seen watched new status (Ok settings) =
+FollowingEndsAt calling told_in told words looks shows seen watched new status (Ok (Tail asked)) =
+    FollowsTail calling told_in told words asked asked.followed looks shows seen watched new status
+FollowingEndsAt calling told_in told words looks shows seen watched new status (Ok settings) =
     (HasOperands settings × RefusesToFollow told words seen watched new status)
     ⊎ ((seen ≡ []) × (watched ≡ []) × RefusesOperands told words settings new status)
-FollowingEndsAt calling told_in told breaks_for words looks shows seen watched new status (Err fault) =
+FollowingEndsAt calling told_in told words looks shows seen watched new status (Err fault) =
     RefusesUnseen told words fault seen watched new status
 
 -- a run of these words, over looks that would see this and of which these were made, left the outputs so, and returned
 -- this status
-abbrev pub FollowingEnds : Calling → (told_in told : Bool) → (ℕ → Reason → Bool) → List (List ℕ) → ℕ → (ℕ → Snapshot)
+abbrev pub FollowingEnds : Calling → (told_in told : Bool) → List (List ℕ) → ℕ → (ℕ → Snapshot)
     → List Snapshot → List Watched → List Slot → ℕ → Type 0
-FollowingEnds calling told_in told breaks_for words looks shows seen watched new status =
-    FollowingEndsAt calling told_in told breaks_for words looks shows seen watched new status
+FollowingEnds calling told_in told words looks shows seen watched new status =
+    FollowingEndsAt calling told_in told words looks shows seen watched new status
     (settings_of calling words)

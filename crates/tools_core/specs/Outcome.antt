@@ -1,33 +1,26 @@
 -- What a whole run does, by its words.
-use Rattle.std.specs.Option.{unwrap_or}
-use Rattle.std.specs.Prelude.{◌≡◌, ℕ, Bool, true, List, [], ◌∷◌, Result, Ok, Err, ◌⊎◌, slice_index_or}
-use Rattle.ports_core.specs.Slot.{Slot}
-use Rattle.ports_core.specs.Source.{Content, Source, source_at}
-use Rattle.ports_core.specs.Text.{message_of}
-use Rattle.ports_core.specs.Message.{Says}
-use Rattle.ports_core.specs.declared.calling.Calling.{Calling}
-use Rattle.ports_core.specs.declared.calling.Calling.TheVariants.{Cutters}
-use Rattle.ports_core.specs.declared.calling.Speaker.{Speaker}
-use Rattle.ports_core.specs.declared.tool.Tool.{Tool}
-use Rattle.ports_core.specs.declared.tool.Tool.TheVariants as tool
-use Rattle.ports_core.specs.declared.reason.Reason.{Reason}
-use Rattle.ports_core.specs.declared.fault.Fault.{Fault}
-use Rattle.ports_core.specs.declared.fault.Fault.TheVariants.{Usage}
-use Rattle.operand_core.specs.declared.operand.Operand.{Operand}
-use Rattle.operand_core.specs.Reading.{Asks}
-use Rattle.ports_core.specs.Inputs.{CameFrom}
-use Rattle.run_core.specs.Input.{Input, standard_input}
-use Rattle.run_core.specs.RunEnds.{EndsAs}
-use Rattle.ports_core.specs.Streams.{standard_error, streams_with}
+use Rattle.std.specs.{Option.unwrap_or, Prelude.{◌≡◌, ℕ, Bool, true, List, [], ◌∷◌, Result, Ok, Err, ◌⊎◌, slice_index_or}}
+use Rattle.ports_core.specs.{
+  Slot.Slot,
+  Source.{Content, Source, source_at},
+  Text.message_of,
+  Message.Says,
+  declared.{calling.{Calling.{Calling, TheVariants.Cutters}, Speaker.Speaker}, tool.Tool.Tool, fault.Fault.{Fault, TheVariants.Usage}},
+  Inputs.CameFrom,
+  Streams.{standard_error, streams_with},
+}
+use Rattle.operand_core.specs.{declared.operand.Operand.Operand, Reading.Asks}
+use Rattle.run_core.specs.{Input.{Input, standard_input}, RunEnds.EndsAs}
 use Rattle.tee_core.specs.Run.{AreSound, all_copied, forgives, EndsAs as TeeCopies}
-use Rattle.words_core.specs.declared.settings.Settings.{Settings}
-use Rattle.words_core.specs.declared.settings.Settings.TheVariants.{Head, Tail, Split, Csplit, Tee, About}
-use Rattle.words_core.specs.CsplitWords.{CsplitAsked}
-use Rattle.words_core.specs.TeeWords.{TeeAsked}
-use Rattle.words_core.specs.Help.{text_about}
-use Rattle.words_core.specs.Words.{HasBadOperands, tool_named, settings_of}
-use Rattle.tools_core.specs.About.{TellsText}
-use Rattle.tools_core.specs.Tasks.{by, csplit_task, head_task, tail_task, split_task, names_of}
+use Rattle.words_core.specs.{
+  declared.settings.Settings.{Settings, TheVariants.{Head, Tail, Split, Csplit, Tee, About}},
+  CsplitWords.CsplitAsked,
+  TeeWords.TeeAsked,
+  Help.text_about,
+  Words.{HasBadOperands, tool_named, settings_of},
+}
+use Rattle.tools_core.specs.{About.TellsText, Tasks.{by, csplit_task, head_task, tail_task, split_task, names_of}}
+use Rattle.ports_core.specs.declared.tool.Tool.TheVariants as tool
 
 -- who refuses words: their tool, or the program where they name none
 abbrev pub speaker : List (List ℕ) → Tool
@@ -44,18 +37,18 @@ word_of words (Usage kind place) = slice_index_or words place []
 word_of words fault = []
 
 -- `csplit` over its input, which was cut at the operands that its words ask for
-pub record CsplitEndsAs (calling : Calling) (told_in told : Bool) (breaks_for : ℕ → Reason → Bool)
+pub record CsplitEndsAs (calling : Calling) (told_in told : Bool)
     (asked : CsplitAsked) (inputs : List Input) (sources : List Source) (new : List Slot) (status : ℕ) : Type 0 where
   pub operands : List Operand
   pub asks : Asks asked.operands operands
-  pub ends : EndsAs told_in told breaks_for (csplit_task calling asked operands) inputs sources new status
+  pub ends : EndsAs told_in told (csplit_task calling asked operands) inputs sources new status
 
 -- `tee` over its inputs, which are standard input alone
-pub record TeeEndsAs (calling : Calling) (told_in told : Bool) (breaks_for : ℕ → Reason → Bool) (asked : TeeAsked)
+pub record TeeEndsAs (calling : Calling) (told_in told : Bool) (asked : TeeAsked)
     (inputs : List Input) (sources : List Source) (new : List Slot) (status : ℕ) : Type 0 where
   pub content : Content
   pub input : inputs ≡ standard_input content ∷ []
-  pub ends : TeeCopies told_in told breaks_for calling asked.mode asked.on_broken asked.names content
+  pub ends : TeeCopies told_in told calling asked.mode asked.on_broken asked.names content
       (source_at sources 0) new status
   pub came : CameFrom told_in content (source_at sources 0)
   -- where nothing broke: standard output and every file have the input's bytes
@@ -63,20 +56,20 @@ pub record TeeEndsAs (calling : Calling) (told_in told : Bool) (breaks_for : ℕ
       → new ≡ all_copied told asked.mode asked.names content.bytes
 
 -- a run did what these settings ask for
-abbrev pub DoesAsked : Calling → Bool → Bool → (ℕ → Reason → Bool) → Settings → List Input → List Source → List Slot → ℕ
+abbrev pub DoesAsked : Calling → Bool → Bool → Settings → List Input → List Source → List Slot → ℕ
     → Type 0
-DoesAsked calling told_in told breaks_for (Head asked) inputs sources new status =
-    EndsAs told_in told breaks_for (head_task calling asked) inputs sources new status
-DoesAsked calling told_in told breaks_for (Tail asked) inputs sources new status =
-    EndsAs told_in told breaks_for (tail_task calling asked.ends) inputs sources new status
-DoesAsked calling told_in told breaks_for (Split asked) inputs sources new status =
-    EndsAs told_in told breaks_for (split_task calling asked) inputs sources new status
-DoesAsked calling told_in told breaks_for (Csplit asked) inputs sources new status =
-    CsplitEndsAs calling told_in told breaks_for asked inputs sources new status
-DoesAsked calling told_in told breaks_for (Tee asked) inputs sources new status =
-    TeeEndsAs calling told_in told breaks_for asked inputs sources new status
-DoesAsked calling told_in told breaks_for (About tool topic) inputs sources new status =
-    TellsText told breaks_for (by calling tool) (text_about tool topic) new status
+DoesAsked calling told_in told (Head asked) inputs sources new status =
+    EndsAs told_in told (head_task calling asked) inputs sources new status
+DoesAsked calling told_in told (Tail asked) inputs sources new status =
+    EndsAs told_in told (tail_task calling asked.ends) inputs sources new status
+DoesAsked calling told_in told (Split asked) inputs sources new status =
+    EndsAs told_in told (split_task calling asked) inputs sources new status
+DoesAsked calling told_in told (Csplit asked) inputs sources new status =
+    CsplitEndsAs calling told_in told asked inputs sources new status
+DoesAsked calling told_in told (Tee asked) inputs sources new status =
+    TeeEndsAs calling told_in told asked inputs sources new status
+DoesAsked calling told_in told (About tool topic) inputs sources new status =
+    TellsText told (by calling tool) (text_about tool topic) new status
 
 -- the words are refused for this fault, with the word that it speaks of: a message, status 1, and nothing else
 pub record RefusesFor (told : Bool) (words : List (List ℕ)) (fault : Fault) (new : List Slot)
@@ -94,19 +87,19 @@ RefusesOperands told words settings new status = (fault : Fault) × HasBadOperan
 
 -- A run did what was asked for; or it refused its operands, or the words: then no input was opened or read, and all are
 -- as they were.
-abbrev pub RunEndsAt : Calling → Bool → Bool → (ℕ → Reason → Bool) → List (List ℕ) → List Input
+abbrev pub RunEndsAt : Calling → Bool → Bool → List (List ℕ) → List Input
     → (old sources : List Source) → List Slot → ℕ → Result Settings Fault → Type 0
-RunEndsAt calling told_in told breaks_for words inputs old sources new status (Ok settings) =
-    DoesAsked calling told_in told breaks_for settings inputs sources new status
+RunEndsAt calling told_in told words inputs old sources new status (Ok settings) =
+    DoesAsked calling told_in told settings inputs sources new status
     ⊎ ((sources ≡ old) × RefusesOperands told words settings new status)
-RunEndsAt calling told_in told breaks_for words inputs old sources new status (Err fault) = (sources ≡ old)
+RunEndsAt calling told_in told words inputs old sources new status (Err fault) = (sources ≡ old)
     × RefusesFor told words fault new status
 
 -- a run of these words, called so, on these inputs left inputs and outputs so, and returned this status
-abbrev pub RunEnds : Calling → Bool → Bool → (ℕ → Reason → Bool) → List (List ℕ) → List Input
+abbrev pub RunEnds : Calling → Bool → Bool → List (List ℕ) → List Input
     → (old sources : List Source) → List Slot → ℕ → Type 0
-RunEnds calling told_in told breaks_for words inputs old sources new status =
-    RunEndsAt calling told_in told breaks_for words inputs old sources new status (settings_of calling words)
+RunEnds calling told_in told words inputs old sources new status =
+    RunEndsAt calling told_in told words inputs old sources new status (settings_of calling words)
 
 -- the names that these words read; words that are refused read none
 abbrev pub names_at : Result Settings Fault → List (List ℕ)

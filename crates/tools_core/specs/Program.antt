@@ -1,20 +1,10 @@
 -- How a run of the program ends: it follows files, or it runs a tool over its inputs.
-use Rattle.std.specs.Prelude.{◌≡◌, ℕ, Bool, true, false, List, [], Option, Some, None, Result, Ok, Err, ◌⊎◌, if◌then◌else◌}
-use Rattle.ports_core.specs.Slot.{Slot}
-use Rattle.ports_core.specs.Source.{Content, Source}
-use Rattle.ports_core.specs.declared.calling.Calling.{Calling}
-use Rattle.ports_core.specs.declared.reason.Reason.{Reason}
-use Rattle.ports_core.specs.declared.fault.Fault.{Fault}
-use Rattle.run_core.specs.RunEnds.{RunsOver}
-use Rattle.run_core.specs.RunSteps.{world_of}
-use Rattle.ports_core.specs.declared.fault.Fault.TheVariants.{Memory}
-use Rattle.watch_core.specs.DirWatchState.{any_files}
-use Rattle.watch_core.specs.Snapshot.{Snapshot}
-use Rattle.watch_core.specs.Watched.{Watched}
-use Rattle.words_core.specs.declared.settings.Settings.{Settings}
-use Rattle.words_core.specs.Words.{follows, looks, settings_of}
-use Rattle.tools_core.specs.Following.{FollowingEnds}
-use Rattle.tools_core.specs.Outcome.{RefusesFor, RunEnds, names_read}
+use Rattle.std.specs.Prelude.{◌≡◌, ℕ, Bool, false, List, [], Option, Some, None, Result, Ok, Err, ◌⊎◌, if◌then◌else◌}
+use Rattle.ports_core.specs.{Slot.Slot, Source.{Content, Source}, declared.{calling.Calling.Calling, fault.Fault.{Fault, TheVariants.Memory}}}
+use Rattle.run_core.specs.{RunEnds.RunsOver, RunSteps.world_of}
+use Rattle.watch_core.specs.{DirWatchState.any_files, Snapshot.Snapshot, Watched.Watched}
+use Rattle.words_core.specs.{declared.settings.Settings.Settings, Words.{follows, looks, settings_of}}
+use Rattle.tools_core.specs.{Following.FollowingEnds, Outcome.{RefusesFor, RunEnds, names_read}}
 
 -- in how many looks files are followed, where that is asked for
 abbrev pub looks_at : Result Settings Fault → Option ℕ
@@ -23,22 +13,22 @@ looks_at (Err fault) = None
 
 -- Files were followed in as many looks, and no input was opened or read; or the tool ran over its inputs, and no file
 -- was watched.
-abbrev pub ProgramEndsAt : Calling → (told_in told_watched told : Bool) → (ℕ → Reason → Bool) → List (List ℕ)
+abbrev pub ProgramEndsAt : Calling → (told_in told_watched told : Bool) → List (List ℕ)
     → (ℕ → List ℕ → Option Content) → List Source → List Source → (ℕ → Snapshot) → List Snapshot → List Watched
     → List Slot → ℕ → Option ℕ → Type 0
-ProgramEndsAt calling told_in told_watched told breaks_for words laid sources sources_new shows seen watched new status
-    (Some looks) = (sources_new ≡ sources) × FollowingEnds calling told_watched told breaks_for words looks shows seen
+ProgramEndsAt calling told_in told_watched told words laid sources sources_new shows seen watched new status
+    (Some looks) = (sources_new ≡ sources) × FollowingEnds calling told_watched told words looks shows seen
     watched new status
-ProgramEndsAt calling told_in told_watched told breaks_for words laid sources sources_new shows seen watched new status
+ProgramEndsAt calling told_in told_watched told words laid sources sources_new shows seen watched new status
     None = (seen ≡ []) × (watched ≡ []) × RunsOver told_in (world_of laid sources) (names_read calling words)
-    (λ found. RunEnds calling told_in told breaks_for words found sources sources_new new status)
+    (λ found. RunEnds calling told_in told words found sources sources_new new status)
 
 -- by what the words ask for
-abbrev pub ProgramEnds : Calling → (told_in told_watched told : Bool) → (ℕ → Reason → Bool) → List (List ℕ)
+abbrev pub ProgramEnds : Calling → (told_in told_watched told : Bool) → List (List ℕ)
     → (ℕ → List ℕ → Option Content) → List Source → List Source → (ℕ → Snapshot) → List Snapshot → List Watched
     → List Slot → ℕ → Type 0
-ProgramEnds calling told_in told_watched told breaks_for words laid sources sources_new shows seen watched new status =
-    ProgramEndsAt calling told_in told_watched told breaks_for words laid sources sources_new shows seen watched new
+ProgramEnds calling told_in told_watched told words laid sources sources_new shows seen watched new status =
+    ProgramEndsAt calling told_in told_watched told words laid sources sources_new shows seen watched new
     status (looks_at (settings_of calling words))
 
 -- A run over real inputs, outputs and files, which don't tell their bytes, ended as these words ask for, in this order;
@@ -46,5 +36,5 @@ ProgramEnds calling told_in told_watched told breaks_for words laid sources sour
 abbrev pub RanAs : Calling → List (List ℕ) → List Source → List Source → List Slot → ℕ → Type 0
 RanAs calling words sources sources_new new status =
     ((seen : List Snapshot) × (watched : List Watched)
-    × ProgramEnds calling false false false (λ slot why. true) words (λ slot name. None) sources sources_new
-    (λ n. any_files) seen watched new status) ⊎ ((sources_new ≡ sources) × RefusesFor false [] Memory new status)
+    × ProgramEnds calling false false false words (λ slot name. None) sources sources_new (λ n. any_files) seen watched
+    new status) ⊎ ((sources_new ≡ sources) × RefusesFor false [] Memory new status)

@@ -1,72 +1,64 @@
 -- What people rest on, in a manual's words: what a run leaves, over inputs and outputs that tell their bytes, as those
 -- in memory do.
-use Rattle.std.specs.Prelude.{◌≡◌, ℕ, ◌+◌, ◌^◌, ◌/◌, ◌%◌, ◌<◌, ◌≤◌, ◌==◌, suc, nat_lt, Bool, true, false, not, List, [], ◌∷◌, ◌++◌, length, map, take, drop, All, slice_index_or, ◌⊎◌, Option, Some, None, Ok, if◌then◌else◌, IsTrue}
-use Rattle.std.specs.List.{concat, flat_map}
-use Rattle.std.specs.declared.cmp.Ordering.TheVariants.{Less}
-use Rattle.std.specs.Ordering.{nat_cmp}
-use Rattle.std.specs.Cmp.Lexicographic.{slice_cmp}
-use Rattle.seg_core.specs.Line.{delimiters, ends_with, first_lines, joined, line_count, lines_of}
-use Rattle.ports_core.specs.Draft.{opening_line}
-use Rattle.ports_core.specs.Inputs.{largest_piece}
-use Rattle.ports_core.specs.Message.{SaysAll}
-use Rattle.ports_core.specs.Name.{name_at, ordered_count}
-use Rattle.ports_core.specs.Part.{IsBeginning}
-use Rattle.ports_core.specs.Slot.{Slot, has_file, slot_at}
-use Rattle.ports_core.specs.Source.{Content, Source, source_at, source_of}
-use Rattle.ports_core.specs.Streams.{standard_error}
-use Rattle.ports_core.specs.Text.{Message, message_of}
-use Rattle.ports_core.specs.declared.calling.Calling.{Calling}
-use Rattle.ports_core.specs.declared.reason.Reason.{Reason}
-use Rattle.ports_core.specs.declared.reason.Reason.TheVariants as reason
-use Rattle.ports_core.specs.declared.calling.Calling.TheVariants.{OwnName}
-use Rattle.ports_core.specs.Work.{Judges}
-use Rattle.ports_core.specs.declared.fault.Fault.{Fault}
-use Rattle.ports_core.specs.declared.verdict.Verdict.{Verdict}
-use Rattle.ports_core.specs.declared.verdict.Verdict.TheVariants.{Changed}
-use Rattle.ports_core.specs.declared.fault.Fault.TheVariants as fault
-use Rattle.ports_core.specs.declared.on_broken.OnBroken.{OnBroken}
-use Rattle.ports_core.specs.declared.slot.Mode.{Mode}
-use Rattle.ports_core.specs.declared.slot.Mode.TheVariants.{Fresh}
-use Rattle.ports_core.specs.declared.slot.State.{State}
-use Rattle.ports_core.specs.declared.slot.State.TheVariants as state
-use Rattle.ports_core.specs.declared.slot.State.TheVariants.{Closed}
-use Rattle.seg_core.specs.declared.count.Sign.{Sign}
-use Rattle.seg_core.specs.declared.unit.Unit.TheVariants.{Lines}
-use Rattle.operand_core.specs.Reading.{Asks}
-use Rattle.operand_core.specs.Style.{Style}
-use Rattle.operand_core.specs.declared.operand.Operand.{Operand}
-use Rattle.csplit_core.specs.Input.{all_lines}
-use Rattle.csplit_core.specs.Operand.{Line}
-use Rattle.csplit_core.specs.Output.{file_in, naming_of as section_naming}
-use Rattle.csplit_core.specs.Plan.{Step}
-use Rattle.csplit_core.specs.Planned.{Plan, plan}
-use Rattle.csplit_core.specs.Section.{lines_between, section_of, whole_end, whole_sections}
-use Rattle.run_core.specs.Feeding.{is_enough}
-use Rattle.run_core.specs.Input.{Input, World, inputs_at, is_dash}
-use Rattle.run_core.specs.RunEnds.{EndsAs, RunsOver, as_defined, no_room, stopped}
-use Rattle.run_core.specs.Task.{Task}
-use Rattle.tee_core.specs.Run.{AreSound, EndsAs as TeeCopies, StandsFor, are_sound, copied, ends_run, forgives, is_quiet, is_same, no_room as no_memory}
-use Rattle.tee_core.specs.declared.standing.Standing.{Standing}
-use Rattle.tee_core.specs.declared.standing.Standing.TheVariants.{Sound}
-use Rattle.words_core.specs.declared.settings.Settings.{Settings}
-use Rattle.words_core.specs.declared.settings.Settings.TheVariants.{Head, Tail, Split, Csplit, Tee, About}
-use Rattle.words_core.specs.EndsWords.{EndsAsked}
-use Rattle.words_core.specs.declared.value.Followed.{Followed}
-use Rattle.seg_core.specs.declared.cut.Way.{Way}
-use Rattle.seg_core.specs.declared.cut.Way.TheVariants as way
-use Rattle.split_core.specs.Chunks.{IsInChunk, IsInPiece, chunks_of, has_ended, pieces_in}
-use Rattle.split_core.specs.ChunkWork.{files_by, kept}
-use Rattle.seg_core.specs.declared.cut.Chunks.{Chunks}
-use Rattle.words_core.specs.SplitWords.{SplitAsked}
-use Rattle.words_core.specs.TeeWords.{TeeAsked}
-use Rattle.words_core.specs.Words.{HasBadOperands, settings_of}
-use Rattle.watch_core.specs.Snapshot.{Snapshot}
+use Rattle.std.specs.{
+  Prelude.{◌≡◌, ℕ, ◌+◌, ◌^◌, ◌/◌, ◌%◌, ◌<◌, ◌≤◌, ◌==◌, suc, nat_lt, Bool, true, false, not, List, [], ◌∷◌, ◌++◌, length, map, take, drop, All, slice_index_or, ◌⊎◌, Option, Some, None, Ok, if◌then◌else◌},
+  List.{concat, flat_map},
+  declared.cmp.Ordering.TheVariants.Less,
+  Ordering.nat_cmp,
+  Cmp.Lexicographic.slice_cmp,
+}
+use Rattle.seg_core.specs.{Line.{delimiters, ends_with, first_lines, joined, line_count, lines_of}, declared.{count.Sign.Sign, unit.Unit.TheVariants.Lines, cut.{Way.Way, Chunks.Chunks}}}
+use Rattle.ports_core.specs.{
+  Draft.opening_line,
+  Inputs.largest_piece,
+  Message.SaysAll,
+  Name.{name_at, ordered_count},
+  Part.IsBeginning,
+  Slot.{Slot, has_file, slot_at},
+  Source.{Content, Source, source_at, source_of},
+  Streams.standard_error,
+  Text.{Message, message_of},
+  declared.calling.Calling.{Calling, TheVariants.OwnName},
+  declared.fault.Fault.Fault,
+  declared.verdict.Verdict.{Verdict, TheVariants.Changed},
+  declared.on_broken.OnBroken.OnBroken,
+  declared.slot.{Mode.{Mode, TheVariants.Fresh}, State.{State, TheVariants.Closed}},
+  Work.Judges,
+}
+use Rattle.operand_core.specs.{Reading.Asks, Style.Style, declared.operand.Operand.Operand}
+use Rattle.csplit_core.specs.{
+  Input.all_lines,
+  Operand.Line,
+  Output.{file_in, naming_of as section_naming},
+  Plan.Step,
+  Planned.{Plan, plan},
+  Section.{lines_between, section_of, whole_end, whole_sections},
+}
+use Rattle.run_core.specs.{Feeding.is_enough, Input.{Input, World, inputs_at, is_dash}, RunEnds.{EndsAs, RunsOver, as_defined, no_room, stopped}, Task.Task}
+use Rattle.tee_core.specs.{
+  Run.{AreSound, EndsAs as TeeCopies, are_sound, copied, ends_run, forgives, is_quiet, no_room as no_memory, stands_as},
+  declared.standing.Standing.{Standing, TheVariants.Sound},
+}
+use Rattle.words_core.specs.{
+  declared.{settings.Settings.{Settings, TheVariants.{Head, Tail, Split, Csplit, Tee, About}}, value.Followed.Followed},
+  EndsWords.EndsAsked,
+  SplitWords.SplitAsked,
+  TeeWords.TeeAsked,
+  Words.{HasBadOperands, settings_of},
+}
+use Rattle.split_core.specs.{Chunks.{IsInChunk, IsInPiece, chunks_of, has_ended, pieces_in}, ChunkWork.{files_by, kept}}
+use Rattle.watch_core.specs.{Snapshot.Snapshot, Watched.Watched}
 use Rattle.follow_core.specs.Ending.{shows_by}
-use Rattle.watch_core.specs.Watched.{Watched}
-use Rattle.tools_core.specs.Following.{FollowingEnds, is_name}
-use Rattle.tools_core.specs.Outcome.{DoesAsked, RunEnds, names_read}
-use Rattle.tools_core.specs.Program.{ProgramEnds}
-use Rattle.tools_core.specs.Tasks.{csplit_task, has_headers, head_task, names_of, naming_of, speaker_of, split_task, tail_task}
+use Rattle.tools_core.specs.{
+  Following.{FollowingEnds, is_name},
+  Outcome.{DoesAsked, RunEnds, names_read},
+  Program.ProgramEnds,
+  Tasks.{csplit_task, has_headers, head_task, names_of, naming_of, speaker_of, split_task, tail_task},
+}
+use Rattle.ports_core.specs.declared.reason.Reason.TheVariants as reason
+use Rattle.ports_core.specs.declared.fault.Fault.TheVariants as fault
+use Rattle.ports_core.specs.declared.slot.State.TheVariants as state
+use Rattle.seg_core.specs.declared.cut.Way.TheVariants as way
 
 -- One run of the program: its words, what it found, and what it left.
 pub record Run : Type 0 where
@@ -74,8 +66,6 @@ pub record Run : Type 0 where
   pub calling : Calling
   -- the first is the tool's name
   pub words : List (List ℕ)
-  -- for which reasons each output can break
-  pub breaks_for : ℕ → Reason → Bool
   -- what standard input holds, and what lies at each name
   pub world : World
   -- what each look would see, where words ask `tail` to follow files
@@ -92,8 +82,7 @@ pub record Run : Type 0 where
 -- It began with standard input unread and no name watched, and it ended as `run_words` ensures, which the program calls.
 abbrev pub IsOfProgram : Run → Type 0
 IsOfProgram run =
-    ProgramEnds run.calling true true true run.breaks_for run.words run.world.laid (source_of run.world.standard ∷ [])
-    run.inputs
+    ProgramEnds run.calling true true true run.words run.world.laid (source_of run.world.standard ∷ []) run.inputs
     run.shows run.seen run.watched run.outputs run.status
 
 -- Its words are read as these settings, it began with standard input unread, and it ended as `run` ensures, whether it
@@ -101,9 +90,8 @@ IsOfProgram run =
 pub record Ran (run : Run) (asked : Settings) : Type 0 where
   pub read : settings_of run.calling run.words ≡ Ok asked
   pub ends : RunsOver true run.world (names_read run.calling run.words)
-      (λ found. RunEnds run.calling true true run.breaks_for run.words found (source_of run.world.standard ∷ [])
-      run.inputs run.outputs
-      run.status)
+      (λ found. RunEnds run.calling true true run.words found (source_of run.world.standard ∷ [])
+      run.inputs run.outputs run.status)
 
 -- an output whose reader is gone is no fault: of `tee`, where its words say so
 abbrev pub forgives_gone : Settings → Bool
@@ -483,9 +471,10 @@ pub record IsChunkAsShown (run : Run) (asked : SplitAsked) (place : ℕ) (chunks
   pub told : has_ended chunks (length shown) bytes place ≡ false → Tells run (Split asked) (fault.Verdict Changed) name
   pub failed : has_ended chunks (length shown) bytes place ≡ false → run.status ≡ 1
 
--- an output can break since nobody reads it any more
+-- an output broke since nobody reads it any more
 abbrev pub HasGone : Run → Type 0
-HasGone run = (place : ℕ) × IsTrue (run.breaks_for place reason.Gone)
+HasGone run = (place : ℕ) × (place ≡ 1 → ⊥) × ((slot_at run.outputs place).is_broken ≡ true)
+    × ((slot_at run.outputs place).reason ≡ reason.Gone)
 
 -- A reader may be gone of which nothing is said, by a tool's own name: the status tells it. `tee` may go on without it,
 -- where its words or how it was called ask for that.
@@ -522,40 +511,40 @@ pub data WhyBroken (run : Run) (asked : Settings) (place : ℕ) : Type 0 where
 -- A run over its inputs ended in the first of the three ways in which one can (`EndsAs`): it did all that it had to do,
 -- and no fault stopped it. It went on where an input was missing or broke off, and where the tool's own work ended with a
 -- fault: no match, a line out of range, names that ran out. These are told, and its status is 1.
-abbrev pub IsUnstopped : {told_in told : Bool} {breaks_for : ℕ → Reason → Bool} {task : Task} {inputs : List Input}
-    {sources : List Source} {new : List Slot} {status : ℕ} → EndsAs told_in told breaks_for task inputs sources new
+abbrev pub IsUnstopped : {told_in told : Bool} {task : Task} {inputs : List Input}
+    {sources : List Source} {new : List Slot} {status : ℕ} → EndsAs told_in told task inputs sources new
     status → Type 0
 IsUnstopped (as_defined error reached says outputs swept done is) = Unit {0}
-IsUnstopped (stopped fault why before input after said error step reached are done untouched at stops between swept
-    says is_why tells is) = ⊥
+IsUnstopped (stopped fault before input after said error step reached are done untouched at stops between swept
+    says tells is) = ⊥
 IsUnstopped (no_room error says slots untouched count is) = ⊥
 
 -- `tee` copied all that its input has, and none of its outputs broke. A run in which one broke counts as one that a
 -- fault stopped, also where it went on with the others.
-abbrev pub IsCopied : {told_in told : Bool} {breaks_for : ℕ → Reason → Bool} {calling : Calling} {mode : Mode}
+abbrev pub IsCopied : {told_in told : Bool} {calling : Calling} {mode : Mode}
     {on_broken : OnBroken} {names : List (List ℕ)} {content : Content} {source : Source} {new : List Slot} {status : ℕ}
-    → TeeCopies told_in told breaks_for calling mode on_broken names content source new status → Type 0
-IsCopied {content = content} (copied pieces fault first broke output error files comes left out_left files_left stand
+    → TeeCopies told_in told calling mode on_broken names content source new status → Type 0
+IsCopied {content = content} (copied pieces fault first broke output error files comes left out_left files_left
     says slots is) = (are_sound (first ∷ broke) ≡ true) × (concat pieces ≡ content.bytes)
 IsCopied (no_memory error says unread slots is) = ⊥
 
 -- no fault stopped what was asked for
-abbrev pub Unstopped : (breaks_for : ℕ → Reason → Bool) (calling : Calling) (asked : Settings) (inputs : List Input)
+abbrev pub Unstopped : (calling : Calling) (asked : Settings) (inputs : List Input)
     (sources : List Source) (new : List Slot) (status : ℕ)
-    → DoesAsked calling true true breaks_for asked inputs sources new status → Type 0
-Unstopped breaks_for calling (Head asked) inputs sources new status does = IsUnstopped does
-Unstopped breaks_for calling (Tail asked) inputs sources new status does = IsUnstopped does
-Unstopped breaks_for calling (Split asked) inputs sources new status does = IsUnstopped does
-Unstopped breaks_for calling (Csplit asked) inputs sources new status does = IsUnstopped does.ends
-Unstopped breaks_for calling (Tee asked) inputs sources new status does = IsCopied does.ends
-Unstopped breaks_for calling (About tool topic) inputs sources new status does = status ≡ 0
+    → DoesAsked calling true true asked inputs sources new status → Type 0
+Unstopped calling (Head asked) inputs sources new status does = IsUnstopped does
+Unstopped calling (Tail asked) inputs sources new status does = IsUnstopped does
+Unstopped calling (Split asked) inputs sources new status does = IsUnstopped does
+Unstopped calling (Csplit asked) inputs sources new status does = IsUnstopped does.ends
+Unstopped calling (Tee asked) inputs sources new status does = IsCopied does.ends
+Unstopped calling (About tool topic) inputs sources new status does = status ≡ 0
 
 -- The run did what was asked for, over what it found, and no fault stopped it, whatever its status.
 pub record Completes (run : Run) (asked : Settings) : Type 0 where
   pub read : settings_of run.calling run.words ≡ Ok asked
-  pub does : DoesAsked run.calling true true run.breaks_for asked (inputs_at run.world (names_of asked)) run.inputs
+  pub does : DoesAsked run.calling true true asked (inputs_at run.world (names_of asked)) run.inputs
       run.outputs run.status
-  pub unstopped : Unstopped run.breaks_for run.calling asked (inputs_at run.world (names_of asked)) run.inputs
+  pub unstopped : Unstopped run.calling asked (inputs_at run.world (names_of asked)) run.inputs
       run.outputs run.status does
 
 -- Such a fault stopped the run, which told it; or, of `tee`, an output broke: it went on with the others or ended with
@@ -590,7 +579,7 @@ pub record LeaveAlike (asked : Settings) (one other : Run) : Type 0 where
 -- run has all before the last, and where it couldn't be opened, nothing was read.
 pub record HasUpTo (run : Run) (on_broken : OnBroken) (before last : List ℕ) (standing : Standing) (output : Slot)
     : Type 0 where
-  pub broken : output.is_broken ≡ not (is_same Sound standing)
+  pub stands : standing ≡ stands_as output
   pub no_more : IsBeginning output.written (before ++ last)
   pub sound : standing ≡ Sound → output.written ≡ before ++ last
   pub some : ends_run standing on_broken ≡ true → IsBeginning before output.written
@@ -603,7 +592,7 @@ OneIs run stands Is = (place : ℕ) × (place ≡ 1 → ⊥) × (place < length 
 
 -- A run of `tee` ended with its input, with an output whose breaking ends such a run, once none was left, or told that
 -- it found no memory to begin, and read nothing. The input was read up to `last`, which is no longer than a piece, and
--- the rest is left. Each output stands as it broke, for a reason for which it can.
+-- the rest is left. Each output stands as it broke.
 pub record EndsWithBreak (run : Run) (asked : TeeAsked) : Type 0 where
   pub before : List ℕ
   pub last : List ℕ
@@ -613,8 +602,7 @@ pub record EndsWithBreak (run : Run) (asked : TeeAsked) : Type 0 where
   pub small : length last ≤ largest_piece
   pub stands : ℕ → Standing
   pub outputs : (place : ℕ) → (place ≡ 1 → ⊥) → place < length run.outputs
-      → StandsFor (run.breaks_for place) (stands place)
-      × HasUpTo run asked.on_broken before last (stands place) (slot_at run.outputs place)
+      → HasUpTo run asked.on_broken before last (stands place) (slot_at run.outputs place)
   pub ended : (rest ≡ []) ⊎ OneIs run stands (λ standing. ends_run standing asked.on_broken ≡ true)
       ⊎ (OneIs run stands (λ standing. standing ≡ Sound) → ⊥)
       ⊎ (((source_at run.inputs 0).reads ≡ 0) × Tells run (Tee asked) fault.Memory [])
@@ -629,7 +617,7 @@ AsksToFollow run options followed looks = (pause : ℕ) × (settings_of run.call
 pub record Follows (run : Run) (count : ℕ) (options : EndsAsked) (followed : Followed) : Type 0 where
   pub looks : ℕ
   pub read : AsksToFollow run options followed looks
-  pub ends : FollowingEnds run.calling true true run.breaks_for run.words count run.shows run.seen run.watched
+  pub ends : FollowingEnds run.calling true true run.words count run.shows run.seen run.watched
       run.outputs run.status
   pub well : run.status ≡ 0
 

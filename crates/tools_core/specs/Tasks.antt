@@ -1,31 +1,25 @@
 -- What each tool does with its inputs, where words ask for it: POSIX.1-2017, XCU head, tail, split and csplit; several
 -- files for tail, headers and their options, bytes, and all but the last are GNU's, and so is what split does where an
 -- input breaks off.
-use Rattle.std.specs.Option.{unwrap_or}
-use Rattle.std.specs.Prelude.{ℕ, ◌&&◌, nat_lt, is_none, Bool, true, false, not, List, [], ◌∷◌, length, slice_index_or, codes, Option, option_map}
-use Rattle.ports_core.specs.Name.{Naming, numbering_of}
-use Rattle.ports_core.specs.declared.verdict.Verdict.{Verdict}
-use Rattle.ports_core.specs.declared.verdict.Verdict.TheVariants.{Changed, NoMatch, Range}
-use Rattle.ports_core.specs.declared.calling.Calling.{Calling}
-use Rattle.ports_core.specs.declared.calling.Speaker.{Speaker}
-use Rattle.ports_core.specs.declared.tool.Tool.{Tool}
-use Rattle.ports_core.specs.declared.tool.Tool.TheVariants as tool
-use Rattle.seg_core.specs.declared.count.Sign.{Sign}
-use Rattle.seg_core.specs.declared.count.Sign.TheVariants.{Minus, Plus}
+use Rattle.std.specs.{Option.unwrap_or, Prelude.{ℕ, ◌&&◌, nat_lt, is_none, Bool, true, false, not, List, [], ◌∷◌, length, slice_index_or, codes, Option, option_map}}
+use Rattle.ports_core.specs.{
+  Name.{Naming, numbering_of},
+  declared.{verdict.Verdict.{Verdict, TheVariants.{Changed, NoMatch, Range}}, calling.{Calling.Calling, Speaker.Speaker}, tool.Tool.Tool},
+  Work.Needs,
+}
+use Rattle.seg_core.specs.declared.count.Sign.{Sign, TheVariants.{Minus, Plus}}
 use Rattle.ends_core.specs.Shown.{head_in, tail_in}
-use Rattle.split_core.specs.ChunkWork.{way_work}
-use Rattle.split_core.specs.Split.{Filing}
+use Rattle.split_core.specs.{ChunkWork.way_work, Split.Filing}
 use Rattle.csplit_core.specs.Csplit.{csplit_work}
 use Rattle.operand_core.specs.declared.operand.Operand.{Operand}
-use Rattle.ports_core.specs.Work.{Needs}
 use Rattle.run_core.specs.Task.{Task}
-use Rattle.words_core.specs.declared.settings.Headers.{Headers}
-use Rattle.words_core.specs.declared.settings.Headers.TheVariants.{ForSeveral, Never, Always}
-use Rattle.words_core.specs.declared.settings.Settings.{Settings}
-use Rattle.words_core.specs.declared.settings.Settings.TheVariants.{Head, Tail, Split, Csplit, Tee, About}
-use Rattle.words_core.specs.CsplitWords.{CsplitAsked}
-use Rattle.words_core.specs.EndsWords.{EndsAsked}
-use Rattle.words_core.specs.SplitWords.{SplitAsked}
+use Rattle.words_core.specs.{
+  declared.settings.{Headers.{Headers, TheVariants.{ForSeveral, Never, Always}}, Settings.{Settings, TheVariants.{Head, Tail, Split, Csplit, Tee, About}}},
+  CsplitWords.CsplitAsked,
+  EndsWords.EndsAsked,
+  SplitWords.SplitAsked,
+}
+use Rattle.ports_core.specs.declared.tool.Tool.TheVariants as tool
 
 abbrev pub is_minus : Sign → Bool
 is_minus Minus = true

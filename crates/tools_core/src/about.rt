@@ -1,8 +1,7 @@
 //! A text about a tool or the program, in place of its work.
 ghost use Rattle.std.specs.Prelude.{◌≡◌};
 ghost use Rattle.ports_core.specs.Slot.{streams};
-ghost use Rattle.tools_core.specs.About.{TellsText};
-ghost use Rattle.tools_core.specs.Tasks.{by};
+ghost use Rattle.tools_core.specs.{About.TellsText, Tasks.by};
 ghost use Rattle.words_core.specs.Help.{text_about};
 
 use crate::run::by;
@@ -22,7 +21,7 @@ pub(crate) fn tell_about<O: Outs>(
     outs: &mut O,
 ) -> u8
     requires { O.slots outs.old ≡ streams }
-    ensures { TellsText O.told O.breaks_for (by calling tool) (text_about tool topic) (O.slots outs.new) result }
+    ensures { TellsText O.told (by calling tool) (text_about tool topic) (O.slots outs.new) result }
 {
     match text_about(alloc, tool, topic) {
         Ok(text) => tell_text(alloc, by(calling, tool), &text, outs),
@@ -32,7 +31,7 @@ pub(crate) fn tell_about<O: Outs>(
 
 fn tell_text<O: Outs>(alloc: Global, speaker: Speaker, text: &[u8], outs: &mut O) -> u8
     requires { O.slots outs.old ≡ streams }
-    ensures { TellsText O.told O.breaks_for speaker text.now (O.slots outs.new) result }
+    ensures { TellsText O.told speaker text.now (O.slots outs.new) result }
 {
     match write_whole(outs, STANDARD_OUTPUT, text) {
         Ok(()) => 0,

@@ -1,6 +1,6 @@
 //! `head` and `tail`: the same part of each input, one after another (POSIX.1-2017, XCU head and tail; several files
 //! for `tail`, and when headers go before them, are GNU's).
-ghost use Rattle.std.specs.Prelude.{◌≡◌, ◌<◌, ℕ, Some, None, map, length, IfSome, IfNone, IsTrue};
+ghost use Rattle.std.specs.Prelude.{◌≡◌, ◌<◌, ℕ, Some, None, length, IfSome, IfNone, IsTrue};
 ghost use Rattle.ports_core.specs.Source.{is_readable, source_at};
 ghost use Rattle.ends_core.specs.Shown.{SeenLast};
 ghost use Rattle.run_core.specs.RunSteps.{IsShown, OnlyLooked};

@@ -29,7 +29,7 @@ pub fn run_follow<W: Watch, O: Outs>(
     requires unseen { W.seen watch.old ≡ [] }
     requires unwatched { W.watched watch.old ≡ [] }
     requires outputs { O.slots outs.old ≡ streams }
-    ensures { FollowingEnds Calling.Cutters W.told O.told O.breaks_for (map (λ word. word.now) words.now) looks
+    ensures { FollowingEnds Calling.Cutters W.told O.told (map (λ word. word.now) words.now) looks
         (W.shows watch.old)
         (W.seen watch.new) (W.watched watch.new) (O.slots outs.new) result }
 {
@@ -61,7 +61,7 @@ pub(crate) fn follow_asked<W: Watch, O: Outs>(
     requires unwatched { W.watched watch.old ≡ [] }
     requires outputs { O.slots outs.old ≡ streams }
     requires operands { HasOperands settings.now }
-    ensures { FollowingEndsAt calling W.told O.told O.breaks_for (map (λ word. word.now) words.now) looks
+    ensures { FollowingEndsAt calling W.told O.told (map (λ word. word.now) words.now) looks
         (W.shows watch.old)
         (W.seen watch.new) (W.watched watch.new) (O.slots outs.new) result (Ok settings.now) }
 {
@@ -87,7 +87,7 @@ fn follow_tail<W: Watch, O: Outs>(
     requires unseen { W.seen watch.old ≡ [] }
     requires unwatched { W.watched watch.old ≡ [] }
     requires outputs { O.slots outs.old ≡ streams }
-    ensures { FollowsAs calling W.told O.told O.breaks_for settings.now followed looks (W.shows watch.old)
+    ensures { FollowsAs calling W.told O.told settings.now followed looks (W.shows watch.old)
         (W.seen watch.new) (W.watched watch.new) (O.slots outs.new) result }
 {
     watch.wait_at_most(settings.pause);

@@ -1,12 +1,8 @@
 //! The whole program: which of both runs its words ask for.
 ghost use Rattle.std.specs.Prelude.{◌≡◌, ◌≤◌, [], false, length, map};
-ghost use Rattle.ports_core.specs.Slot.{streams};
-ghost use Rattle.ports_core.specs.Source.{source_at, IsFresh};
-ghost use Rattle.run_core.specs.Input.{has_dash};
-ghost use Rattle.run_core.specs.Reading.{count_after};
-ghost use Rattle.ports_core.specs.Inputs.{AsksAtMost, largest_piece};
-ghost use Rattle.tools_core.specs.Outcome.{names_read};
-ghost use Rattle.tools_core.specs.Program.{ProgramEnds};
+ghost use Rattle.ports_core.specs.{Slot.streams, Source.{source_at, IsFresh}, Inputs.{AsksAtMost, largest_piece}};
+ghost use Rattle.run_core.specs.{Input.has_dash, Reading.count_after};
+ghost use Rattle.tools_core.specs.{Outcome.names_read, Program.ProgramEnds};
 
 use crate::follow::follow_asked;
 use crate::run::{refuse_words, run_tool};
@@ -30,7 +26,7 @@ pub fn run_words<I: Inputs, W: Watch, O: Outs>(
     requires unseen { W.seen watch.old ≡ [] }
     requires unwatched { W.watched watch.old ≡ [] }
     requires outputs { O.slots outs.old ≡ streams }
-    ensures ends { ProgramEnds calling I.told W.told O.told O.breaks_for (map (λ word. word.now) words.now)
+    ensures ends { ProgramEnds calling I.told W.told O.told (map (λ word. word.now) words.now)
         (I.laid inputs.old)
         (I.sources inputs.old) (I.sources inputs.new) (W.shows watch.old) (W.seen watch.new) (W.watched watch.new)
         (O.slots outs.new) result }

@@ -1,36 +1,32 @@
 //! What people rest on, as laws of runs, with no code: each stands on the contract of a function whose body is empty. They
 //! speak of runs over inputs and outputs that tell their bytes, as those in memory do, and of what `run` and `run_follow` ensure of
 //! each; where nothing else is said, of runs whose status is 0. Of which runs of the program they speak, says `program_makes_these_runs`.
-ghost use Rattle.std.specs.Prelude.{◌≡◌, ◌<◌, ◌^◌, ◌⊎◌, ◌+◌, ◌*◌, ◌++◌, ◌∷◌, [], ℕ, List, Ok, true, false, length, map, if◌then◌else◌};
+ghost use Rattle.std.specs.{Prelude.{◌≡◌, ◌<◌, ◌^◌, ◌⊎◌, ◌+◌, ◌*◌, ◌++◌, ◌∷◌, [], ℕ, List, Ok, true, false, length, map, if◌then◌else◌}, List.{flat_map, range_with_len}};
 ghost use Rattle.ends_core.specs.Ends.{tail_of};
-ghost use Rattle.follow_core.specs.Run.{AreKept, name_text};
-ghost use Rattle.follow_core.specs.Version.{entries_of};
-ghost use Rattle.ports_core.specs.Slot.{slot_at};
-ghost use Rattle.ports_core.specs.Source.{source_of};
-ghost use Rattle.seg_core.specs.Line.{joined, line_count, lines_of};
-ghost use Rattle.seg_core.specs.declared.count.Sign.TheVariants.{Minus, Plain, Plus};
-ghost use Rattle.seg_core.specs.declared.cut.Cut.TheVariants.{Parts, Round};
-ghost use Rattle.seg_core.specs.declared.cut.Limit.TheVariants.{Bytes, LineBytes, Lines};
-ghost use Rattle.seg_core.specs.declared.cut.Way.TheVariants.{Cut};
-ghost use Rattle.seg_core.specs.declared.cut.Way.TheVariants as way;
-ghost use Rattle.seg_core.specs.declared.cut.Chunks.{Chunks};
-ghost use Rattle.seg_core.specs.declared.unit.Unit.TheVariants as unit;
-ghost use Rattle.std.specs.List.{flat_map, range_with_len};
+ghost use Rattle.follow_core.specs.{Run.{AreKept, name_text}, Version.entries_of};
+ghost use Rattle.ports_core.specs.{Slot.slot_at, Source.source_of};
+ghost use Rattle.seg_core.specs.{
+  Line.{joined, line_count, lines_of},
+  declared.{count.Sign.TheVariants.{Minus, Plain, Plus}, cut.{Cut.TheVariants.{Parts, Round}, Limit.TheVariants.{Bytes, LineBytes, Lines}, Way.TheVariants.Cut, Chunks.Chunks}},
+};
 ghost use Rattle.run_core.specs.Input.{Input};
 ghost use Rattle.split_core.specs.Chunks.{chunks_in};
-ghost use Rattle.operand_core.specs.Reading.{Asks};
-ghost use Rattle.operand_core.specs.declared.operand.Operand.{Operand};
-ghost use Rattle.tools_core.specs.Following.{is_name};
-ghost use Rattle.tools_core.specs.Promises.{AreChunks, AreCopies, AreDealt, AreEven, AreLinePieces, AreListed, AreNumbered, ArePieces, AreSections, AreUncut, BeginInChunks, BeginsEach, Completes, CountAlike, Does, AsksToFollow, EndsWithBreak, FindAlike, Follows, GivesOther, HasInput, HasLong, IsBare, IsChunkAsShown, IsCutAsShown, IsHead, IsOfProgram, IsSilent, IsStopped, IsTail, KeepLines, SaysWhy, LeaveAlike, OnlyGrows, Ran, Run, SkipNothing, Splits, WhyBroken, contents_of, files_of, lines_telling, makes_files, output_of, showing, text_at};
-ghost use Rattle.tools_core.specs.Tasks.{is_plus};
-ghost use Rattle.words_core.specs.CsplitWords.{CsplitAsked};
-ghost use Rattle.words_core.specs.EndsWords.{EndsAsked};
-ghost use Rattle.words_core.specs.SplitWords.{SplitAsked};
-ghost use Rattle.words_core.specs.TeeWords.{TeeAsked};
-ghost use Rattle.words_core.specs.Words.{HasOperands, follows, settings_of};
-ghost use Rattle.words_core.specs.declared.settings.Settings.{Settings};
-ghost use Rattle.words_core.specs.declared.settings.Settings.TheVariants.{Csplit, Split, Tee};
-ghost use Rattle.words_core.specs.declared.value.Followed.{Followed};
+ghost use Rattle.operand_core.specs.{Reading.Asks, declared.operand.Operand.Operand};
+ghost use Rattle.tools_core.specs.{
+  Following.is_name,
+  Promises.{AreChunks, AreCopies, AreDealt, AreEven, AreLinePieces, AreListed, AreNumbered, ArePieces, AreSections, AreUncut, BeginInChunks, BeginsEach, Completes, CountAlike, Does, AsksToFollow, EndsWithBreak, FindAlike, Follows, GivesOther, HasInput, HasLong, IsBare, IsChunkAsShown, IsCutAsShown, IsHead, IsOfProgram, IsSilent, IsStopped, IsTail, KeepLines, SaysWhy, LeaveAlike, OnlyGrows, Ran, Run, SkipNothing, Splits, WhyBroken, contents_of, files_of, lines_telling, makes_files, output_of, showing, text_at},
+  Tasks.is_plus,
+};
+ghost use Rattle.words_core.specs.{
+  CsplitWords.CsplitAsked,
+  EndsWords.EndsAsked,
+  SplitWords.SplitAsked,
+  TeeWords.TeeAsked,
+  Words.{HasOperands, follows, settings_of},
+  declared.{settings.Settings.{Settings, TheVariants.{Csplit, Split, Tee}}, value.Followed.Followed},
+};
+ghost use Rattle.seg_core.specs.declared.cut.Way.TheVariants as way;
+ghost use Rattle.seg_core.specs.declared.unit.Unit.TheVariants as unit;
 
 /// The program makes runs of two kinds, and these laws speak of both. Where the words of a run of `run_words` ask for nothing to
 /// be followed, it ended as `run` ensures, and no file was watched. Where they ask `tail` to follow files, it ended as `run_follow`
@@ -178,7 +174,7 @@ pub fn csplit_loses_nothing()
 /// what they have after a run that no fault stopped, which is asked for the same, over the same inputs. There is such a run,
 /// unless operands of `csplit` are wrong or an input has more than any tool takes. A run whose status is 1 told a fault that it
 /// met, as far as standard error takes lines, and each line tells one. So it did where standard output or a file broke: that it
-/// can't be written, or not be opened, is told by its name, unless the run is silent on a reader that is gone. That a file of
+/// can't be written, or not be opened, is told by its name, unless the run may be silent on a reader that is gone. That a file of
 /// `csplit` couldn't be removed need not be told, nor then what broke it before; each other file of that run is gone, or broken
 /// too.
 pub fn faults_leave_a_beginning()

@@ -1,14 +1,8 @@
 //! One whole run: from words and inputs to outputs and a status.
 ghost use Rattle.std.specs.Prelude.{◌≡◌, ◌≤◌, [], false, length, map};
-ghost use Rattle.ports_core.specs.Slot.{streams};
-ghost use Rattle.ports_core.specs.Source.{source_at, IsFresh};
-ghost use Rattle.run_core.specs.Input.{has_dash};
-ghost use Rattle.run_core.specs.Reading.{count_after};
-ghost use Rattle.ports_core.specs.Inputs.{AsksAtMost, largest_piece};
-ghost use Rattle.run_core.specs.RunEnds.{RunsOver};
-ghost use Rattle.run_core.specs.RunSteps.{world_of};
-ghost use Rattle.tools_core.specs.Outcome.{DoesAsked, RefusesFor, RunEnds, names_read, refuser, speaker, word_of};
-ghost use Rattle.tools_core.specs.Tasks.{by, names_of};
+ghost use Rattle.ports_core.specs.{Slot.streams, Source.{source_at, IsFresh}, Inputs.{AsksAtMost, largest_piece}};
+ghost use Rattle.run_core.specs.{Input.has_dash, Reading.count_after, RunEnds.RunsOver, RunSteps.world_of};
+ghost use Rattle.tools_core.specs.{Outcome.{DoesAsked, RefusesFor, RunEnds, names_read, refuser, speaker, word_of}, Tasks.{by, names_of}};
 ghost use Rattle.words_core.specs.Words.{CanRun};
 
 use crate::about::tell_about;
@@ -32,7 +26,7 @@ pub fn run<I: Inputs, O: Outs>(alloc: Global, words: &[&str], inputs: &mut I, ou
     requires outputs { O.slots outs.old ≡ streams }
     ensures ends { RunsOver I.told (world_of (I.laid inputs.old) (I.sources inputs.old))
         (names_read Calling.Cutters (map (λ word. word.now) words.now))
-        (λ found. RunEnds Calling.Cutters I.told O.told O.breaks_for (map (λ word. word.now) words.now) found
+        (λ found. RunEnds Calling.Cutters I.told O.told (map (λ word. word.now) words.now) found
         (I.sources inputs.old) (I.sources inputs.new) (O.slots outs.new) result) }
     ensures opened { length (I.sources inputs.new) ≤ count_after 1
         (names_read Calling.Cutters (map (λ word. word.now) words.now)) }
@@ -82,7 +76,7 @@ pub(crate) fn run_tool<I: Inputs, O: Outs>(
     requires outputs { O.slots outs.old ≡ streams }
     requires can { CanRun settings.now }
     ensures ends { RunsOver I.told (world_of (I.laid inputs.old) (I.sources inputs.old)) (names_of settings.now)
-        (λ found. DoesAsked calling I.told O.told O.breaks_for settings.now found (I.sources inputs.new)
+        (λ found. DoesAsked calling I.told O.told settings.now found (I.sources inputs.new)
         (O.slots outs.new) result) }
     ensures opened { length (I.sources inputs.new) ≤ count_after 1 (names_of settings.now) }
     ensures asked { AsksAtMost largest_piece (I.sources inputs.new) }

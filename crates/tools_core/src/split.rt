@@ -1,11 +1,9 @@
 //! `split`: an input cut into files (POSIX.1-2017, XCU split).
-ghost use Rattle.std.specs.Prelude.{◌≡◌, ◌<◌, ℕ, Bool, List, Option, Some, length, option_map, IfErr, IfOk, IfSome, IsTrue};
+ghost use Rattle.std.specs.Prelude.{◌≡◌, ◌<◌, ℕ, Bool, List, Option, length, option_map, IfErr, IfOk, IfSome, IsTrue};
 ghost use Rattle.ports_core.specs.Source.{is_readable};
 ghost use Rattle.run_core.specs.RunSteps.{IsShown};
-ghost use Rattle.split_core.specs.ChunkWork.{way_work};
-ghost use Rattle.split_core.specs.Split.{Filing, tells_by};
-ghost use Rattle.tools_core.specs.laws.Props.{CanSplit-prop};
-ghost use Rattle.tools_core.specs.Tasks.{naming_of, split_task};
+ghost use Rattle.split_core.specs.{ChunkWork.way_work, Split.{Filing, tells_by}};
+ghost use Rattle.tools_core.specs.{laws.Props.CanSplit-prop, Tasks.{naming_of, split_task}};
 ghost use Rattle.words_core.specs.SplitWords.{CanSplit, IsWidth};
 
 use crate::ends::changed_of;

@@ -1,12 +1,10 @@
 -- A watch over real files, where one of its names changes.
-use Rattle.std.proofs.Common.{◌≡◌, ℕ, zero, suc, refl, replicate, Bool, true, false, IsTrue, List, ap, subst, get_or, set, is_some}
-use Rattle.std.proofs.lemmas.Bool.{false≢true}
+use Rattle.std.proofs.{Common.{◌≡◌, ℕ, zero, suc, refl, replicate, Bool, true, false, IsTrue, List, ap, subst, get_or, set, is_some}, lemmas.Bool.false≢true}
 use Rattle.ports_core.specs.Slot.{changed_at}
-use Rattle.watch_core.specs.DirWatchState.{files_by}
-use Rattle.watch_core.specs.Snapshot.{Snapshot, Finding, Found, latest, opens_as}
-use Rattle.watch_core.specs.Watched.{Watched, Reopens, watched_at, is_watchable, opens}
-use Rattle.watch_core.specs.DirWatchState.{DirWatchState, seen}
-use Rattle.watch_core.proofs.NameLemmas.{name_changes, names_within}
+use Rattle.watch_core.{
+  specs.{DirWatchState.{files_by, DirWatchState, seen}, Snapshot.{Snapshot, Finding, Found, latest, opens_as}, Watched.{Watched, Reopens, watched_at, is_watchable, opens}},
+  proofs.NameLemmas.{name_changes, names_within},
+}
 
 pub one_changes : {watch : DirWatchState} {names : List Watched} {forgives : Bool} {within : ℕ} (turns place : ℕ)
     (change : Watched → Watched) {item new : Watched}

@@ -1,11 +1,10 @@
 -- The names that are watched, where one of them changes.
-use Rattle.std.proofs.Common.{◌≡◌, ℕ, ◌<◌, zero, suc, Bool, true, false, ◌&&◌, IsTrue, List, [], ◌∷◌, ◌++◌, length, refl, sym, ◌∙◌, ap, subst, arith, get_or, set, is_some, Option}
-use Rattle.std.proofs.lemmas.Bool.{false≢true}
-use Rattle.ports_core.specs.Slot.{changed_at}
-use Rattle.ports_core.proofs.SlotLemmas.{set-changed}
-use Rattle.watch_core.specs.Snapshot.{Snapshot, latest}
-use Rattle.watch_core.specs.Watched.{Watched, watched_at, is_watchable, is_readable, breaks}
-use Rattle.watch_core.specs.declared.watch.Broken.{Broken}
+use Rattle.std.proofs.{
+  Common.{◌≡◌, ℕ, ◌<◌, zero, suc, Bool, true, false, ◌&&◌, IsTrue, List, [], ◌∷◌, ◌++◌, length, refl, sym, ◌∙◌, ap, subst, arith, get_or, set, is_some, Option},
+  lemmas.Bool.false≢true,
+}
+use Rattle.ports_core.{specs.{Slot.changed_at, declared.reason.Reason.Reason}, proofs.SlotLemmas.set-changed}
+use Rattle.watch_core.specs.{Snapshot.{Snapshot, latest}, Watched.{Watched, watched_at, is_watchable, is_readable, breaks}, declared.watch.Broken.Broken}
 
 pub watchable_within : (names : List Watched) (place : ℕ) → IsTrue (is_watchable names place) → place < length names
 watchable_within [] place can = absurd (false≢true can)
@@ -43,9 +42,9 @@ latest-last (one ∷ []) snapshot = refl
 latest-last (one ∷ two ∷ snapshots) snapshot = latest-last (two ∷ snapshots) snapshot
 
 -- as a name broke while this file was open
-pub broke_so : (names : List Watched) (place : ℕ) (how : Option ℕ → Broken) {file : Option ℕ}
+pub broke_so : (why : Reason) (names : List Watched) (place : ℕ) (how : Option ℕ → Broken) {file : Option ℕ}
     → file ≡ (watched_at names place).opened
-    → changed_at place (breaks (λ other. how file)) names ≡ changed_at place (breaks how) names
-broke_so [] place how is = refl
-broke_so (name ∷ names) zero how is = ap (λ file. breaks (λ other. how file) name ∷ names) is
-broke_so (name ∷ names) (suc place) how is = ap (λ rest. name ∷ rest) (broke_so names place how is)
+    → changed_at place (breaks why (λ other. how file)) names ≡ changed_at place (breaks why how) names
+broke_so why [] place how is = refl
+broke_so why (name ∷ names) zero how is = ap (λ file. breaks why (λ other. how file) name ∷ names) is
+broke_so why (name ∷ names) (suc place) how is = ap (λ rest. name ∷ rest) (broke_so why names place how is)

@@ -1,8 +1,7 @@
 -- What contracts see of a watch over real files: how many looks began, and the names. What a look could see is not
 -- told.
 use Rattle.std.specs.Prelude.{ℕ, Bool, true, List, replicate, if◌then◌else◌}
-use Rattle.watch_core.specs.Snapshot.{Snapshot, forgiving, no_files, waiting}
-use Rattle.watch_core.specs.Watched.{Watched}
+use Rattle.watch_core.specs.{Snapshot.{Snapshot, forgiving, no_files, waiting}, Watched.Watched}
 
 pub record DirWatchState : Type 0 where
   -- how many looks began

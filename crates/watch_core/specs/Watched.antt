@@ -1,11 +1,8 @@
--- The names that are watched: which file of each is open, and by which call it broke.
-use Rattle.std.specs.Prelude.{is_none, is_some, ◌≡◌, ℕ, Bool, true, false, ◌&&◌, List, [], Option, Some, None, length, drop, option_map, slice_index_or}
-use Rattle.ports_core.specs.Slot.{changed_at}
-use Rattle.ports_core.specs.Source.{Gave, unshown}
-use Rattle.watch_core.specs.Snapshot.{Snapshot, Found, opens_as}
-use Rattle.watch_core.specs.declared.watch.Broken.{Broken}
+-- The names that are watched: which file of each is open, and by which call it broke and why.
+use Rattle.std.specs.Prelude.{is_none, is_some, ◌≡◌, ℕ, Bool, true, ◌&&◌, List, [], Option, Some, None, length, drop, option_map, slice_index_or}
+use Rattle.ports_core.specs.{declared.reason.Reason.{Reason, TheVariants.Other}, Slot.changed_at, Source.{Gave, unshown}}
+use Rattle.watch_core.specs.{Snapshot.{Snapshot, Found, opens_as}, declared.watch.{Broken.Broken, Seen.Seen}}
 use Rattle.watch_core.specs.declared.watch.Broken.TheVariants as broken
-use Rattle.watch_core.specs.declared.watch.Seen.{Seen}
 
 pub record Watched : Type 0 where
   pub name : List ℕ
@@ -13,25 +10,31 @@ pub record Watched : Type 0 where
   pub opened : Option ℕ
   -- the call by which it broke, if it did: its first one that failed
   pub failed : Option Broken
+  -- why that call failed; `Other` of a name that did not break
+  pub reason : Reason
 
 -- what stands at a place where no name was added
 abbrev pub no_name : Watched
-no_name = record { name = []; opened = None; failed = Some broken.Look }
+no_name = record { name = []; opened = None; failed = Some broken.Look; reason = Other }
 
 abbrev pub watched_at : List Watched → ℕ → Watched
 watched_at names place = slice_index_or names place no_name
 
 -- a name that was just added: no file of it is open
 abbrev pub added : List ℕ → Watched
-added name = record { name = name; opened = None; failed = None }
+added name = record { name = name; opened = None; failed = None; reason = Other }
 
 -- this file is open, or none
 abbrev pub opens : Option ℕ → Watched → Watched
 opens file watched = record watched { opened = file }
 
--- it broke by a call, while this file was open, which is closed
-abbrev pub breaks : (Option ℕ → Broken) → Watched → Watched
-breaks how watched = record watched { opened = None; failed = Some (how watched.opened) }
+-- it broke for this reason by a call, while this file was open, which is closed
+abbrev pub breaks : Reason → (Option ℕ → Broken) → Watched → Watched
+breaks why how watched = record watched { opened = None; failed = Some (how watched.opened); reason = why }
+
+-- the name at this place broke so, for some reason, and no other changed
+abbrev pub NameBreaks : (Option ℕ → Broken) → ℕ → List Watched → List Watched → Type 0
+NameBreaks how place old new = (why : Reason) × (new ≡ changed_at place (breaks why how) old)
 
 -- there is such a name, and it is not broken
 abbrev pub is_watchable : List Watched → ℕ → Bool

@@ -1,5 +1,4 @@
-ghost use Rattle.std.specs.Prelude.{◌≡◌, ◌≤◌, ◌<◌, ◌+◌, ◌^◌, false, length, IfOk, IfSome, IsTrue};
-ghost use Rattle.std.proofs.Props.{props};
+ghost use Rattle.std.{specs.Prelude.{◌≡◌, ◌≤◌, ◌<◌, ◌+◌, ◌^◌, false, length, IfOk, IfSome, IsTrue}, proofs.Props.props};
 
 use ports_core::{MOST_BYTES, PIECE, Reason};
 use std::alloc::Global;

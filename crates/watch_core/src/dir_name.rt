@@ -1,4 +1,5 @@
-ghost use Rattle.std.specs.Prelude.{◌≡◌, ◌≤◌, ◌<◌, ◌^◌, length, string_bytes, IfOk, OnOk, OnErr, IfSome, IfNone, OnSome, is_some};
+ghost use Rattle.std.specs.Prelude.{◌≡◌, ◌≤◌, ◌<◌, ◌^◌, true, length, string_bytes, IfOk, OnOk, OnErr, IfSome, IfNone, OnSome, is_some};
+ghost use Rattle.ports_core.specs.declared.reason.Reason.{Reason};
 ghost use Rattle.watch_core.specs.Watched.{Watched, added, breaks, opens};
 
 use crate::dir_file::DirFile;
@@ -29,10 +30,12 @@ pub(crate) struct DirName {
     is_unreadable: bool,
     /// How long the open file was told to be last.
     last_len: u64,
-    /// Why the last call failed that did, or found none.
+    /// Why the last call failed that was forgiven, or found none.
     why: Reason,
     /// The call by which it broke.
     failed: Option<Broken>,
+    /// Why that failed.
+    reason: Reason,
     /// A look found nothing, and changes weren't looked for since.
     is_gone: bool,
     /// What the name leads to, as looks are told until the system is asked again. None where it is to be asked then.
@@ -45,7 +48,12 @@ pub(crate) struct DirName {
 impl Model for DirName {
     ghost Value = { Watched };
 
-    ghost view = { λ n. record { name = string_bytes n.name; opened = n.opened; failed = n.failed } };
+    ghost view = { λ n. record {
+      name = string_bytes n.name;
+      opened = n.opened;
+      failed = n.failed;
+      reason = n.reason;
+    } };
 
     ghost invariant = { λ n. IfSome n.led_to (λ found. IfSome found (λ file. file.len < 2 ^ 63))
         × (n.last_len < 2 ^ 63) };
@@ -66,6 +74,7 @@ impl DirName {
             last_len: 0,
             why: Reason::Other,
             failed: None,
+            reason: Reason::Other,
             is_gone: false,
             led_to: None,
             lens: 0,
@@ -80,9 +89,14 @@ impl DirName {
         self.opened
     }
 
-    /// Why the last call failed that did, or found none.
-    pub(crate) fn reason(&self) -> Reason {
-        self.why
+    /// Why the call failed by which it broke; else why the last call failed that was forgiven, or found none.
+    pub(crate) fn reason(&self) -> Reason
+        ensures { is_some self.now.failed ≡ true → result ≡ self.now.reason }
+    {
+        match self.failed {
+            Some(_) => self.reason,
+            None => self.why,
+        }
     }
 
     /// The file that the name leads to; none where it leads nowhere. It is what was found when changes were last looked for, if that
@@ -90,7 +104,7 @@ impl DirName {
     pub(crate) fn look(&mut self, files: &impl Files) -> io::Result<Option<Seen>>
         ensures bound { IfOk result (λ found. IfSome found (λ file. file.len < 2 ^ 63)) }
         ensures same { OnOk result (self.new ≡ self.old) }
-        ensures broke { OnErr result (self.new ≡ breaks (λ file. Broken.Look) self.old) }
+        ensures broke { OnErr result ((why : Reason) × (self.new ≡ breaks why (λ file. Broken.Look) self.old)) }
     {
         self.lens = 0;
         let found = match self.led_to {
@@ -105,8 +119,7 @@ impl DirName {
                 Ok(found)
             }
             Err(error) => {
-                self.why = Reason::of(&error);
-                self.break_off(Broken::Look);
+                self.break_off(Broken::Look, Reason::of(&error));
                 Err(error)
             }
         }
@@ -198,7 +211,7 @@ impl DirName {
     ) -> io::Result<bool>
         ensures opened { OnOk result (self.new ≡ opens self.new.opened self.old) }
         ensures found { IfOk result (λ is_there. is_some self.new.opened ≡ is_there) }
-        ensures broke { OnErr result (self.new ≡ breaks (λ file. Broken.Open) self.old) }
+        ensures broke { OnErr result ((why : Reason) × (self.new ≡ breaks why (λ file. Broken.Open) self.old)) }
     {
         // It goes back to the system first, so that no two files of a name are open.
         self.file = None;
@@ -218,8 +231,7 @@ impl DirName {
                 Ok(false)
             }
             Err(error) => {
-                self.why = Reason::of(&error);
-                self.break_off(Broken::Open);
+                self.break_off(Broken::Open, Reason::of(&error));
                 Err(error)
             }
         }
@@ -281,13 +293,12 @@ impl DirName {
     pub(crate) fn len(&mut self) -> Option<u64>
         ensures bound { IfSome result (λ len. len < 2 ^ 63) }
         ensures same { OnSome result (self.new ≡ self.old) }
-        ensures broke { IfNone result (self.new ≡ breaks (λ file. Broken.Len file) self.old) }
+        ensures broke { IfNone result ((why : Reason) × (self.new ≡ breaks why (λ file. Broken.Len file) self.old)) }
     {
         match self.count() {
             Ok(len) => Some(len),
             Err(why) => {
-                self.why = why;
-                self.break_off(Broken::Len(self.opened));
+                self.break_off(Broken::Len(self.opened), why);
                 None
             }
         }
@@ -343,13 +354,13 @@ impl DirName {
     pub(crate) fn read_at(&mut self, from: u64, buffer: &mut [u8]) -> Option<usize>
         ensures bound { IfSome result (λ n. n ≤ length buffer.old) }
         ensures same { OnSome result (self.new ≡ self.old) }
-        ensures broke { IfNone result (self.new ≡ breaks (λ file. Broken.Read file from) self.old) }
+        ensures broke { IfNone result
+            ((why : Reason) × (self.new ≡ breaks why (λ file. Broken.Read file from) self.old)) }
     {
         match self.read(from, buffer) {
             Ok(n) => Some(n),
             Err(why) => {
-                self.why = why;
-                self.break_off(Broken::Read(self.opened, from));
+                self.break_off(Broken::Read(self.opened, from), why);
                 None
             }
         }
@@ -370,12 +381,13 @@ impl DirName {
         }
     }
 
-    fn break_off(&mut self, how: Broken)
-        ensures { self.new ≡ breaks (λ file. how) self.old }
+    fn break_off(&mut self, how: Broken, why: Reason)
+        ensures { self.new ≡ breaks why (λ file. how) self.old }
     {
         self.file = None;
         self.opened = None;
         self.failed = Some(how);
+        self.reason = why;
         self.pace.end();
     }
 

@@ -1,6 +1,5 @@
-ghost use Rattle.std.specs.Prelude.{◌≡◌, ◌∷◌, ◌++◌, [], ℕ, true, false, length, IsTrue, IfOk};
-ghost use Rattle.watch_core.specs.DirWatchState.{DirWatchState, files_by, seen};
-ghost use Rattle.watch_core.specs.inner.DirWatchState.{no_turns};
+ghost use Rattle.std.specs.Prelude.{◌≡◌, ◌∷◌, ◌++◌, [], false, IsTrue};
+ghost use Rattle.watch_core.specs.{DirWatchState.{DirWatchState, files_by, seen}, inner.DirWatchState.no_turns};
 
 use crate::dir_name::DirName;
 use crate::process::Process;
@@ -202,8 +201,6 @@ impl<R: Files<File = File> + Clock + Drop> Watch for DirWatch<R> {
     ghost shows = { λ watch n. files_by watch.forgives watch.within };
 
     ghost watched = { λ watch. watch.watched };
-
-    ghost fails_for = { λ watch place why. true };
 
     ghost told = { false };
 

@@ -1,8 +1,8 @@
-ghost use Rattle.std.specs.Prelude.{◌≡◌, ◌≤◌, ◌<◌, ◌^◌, ◌++◌, ◌∷◌, [], ℕ, List, Bool, true, length, max, option_map, take, IfOk, IfErr, OnOk, IfSome, IsTrue};
-ghost use Rattle.ports_core.specs.Slot.{changed_at};
-ghost use Rattle.ports_core.specs.declared.reason.Reason.{Reason};
-ghost use Rattle.watch_core.specs.Snapshot.{Snapshot, Found, forgiving, holds_many, latest, leads_to, reads_as, waiting};
-ghost use Rattle.watch_core.specs.Watched.{Watched, Reopens, Finds, GaveFrom, watched_at, added, breaks, is_watchable, is_readable, open_contents};
+ghost use Rattle.std.specs.Prelude.{◌≡◌, ◌≤◌, ◌<◌, ◌^◌, ◌++◌, ◌∷◌, [], ℕ, List, Bool, true, length, max, option_map, take, is_some, IfOk, IfErr, OnOk, IfSome, IsTrue};
+ghost use Rattle.watch_core.specs.{
+  Snapshot.{Snapshot, Found, forgiving, holds_many, latest, leads_to, reads_as, waiting},
+  Watched.{Watched, Reopens, Finds, GaveFrom, watched_at, added, NameBreaks, is_watchable, is_readable, open_contents},
+};
 
 use ports_core::{Fault, Reason};
 
@@ -41,10 +41,6 @@ pub trait Watch {
 
     /// The names that were added, in order.
     ghost watched: { Self → List Watched };
-
-    /// Whether a name may have failed, or been found to lead nowhere, for this reason, as far as is known: where files are the system's, of
-    /// any reason nothing more is known than that it was said.
-    ghost fails_for: { Self → ℕ → Reason → Bool };
 
     /// Whether the files tell their bytes. Where they don't, nothing is said of what is found and read but that it was found.
     ghost told: { Bool };
@@ -112,7 +108,7 @@ pub trait Watch {
         ensures same { OnOk result (watched self.new ≡ watched self.old) }
         ensures err { IfErr result
             (λ fault. (fault ≡ Fault.Open place)
-            × (watched self.new ≡ changed_at place (breaks (λ file. Broken.Look)) (watched self.old))) }
+            × NameBreaks (λ file. Broken.Look) place (watched self.old) (watched self.new)) }
         ensures breaks { IfErr result (λ _. (latest (seen self.old)).breaks ≡ true) }
         ensures seen { seen self.new ≡ seen self.old }
         ensures shows { shows self.new ≡ shows self.old };
@@ -128,15 +124,16 @@ pub trait Watch {
         ensures ok { IfOk result (Reopens told (latest (seen self.old)) (watched self.old) (watched self.new) place) }
         ensures err { IfErr result
             (λ fault. (fault ≡ Fault.Open place)
-            × (watched self.new ≡ changed_at place (breaks (λ file. Broken.Open)) (watched self.old))) }
+            × NameBreaks (λ file. Broken.Open) place (watched self.old) (watched self.new)) }
         ensures breaks { IfErr result (λ _. (latest (seen self.old)).breaks ≡ true) }
         ensures seen { seen self.new ≡ seen self.old }
         ensures shows { shows self.new ≡ shows self.old };
 
-    /// Why the last call on the name failed that did, or found that it leads nowhere, also where that was forgiven. `Other` where that
-    /// isn't known.
+    /// Why the call failed by which the name broke; of one that didn't break, why the last call failed that was forgiven, or that it leads
+    /// nowhere. `Other` where that isn't known.
     fn reason(&self, place: usize) -> Reason
-        ensures { IsTrue (fails_for self.now place result) };
+        ensures { is_some (watched_at (watched self.now) place).failed ≡ true
+            → result ≡ (watched_at (watched self.now) place).reason };
 
     /// The identity of the open file; none where none is open.
     fn open_id(&self, place: usize) -> Option<u128>
@@ -157,7 +154,7 @@ pub trait Watch {
         ensures same { OnOk result (watched self.new ≡ watched self.old) }
         ensures err { IfErr result
             (λ fault. (fault ≡ Fault.Read place)
-            × (watched self.new ≡ changed_at place (breaks (λ file. Broken.Len file)) (watched self.old))) }
+            × NameBreaks (λ file. Broken.Len file) place (watched self.old) (watched self.new)) }
         ensures breaks { IfErr result (λ _. (latest (seen self.old)).breaks ≡ true) }
         ensures seen { seen self.new ≡ seen self.old }
         ensures shows { shows self.new ≡ shows self.old };
@@ -181,7 +178,7 @@ pub trait Watch {
         ensures same { OnOk result (watched self.new ≡ watched self.old) }
         ensures err { IfErr result
             (λ fault. (fault ≡ Fault.Read place)
-            × (watched self.new ≡ changed_at place (breaks (λ file. Broken.Read file from)) (watched self.old))) }
+            × NameBreaks (λ file. Broken.Read file from) place (watched self.old) (watched self.new)) }
         ensures breaks { IfErr result (λ _. (latest (seen self.old)).breaks ≡ true) }
         ensures seen { seen self.new ≡ seen self.old }
         ensures shows { shows self.new ≡ shows self.old };

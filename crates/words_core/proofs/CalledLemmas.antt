@@ -1,6 +1,5 @@
 -- The last part of a path, looked for from its front.
-use Rattle.std.proofs.lemmas.Grind.{common_steps}
-use Rattle.std.proofs.Common.{◌≡◌, ℕ, List, [], ◌∷◌, if◌then◌else◌, refl, arith}
+use Rattle.std.proofs.{lemmas.Grind.common_steps, Common.{◌≡◌, ℕ, List, [], ◌∷◌, if◌then◌else◌, refl, arith}}
 use Rattle.words_core.specs.inner.Called.{has_slash, last_part}
 
 -- the last part of a path, of which this is left, where it is this unless a `/` follows

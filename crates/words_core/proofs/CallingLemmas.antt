@@ -1,26 +1,19 @@
 -- Lemmas on what words mean by both ways to call the program.
-use Rattle.std.proofs.Common.{◌≡◌, refl, ap, ◌∙◌, ℕ, ◌==◌, ◌&&◌, ◌||◌, not, Bool, true, false, if◌then◌else◌, List, [], ◌∷◌, Option, Some, None, Result, Ok, Err, option_map}
-use Rattle.ports_core.specs.declared.calling.Calling.TheVariants.{Cutters, OwnName}
-use Rattle.ports_core.specs.declared.fault.Fault.{Fault}
-use Rattle.ports_core.specs.declared.on_broken.OnBroken.{OnBroken}
-use Rattle.ports_core.specs.declared.on_broken.OnBroken.TheVariants.{Signal}
+use Rattle.std.proofs.{Common.{◌≡◌, refl, ap, ◌∙◌, ℕ, ◌==◌, ◌&&◌, ◌||◌, not, Bool, true, false, if◌then◌else◌, List, [], ◌∷◌, Option, Some, None, Result, Ok, Err, option_map}, Math.Bool.and-false}
+use Rattle.ports_core.specs.declared.{calling.Calling.TheVariants.{Cutters, OwnName}, fault.Fault.Fault, on_broken.OnBroken.{OnBroken, TheVariants.Signal}}
+use Rattle.words_core.specs.{
+  declared.{choice.{Choice.Choice, Kind.Kind}, spelled.Chosen.Chosen, spelling.State.TheVariants.First, table.Letters.{Letters, TheVariants.{Never, OfHead}}},
+  Given.{Given, asked_by, one_operand, texts_of},
+  Laws.{has, say_nothing, says_on_broken},
+  Lettered.is_start,
+  Spelling.{foremost, mixed, onward, reading, spelled},
+  Table.{OptionRow, ToolRow},
+  TeeWords.{TeeAsked, fresh, tee_asked, tee_by},
+  Value.then_check,
+  Words.{settings_for, tool_settings},
+}
 use Rattle.ports_core.specs.declared.tool.Tool.TheVariants as tool
-use Rattle.words_core.specs.declared.choice.Choice.{Choice}
 use Rattle.words_core.specs.declared.choice.Choice.TheVariants as choice
-use Rattle.words_core.specs.declared.choice.Kind.{Kind}
-use Rattle.words_core.specs.declared.spelled.Chosen.{Chosen}
-use Rattle.words_core.specs.declared.spelling.State.TheVariants.{First}
-use Rattle.words_core.specs.declared.table.Letters.{Letters}
-use Rattle.words_core.specs.declared.table.Letters.TheVariants.{Never, OfHead}
-use Rattle.words_core.specs.Given.{Given, asked_by, one_operand, texts_of}
-use Rattle.words_core.specs.Laws.{has, say_nothing, says_on_broken}
-use Rattle.words_core.specs.Lettered.{is_start}
-use Rattle.words_core.specs.Spelling.{foremost, mixed, onward, reading, spelled}
-use Rattle.words_core.specs.Table.{OptionRow, ToolRow}
-use Rattle.words_core.specs.TeeWords.{TeeAsked, fresh, tee_asked, tee_by}
-use Rattle.words_core.specs.Value.{then_check}
-use Rattle.words_core.specs.Words.{settings_for, tool_settings}
-use Rattle.std.proofs.Math.Bool.{and-false}
 
 -- the first of these words says where `tail` begins
 abbrev pub begin : List OptionRow → Letters → List (List ℕ) → Bool

@@ -1,29 +1,25 @@
 -- Lemmas on what options ask for, one after another.
-use Rattle.std.proofs.lemmas.Grind.{common_steps}
-use Rattle.std.proofs.Common.{◌≡◌, ◌≤◌, ◌↔◌, ℕ, Bool, true, false, ◌||◌, arith, List, [], ◌∷◌, ◌++◌, length, Option, Some, None, Result, Ok, Err, refl, ◌∙◌, ap, is_some, if◌then◌else◌, filter, IsOk, rules}
-use Rattle.std.specs.Option.{unwrap_or}
-use Rattle.std.proofs.lemmas.Bool.{or_parts}
-use Rattle.ports_core.specs.declared.calling.Calling.{Calling}
-use Rattle.ports_core.specs.declared.fault.Fault.{Fault}
-use Rattle.ports_core.specs.declared.fault.Fault.TheVariants.{Usage}
-use Rattle.ports_core.specs.declared.fault.UsageKind.TheVariants.{TwoWays}
-use Rattle.ports_core.specs.declared.tool.Tool.{Tool}
+use Rattle.std.{
+  proofs.lemmas.{Grind.common_steps, Bool.or_parts},
+  proofs.Common.{◌≡◌, ◌≤◌, ◌↔◌, ℕ, Bool, true, false, ◌||◌, arith, List, [], ◌∷◌, ◌++◌, length, Option, Some, None, Result, Ok, Err, refl, ◌∙◌, ap, is_some, if◌then◌else◌, filter, IsOk, rules},
+  specs.Option.unwrap_or,
+}
+use Rattle.ports_core.specs.declared.{calling.Calling.Calling, fault.{Fault.{Fault, TheVariants.Usage}, UsageKind.TheVariants.TwoWays}, tool.Tool.Tool}
+use Rattle.seg_core.specs.declared.cut.Way.{Way}
+use Rattle.words_core.specs.{
+  declared.{choice.Choice.Choice, tail_words.TailSettings.TailSettings, spelled.Chosen.Chosen, csplit_words.CsplitOptions.CsplitOptions},
+  Given.{GivenOperand, asked_by, texts_of},
+  CsplitWords.{csplit_by, plain},
+  EndsWords.{EndsAsked, ends_by, names_asked, ten_lines},
+  SplitWords.{SplitAsked, delim_by, is_way, no_options, only_way, separator_in, split_by, thousand_lines, way_in, way_of},
+  TailWords.{retry_by, tail_by, tail_of, unfollowed},
+  TeeWords.{TeeAsked, fresh, tee_by},
+  Words.{about_or, or_later, settings_for, topic_in, topic_of, work_for},
+  Laws.{LastDecides, amount_of, appends, counts, counts_looks, counts_pause, names_process, drops_sizes, elides_files, tells_of_files, ends_with_zero, gives_ending, gives_format, has, heads, keeps_files, leaves_lines_out, names_prefix, retries, says_followed, says_on_broken, separates, spells, widens},
+}
 use Rattle.ports_core.specs.declared.tool.Tool.TheVariants as tool
 use Rattle.ports_core.specs.declared.slot.Mode.TheVariants as mode
-use Rattle.seg_core.specs.declared.cut.Way.{Way}
-use Rattle.words_core.specs.declared.choice.Choice.{Choice}
 use Rattle.words_core.specs.declared.choice.Choice.TheVariants as choice
-use Rattle.words_core.specs.declared.tail_words.TailSettings.{TailSettings}
-use Rattle.words_core.specs.declared.spelled.Chosen.{Chosen}
-use Rattle.words_core.specs.Given.{GivenOperand, asked_by, texts_of}
-use Rattle.words_core.specs.CsplitWords.{csplit_by, plain}
-use Rattle.words_core.specs.declared.csplit_words.CsplitOptions.{CsplitOptions}
-use Rattle.words_core.specs.EndsWords.{EndsAsked, ends_by, names_asked, ten_lines}
-use Rattle.words_core.specs.SplitWords.{SplitAsked, delim_by, is_way, no_options, only_way, separator_in, split_by, thousand_lines, way_in, way_of}
-use Rattle.words_core.specs.TailWords.{retry_by, tail_by, tail_of, unfollowed}
-use Rattle.words_core.specs.TeeWords.{TeeAsked, fresh, tee_by}
-use Rattle.words_core.specs.Words.{about_or, or_later, settings_for, topic_in, topic_of, work_for}
-use Rattle.words_core.specs.Laws.{LastDecides, amount_of, appends, counts, counts_looks, counts_pause, names_process, drops_sizes, elides_files, tells_of_files, ends_with_zero, gives_ending, gives_format, has, heads, keeps_files, leaves_lines_out, names_prefix, retries, says_followed, says_on_broken, separates, spells, widens}
 
 -- a part of what is asked for that some options set, whatever was asked before them, and that the others leave
 
@@ -63,7 +59,8 @@ pub tail-sets : (asked other : TailSettings) (choice : Choice)
     (if says_followed choice then (tail_by other choice).followed else asked.followed))
     × ((tail_by asked choice).looks ≡ (if counts_looks choice then (tail_by other choice).looks else asked.looks))
     × ((tail_by asked choice).pause ≡ (if counts_pause choice then (tail_by other choice).pause else asked.pause))
-    × ((tail_by asked choice).process ≡ (if names_process choice then (tail_by other choice).process else asked.process))
+    × ((tail_by asked choice).process
+    ≡ (if names_process choice then (tail_by other choice).process else asked.process))
     × ((tail_by asked choice).ends ≡ ends_by asked.ends choice)
 tail-sets asked other (choice.Follow followed) = search rules
 tail-sets asked other choice = search rules
@@ -116,7 +113,8 @@ pub csplit-sets : (asked other : CsplitOptions) (choice : Choice)
     → ((csplit_by asked choice).prefix.now
     ≡ (if names_prefix choice then (csplit_by other choice).prefix.now else asked.prefix.now))
     × ((csplit_by asked choice).digits ≡ (if widens choice then (csplit_by other choice).digits else asked.digits))
-    × ((csplit_by asked choice).format ≡ (if gives_format choice then (csplit_by other choice).format else asked.format))
+    × ((csplit_by asked choice).format
+    ≡ (if gives_format choice then (csplit_by other choice).format else asked.format))
     × ((csplit_by asked choice).keep ≡ (if keeps_files choice then true else asked.keep))
     × ((csplit_by asked choice).quiet ≡ (if drops_sizes choice then true else asked.quiet))
     × ((csplit_by asked choice).elide ≡ (if elides_files choice then true else asked.elide))
@@ -126,7 +124,8 @@ csplit-sets asked other choice = search rules
 
 pub tee-sets : (asked other : TeeAsked) (choice : Choice)
     → ((tee_by asked choice).mode ≡ (if appends choice then mode.Append else asked.mode))
-    × ((tee_by asked choice).on_broken ≡ (if says_on_broken choice then (tee_by other choice).on_broken else asked.on_broken))
+    × ((tee_by asked choice).on_broken
+    ≡ (if says_on_broken choice then (tee_by other choice).on_broken else asked.on_broken))
 tee-sets asked other (choice.OnBroken on_broken) = (refl, refl)
 tee-sets asked other choice = (refl, refl)
 

@@ -1,14 +1,13 @@
 -- Lemmas on what options and operands ask of `csplit`.
-use Rattle.std.proofs.lemmas.Grind.{common_steps}
-use Rattle.std.proofs.Common.{◌≡◌, ◌-◌, ◌≤◌, arith, get_or, take, drop, length, map, List, Result, Ok, IfOk, IfErr, ◌⊎◌}
+use Rattle.std.proofs.{lemmas.Grind.common_steps, Common.{◌≡◌, ◌-◌, ◌≤◌, arith, get_or, take, drop, length, map, List, Result, Ok, IfOk, IfErr, ◌⊎◌}}
 use Rattle.operand_core.specs.Style.{Style}
-use Rattle.ports_core.specs.declared.fault.Fault.{Fault}
-use Rattle.ports_core.specs.declared.fault.Fault.TheVariants.{Memory}
-use Rattle.words_core.specs.declared.spelled.Chosen.{Chosen}
-use Rattle.words_core.specs.declared.spelled.Operand.{Operand}
-use Rattle.words_core.specs.CsplitWords.{CsplitAsked, HasBadOperand, asked_with, csplit_asked, style_of}
-use Rattle.words_core.specs.Given.{Given, operand_seen, option_seen}
-use Rattle.words_core.specs.Spelling.{IsRefused}
+use Rattle.ports_core.specs.declared.fault.Fault.{Fault, TheVariants.Memory}
+use Rattle.words_core.specs.{
+  declared.spelled.{Chosen.Chosen, Operand.Operand},
+  CsplitWords.{CsplitAsked, HasBadOperand, asked_with, csplit_asked, style_of},
+  Given.{Given, operand_seen, option_seen},
+  Spelling.IsRefused,
+}
 
 -- what these operands ask for, of which the first is the file
 abbrev pub asked_first : Style → Operand → List Operand → CsplitAsked

@@ -1,20 +1,16 @@
 -- What is read of a format.
-use Rattle.std.proofs.lemmas.Grind.{common_steps}
-use Rattle.std.proofs.Common.{◌≡◌, ℕ, ◌+◌, ◌-◌, ◌^◌, ◌<◌, ◌≤◌, ◌==◌, ◌&&◌, suc, min, not, nat_le, Bool, true, false, cond, List, [], ◌∷◌, ◌++◌, length, take, drop, get_or, Option, Some, None, inl, inr, refl, sym, subst, ◌∙◌, ap, arith, append_assoc, length-append}
-use Rattle.std.specs.Prelude.{IfSome, option_map, slice_range}
-use Rattle.std.specs.Str.{IsCharBoundary, IsUtf8}
-use Rattle.std.proofs.Math.Seq.{drop-append_seam, get_or-append_seam}
-use Rattle.std.proofs.lemmas.Bool.{cases_lt}
-use Rattle.std.proofs.lemmas.Bool.Decides.{nat_tests}
-use Rattle.std.proofs.lemmas.List.{take-append-drop, take_rest}
-use Rattle.std.proofs.lemmas.Str.{IsCharBoundary-after_ascii, IsCharBoundary-before_ascii, IsCharBoundary-end}
-use Rattle.ports_core.specs.declared.form.Base.{Base}
+use Rattle.std.proofs.{
+  lemmas.{Grind.common_steps, Bool.{cases_lt, Decides.nat_tests}, List.{take-append-drop, take_rest}, Str.{IsCharBoundary-after_ascii, IsCharBoundary-before_ascii, IsCharBoundary-end}},
+  Common.{◌≡◌, ℕ, ◌+◌, ◌-◌, ◌^◌, ◌<◌, ◌≤◌, ◌==◌, ◌&&◌, suc, min, not, nat_le, Bool, true, false, cond, List, [], ◌∷◌, ◌++◌, length, take, drop, get_or, Option, Some, None, inl, inr, refl, sym, subst, ◌∙◌, ap, arith, append_assoc, length-append},
+  Math.Seq.{drop-append_seam, get_or-append_seam},
+}
+use Rattle.std.specs.{Prelude.{IfSome, option_map, slice_range}, Str.{IsCharBoundary, IsUtf8}, Char.is_ascii_digit, List.{after_first, before_first, position_or_len, prefix_len}}
+use Rattle.ports_core.specs.declared.form.{Base.Base, Form.Form}
 use Rattle.seg_core.specs.Count.{after_digits}
-use Rattle.std.specs.Char.{is_ascii_digit}
-use Rattle.std.specs.List.{after_first, before_first, position_or_len, prefix_len}
-use Rattle.ports_core.specs.declared.form.Form.{Form}
-use Rattle.words_core.specs.Format.{Format, around, before_it, conversion_in, format_in, after_precision, after_text, digits_by, form_of, with_letter, base_of, with_rest, go_with, plain_text}
-use Rattle.words_core.specs.inner.Format.{AfterLetter, without_percent}
+use Rattle.words_core.specs.{
+  Format.{Format, around, before_it, conversion_in, format_in, after_precision, after_text, digits_by, form_of, with_letter, base_of, with_rest, go_with, plain_text},
+  inner.Format.{AfterLetter, without_percent},
+}
 
 -- numbers above the limit are all alike
 

@@ -1,35 +1,23 @@
 -- Lemmas on a first word of a hyphen, digits and letters.
-use Rattle.std.proofs.lemmas.Grind.{common_steps}
-use Rattle.std.proofs.lemmas.Bool.Decides.{nat_tests}
-use Rattle.std.proofs.lemmas.Bool.{and_parts, lt-ltb}
-use Rattle.std.proofs.Math.Seq.{drop-append_seam, take-append_seam}
-use Rattle.std.specs.Char.{is_ascii_digit}
-use Rattle.std.specs.List.{AllByRecursion, list_all, prefix_len}
-use Rattle.std.proofs.lemmas.List.Elements.{recursion_from_All}
-use Rattle.std.specs.Prelude.{nat_lt, bytes_eq, ⊤}
-use Rattle.std.proofs.Common.{◌≡◌, ◌⊎◌, inl, inr, refl, ℕ, ◌≤◌, ◌==◌, Bool, true, false, if◌then◌else◌, arith, List, [], ◌∷◌, ◌++◌, ◌*◌, length, Some, None, Result, Ok, Err, sym, ap, ◌∙◌, rules}
-use Rattle.seg_core.specs.declared.count.Count.{Count}
-use Rattle.seg_core.specs.Count.{after_digits, is_number, leading_digits, sized}
-use Rattle.ports_core.specs.declared.fault.Fault.{Fault}
-use Rattle.ports_core.specs.declared.fault.Fault.TheVariants.{Usage}
-use Rattle.ports_core.specs.declared.fault.UsageKind.TheVariants.{UnknownOption}
-use Rattle.words_core.specs.declared.table.Letters.TheVariants.{OfHead, OfTail}
-use Rattle.ports_core.specs.declared.fault.UsageKind.{UsageKind}
-use Rattle.words_core.specs.declared.spelling.State.{State}
-use Rattle.seg_core.specs.declared.count.Sign.{Sign}
-use Rattle.seg_core.specs.declared.unit.Unit.{Unit as Measured}
-use Rattle.seg_core.specs.declared.unit.Unit.TheVariants.{Lines}
-use Rattle.words_core.specs.declared.choice.Choice.{Choice}
-use Rattle.words_core.specs.declared.choice.Choice.TheVariants.{Amount}
-use Rattle.words_core.specs.declared.table.Takes.{Takes}
+use Rattle.std.proofs.{
+  lemmas.{Grind.common_steps, Bool.{and_parts, lt-ltb, Decides.nat_tests}, List.Elements.recursion_from_All},
+  Math.Seq.{drop-append_seam, take-append_seam},
+  Common.{◌≡◌, ◌⊎◌, inl, inr, refl, ℕ, ◌≤◌, ◌==◌, Bool, true, false, if◌then◌else◌, arith, List, [], ◌∷◌, ◌++◌, ◌*◌, length, Some, None, Result, Ok, Err, sym, ap, ◌∙◌, rules},
+}
+use Rattle.std.specs.{Char.is_ascii_digit, List.{AllByRecursion, list_all, prefix_len}, Prelude.{nat_lt, bytes_eq, ⊤}}
+use Rattle.seg_core.specs.{declared.{count.{Count.Count, Sign.Sign}, unit.Unit.{Unit as Measured, TheVariants.Lines}}, Count.{after_digits, is_number, leading_digits, sized}}
+use Rattle.ports_core.specs.declared.fault.{Fault.{Fault, TheVariants.Usage}, UsageKind.{UsageKind, TheVariants.UnknownOption}}
+use Rattle.words_core.specs.{
+  declared.{table.{Letters.TheVariants.{OfHead, OfTail}, Takes.Takes}, spelling.State.State, choice.Choice.{Choice, TheVariants.Amount}},
+  Laws.{HasLetters, IsSwitch, how_many, of_lines, of_unit},
+  Given.{Given, joined, nothing, one_option},
+  Lettered.{counted_with, is_lettered, unit_of, switched, switches, without_digits, times, unit_in, with_letters},
+  Spelling.{Meaning, cluster, given_at, lettered, mixed, option_lettered, reading},
+  Table.{OptionRow, alone, head_table, is_among, tail_table},
+  Value.{counted, then_check},
+  inner.Spelling.Adds,
+}
 use Rattle.words_core.specs.declared.table.Takes.TheVariants as takes
-use Rattle.words_core.specs.Laws.{HasLetters, IsSwitch, how_many, of_lines, of_unit}
-use Rattle.words_core.specs.Given.{Given, joined, nothing, one_option}
-use Rattle.words_core.specs.Lettered.{counted_with, is_lettered, unit_of, switched, switches, without_digits, times, unit_in, with_letters}
-use Rattle.words_core.specs.Spelling.{Meaning, cluster, given_at, lettered, mixed, option_lettered, reading}
-use Rattle.words_core.specs.Table.{OptionRow, alone, head_table, is_among, tail_table}
-use Rattle.words_core.specs.Value.{counted, then_check}
-use Rattle.words_core.specs.inner.Spelling.{Adds}
 
 adds_both : (old one more : Given) (new : Given) (result : Result State Fault)
     → Adds (reading more) (joined old one) new result → Adds (reading (joined one more)) old new result

@@ -1,37 +1,29 @@
 -- Whatever words spell, sizes, counts of files and widths are within their limits, and files that lines are dealt to have names.
-use Rattle.std.proofs.lemmas.Grind.{common_steps}
-use Rattle.std.proofs.Common.{◌≡◌, ℕ, zero, suc, ◌+◌, ◌-◌, ◌^◌, ◌≤◌, false, arith, List, [], ◌∷◌, ◌++◌, Option, Some, None, Result, Ok, Err, IfOk, inl, inr, ◌⊎◌, rules}
-use Rattle.std.proofs.lemmas.Bool.{cond_both}
-use Rattle.std.specs.Prelude.{⊤, IfSome, filter, ◌==◌}
-use Rattle.ports_core.specs.declared.calling.Calling.{Calling}
-use Rattle.ports_core.specs.declared.fault.Fault.{Fault}
-use Rattle.ports_core.specs.declared.alphabet.Alphabet.{Alphabet}
-use Rattle.ports_core.specs.declared.alphabet.Alphabet.TheVariants.{Letters, Digits, Hex, Capitals, Octal}
-use Rattle.ports_core.specs.Name.{name_count}
-use Rattle.ports_core.proofs.CounterLemmas.{power_positive}
-use Rattle.ports_core.specs.declared.tool.Tool.{Tool}
+use Rattle.std.{
+  proofs.lemmas.{Grind.common_steps, Bool.cond_both},
+  proofs.Common.{◌≡◌, ℕ, zero, suc, ◌+◌, ◌-◌, ◌^◌, ◌≤◌, false, arith, List, [], ◌∷◌, ◌++◌, Option, Some, None, Result, Ok, Err, IfOk, inl, inr, ◌⊎◌, rules},
+  specs.Prelude.{⊤, IfSome, filter, ◌==◌},
+}
+use Rattle.ports_core.{
+  specs.{declared.{calling.Calling.Calling, fault.Fault.Fault, alphabet.Alphabet.{Alphabet, TheVariants.{Letters, Digits, Hex, Capitals, Octal}}, tool.Tool.Tool}, Name.name_count},
+  proofs.CounterLemmas.power_positive,
+}
+use Rattle.seg_core.specs.declared.cut.Way.{Way}
+use Rattle.words_core.specs.{
+  declared.{choice.Choice.Choice, spelling.State.{State, TheVariants.Awaiting}, settings.{Settings.Settings, Topic.Topic}, spelled.Chosen.Chosen, split_words.Suffix.Suffix},
+  Table.{OptionRow, ToolRow, row_named, tools},
+  Value.then_check,
+  Given.{asked_by, Given, GivenOperand},
+  Spelling.{Meaning, meaning_of, given_before, onward, spelled, start_of, given_by},
+  SplitWords.{SplitAsked, AreNamed, CanSplit, IsInLimits, IsWidth, is_way, only_way, way_of, split_by, no_options, suffix_for, files_in, split_asked, separator_in, for_all, first_number, free, least_width, wide_enough},
+  Laws.{AreAmong, none, passed, taken},
+  Words.{CanRun, about_or, settings_for, topic_in, work_for},
+}
+use Rattle.words_core.proofs.{MeaningLemmas.{AreSafe, AreSound, GivesItself, IsSound, anything, meaning-gives, sound-append}, SpellingLemmas.either, WidthLemmas.{least_within, least_writes}}
 use Rattle.ports_core.specs.declared.tool.Tool.TheVariants as tool
 use Rattle.seg_core.specs.declared.cut.Cut.TheVariants as cut
-use Rattle.seg_core.specs.declared.cut.Way.{Way}
 use Rattle.seg_core.specs.declared.cut.Way.TheVariants as way
-use Rattle.words_core.specs.declared.choice.Choice.{Choice}
 use Rattle.words_core.specs.declared.choice.Choice.TheVariants as choice
-use Rattle.words_core.specs.declared.spelling.State.{State}
-use Rattle.words_core.specs.declared.spelling.State.TheVariants.{Awaiting}
-use Rattle.words_core.specs.declared.settings.Settings.{Settings}
-use Rattle.words_core.specs.declared.settings.Topic.{Topic}
-use Rattle.words_core.specs.Table.{OptionRow, ToolRow, row_named, tools}
-use Rattle.words_core.specs.Value.{then_check}
-use Rattle.words_core.specs.declared.spelled.Chosen.{Chosen}
-use Rattle.words_core.specs.Given.{asked_by, Given, GivenOperand}
-use Rattle.words_core.specs.Spelling.{Meaning, meaning_of, given_before, onward, spelled, start_of, given_by}
-use Rattle.words_core.specs.SplitWords.{SplitAsked, AreNamed, CanSplit, IsInLimits, IsWidth, is_way, only_way, way_of, split_by, no_options, suffix_for, files_in, split_asked, separator_in, for_all, first_number, free, least_width, wide_enough}
-use Rattle.words_core.specs.declared.split_words.Suffix.{Suffix}
-use Rattle.words_core.specs.Laws.{AreAmong, none, passed, taken}
-use Rattle.words_core.specs.Words.{CanRun, about_or, settings_for, topic_in, work_for}
-use Rattle.words_core.proofs.MeaningLemmas.{AreSafe, AreSound, GivesItself, IsSound, anything, meaning-gives, sound-append}
-use Rattle.words_core.proofs.SpellingLemmas.{either}
-use Rattle.words_core.proofs.WidthLemmas.{least_within, least_writes}
 
 -- all words: their operands are some of them
 

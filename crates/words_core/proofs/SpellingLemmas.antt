@@ -1,14 +1,7 @@
 -- Lemmas on what words spell, word after word.
-use Rattle.std.proofs.lemmas.Grind.{common_steps}
-use Rattle.std.proofs.Common.{◌≡◌, ℕ, ◌+◌, Bool, true, false, if◌then◌else◌, arith, List, [], ◌∷◌, ◌++◌, Result, Ok, Err}
-use Rattle.ports_core.specs.declared.fault.Fault.{Fault}
-use Rattle.ports_core.specs.declared.fault.Fault.TheVariants.{Usage}
-use Rattle.ports_core.specs.declared.fault.UsageKind.{UsageKind}
-use Rattle.ports_core.specs.declared.fault.UsageKind.TheVariants.{MissingValue}
-use Rattle.words_core.specs.declared.spelling.State.{State}
-use Rattle.words_core.specs.Table.{OptionRow}
-use Rattle.words_core.specs.Given.{Given}
-use Rattle.words_core.specs.Spelling.{Meaning, given_before, onward, meaning_of, spelled}
+use Rattle.std.proofs.{lemmas.Grind.common_steps, Common.{◌≡◌, ℕ, ◌+◌, Bool, true, false, if◌then◌else◌, arith, List, [], ◌∷◌, ◌++◌, Result, Ok, Err}}
+use Rattle.ports_core.specs.declared.fault.{Fault.{Fault, TheVariants.Usage}, UsageKind.{UsageKind, TheVariants.MissingValue}}
+use Rattle.words_core.specs.{declared.spelling.State.State, Table.OptionRow, Given.Given, Spelling.{Meaning, given_before, onward, meaning_of, spelled}}
 
 -- what is so of both is so of either
 pub either : {A : Type 0} (P : A → Type 0) (test : Bool) (one other : A) → P one → P other

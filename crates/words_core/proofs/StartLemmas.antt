@@ -1,25 +1,23 @@
 -- Lemmas on a first word of `tail` that is a hyphen or a `+`, digits and letters.
-use Rattle.std.proofs.lemmas.Bool.Decides.{nat_tests}
-use Rattle.std.proofs.lemmas.Bool.{and_parts}
-use Rattle.std.specs.Char.{is_ascii_digit}
-use Rattle.std.specs.List.{list_all, prefix_len}
-use Rattle.std.specs.Prelude.{nat_lt}
-use Rattle.std.proofs.Common.{◌≡◌, refl, ℕ, ◌-◌, ◌*◌, ◌^◌, ◌≤◌, ◌<◌, ◌||◌, ◌==◌, Bool, true, false, arith, append-nil, List, [], ◌∷◌, ◌++◌, length, Ok, Err, subst}
-use Rattle.seg_core.specs.declared.count.CountFault.TheVariants.{TooLarge}
-use Rattle.seg_core.specs.declared.count.Sign.{Sign}
-use Rattle.seg_core.specs.declared.count.Sign.TheVariants.{Plain, Plus}
-use Rattle.seg_core.specs.declared.unit.Unit.TheVariants.{Lines}
-use Rattle.seg_core.specs.Count.{count_of, factor_of, is_number, sized, value_of}
-use Rattle.ports_core.specs.declared.calling.Calling.{Calling}
-use Rattle.ports_core.specs.declared.calling.Calling.TheVariants.{OwnName}
-use Rattle.words_core.specs.declared.choice.Kind.TheVariants.{Amount}
-use Rattle.words_core.specs.declared.table.Letters.TheVariants.{OfTail}
-use Rattle.words_core.specs.Lettered.{are_of_tail, counted_with, is_lettered, is_start, switches, unit_in, with_letters}
-use Rattle.words_core.specs.Spelling.{foremost, given_at}
-use Rattle.words_core.specs.Table.{tail_table}
-use Rattle.words_core.specs.Value.{counted}
+use Rattle.std.proofs.{
+  lemmas.Bool.{and_parts, Decides.nat_tests},
+  Common.{◌≡◌, refl, ℕ, ◌-◌, ◌*◌, ◌^◌, ◌≤◌, ◌<◌, ◌==◌, true, false, arith, append-nil, List, [], ◌∷◌, ◌++◌, length, Ok, Err, subst},
+  Math.Bool.{and-false, or-true},
+}
+use Rattle.std.specs.{Char.is_ascii_digit, List.{list_all, prefix_len}, Prelude.nat_lt}
+use Rattle.seg_core.specs.{
+  declared.{count.{CountFault.TheVariants.TooLarge, Sign.{Sign, TheVariants.{Plain, Plus}}}, unit.Unit.TheVariants.Lines},
+  Count.{count_of, factor_of, is_number, sized, value_of},
+}
+use Rattle.ports_core.specs.declared.calling.Calling.{Calling, TheVariants.OwnName}
+use Rattle.words_core.specs.{
+  declared.{choice.Kind.TheVariants.Amount, table.Letters.TheVariants.OfTail},
+  Lettered.{are_of_tail, counted_with, is_lettered, is_start, switches, unit_in, with_letters},
+  Spelling.{foremost, given_at},
+  Table.tail_table,
+  Value.counted,
+}
 use Rattle.words_core.proofs.LetteredLemmas.{HasParts, not_empty, parts}
-use Rattle.std.proofs.Math.Bool.{and-false, or-true}
 
 with_unit : (text digits letters : List ℕ) → HasParts text digits letters → is_number digits ≡ true
     → are_of_tail letters ≡ true → is_start OwnName tail_table OfTail text ≡ true

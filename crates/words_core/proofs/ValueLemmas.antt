@@ -1,20 +1,20 @@
 -- Lemmas on the ways in which the value of an option is spelled.
-use Rattle.std.proofs.lemmas.Grind.{common_steps}
-use Rattle.std.proofs.Common.{◌≡◌, ◌≢◌, ℕ, ◌+◌, ◌==◌, not, false, arith, List, [], ◌∷◌, ◌++◌, length, Option, Some, None, Result, Ok, cond, refl, ap, ◌∙◌, append-nil, rules}
+use Rattle.std.proofs.{
+  lemmas.{Grind.common_steps, Bool.{cond-false, cond-true, eq-eqb, ne_eqb, or_parts}},
+  Common.{◌≡◌, ◌≢◌, ℕ, ◌+◌, ◌==◌, not, false, arith, List, [], ◌∷◌, ◌++◌, length, Option, Some, None, Result, Ok, cond, refl, ap, ◌∙◌, append-nil, rules},
+  Math.Seq.{take-append_seam, drop-append-add, take-length},
+}
 use Rattle.std.specs.List.{list_any, position_or_len, before_first}
-use Rattle.std.proofs.lemmas.Bool.{cond-false, cond-true, eq-eqb, ne_eqb, or_parts}
-use Rattle.std.proofs.Math.Seq.{take-append_seam, drop-append-add, take-length}
-use Rattle.words_core.specs.declared.choice.Choice.{Choice}
-use Rattle.words_core.specs.declared.choice.Kind.{Kind}
+use Rattle.words_core.specs.{
+  declared.{choice.{Choice.Choice, Kind.Kind}, table.Takes.Takes, spelling.State.TheVariants.Reading},
+  Table.{OptionRow, alone, option_called},
+  Choice.choice_in,
+  Given.bare,
+  Spelling.{after_equals, awaiting, given_before, is_equals, long, mixed, named, reading, spelled, valued},
+  Laws.{Gives, IsLetter, IsLong, kind_of},
+}
 use Rattle.ports_core.specs.declared.fault.UsageKind.{UsageKind}
-use Rattle.words_core.specs.declared.table.Takes.{Takes}
 use Rattle.words_core.specs.declared.table.Takes.TheVariants as takes
-use Rattle.words_core.specs.declared.spelling.State.TheVariants.{Reading}
-use Rattle.words_core.specs.Table.{OptionRow, alone, option_called}
-use Rattle.words_core.specs.Choice.{choice_in}
-use Rattle.words_core.specs.Given.{bare}
-use Rattle.words_core.specs.Spelling.{after_equals, awaiting, given_before, is_equals, long, mixed, named, reading, spelled, valued}
-use Rattle.words_core.specs.Laws.{Gives, IsLetter, IsLong, kind_of}
 
 -- a letter
 

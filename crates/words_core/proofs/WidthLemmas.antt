@@ -1,8 +1,6 @@
 -- The least width that writes as many numbers.
-use Rattle.std.proofs.Common.{◌≡◌, ℕ, ◌+◌, ◌-◌, ◌<◌, ◌≤◌, zero, suc, false, arith, refl, ◌∙◌, ap}
-use Rattle.std.proofs.lemmas.Bool.{cond_both, leb-true}
-use Rattle.ports_core.specs.declared.alphabet.Alphabet.{Alphabet}
-use Rattle.ports_core.specs.Name.{name_count}
+use Rattle.std.proofs.{Common.{◌≡◌, ℕ, ◌+◌, ◌-◌, ◌<◌, ◌≤◌, zero, suc, false, arith, refl, ◌∙◌, ap}, lemmas.Bool.{cond_both, leb-true}}
+use Rattle.ports_core.specs.{declared.alphabet.Alphabet.Alphabet, Name.name_count}
 use Rattle.words_core.specs.SplitWords.{least_from, names_all}
 
 -- where a width doesn't write them, the next one is tried

@@ -2,16 +2,14 @@
 use Rattle.std.specs.Prelude.{ℕ, ◌-◌, ◌^◌, List, Option, Some, None, Result, Ok, Err}
 use denote.Ref.{Bor}
 use Rattle.seg_core.specs.Count.{count_of, digits_of}
-use Rattle.ports_core.specs.declared.alphabet.Alphabet.TheVariants.{Digits, Hex}
-use Rattle.ports_core.specs.declared.fault.UsageKind.{UsageKind}
-use Rattle.ports_core.specs.declared.fault.UsageKind.TheVariants.{BadFormat}
-use Rattle.words_core.specs.Division.{division_in}
-use Rattle.words_core.specs.Format.{Format, format_in, format_seen}
-use Rattle.words_core.specs.Value.{byte_in, counted, ending_in, followed_in, hex_in, not_zero, on_broken_in, pause_in, process_in, size_in, then_check, up_to}
-use Rattle.words_core.specs.declared.choice.Choice.{Choice}
-use Rattle.words_core.specs.declared.format.Format.{Format as Written}
+use Rattle.ports_core.specs.declared.{alphabet.Alphabet.TheVariants.{Digits, Hex}, fault.UsageKind.{UsageKind, TheVariants.BadFormat}}
+use Rattle.words_core.specs.{
+  Division.division_in,
+  Format.{Format, format_in, format_seen},
+  Value.{byte_in, counted, ending_in, followed_in, hex_in, not_zero, on_broken_in, pause_in, process_in, size_in, then_check, up_to},
+  declared.{choice.{Choice.Choice, Kind.Kind}, format.Format.Format as Written},
+}
 use Rattle.words_core.specs.declared.choice.Choice.TheVariants as choice
-use Rattle.words_core.specs.declared.choice.Kind.{Kind}
 use Rattle.words_core.specs.declared.choice.Kind.TheVariants as kind
 
 -- The texts of a choice lie somewhere among the words. Only their bytes count, so here all lie at one place. Of a format

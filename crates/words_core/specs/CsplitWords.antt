@@ -1,26 +1,22 @@
 -- What options and operands ask of `csplit`, or what is wrong with them.
 use Rattle.std.specs.Prelude.{◌≡◌, ℕ, false, true, List, [], ◌∷◌, ◌++◌, codes, slice_index_or, Option, Some, None, Result, Ok, Err}
 use Rattle.bre_core.specs.Fault.{number_of, offset_of}
-use Rattle.operand_core.specs.Fault.{number_of_kind}
-use Rattle.operand_core.specs.Style.{Style}
-use Rattle.operand_core.specs.Reading.{Asks, IsFault}
-use Rattle.operand_core.specs.declared.operand.Operand.{Operand}
-use Rattle.operand_core.specs.declared.operand_fault.OperandFault.{OperandFault}
-use Rattle.operand_core.specs.declared.operand_fault.OperandFaultKind.{OperandFaultKind}
-use Rattle.operand_core.specs.declared.operand_fault.OperandFaultKind.TheVariants as kind
+use Rattle.operand_core.specs.{
+  Fault.number_of_kind,
+  Style.Style,
+  Reading.{Asks, IsFault},
+  declared.{operand.Operand.Operand, operand_fault.{OperandFault.OperandFault, OperandFaultKind.OperandFaultKind}},
+}
 pub use Rattle.ports_core.specs.Name.{decimal_form}
-use Rattle.ports_core.specs.declared.fault.Fault.{Fault}
-use Rattle.ports_core.specs.declared.fault.Fault.TheVariants.{Memory, Usage}
-use Rattle.ports_core.specs.declared.fault.UsageKind.{UsageKind}
-use Rattle.ports_core.specs.declared.fault.UsageKind.TheVariants.{MissingOperand, BadOperand, BadPattern, PatternTooLarge}
-use Rattle.words_core.specs.declared.choice.Choice.{Choice}
+use Rattle.ports_core.specs.declared.fault.{Fault.{Fault, TheVariants.{Memory, Usage}}, UsageKind.{UsageKind, TheVariants.{MissingOperand, BadOperand, BadPattern, PatternTooLarge}}}
+use Rattle.words_core.specs.{
+  declared.{choice.Choice.Choice, spelled.Chosen.Chosen, csplit_words.CsplitOptions.CsplitOptions, format.Format.Format as Written},
+  Choice.{format_of, text},
+  Given.{asked_by, Given, GivenOperand, places_of, texts_of},
+  Format.Format,
+}
+use Rattle.operand_core.specs.declared.operand_fault.OperandFaultKind.TheVariants as kind
 use Rattle.words_core.specs.declared.choice.Choice.TheVariants as choice
-use Rattle.words_core.specs.Choice.{format_of, text}
-use Rattle.words_core.specs.declared.spelled.Chosen.{Chosen}
-use Rattle.words_core.specs.Given.{asked_by, Given, GivenOperand, places_of, texts_of}
-use Rattle.words_core.specs.Format.{Format}
-use Rattle.words_core.specs.declared.csplit_words.CsplitOptions.{CsplitOptions}
-use Rattle.words_core.specs.declared.format.Format.{Format as Written}
 
 -- what words ask of `csplit`
 pub record CsplitAsked : Type 0 where

@@ -1,16 +1,10 @@
 -- What the value of `-n` of `split` says: GNU coreutils manual, split, CHUNKS.
 use Rattle.std.specs.Prelude.{ℕ, ◌-◌, ◌==◌, ◌&&◌, nat_lt, List, [], ◌∷◌, length, Option, Some, None, Result, Ok, Err, if◌then◌else◌}
-use Rattle.seg_core.specs.Count.{after_digits, digits_of, leading_digits}
-use Rattle.seg_core.specs.declared.cut.Cut.TheVariants.{Round}
-use Rattle.seg_core.specs.declared.cut.Way.{Way}
+use Rattle.seg_core.specs.{Count.{after_digits, digits_of, leading_digits}, declared.cut.{Cut.TheVariants.Round, Way.Way}}
+use Rattle.ports_core.specs.declared.fault.UsageKind.{UsageKind, TheVariants.BadNumber}
+use Rattle.words_core.specs.{declared.division.{Dealing.{Dealing, TheVariants.{Bytes, Lines, Turns}}, Division.Division}, Number.{not_zero, then_check, up_to}}
 use Rattle.seg_core.specs.declared.cut.Way.TheVariants as way
 use Rattle.seg_core.specs.declared.unit.Unit.TheVariants as unit
-use Rattle.ports_core.specs.declared.fault.UsageKind.{UsageKind}
-use Rattle.ports_core.specs.declared.fault.UsageKind.TheVariants.{BadNumber}
-use Rattle.words_core.specs.declared.division.Dealing.{Dealing}
-use Rattle.words_core.specs.declared.division.Dealing.TheVariants.{Bytes, Lines, Turns}
-use Rattle.words_core.specs.declared.division.Division.{Division}
-use Rattle.words_core.specs.Number.{not_zero, then_check, up_to}
 
 -- the number of all files, 1 to 65,535
 abbrev pub all_in : Dealing → List ℕ → Result Division UsageKind

@@ -1,15 +1,8 @@
 -- What options and operands ask of `head` or `tail`.
 use Rattle.std.specs.Prelude.{ℕ, List, [], ◌∷◌, codes}
-use Rattle.seg_core.specs.declared.count.Sign.TheVariants.{Plain}
-use Rattle.seg_core.specs.declared.unit.Unit.TheVariants.{Lines}
-use Rattle.words_core.specs.declared.choice.Choice.{Choice}
+use Rattle.seg_core.specs.declared.{count.{Sign.TheVariants.Plain, Count.Count}, unit.Unit.{Unit as Counted, TheVariants.Lines}}
+use Rattle.words_core.specs.{declared.{choice.Choice.Choice, spelled.Chosen.Chosen, settings.Headers.{Headers, TheVariants.ForSeveral}}, Given.{asked_by, Given, GivenOperand, texts_of}}
 use Rattle.words_core.specs.declared.choice.Choice.TheVariants as choice
-use Rattle.words_core.specs.declared.spelled.Chosen.{Chosen}
-use Rattle.words_core.specs.declared.settings.Headers.TheVariants.{ForSeveral}
-use Rattle.words_core.specs.Given.{asked_by, Given, GivenOperand, texts_of}
-use Rattle.seg_core.specs.declared.count.Count.{Count}
-use Rattle.seg_core.specs.declared.unit.Unit.{Unit as Counted}
-use Rattle.words_core.specs.declared.settings.Headers.{Headers}
 
 -- what words ask of `head` or `tail`
 pub record EndsAsked : Type 0 where

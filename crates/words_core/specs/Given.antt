@@ -1,9 +1,6 @@
 -- What words give: options with what they ask for and the places of their words, and operands, each in their order.
 use Rattle.std.specs.Prelude.{ℕ, List, [], ◌∷◌, ◌++◌, map, fold}
-use Rattle.words_core.specs.declared.choice.Choice.{Choice}
-use Rattle.words_core.specs.declared.spelled.Chosen.{Chosen}
-use Rattle.words_core.specs.declared.spelled.Operand.{Operand}
-use Rattle.words_core.specs.Choice.{seen}
+use Rattle.words_core.specs.{declared.{choice.Choice.Choice, spelled.{Chosen.Chosen, Operand.Operand}}, Choice.seen}
 
 -- an operand, and the place of its word
 pub record GivenOperand : Type 0 where

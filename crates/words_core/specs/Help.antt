@@ -1,14 +1,9 @@
 -- The texts of help and of the version. Each line of help has at most 80 characters: two blanks, what is typed, and from
 -- column 33 on what it does.
 use Rattle.std.specs.Prelude.{ℕ, List, [], ◌∷◌, ◌++◌, codes, drop, length, Option, Some, None}
-use Rattle.ports_core.specs.Text.{tool_name}
-use Rattle.ports_core.specs.declared.tool.Tool.{Tool}
-use Rattle.ports_core.specs.declared.tool.Tool.TheVariants.{Cutters}
-use Rattle.words_core.specs.declared.settings.Topic.{Topic}
-use Rattle.words_core.specs.declared.settings.Topic.TheVariants.{Help, Version}
-use Rattle.words_core.specs.declared.table.Takes.{Takes}
+use Rattle.ports_core.specs.{Text.tool_name, declared.tool.Tool.{Tool, TheVariants.Cutters}}
+use Rattle.words_core.specs.{declared.{settings.Topic.{Topic, TheVariants.{Help, Version}}, table.Takes.Takes}, Table.{OptionRow, ToolRow, program_table, row_named, tools}}
 use Rattle.words_core.specs.declared.table.Takes.TheVariants as takes
-use Rattle.words_core.specs.Table.{OptionRow, ToolRow, program_table, row_named, tools}
 
 -- what is typed, filled with blanks up to the column of what it does
 abbrev pub filled : List ℕ → List ℕ

@@ -1,43 +1,33 @@
 -- The words of the laws: which options ask for what, and the operands among words.
-use Rattle.std.specs.Prelude.{◌≡◌, ◌≢◌, ℕ, ◌+◌, ◌<◌, ◌==◌, not, ◌&&◌, Bool, true, false, List, [], ◌∷◌, ◌++◌, All, length, codes, if◌then◌else◌, Option, Some, None, Result, Ok, Err, ◌⊎◌}
-use Rattle.std.specs.Char.{is_ascii_digit}
-use Rattle.std.specs.List.{Contains, list_all, list_any}
-use Rattle.seg_core.specs.Count.{value_of}
-use Rattle.seg_core.specs.declared.count.Count.{Count}
-use Rattle.seg_core.specs.declared.count.Sign.{Sign}
-use Rattle.seg_core.specs.declared.count.Sign.TheVariants.{Plain, Plus}
-use Rattle.seg_core.specs.declared.unit.Unit.{Unit as Measured}
-use Rattle.seg_core.specs.declared.unit.Unit.TheVariants.{Lines}
-use Rattle.ports_core.specs.declared.calling.Calling.{Calling}
-use Rattle.ports_core.specs.declared.calling.Calling.TheVariants.{Cutters, OwnName}
-use Rattle.ports_core.specs.declared.fault.Fault.{Fault}
-use Rattle.ports_core.specs.declared.fault.UsageKind.{UsageKind}
-use Rattle.ports_core.specs.declared.tool.Tool.{Tool}
-use Rattle.ports_core.specs.declared.on_broken.OnBroken.{OnBroken}
+use Rattle.std.specs.{
+  Prelude.{◌≡◌, ◌≢◌, ℕ, ◌+◌, ◌<◌, ◌==◌, not, ◌&&◌, Bool, true, false, List, [], ◌∷◌, ◌++◌, All, length, codes, if◌then◌else◌, Option, Some, None, Result, Ok, Err, ◌⊎◌},
+  Char.is_ascii_digit,
+  List.{Contains, list_all, list_any},
+}
+use Rattle.seg_core.specs.{Count.value_of, declared.{count.{Count.Count, Sign.{Sign, TheVariants.{Plain, Plus}}}, unit.Unit.{Unit as Measured, TheVariants.Lines}}}
+use Rattle.ports_core.specs.declared.{calling.Calling.{Calling, TheVariants.{Cutters, OwnName}}, fault.{Fault.Fault, UsageKind.UsageKind}, tool.Tool.Tool, on_broken.OnBroken.OnBroken}
 use Rattle.operand_core.specs.Style.{Style}
-use Rattle.words_core.specs.declared.choice.Choice.{Choice}
+use Rattle.words_core.specs.{
+  declared.choice.{Choice.Choice, Kind.Kind},
+  declared.settings.{Settings.TheVariants.{Head, Tail, Split, Csplit, Tee, About}, Topic.TheVariants.{Help, Version}},
+  declared.table.{Letters.TheVariants.OfTail, Takes.Takes},
+  declared.spelled.Chosen.Chosen,
+  declared.spelling.State.{State, TheVariants.Reading},
+  declared.value.Followed.TheVariants.Descriptor,
+  declared.tail_words.TailSettings.TailSettings,
+  CsplitWords.style_of,
+  EndsWords.{EndsAsked, ten_lines},
+  SplitWords.{SplitAsked, no_options},
+  Given.{Given, GivenOperand, one_option},
+  Lettered.{is_start, unit_of},
+  Spelling.{given_before, is_equals, spelled},
+  Table.{OptionRow, alone, option_called, option_named, tail_table, tee_table},
+  TailWords.unfollowed,
+  TeeWords.{TeeAsked, fresh},
+  Words.settings_of,
+}
 use Rattle.words_core.specs.declared.choice.Choice.TheVariants as choice
-use Rattle.words_core.specs.declared.choice.Kind.{Kind}
-use Rattle.words_core.specs.declared.settings.Settings.TheVariants.{Head, Tail, Split, Csplit, Tee, About}
-use Rattle.words_core.specs.declared.settings.Topic.TheVariants.{Help, Version}
-use Rattle.words_core.specs.declared.table.Letters.TheVariants.{OfTail}
-use Rattle.words_core.specs.declared.spelled.Chosen.{Chosen}
-use Rattle.words_core.specs.declared.table.Takes.{Takes}
 use Rattle.words_core.specs.declared.table.Takes.TheVariants as takes
-use Rattle.words_core.specs.declared.spelling.State.{State}
-use Rattle.words_core.specs.declared.spelling.State.TheVariants.{Reading}
-use Rattle.words_core.specs.declared.value.Followed.TheVariants.{Descriptor}
-use Rattle.words_core.specs.CsplitWords.{style_of}
-use Rattle.words_core.specs.EndsWords.{EndsAsked, ten_lines}
-use Rattle.words_core.specs.SplitWords.{SplitAsked, no_options}
-use Rattle.words_core.specs.declared.tail_words.TailSettings.{TailSettings}
-use Rattle.words_core.specs.Given.{Given, GivenOperand, one_option}
-use Rattle.words_core.specs.Lettered.{is_start, unit_of}
-use Rattle.words_core.specs.Spelling.{given_before, is_equals, spelled}
-use Rattle.words_core.specs.Table.{OptionRow, alone, option_called, option_named, tail_table, tee_table}
-use Rattle.words_core.specs.TailWords.{unfollowed}
-use Rattle.words_core.specs.TeeWords.{TeeAsked, fresh}
-use Rattle.words_core.specs.Words.{settings_of}
 
 -- which unit is counted, and how many
 abbrev pub amount_of : EndsAsked → Measured × Count

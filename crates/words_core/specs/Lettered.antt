@@ -1,23 +1,18 @@
 -- A first word of a hyphen, digits and letters, as `-5c` of `head` and `-20f` of `tail`, and one of a `+`, as `+5` of
 -- `tail`: GNU's, from before POSIX. What follows the hyphen or the `+` is the text. 45 is a hyphen.
-use Rattle.std.specs.Prelude.{ℕ, ◌*◌, ◌^◌, ◌==◌, ◌&&◌, ◌||◌, nat_lt, Bool, true, false, List, [], ◌∷◌, length, filter, codes, is_some, Option, Some, None, Result, Ok, Err, if◌then◌else◌}
-use Rattle.std.specs.Option.{unwrap_or}
-use Rattle.seg_core.specs.Count.{after_digits, is_number, leading_digits, sized, value_of}
-use Rattle.seg_core.specs.declared.count.Count.{Count}
-use Rattle.seg_core.specs.declared.count.Sign.{Sign}
-use Rattle.ports_core.specs.declared.calling.Calling.{Calling}
-use Rattle.ports_core.specs.declared.calling.Calling.TheVariants.{OwnName}
-use Rattle.ports_core.specs.declared.fault.UsageKind.{UsageKind}
-use Rattle.seg_core.specs.declared.unit.Unit.{Unit as Measured}
-use Rattle.seg_core.specs.declared.unit.Unit.TheVariants.{Bytes, Lines}
-use Rattle.words_core.specs.declared.choice.Choice.TheVariants.{Amount}
-use Rattle.words_core.specs.declared.table.Letters.{Letters}
-use Rattle.words_core.specs.declared.table.Letters.TheVariants.{Never, OfHead, OfTail}
-use Rattle.words_core.specs.declared.table.Takes.{Takes}
+use Rattle.std.specs.{
+  Prelude.{ℕ, ◌*◌, ◌^◌, ◌==◌, ◌&&◌, ◌||◌, nat_lt, Bool, true, false, List, [], ◌∷◌, length, filter, codes, is_some, Option, Some, None, Result, Ok, Err, if◌then◌else◌},
+  Option.unwrap_or,
+}
+use Rattle.seg_core.specs.{Count.{after_digits, is_number, leading_digits, sized, value_of}, declared.{count.{Count.Count, Sign.Sign}, unit.Unit.{Unit as Measured, TheVariants.{Bytes, Lines}}}}
+use Rattle.ports_core.specs.declared.{calling.Calling.{Calling, TheVariants.OwnName}, fault.UsageKind.UsageKind}
+use Rattle.words_core.specs.{
+  declared.{choice.Choice.TheVariants.Amount, table.{Letters.{Letters, TheVariants.{Never, OfHead, OfTail}}, Takes.Takes}},
+  Table.{OptionRow, is_among, option_named},
+  Value.counted,
+  Given.{Given, bare, joined, nothing, one_option},
+}
 use Rattle.words_core.specs.declared.table.Takes.TheVariants as takes
-use Rattle.words_core.specs.Table.{OptionRow, is_among, option_named}
-use Rattle.words_core.specs.Value.{counted}
-use Rattle.words_core.specs.Given.{Given, bare, joined, nothing, one_option}
 
 -- What is counted where this letter stands after the digits, and how much each of it is: 98 is b, 99 c, 107 k, 108 l and
 -- 109 m.

@@ -1,10 +1,8 @@
 -- Numbers in words, and what is wrong with them. One that isn't of its form is told before one that is too large, and that
 -- before 0.
 use Rattle.std.specs.Prelude.{ℕ, ◌==◌, nat_le, Result, Ok, Err, if◌then◌else◌}
-use Rattle.seg_core.specs.declared.count.CountFault.{CountFault}
-use Rattle.seg_core.specs.declared.count.CountFault.TheVariants.{TooLarge}
-use Rattle.ports_core.specs.declared.fault.UsageKind.{UsageKind}
-use Rattle.ports_core.specs.declared.fault.UsageKind.TheVariants.{BadNumber, NumberTooLarge, Zero}
+use Rattle.seg_core.specs.declared.count.CountFault.{CountFault, TheVariants.TooLarge}
+use Rattle.ports_core.specs.declared.fault.UsageKind.{UsageKind, TheVariants.{BadNumber, NumberTooLarge, Zero}}
 
 -- one check, and those after it where nothing is wrong so far
 abbrev pub then_check : {A B E : Type 0} → Result A E → (A → Result B E) → Result B E

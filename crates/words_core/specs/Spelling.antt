@@ -1,28 +1,23 @@
 -- What the words after a tool's name spell: options with their values, and operands. What a word means depends on what
 -- the words before it left. 43 is a `+`, 45 a hyphen, 61 `=`.
-use Rattle.std.specs.Prelude.{◌≡◌, ℕ, ◌+◌, ◌==◌, ◌&&◌, nat_lt, Bool, List, [], ◌∷◌, length, ◌⊎◌, Option, Some, None, Result, Ok, Err, if◌then◌else◌}
-use Rattle.std.specs.List.{before_first, after_first, position_or_len}
-use Rattle.seg_core.specs.Count.{is_number}
-use Rattle.seg_core.specs.declared.count.Sign.TheVariants.{Plain, Plus}
-use Rattle.ports_core.specs.declared.calling.Calling.{Calling}
-use Rattle.ports_core.specs.declared.fault.Fault.{Fault}
-use Rattle.ports_core.specs.declared.fault.Fault.TheVariants.{Usage, Memory}
-use Rattle.ports_core.specs.declared.fault.UsageKind.{UsageKind}
-use Rattle.ports_core.specs.declared.fault.UsageKind.TheVariants.{UnknownOption, MissingValue, UnexpectedValue}
-use Rattle.words_core.specs.declared.choice.Choice.{Choice}
-use Rattle.words_core.specs.declared.choice.Choice.TheVariants.{About}
-use Rattle.words_core.specs.declared.choice.Kind.{Kind}
-use Rattle.words_core.specs.declared.settings.Topic.{Topic}
-use Rattle.words_core.specs.declared.table.Letters.{Letters}
-use Rattle.words_core.specs.declared.table.Takes.{Takes}
+use Rattle.std.specs.{
+  Prelude.{◌≡◌, ℕ, ◌+◌, ◌==◌, ◌&&◌, nat_lt, Bool, List, [], ◌∷◌, length, ◌⊎◌, Option, Some, None, Result, Ok, Err, if◌then◌else◌},
+  List.{before_first, after_first, position_or_len},
+}
+use Rattle.seg_core.specs.{Count.is_number, declared.count.Sign.TheVariants.{Plain, Plus}}
+use Rattle.ports_core.specs.declared.{calling.Calling.Calling, fault.{Fault.{Fault, TheVariants.{Usage, Memory}}, UsageKind.{UsageKind, TheVariants.{UnknownOption, MissingValue, UnexpectedValue}}}}
+use Rattle.words_core.specs.{
+  declared.choice.{Choice.{Choice, TheVariants.About}, Kind.Kind},
+  declared.settings.Topic.Topic,
+  declared.table.{Letters.Letters, Takes.Takes},
+  declared.spelling.State.{State, TheVariants.{First, Reading, Awaiting, OnlyOperands, Ended}},
+  Table.{OptionRow, ToolRow, option_called, option_named},
+  Choice.choice_in,
+  Value.then_check,
+  Lettered.{is_lettered, is_start, with_letters},
+  Given.{Given, nothing, bare, one_option, one_operand, joined},
+}
 use Rattle.words_core.specs.declared.table.Takes.TheVariants as takes
-use Rattle.words_core.specs.declared.spelling.State.{State}
-use Rattle.words_core.specs.declared.spelling.State.TheVariants.{First, Reading, Awaiting, OnlyOperands, Ended}
-use Rattle.words_core.specs.Table.{OptionRow, ToolRow, option_called, option_named}
-use Rattle.words_core.specs.Choice.{choice_in}
-use Rattle.words_core.specs.Value.{then_check}
-use Rattle.words_core.specs.Lettered.{is_lettered, is_start, with_letters}
-use Rattle.words_core.specs.Given.{Given, nothing, bare, one_option, one_operand, joined}
 
 -- what a word, or some of its letters, gives, and what it leaves to the next word
 pub record Meaning : Type 0 where

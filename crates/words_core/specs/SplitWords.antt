@@ -1,24 +1,15 @@
 -- What options and operands ask of `split`, or what is wrong with them.
-use Rattle.std.specs.Prelude.{ℕ, zero, suc, ◌+◌, ◌==◌, ◌≤◌, ◌<◌, nat_le, Bool, true, false, List, [], ◌∷◌, filter, codes, is_some, Option, Some, None, Result, Ok, Err, if◌then◌else◌}
-use Rattle.std.specs.Option.{unwrap_or}
-use Rattle.ports_core.specs.Name.{name_count}
-use Rattle.ports_core.specs.declared.alphabet.Alphabet.{Alphabet}
-use Rattle.ports_core.specs.declared.alphabet.Alphabet.TheVariants.{Letters}
-use Rattle.ports_core.specs.declared.fault.Fault.{Fault}
-use Rattle.ports_core.specs.declared.fault.Fault.TheVariants.{Usage}
-use Rattle.ports_core.specs.declared.fault.UsageKind.TheVariants.{TwoWays, SuffixTooShort, ExtraOperand}
-use Rattle.seg_core.specs.Cut.{most}
-use Rattle.seg_core.specs.declared.cut.Cut.TheVariants.{Parts, Round}
-use Rattle.seg_core.specs.declared.cut.Limit.TheVariants.{Lines, Bytes, LineBytes}
-use Rattle.seg_core.specs.declared.cut.Way.{Way}
-use Rattle.seg_core.specs.declared.cut.Way.TheVariants.{Cut, Chunk, Chunks, Turn}
-use Rattle.words_core.specs.declared.choice.Choice.{Choice}
+use Rattle.std.specs.{
+  Prelude.{ℕ, zero, suc, ◌+◌, ◌==◌, ◌≤◌, ◌<◌, nat_le, Bool, true, false, List, [], ◌∷◌, filter, codes, is_some, Option, Some, None, Result, Ok, Err, if◌then◌else◌},
+  Option.unwrap_or,
+}
+use Rattle.ports_core.specs.{
+  Name.name_count,
+  declared.{alphabet.Alphabet.{Alphabet, TheVariants.Letters}, fault.{Fault.{Fault, TheVariants.Usage}, UsageKind.TheVariants.{TwoWays, SuffixTooShort, ExtraOperand}}},
+}
+use Rattle.seg_core.specs.{Cut.most, declared.cut.{Cut.TheVariants.{Parts, Round}, Limit.TheVariants.{Lines, Bytes, LineBytes}, Way.{Way, TheVariants.{Cut, Chunk, Chunks, Turn}}}}
+use Rattle.words_core.specs.{declared.{choice.Choice.Choice, split_words.Suffix.Suffix, spelled.Chosen.Chosen}, Division.way_of_division, Value.then_check, Given.{asked_by, Given, GivenOperand}}
 use Rattle.words_core.specs.declared.choice.Choice.TheVariants as choice
-use Rattle.words_core.specs.declared.split_words.Suffix.{Suffix}
-use Rattle.words_core.specs.Division.{way_of_division}
-use Rattle.words_core.specs.Value.{then_check}
-use Rattle.words_core.specs.declared.spelled.Chosen.{Chosen}
-use Rattle.words_core.specs.Given.{asked_by, Given, GivenOperand}
 
 -- what words ask of `split`
 pub record SplitAsked : Type 0 where

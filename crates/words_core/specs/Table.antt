@@ -3,28 +3,26 @@
 -- `--additional-suffix`, `-u` and `--verbose` of `split`, the `-b` and `--suppress-matched` of `csplit`, the `-F`, `--follow`, `--retry`,
 -- `-s`, `--pid` and `--max-unchanged-stats` of `tail`, the `-p` and `--output-error` of `tee`, and the long names;
 -- `--looks` is of these tools alone.
-use Rattle.std.specs.Prelude.{ℕ, Bool, true, false, List, [], ◌∷◌, map, filter, codes, Option, Some, None, Result, Ok, Err, if◌then◌else◌, eqb, bytes_eq}
-use Rattle.std.specs.List.{starts_with}
-use Rattle.ports_core.specs.declared.fault.UsageKind.{UsageKind}
-use Rattle.ports_core.specs.declared.fault.UsageKind.TheVariants.{UnknownOption, AmbiguousOption}
-use Rattle.ports_core.specs.declared.tool.Tool.{Tool}
-use Rattle.ports_core.specs.declared.tool.Tool.TheVariants.{Head, Tail, Split, Csplit, Tee}
-use Rattle.ports_core.specs.declared.alphabet.Alphabet.TheVariants.{Digits as Decimal, Hex as Hexadecimal}
-use Rattle.ports_core.specs.declared.on_broken.OnBroken.TheVariants.{WarnNoPipe}
+use Rattle.std.specs.{Prelude.{ℕ, Bool, true, false, List, [], ◌∷◌, map, filter, codes, Option, Some, None, Result, Ok, Err, if◌then◌else◌, eqb, bytes_eq}, List.starts_with}
+use Rattle.ports_core.specs.declared.{
+  fault.UsageKind.{UsageKind, TheVariants.{UnknownOption, AmbiguousOption}},
+  tool.Tool.{Tool, TheVariants.{Head, Tail, Split, Csplit, Tee}},
+  alphabet.Alphabet.TheVariants.{Digits as Decimal, Hex as Hexadecimal},
+  on_broken.OnBroken.TheVariants.WarnNoPipe,
+}
 use Rattle.seg_core.specs.declared.unit.Unit.TheVariants.{Lines, Bytes}
-use Rattle.words_core.specs.declared.choice.Choice.{Choice}
+use Rattle.words_core.specs.declared.{
+  choice.Choice.Choice,
+  choice.Kind.Kind,
+  choice.Kind.TheVariants.{Amount, Follow, Looks, Pause, Process, LinesEach, BytesEach, LineBytesEach, Divided, Width, NumericSuffixes, HexSuffixes, Separator, Ending, Prefix, Format, OnBroken, NoEffect},
+  settings.{Headers.TheVariants.{Never, Always}, Topic.TheVariants.{Help, Version}},
+  value.Followed.TheVariants.Descriptor,
+  table.Letters.{Letters, TheVariants.{Never as NoLetters, OfHead, OfTail}},
+  table.OptionRow.OptionRow as WrittenOption,
+  table.Takes.{Takes, TheVariants.{Nothing, Value, Optional, Last}},
+  table.ToolRow.ToolRow as WrittenTool,
+}
 use Rattle.words_core.specs.declared.choice.Choice.TheVariants as asks
-use Rattle.words_core.specs.declared.choice.Kind.{Kind}
-use Rattle.words_core.specs.declared.choice.Kind.TheVariants.{Amount, Follow, Looks, Pause, Process, LinesEach, BytesEach, LineBytesEach, Divided, Width, NumericSuffixes, HexSuffixes, Separator, Ending, Prefix, Format, OnBroken, NoEffect}
-use Rattle.words_core.specs.declared.settings.Headers.TheVariants.{Never, Always}
-use Rattle.words_core.specs.declared.settings.Topic.TheVariants.{Help, Version}
-use Rattle.words_core.specs.declared.value.Followed.TheVariants.{Descriptor}
-use Rattle.words_core.specs.declared.table.Letters.{Letters}
-use Rattle.words_core.specs.declared.table.Letters.TheVariants.{Never as NoLetters, OfHead, OfTail}
-use Rattle.words_core.specs.declared.table.OptionRow.{OptionRow as WrittenOption}
-use Rattle.words_core.specs.declared.table.Takes.{Takes}
-use Rattle.words_core.specs.declared.table.Takes.TheVariants.{Nothing, Value, Optional, Last}
-use Rattle.words_core.specs.declared.table.ToolRow.{ToolRow as WrittenTool}
 
 -- an option: its names as they are written, whether it takes a value, and what it asks for; and for help what its value
 -- is called and what it does

@@ -1,18 +1,15 @@
 -- What options and operands ask of `tail`, or what is wrong with them.
-use Rattle.std.specs.Prelude.{ℕ, ◌-◌, ◌^◌, Bool, true, false, List, [], ◌∷◌, codes, Option, Some, None, Result, Ok, Err, if◌then◌else◌, bytes_eq}
-use Rattle.std.specs.List.{list_any}
-use Rattle.ports_core.specs.declared.fault.Fault.{Fault}
-use Rattle.ports_core.specs.declared.fault.Fault.TheVariants.{Usage}
-use Rattle.ports_core.specs.declared.fault.UsageKind.TheVariants.{BadFollow}
-use Rattle.words_core.specs.declared.choice.Choice.{Choice}
-use Rattle.words_core.specs.declared.choice.Choice.TheVariants.{Follow, FollowNames, Retry, Looks, Pause, Process}
-use Rattle.words_core.specs.declared.spelled.Chosen.{Chosen}
-use Rattle.words_core.specs.declared.value.Followed.{Followed}
-use Rattle.words_core.specs.declared.value.Followed.TheVariants.{Descriptor, Name}
-use Rattle.words_core.specs.EndsWords.{EndsAsked, ends_by, names_asked, ten_lines}
-use Rattle.words_core.specs.Given.{asked_by, Given, texts_of}
-use Rattle.words_core.specs.declared.tail_words.TailSettings.{TailSettings}
-use Rattle.words_core.specs.Value.{then_check}
+use Rattle.std.specs.{Prelude.{ℕ, ◌-◌, ◌^◌, Bool, true, false, List, [], ◌∷◌, codes, Option, Some, None, Result, Ok, Err, if◌then◌else◌, bytes_eq}, List.list_any}
+use Rattle.ports_core.specs.declared.fault.{Fault.{Fault, TheVariants.Usage}, UsageKind.TheVariants.BadFollow}
+use Rattle.words_core.specs.{
+  declared.choice.Choice.{Choice, TheVariants.{Follow, FollowNames, Retry, Looks, Pause, Process}},
+  declared.spelled.Chosen.Chosen,
+  declared.value.Followed.{Followed, TheVariants.{Descriptor, Name}},
+  declared.tail_words.TailSettings.TailSettings,
+  EndsWords.{EndsAsked, ends_by, names_asked, ten_lines},
+  Given.{asked_by, Given, texts_of},
+  Value.then_check,
+}
 
 -- without options nothing is followed, and a pause lasts a second at most
 abbrev pub unfollowed : EndsAsked → TailSettings

@@ -1,15 +1,12 @@
 -- What options and operands ask of `tee`.
-use Rattle.ports_core.specs.declared.calling.Calling.{Calling}
-use Rattle.ports_core.specs.declared.calling.Calling.TheVariants.{Cutters, OwnName}
-use Rattle.ports_core.specs.declared.on_broken.OnBroken.TheVariants.{Warn, Signal}
+use Rattle.ports_core.specs.declared.{
+  calling.Calling.{Calling, TheVariants.{Cutters, OwnName}},
+  on_broken.OnBroken.{OnBroken, TheVariants.{Warn, Signal}},
+  slot.Mode.{Mode, TheVariants.{Fresh, Append}},
+}
 use Rattle.std.specs.Prelude.{ℕ, List}
-use Rattle.ports_core.specs.declared.slot.Mode.TheVariants.{Fresh, Append}
-use Rattle.words_core.specs.declared.choice.Choice.{Choice}
+use Rattle.words_core.specs.{declared.{choice.Choice.Choice, spelled.Chosen.Chosen}, Given.{asked_by, Given, texts_of}}
 use Rattle.words_core.specs.declared.choice.Choice.TheVariants as choice
-use Rattle.words_core.specs.declared.spelled.Chosen.{Chosen}
-use Rattle.words_core.specs.Given.{asked_by, Given, texts_of}
-use Rattle.ports_core.specs.declared.on_broken.OnBroken.{OnBroken}
-use Rattle.ports_core.specs.declared.slot.Mode.{Mode}
 
 -- what words ask of `tee`
 pub record TeeAsked : Type 0 where

@@ -1,16 +1,16 @@
 -- What the value of an option says, or what is wrong with it. A value that isn't of its form is told before one that is
 -- too large, and that before 0.
-use Rattle.std.specs.Prelude.{ℕ, ◌+◌, ◌-◌, ◌*◌, ◌/◌, ◌^◌, ◌==◌, ◌&&◌, Bool, nat_lt, nat_le, min, codes, length, List, [], ◌∷◌, Option, Some, None, Result, Ok, Err, if◌then◌else◌, bytes_eq}
-use Rattle.std.specs.Char.{is_ascii_digit, is_digit}
-use Rattle.std.specs.List.{list_all, list_any}
-use Rattle.std.specs.Str.Parse.{digits_value}
+use Rattle.std.specs.{
+  Prelude.{ℕ, ◌+◌, ◌-◌, ◌*◌, ◌/◌, ◌^◌, ◌==◌, ◌&&◌, Bool, nat_lt, nat_le, min, codes, length, List, [], ◌∷◌, Option, Some, None, Result, Ok, Err, if◌then◌else◌, bytes_eq},
+  Char.{is_ascii_digit, is_digit},
+  List.{list_all, list_any},
+  Str.Parse.digits_value,
+}
 use Rattle.seg_core.specs.Count.{after_digits, count_of, digits_of, leading_digits, value_of}
-use Rattle.ports_core.specs.declared.on_broken.OnBroken.{OnBroken}
-use Rattle.ports_core.specs.declared.on_broken.OnBroken.TheVariants as on_broken
-use Rattle.ports_core.specs.declared.fault.UsageKind.{UsageKind}
-use Rattle.ports_core.specs.declared.fault.UsageKind.TheVariants.{BadNumber, NumberTooLarge, BadSeparator, BadSuffix, BadFollow, BadMode}
+use Rattle.ports_core.specs.declared.{on_broken.OnBroken.OnBroken, fault.UsageKind.{UsageKind, TheVariants.{BadNumber, NumberTooLarge, BadSeparator, BadSuffix, BadFollow, BadMode}}}
 pub use Rattle.words_core.specs.Number.{counted, not_zero, number_fault, then_check, up_to}
 use Rattle.words_core.specs.declared.value.Followed.{Followed}
+use Rattle.ports_core.specs.declared.on_broken.OnBroken.TheVariants as on_broken
 use Rattle.words_core.specs.declared.value.Followed.TheVariants as followed
 
 -- a number in hexadecimal: one or more digits, `A` to `F` as `a` to `f`, and nothing else; 2^63-1 at most

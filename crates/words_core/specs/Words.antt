@@ -1,29 +1,21 @@
 -- What a list of words asks for, by how the program was called. The first word is the tool's name, and words are counted
 -- from there, from 0.
 use Rattle.std.specs.Prelude.{ℕ, ◌-◌, ◌^◌, Bool, true, false, List, [], ◌∷◌, Option, Some, None, option_map, Result, Ok, Err}
-use Rattle.ports_core.specs.declared.calling.Calling.{Calling}
-use Rattle.ports_core.specs.declared.tool.Tool.{Tool}
+use Rattle.ports_core.specs.declared.{calling.Calling.Calling, tool.Tool.Tool, fault.{Fault.{Fault, TheVariants.Usage}, UsageKind.TheVariants.{MissingTool, UnknownTool}}}
+use Rattle.words_core.specs.{
+  declared.{settings.{Settings.{Settings, TheVariants.{Head, Tail, Split, Csplit, Tee, About}}, Topic.Topic}, choice.Choice.Choice, spelled.Chosen.Chosen, table.Takes.{Takes, TheVariants.Last}},
+  Table.{ToolRow, option_named, program_table, row_named, tools},
+  Given.Given,
+  Spelling.given_by,
+  CsplitWords.{HasBadOperand, HasRead, csplit_asked},
+  EndsWords.ends_asked,
+  SplitWords.{CanSplit, split_asked},
+  Value.then_check,
+  TailWords.tail_asked,
+  TeeWords.tee_asked,
+}
 use Rattle.ports_core.specs.declared.tool.Tool.TheVariants as tool
-use Rattle.ports_core.specs.declared.fault.Fault.{Fault}
-use Rattle.ports_core.specs.declared.fault.Fault.TheVariants.{Usage}
-use Rattle.ports_core.specs.declared.fault.UsageKind.TheVariants.{MissingTool, UnknownTool}
-use Rattle.words_core.specs.declared.settings.Settings.{Settings}
-use Rattle.words_core.specs.declared.settings.Settings.TheVariants.{Head, Tail, Split, Csplit, Tee, About}
-use Rattle.words_core.specs.declared.settings.Topic.{Topic}
-use Rattle.words_core.specs.declared.choice.Choice.{Choice}
 use Rattle.words_core.specs.declared.choice.Choice.TheVariants as choice
-use Rattle.words_core.specs.declared.spelled.Chosen.{Chosen}
-use Rattle.words_core.specs.declared.table.Takes.{Takes}
-use Rattle.words_core.specs.declared.table.Takes.TheVariants.{Last}
-use Rattle.words_core.specs.Table.{ToolRow, option_named, program_table, row_named, tools}
-use Rattle.words_core.specs.Given.{Given}
-use Rattle.words_core.specs.Spelling.{given_by}
-use Rattle.words_core.specs.CsplitWords.{HasBadOperand, HasRead, csplit_asked}
-use Rattle.words_core.specs.EndsWords.{ends_asked}
-use Rattle.words_core.specs.SplitWords.{CanSplit, split_asked}
-use Rattle.words_core.specs.Value.{then_check}
-use Rattle.words_core.specs.TailWords.{tail_asked}
-use Rattle.words_core.specs.TeeWords.{tee_asked}
 
 -- the tool of this name
 abbrev pub tool_named : List ℕ → Option Tool

@@ -1,7 +1,6 @@
 //! What an option asks for, with its value.
 ghost use Rattle.std.specs.Prelude.{◌≡◌};
-ghost use Rattle.words_core.specs.Choice.{choice_in};
-ghost use Rattle.words_core.specs.inner.Choice.{seen_in};
+ghost use Rattle.words_core.specs.{Choice.choice_in, inner.Choice.seen_in};
 
 use crate::division::{Division, read_division};
 use crate::format::{Format, read_format};

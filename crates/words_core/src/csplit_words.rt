@@ -1,11 +1,13 @@
 //! What `csplit` is asked for: POSIX.1-2017, XCU csplit; `-b`, `-z` and `--suppress-matched` are GNU's.
 ghost use Rattle.std.specs.Prelude.{◌≡◌, map, IfOk, IfErr};
-ghost use Rattle.words_core.specs.CsplitWords.{HasBadOperand, HasRead, chosen_by, csplit_by, csplit_asked, format_or, plain, style_of};
-ghost use Rattle.words_core.specs.inner.Choice.{options_seen};
-ghost use Rattle.words_core.specs.Format.{format_seen};
-ghost use Rattle.words_core.specs.Given.{option_seen};
-ghost use Rattle.words_core.specs.Spelling.{IsRefused};
-ghost use Rattle.words_core.specs.Choice.{seen};
+ghost use Rattle.words_core.specs.{
+  CsplitWords.{HasBadOperand, HasRead, chosen_by, csplit_by, csplit_asked, format_or, plain, style_of},
+  inner.Choice.options_seen,
+  Format.format_seen,
+  Given.option_seen,
+  Spelling.IsRefused,
+  Choice.seen,
+};
 
 use crate::choice::Choice;
 use crate::csplit_settings::{CsplitSettings, read_settings};

@@ -1,29 +1,28 @@
 //! Laws of what words spell and ask for, with no code: each stands on the contract of a function whose body is empty.
-ghost use Rattle.std.specs.Prelude.{◌≡◌, ◌≢◌, ◌↔◌, ◌+◌, ◌-◌, ◌*◌, ◌^◌, ◌≤◌, ◌<◌, ◌++◌, ℕ, List, [], ◌∷◌, All, Option, Some, None, Result, Ok, Err, IsOk, true, false, length, filter, codes, if◌then◌else◌};
-ghost use Rattle.std.specs.List.{Contains, list_any};
-ghost use Rattle.ports_core.specs.declared.fault.UsageKind.{UsageKind};
-ghost use Rattle.ports_core.specs.declared.fault.UsageKind.TheVariants.{AmbiguousOption, BadFollow, MissingValue, NumberTooLarge, SuffixTooShort, TwoWays, UnknownOption};
-ghost use Rattle.words_core.specs.declared.spelling.State.TheVariants.{Reading};
-ghost use Rattle.seg_core.specs.declared.unit.Unit.{Unit as Measured};
-ghost use Rattle.seg_core.specs.Count.{count_of, digits_of, is_number, sized, value_of};
-ghost use Rattle.std.specs.Char.{is_ascii_digit};
-ghost use Rattle.words_core.specs.Given.{Given, asked_by, GivenOperand, bare, joined, one_operand, one_option};
-ghost use Rattle.words_core.specs.Division.{division_in, way_of_division};
-ghost use Rattle.words_core.specs.Choice.{choice_in};
-ghost use Rattle.words_core.specs.CsplitWords.{chosen_by, decimal_form, style_of};
-ghost use Rattle.words_core.specs.declared.format.Format.{Format as Written};
-ghost use Rattle.words_core.specs.Format.{Format, format_in};
-ghost use Rattle.words_core.specs.Laws.{AreAlike, AreAmong, AreNames, CsplitAsks, EndsAsk, FollowAsks, Gives, HasLetters, IsLetter, IsLong, IsNumberWithLetters, IsSwitch, IsTold, LastDecides, LeaveTheRest, MeanTheSame, NumberAsks, OnBrokenAsks, SplitAsks, StartAsks, TeeAsks, amount_of, appends, as_operands, as_wide, begin_with_start, counts, counts_looks, counts_pause, drops_sizes, elides_files, ends_with_zero, following, fresh_file, gives_ending, gives_format, has, heads, how_many, is_plain, keeps_files, kind_of, leave_open, leaves_lines_out, names_prefix, names_process, plain_style, retries, says_followed, says_on_broken, separates, spells, tells_of_files, ten_of_input, thousands, widens};
-ghost use Rattle.words_core.specs.EndsWords.{ends_of, ten_lines};
-ghost use Rattle.words_core.specs.Lettered.{is_lettered, is_start, unit_of, with_letters};
-ghost use Rattle.words_core.specs.SplitWords.{SplitAsked, is_way, least_width, split_asked, split_of, way_in, way_of, separator_in};
-ghost use Rattle.words_core.specs.Spelling.{cluster, given_at, given_before, mixed, onward, reading, spelled};
-ghost use Rattle.words_core.specs.Table.{OptionRow, alone, beginning, begins_one, head_table, option_called, option_named, tail_table, tools};
-ghost use Rattle.words_core.specs.declared.table.Letters.TheVariants.{OfHead, OfTail};
-ghost use Rattle.words_core.specs.TailWords.{retry_by, tail_of, unfollowed};
-ghost use Rattle.words_core.specs.TeeWords.{tee_asked, tee_of};
-ghost use Rattle.words_core.specs.Value.{byte_in, counted, ending_in, hex_in, pause_in, size_in, then_check, up_to};
-ghost use Rattle.words_core.specs.Words.{settings_for, settings_of, tool_named};
+ghost use Rattle.std.specs.{
+  Prelude.{◌≡◌, ◌≢◌, ◌↔◌, ◌+◌, ◌-◌, ◌*◌, ◌^◌, ◌≤◌, ◌<◌, ◌++◌, ℕ, List, [], ◌∷◌, All, Some, None, Ok, Err, IsOk, true, false, length, filter, codes, if◌then◌else◌},
+  List.Contains,
+};
+ghost use Rattle.ports_core.specs.declared.fault.UsageKind.{UsageKind, TheVariants.{AmbiguousOption, BadFollow, MissingValue, NumberTooLarge, SuffixTooShort, TwoWays, UnknownOption}};
+ghost use Rattle.words_core.specs.{
+  declared.{spelling.State.TheVariants.Reading, format.Format.Format as Written, table.Letters.TheVariants.{OfHead, OfTail}},
+  Given.{Given, asked_by, GivenOperand, bare, joined, one_operand, one_option},
+  Division.{division_in, way_of_division},
+  Choice.choice_in,
+  CsplitWords.{chosen_by, decimal_form, style_of},
+  Format.{Format, format_in},
+  Laws.{AreAlike, AreAmong, AreNames, CsplitAsks, EndsAsk, FollowAsks, Gives, HasLetters, IsLetter, IsLong, IsNumberWithLetters, IsSwitch, IsTold, LastDecides, LeaveTheRest, MeanTheSame, NumberAsks, OnBrokenAsks, SplitAsks, StartAsks, TeeAsks, amount_of, appends, as_operands, as_wide, begin_with_start, counts, counts_looks, counts_pause, drops_sizes, elides_files, ends_with_zero, following, fresh_file, gives_ending, gives_format, has, heads, how_many, is_plain, keeps_files, kind_of, leave_open, leaves_lines_out, names_prefix, names_process, plain_style, retries, says_followed, says_on_broken, separates, spells, tells_of_files, ten_of_input, thousands, widens},
+  EndsWords.{ends_of, ten_lines},
+  Lettered.{is_lettered, is_start, with_letters},
+  SplitWords.{SplitAsked, is_way, least_width, split_asked, split_of, way_in, way_of, separator_in},
+  Spelling.{cluster, given_at, given_before, mixed, onward, reading, spelled},
+  Table.{OptionRow, alone, beginning, begins_one, head_table, option_called, option_named, tail_table, tools},
+  TailWords.{retry_by, tail_of, unfollowed},
+  TeeWords.{tee_asked, tee_of},
+  Value.{byte_in, counted, ending_in, hex_in, pause_in, size_in, then_check, up_to},
+  Words.{settings_for, settings_of, tool_named},
+};
+ghost use Rattle.seg_core.specs.{declared.unit.Unit.Unit as Measured, Count.{count_of, digits_of, is_number, sized, value_of}};
 
 use crate::choice::{Choice, Kind};
 use crate::division::Division;

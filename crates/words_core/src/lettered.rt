@@ -2,11 +2,13 @@
 //! `tail` (GNU's, from before POSIX).
 ghost use Rattle.std.specs.Prelude.{◌≡◌, ◌+◌, ◌-◌, ◌^◌, ◌==◌, IfErr, IfOk, filter, if◌then◌else◌, length, map, min};
 ghost use Rattle.seg_core.specs.Count.{after_digits, leading_digits, value_of};
-ghost use Rattle.words_core.specs.Given.{joined};
-ghost use Rattle.words_core.specs.inner.Spelling.{Adds};
-ghost use Rattle.words_core.specs.Lettered.{are_known, are_of_tail, is_known, is_lettered, is_start, is_switch, is_unit, letter_named, switched, switches, times, unit_in, unit_of, with_letters};
-ghost use Rattle.words_core.specs.Spelling.{given_at, reading};
-ghost use Rattle.words_core.specs.Table.{row_seen};
+ghost use Rattle.words_core.specs.{
+  Given.joined,
+  inner.Spelling.Adds,
+  Lettered.{are_known, are_of_tail, is_known, is_lettered, is_start, is_switch, is_unit, letter_named, switched, switches, times, unit_in, unit_of, with_letters},
+  Spelling.{given_at, reading},
+  Table.row_seen,
+};
 
 use crate::choice::Choice;
 use crate::spelled::Spelled;

@@ -1,11 +1,12 @@
 //! How words are read to options and operands (POSIX.1-2017, XBD 12.2; long options are GNU's).
-ghost use Rattle.std.specs.Prelude.{◌≡◌, ◌∷◌, Some, option_map, IfSome, map};
-ghost use Rattle.std.specs.List.{before_first};
+ghost use Rattle.std.specs.{Prelude.{◌≡◌, ◌∷◌, option_map, IfSome, map}, List.before_first};
 ghost use Rattle.seg_core.specs.Count.{is_number};
-ghost use Rattle.words_core.specs.inner.Spelling.{Adds, first_letter};
-ghost use Rattle.words_core.specs.Spelling.{Reads, after_equals, attached, cluster, ending, foremost, given_by, is_equals, long, meaning_of, mixed, named, reading, spelled, valued};
-ghost use Rattle.words_core.specs.Given.{one_operand};
-ghost use Rattle.words_core.specs.Table.{row_seen, tool_seen};
+ghost use Rattle.words_core.specs.{
+  inner.Spelling.{Adds, first_letter},
+  Spelling.{Reads, after_equals, attached, cluster, ending, foremost, given_by, is_equals, long, meaning_of, mixed, named, reading, spelled, valued},
+  Given.one_operand,
+  Table.{row_seen, tool_seen},
+};
 
 use crate::choice::{Choice, Kind, read_choice};
 use crate::lettered::{is_lettered, is_start, read_lettered};

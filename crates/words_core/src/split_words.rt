@@ -2,12 +2,14 @@
 //! `--additional-suffix` and `--verbose` are GNU's.
 ghost use Rattle.std.specs.Prelude.{◌≡◌, ℕ, ◌+◌, ◌^◌, ◌<◌, ◌≤◌, filter, map, IfOk, IfErr};
 ghost use Rattle.ports_core.specs.Name.{name_count};
-ghost use Rattle.words_core.specs.Given.{operand_seen, option_seen};
-ghost use Rattle.words_core.specs.SplitWords.{SplitAsked, files_in, first_number, fixed, for_all, free, least_width, names_all, no_options, numbered, or_two, separator_in, split_asked, split_by, split_of, suffix_for, thousand_lines, way_in, is_way, only_way, wide_enough};
-ghost use Rattle.words_core.specs.Division.{dealt_by, way_of_division};
-ghost use Rattle.words_core.specs.declared.division.Dealing.TheVariants.{Turns};
-ghost use Rattle.words_core.specs.inner.SplitWords.{with_way};
-ghost use Rattle.words_core.specs.Choice.{seen};
+ghost use Rattle.words_core.specs.{
+  Given.{operand_seen, option_seen},
+  SplitWords.{SplitAsked, files_in, first_number, fixed, for_all, free, least_width, names_all, no_options, numbered, or_two, separator_in, split_asked, split_by, split_of, suffix_for, thousand_lines, way_in, is_way, only_way, wide_enough},
+  Division.{dealt_by, way_of_division},
+  declared.division.Dealing.TheVariants.Turns,
+  inner.SplitWords.with_way,
+  Choice.seen,
+};
 
 use crate::choice::Choice;
 use crate::division::{Dealing, Division};

@@ -1,7 +1,6 @@
 //! What `tee` is asked for (POSIX.1-2017, XCU tee; `-p` and `--output-error` are GNU's).
 ghost use Rattle.std.specs.Prelude.{◌≡◌, map, IfOk, IfErr};
-ghost use Rattle.words_core.specs.Choice.{seen};
-ghost use Rattle.words_core.specs.TeeWords.{TeeAsked, fresh, tee_asked, tee_by, unless_said};
+ghost use Rattle.words_core.specs.{Choice.seen, TeeWords.{TeeAsked, fresh, tee_asked, tee_by, unless_said}};
 
 use crate::choice::Choice;
 use crate::spelled::{Spelled, texts_of};

@@ -1,8 +1,10 @@
 //! The words of the command line, from the tool's name on (POSIX.1-2017, XBD 12.2).
 ghost use Rattle.std.specs.Prelude.{◌≡◌, map, IfOk, IfErr};
-ghost use Rattle.words_core.specs.Given.{option_seen};
-ghost use Rattle.words_core.specs.Spelling.{IsRefused};
-ghost use Rattle.words_core.specs.Words.{CanRun, HasBadOperands, HasOperands, follows, looks, program_asked, settings_for, settings_of, tool_named, topic_in, topic_named, work_for};
+ghost use Rattle.words_core.specs.{
+  Given.option_seen,
+  Spelling.IsRefused,
+  Words.{CanRun, HasBadOperands, HasOperands, follows, looks, program_asked, settings_for, settings_of, tool_named, topic_in, topic_named, work_for},
+};
 
 use crate::choice::Choice;
 use crate::csplit_words::settle_csplit;

@@ -1,12 +1,9 @@
 -- How positions are counted while tokens are read: up to a cap, one concatenation inside another.
 use Rattle.std.specs.Prelude.{◌≡◌, ℕ, ◌+◌, ◌<◌, ◌≤◌, min, List, [], ◌∷◌, ◌++◌, length}
-use Rattle.bre_core.specs.declared.fault.BreFault.{BreFault}
-use Rattle.bre_core.specs.declared.fault.BreFault.TheVariants.{CloseGroup, TooLarge, Memory}
-use Rattle.bre_core.specs.declared.token.Token.{Token}
-use Rattle.bre_core.specs.declared.token.Token.TheVariants.{Set, Front, End, Open, Close, Repeat}
-use Rattle.bre_core.specs.declared.counting.Count.{Count}
-use Rattle.bre_core.specs.declared.counting.Group.{Group}
-use Rattle.bre_core.specs.Pattern.{repeated}
+use Rattle.bre_core.specs.{
+  declared.{fault.BreFault.{BreFault, TheVariants.{CloseGroup, TooLarge, Memory}}, token.Token.{Token, TheVariants.{Set, Front, End, Open, Close, Repeat}}, counting.{Count.Count, Group.Group}},
+  Pattern.repeated,
+}
 
 -- a count that goes up to one past the most positions a pattern may have
 abbrev pub capped : ℕ → ℕ

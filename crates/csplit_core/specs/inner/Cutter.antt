@@ -1,41 +1,33 @@
 -- What private calls say of where a run stands, of the cutter of lines, and of the stage that takes in bytes.
 use Rattle.std.specs.Prelude.{◌≡◌, ℕ, ◌<◌, ◌≤◌, Bool, false, List, ◌∷◌, length, drop, ◌⊎◌, ◌+◌, true, [], ◌++◌, take, get_or, Option, Some, None, IfNone, IfSome, IfOk, Result, Ok, Err, ◌≢◌, OnOk, IsTrue, if◌then◌else◌}
-use Rattle.csplit_core.specs.Operand.{Operand, Line, is_match}
-use Rattle.csplit_core.specs.Plan.{State, CutsAt, search_line, line_after, state_after}
-use Rattle.csplit_core.specs.Measure.{Moves}
-use Rattle.csplit_core.specs.declared.progress.Progress.{Progress}
-use Rattle.csplit_core.specs.declared.progress.Turn.{Turn}
-use Rattle.csplit_core.specs.declared.progress.Turn.TheVariants.{UsedUp, Missed, Above, Below, Cuts}
-use Rattle.csplit_core.specs.Progress.{state_of, WillMove, EndsHere, AimsAt}
-use Rattle.bre_core.specs.Pattern.{Pattern}
-use Rattle.bre_core.specs.Search.{contains}
+use Rattle.csplit_core.specs.{
+  Operand.{Operand, Line, is_match},
+  Plan.{State, CutsAt, search_line, line_after, state_after},
+  Measure.Moves,
+  declared.{progress.{Progress.Progress, Turn.{Turn, TheVariants.{UsedUp, Missed, Above, Below, Cuts}}}, line_cutter.{Cut.Cut, LineCutter.LineCutter, Passed.Passed}},
+  Progress.{state_of, WillMove, EndsHere, AimsAt},
+  Csplit.{settled_of, whole_of, verdict_of},
+  Input.{newline, without_newline, marked, all_lines, open_line},
+  Output.{Style, manner_of, naming_of, sizes_wanted},
+  Planned.plan,
+  inner.PlanLaws.needed,
+  Section.is_final,
+  Cutter.{CutterState, AimHolds, seen, suppress_in, state_in, kept_by, IsFit, IsSound, load, draft_by, IsAt, EndsNow, IsLive, Stands},
+  CsplitState.{CsplitState, terms, whole_lines},
+}
+use Rattle.bre_core.specs.{Pattern.Pattern, Search.contains}
 use Rattle.seg_core.specs.Line.{lines_of, line_count, ends_with, delimiters}
-use Rattle.ports_core.specs.Part.{Part, Begins, nothing}
-use Rattle.ports_core.specs.Slot.{Slot, is_writable}
-use Rattle.ports_core.specs.Swept.{Removes, HasNoFiles}
-use Rattle.ports_core.specs.declared.fault.Fault.{Fault}
-use Rattle.ports_core.specs.declared.fault.Fault.TheVariants.{Memory}
+use Rattle.ports_core.specs.{
+  Part.{Part, Begins, nothing},
+  Slot.{Slot, is_writable},
+  Swept.{Removes, HasNoFiles},
+  declared.{fault.Fault.{Fault, TheVariants.Memory}, verdict.Verdict.Verdict, file_writer.{Keeps.TheVariants.All, Tells.{Tells, TheVariants.{Nothing, Sizes}}}},
+  Draft.draft_part,
+  FileWriter.{WriterState, OwnsFiles, IsManner, IsReady, Breaks, manner_in, size_of, Leaves, Reaches, new_writer, paused},
+  Turn.fault_in,
+  Engine.Sweeps,
+}
 use Rattle.ports_core.specs.declared.fault.Fault.TheVariants as fault_is
-use Rattle.ports_core.specs.declared.verdict.Verdict.{Verdict}
-use Rattle.csplit_core.specs.Csplit.{settled_of, whole_of, verdict_of}
-use Rattle.ports_core.specs.Draft.{draft_part}
-use Rattle.ports_core.specs.FileWriter.{WriterState, OwnsFiles, IsManner, IsReady, Breaks, manner_in, size_of}
-use Rattle.ports_core.specs.FileWriter.{Leaves, Reaches, new_writer, paused}
-use Rattle.ports_core.specs.declared.file_writer.Keeps.TheVariants.{All}
-use Rattle.ports_core.specs.declared.file_writer.Tells.{Tells}
-use Rattle.ports_core.specs.declared.file_writer.Tells.TheVariants.{Nothing, Sizes}
-use Rattle.csplit_core.specs.Input.{newline, without_newline, marked, all_lines, open_line}
-use Rattle.csplit_core.specs.Output.{Style, manner_of, naming_of, sizes_wanted}
-use Rattle.csplit_core.specs.Planned.{plan}
-use Rattle.csplit_core.specs.inner.PlanLaws.{needed}
-use Rattle.csplit_core.specs.Section.{is_final}
-use Rattle.ports_core.specs.Turn.{fault_in}
-use Rattle.csplit_core.specs.declared.line_cutter.Cut.{Cut}
-use Rattle.csplit_core.specs.declared.line_cutter.LineCutter.{LineCutter}
-use Rattle.csplit_core.specs.declared.line_cutter.Passed.{Passed}
-use Rattle.csplit_core.specs.Cutter.{CutterState, AimHolds, seen, suppress_in, state_in, kept_by, IsFit, IsSound, load, draft_by, IsAt, EndsNow, IsLive, Stands}
-use Rattle.ports_core.specs.Engine.{Sweeps}
-use Rattle.csplit_core.specs.CsplitState.{CsplitState, terms, whole_lines}
 
 -- There are `total` lines; of the next operand it is known whether it matches the last one, if its search reaches that
 -- line, and that it matches none between the beginning of its search and the last line.

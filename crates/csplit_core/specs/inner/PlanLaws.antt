@@ -1,9 +1,11 @@
 -- What private calls say: the plan that is computed is the one plan there is, and what sections are as more lines come.
 use Rattle.std.specs.Prelude.{◌≡◌, ℕ, suc, ◌+◌, ◌<◌, true, false, List, length, Option, Some, None, ◌-◌, ◌*◌, Bool, [], ◌∷◌, ◌≤◌, ◌++◌}
-use Rattle.csplit_core.specs.Operand.{Operand, Line, Target, Number, Search, is_kept, most_held}
-use Rattle.csplit_core.specs.Plan.{IsFirst, MatchesNone, State, Step, Ending, Runs, used_up, missed, above, below, CutsAt, Misses}
-use Rattle.csplit_core.specs.Planned.{Plan, Turn, ends, goes, turn, ended, with_step, plan_within, plan}
-use Rattle.csplit_core.specs.Section.{Section, settled_end}
+use Rattle.csplit_core.specs.{
+  Operand.{Operand, Line, Target, Number, Search, is_kept, most_held},
+  Plan.{IsFirst, MatchesNone, State, Step, Ending, Runs, used_up, missed, above, below, CutsAt, Misses},
+  Planned.{Plan, Turn, ends, goes, turn, ended, with_step, plan_within, plan},
+  Section.{Section, settled_end},
+}
 
 abbrev pub MatchesAs : Operand → List Line → ℕ → Option ℕ → Type 0
 MatchesAs operand lines from None = MatchesNone operand lines from

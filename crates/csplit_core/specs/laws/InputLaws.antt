@@ -1,17 +1,14 @@
 -- The laws of what `csplit` makes of an input.
-use Rattle.std.proofs.Common.{◌≡◌, ℕ, ◌+◌, ◌≤◌, List, ◌++◌, map, take, drop, sym, ◌∙◌, ap, subst, arith}
-use Rattle.std.proofs.lemmas.List.{map-append, take-append-drop}
-use Rattle.seg_core.specs.Line.{lines_of, delimiters}
-use Rattle.seg_core.proofs.Delimiters.{delimiters-append}
-use Rattle.seg_core.proofs.FirstLines.{first_lines-full, lines_of-first_lines}
-use Rattle.ports_core.specs.Part.{Begins}
-use Rattle.csplit_core.specs.Operand.{Operand, Line}
-use Rattle.csplit_core.specs.Output.{Style}
-use Rattle.csplit_core.specs.Csplit.{settled_of, settled_by, whole_by, csplit_work}
-use Rattle.ports_core.specs.Work.{IsLawful}
-use Rattle.std.proofs.lemmas.Bool.{false≢true}
-use Rattle.csplit_core.specs.Input.{newline, marked, all_lines, complete_lines}
-use Rattle.csplit_core.specs.laws.SectionLaws.{take_begins, grows, ends_with}
+use Rattle.std.proofs.{Common.{◌≡◌, ℕ, ◌+◌, ◌≤◌, List, ◌++◌, map, take, drop, sym, ◌∙◌, ap, subst, arith}, lemmas.{List.{map-append, take-append-drop}, Bool.false≢true}}
+use Rattle.seg_core.{specs.Line.{lines_of, delimiters}, proofs.{Delimiters.delimiters-append, FirstLines.{first_lines-full, lines_of-first_lines}}}
+use Rattle.ports_core.specs.{Part.Begins, Work.IsLawful}
+use Rattle.csplit_core.specs.{
+  Operand.{Operand, Line},
+  Output.Style,
+  Csplit.{settled_of, settled_by, whole_by, csplit_work},
+  Input.{newline, marked, all_lines, complete_lines},
+  laws.SectionLaws.{take_begins, grows, ends_with},
+}
 
 same_lines : (x y : List ℕ) → take (delimiters newline x) (lines_of newline (x ++ y))
     ≡ take (delimiters newline x) (lines_of newline x)

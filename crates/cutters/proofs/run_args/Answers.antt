@@ -9,6 +9,6 @@ returns-in-Ok c =
     inl (
       _,
       _,
-      subst (λ (watch : DirWatchState). ProgramEnds c.args.args.now.calling false false false (λ slot why. true) (map string_bytes c.args.args.now.words.items) (λ slot name. None) c.args.inputs.now c.run_words.new.inputs (λ n. files_by watch.forgives watch.within) (seen c.run_words.new.watch) c.run_words.new.watch.watched c.run_words.new.outs c.run_words.result) c.new-watch.ensures
-          (subst (λ words. ProgramEnds c.args.args.now.calling false false false (λ slot why. true) words (λ slot name. None) c.args.inputs.now c.run_words.new.inputs (λ n. files_by c.new-watch.result.forgives c.new-watch.result.within) (seen c.run_words.new.watch) c.run_words.new.watch.watched c.run_words.new.outs c.run_words.result) same c.run_words.ensures.ends),
+      subst (λ (watch : DirWatchState). ProgramEnds c.args.args.now.calling false false false (map string_bytes c.args.args.now.words.items) (λ slot name. None) c.args.inputs.now c.run_words.new.inputs (λ n. files_by watch.forgives watch.within) (seen c.run_words.new.watch) c.run_words.new.watch.watched c.run_words.new.outs c.run_words.result) c.new-watch.ensures
+          (subst (λ words. ProgramEnds c.args.args.now.calling false false false words (λ slot name. None) c.args.inputs.now c.run_words.new.inputs (λ n. files_by c.new-watch.result.forgives c.new-watch.result.within) (seen c.run_words.new.watch) c.run_words.new.watch.watched c.run_words.new.outs c.run_words.result) same c.run_words.ensures.ends),
     )

@@ -1,11 +1,8 @@
 -- What private calls say of what waits: how it is written, and how that stops.
 use Rattle.std.specs.Prelude.{◌≡◌, ◌≤◌, false, length, ℕ, Bool, true, List, Result, OnOk, IfErr}
+use Rattle.ends_core.specs.{declared.kept.Kept.Kept, Kept.{unit_of, delim_of, most_of, held_of, may_lack_of}}
+use Rattle.ports_core.specs.{Slot.{Slot, with_written, told_of}, Write.BrokeAfter, declared.fault.Fault.Fault}
 use Rattle.seg_core.specs.declared.unit.Unit.TheVariants as unit
-use Rattle.ends_core.specs.declared.kept.Kept.{Kept}
-use Rattle.ends_core.specs.Kept.{unit_of, delim_of, most_of, held_of, may_lack_of}
-use Rattle.ports_core.specs.Slot.{Slot, with_written, told_of}
-use Rattle.ports_core.specs.Write.{BrokeAfter}
-use Rattle.ports_core.specs.declared.fault.Fault.{Fault}
 use Rattle.ports_core.specs.declared.fault.Fault.TheVariants as fault
 
 -- if it keeps bytes and is full, no memory can be wanting

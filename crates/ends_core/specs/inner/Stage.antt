@@ -1,17 +1,15 @@
 -- What private calls say: the one stage of `head` and `tail`, as contracts see it.
 use Rattle.std.specs.Prelude.{◌≡◌, ℕ, ◌-◌, ◌^◌, max, ◌==◌, ◌≤◌, ◌<◌, Bool, false, List, [], ◌++◌, length}
-use Rattle.seg_core.specs.declared.unit.Unit.{Unit as Counted}
-use Rattle.seg_core.specs.declared.unit.Unit.TheVariants.{Lines, Bytes}
-use Rattle.ends_core.specs.declared.ends.Ends.{Ends}
-use Rattle.ends_core.specs.declared.ends.Ends.TheVariants.{First, ButLast, FromNth, Last}
-use Rattle.ends_core.specs.Ends.{first_of, after_of, last_of, but_last_of, measure}
-use Rattle.ends_core.specs.Kept.{held_of, most_of, delim_of as kept_delim, unit_of as kept_unit}
-use Rattle.ends_core.specs.Stage.{stretch_of, unit_of, delim_of, count_of, waiting_of, may_lack, least_of, missing_of}
-use Rattle.ends_core.specs.inner.Kept.{Stops}
-use Rattle.ports_core.specs.Slot.{Slot}
-use Rattle.ports_core.specs.declared.fault.Fault.{Fault}
+use Rattle.seg_core.specs.declared.unit.Unit.{Unit as Counted, TheVariants.{Lines, Bytes}}
+use Rattle.ends_core.specs.{
+  declared.ends.Ends.{Ends, TheVariants.{First, ButLast, FromNth, Last}},
+  Ends.{first_of, after_of, last_of, but_last_of, measure},
+  Kept.{held_of, most_of, delim_of as kept_delim, unit_of as kept_unit},
+  Stage.{stretch_of, unit_of, delim_of, count_of, waiting_of, may_lack, least_of, missing_of},
+  inner.Kept.Stops,
+}
+use Rattle.ports_core.specs.{Slot.Slot, declared.{fault.Fault.Fault, verdict.Verdict.TheVariants.Changed}}
 use Rattle.ports_core.specs.declared.fault.Fault.TheVariants as fault
-use Rattle.ports_core.specs.declared.verdict.Verdict.TheVariants.{Changed}
 
 -- if bytes are kept and as many wait as are to be kept, no memory can be wanting
 abbrev pub FullLacksNone : Ends → Type 0

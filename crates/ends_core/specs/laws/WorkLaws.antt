@@ -1,23 +1,22 @@
 -- The laws of the work of `head` and of `tail`.
-use Rattle.std.proofs.lemmas.Grind.{common_steps}
-use Rattle.std.proofs.Common.{◌≡◌, ℕ, ◌-◌, ◌<◌, ◌≤◌, ◌&&◌, zero, suc, not, List, ◌++◌, length, Bool, true, false, Option, Some, None, cond, nat_le, refl, sym, ◌∙◌, ap, arith, rules}
-use Rattle.std.proofs.lemmas.Bool.{false≢true, leb-true, le-leb, le-ltb, lt-ltb}
-use Rattle.ports_core.specs.Part.{nothing, only_out, Begins}
-use Rattle.ports_core.specs.Work.{IsComplete, IsLawful, always_well}
-use Rattle.ports_core.specs.declared.verdict.Verdict.{Verdict}
-use Rattle.ports_core.specs.declared.verdict.Verdict.TheVariants.{Changed}
-use Rattle.ports_core.proofs.PartLemmas.{out_begins, part_begins_itself}
-use Rattle.seg_core.proofs.Delimiters.{delimiters-le-length}
-use Rattle.seg_core.specs.declared.unit.Unit.{Unit as Counted}
-use Rattle.seg_core.specs.declared.unit.Unit.TheVariants.{Lines, Bytes}
-use Rattle.ends_core.specs.declared.ends.Ends.{Ends}
-use Rattle.ends_core.specs.declared.ends.Ends.TheVariants.{First, ButLast, FromNth, Last}
-use Rattle.ends_core.specs.Ends.{measure, first_of, after_of, last_of, but_last_of, head_of, tail_of}
-use Rattle.ends_core.specs.Head.{head_work}
-use Rattle.ends_core.specs.Tail.{tail_work}
-use Rattle.ends_core.specs.Shown.{changed_below}
-use Rattle.ends_core.specs.Stage.{count_of, delim_of, unit_of, work}
-use Rattle.ends_core.specs.laws.EndsLaws.{measure-append, first_of-append, first_of-full, but_last_of-append, after_of-append}
+use Rattle.std.proofs.{
+  lemmas.{Grind.common_steps, Bool.{false≢true, leb-true, le-leb, le-ltb, lt-ltb}},
+  Common.{◌≡◌, ℕ, ◌-◌, ◌<◌, ◌≤◌, ◌&&◌, zero, suc, not, List, ◌++◌, length, Bool, true, false, Option, Some, None, cond, nat_le, refl, sym, ◌∙◌, ap, arith, rules},
+}
+use Rattle.ports_core.{
+  specs.{Part.{nothing, only_out, Begins}, Work.{IsComplete, IsLawful, always_well}, declared.verdict.Verdict.{Verdict, TheVariants.Changed}},
+  proofs.PartLemmas.{out_begins, part_begins_itself},
+}
+use Rattle.seg_core.{proofs.Delimiters.delimiters-le-length, specs.declared.unit.Unit.{Unit as Counted, TheVariants.{Lines, Bytes}}}
+use Rattle.ends_core.specs.{
+  declared.ends.Ends.{Ends, TheVariants.{First, ButLast, FromNth, Last}},
+  Ends.{measure, first_of, after_of, last_of, but_last_of, head_of, tail_of},
+  Head.head_work,
+  Tail.tail_work,
+  Shown.changed_below,
+  Stage.{count_of, delim_of, unit_of, work},
+  laws.EndsLaws.{measure-append, first_of-append, first_of-full, but_last_of-append, after_of-append},
+}
 
 -- the head of a text that goes on begins with the head of the text
 pub head_of-grows : (delim : ℕ) (unit : Counted) (but_last : Bool) (n : ℕ) (x y : List ℕ) → (rest : List ℕ)

@@ -1,6 +1,5 @@
 ghost use Rattle.std.specs.Prelude.{◌≡◌, List, length, map, IfOk};
-ghost use Rattle.operand_core.specs.Reading.{Asks};
-ghost use Rattle.operand_core.specs.declared.operand.Operand.{Operand};
+ghost use Rattle.operand_core.specs.{Reading.Asks, declared.operand.Operand.Operand};
 
 use operand_core::{OperandFault, read_operands};
 use std::alloc::Global;

@@ -1,26 +1,23 @@
 -- What a look gives for one name, call by call: bytes on standard output, under headers, and lines on standard error;
 -- and what one call on a name owes, and what is due of it.
 use Rattle.std.specs.Prelude.{◌≡◌, ◌<◌, ◌-◌, Bool, true, false, ℕ, List, Option, Some, None, Result, Ok, Err, ◌⊎◌, nat_lt, [], ◌∷◌, ◌++◌, drop, length, if◌then◌else◌, IfOk, is_some}
-use Rattle.ports_core.specs.Slot.{Slot, changed_at, slot_at}
-use Rattle.ports_core.specs.declared.fault.Fault.{Fault}
+use Rattle.ports_core.specs.{declared.{reason.Reason.Reason, fault.Fault.Fault}, Slot.{Slot, changed_at, slot_at}}
+use Rattle.watch_core.specs.{Snapshot.Snapshot, Watched.{NameBreaks, Watched, open_contents, opens, watched_at}}
+use Rattle.follow_core.specs.{
+  declared.{notice.Notice.{Notice, TheVariants.{Truncated, Replaced, Inaccessible, Appeared}}, visitor.Stop.{Stop, TheVariants.{Broke, Over}}},
+  Event.{Begins, Event, all_but, bytes_in, events_later, gives, lines_in, notes},
+  Followed.{last_with, text_with},
+  Gain.last_from,
+  Look.{Fate, sound, unmeasured, unsought, unread, can_meet, failed_by},
+  Printing.PrinterState,
+  Reading.{AllGive, IsRead, IsSeen, IsWhole},
+  Share.{Share, bytes_of, came_before, is_kept, led_before, lines_of},
+  Sharing.{WroteBy, CanPrint, HasError},
+  Standing.{IsLong, StandsAt},
+  Version.{Entry, entries_led, entries_open, held_at, is_file},
+}
 use Rattle.ports_core.specs.declared.fault.Fault.TheVariants as fault
-use Rattle.watch_core.specs.Snapshot.{Snapshot}
 use Rattle.watch_core.specs.declared.watch.Broken.TheVariants as broken
-use Rattle.watch_core.specs.Watched.{Watched, breaks, open_contents, opens, watched_at}
-use Rattle.follow_core.specs.declared.notice.Notice.{Notice}
-use Rattle.follow_core.specs.declared.notice.Notice.TheVariants.{Truncated, Replaced, Inaccessible, Appeared}
-use Rattle.follow_core.specs.declared.visitor.Stop.{Stop}
-use Rattle.follow_core.specs.declared.visitor.Stop.TheVariants.{Broke, Over}
-use Rattle.follow_core.specs.Event.{Begins, Event, all_but, bytes_in, events_later, gives, lines_in, notes}
-use Rattle.follow_core.specs.Followed.{last_with, text_with}
-use Rattle.follow_core.specs.Gain.{last_from}
-use Rattle.follow_core.specs.Look.{Fate, sound, unmeasured, unsought, unread, can_meet, failed_by}
-use Rattle.follow_core.specs.Printing.{PrinterState}
-use Rattle.follow_core.specs.Reading.{AllGive, IsRead, IsSeen, IsWhole}
-use Rattle.follow_core.specs.Share.{Share, bytes_of, came_before, is_kept, led_before, lines_of}
-use Rattle.follow_core.specs.Sharing.{WroteBy, CanPrint, HasError}
-use Rattle.follow_core.specs.Standing.{IsLong, StandsAt}
-use Rattle.follow_core.specs.Version.{Entry, entries_led, entries_open, held_at, is_file}
 
 abbrev pub IsFront : {X : Type 0} → List X → List X → Type 0
 IsFront {X} front whole = (rest : List X) × (whole ≡ front ++ rest)
@@ -154,11 +151,13 @@ fault_by place fate = if is_read fate then fault.Read place else fault.Open plac
 pub record BrokeAt (place : ℕ) (old new : List Watched) (fate : Fate) (why : Fault) : Type 0 where
   pub broke : is_some (failed_by fate None) ≡ true
   pub fault_is : why ≡ fault_by place fate
-  pub names : new ≡ changed_at place (λ watched. record watched { opened = None; failed = failed_by fate None }) old
+  pub reason : Reason
+  pub names : new ≡ changed_at place
+      (λ watched. record watched { opened = None; failed = failed_by fate None; reason = reason }) old
 
 -- the name of this number broke by a read of some place of its open file
 abbrev pub FailsToRead : ℕ → List Watched → List Watched → Type 0
-FailsToRead place old new = (from : ℕ) × (new ≡ changed_at place (breaks (λ file. broken.Read file from)) old)
+FailsToRead place old new = (from : ℕ) × NameBreaks (λ file. broken.Read file from) place old new
 
 -- the call changed no name, but that this one broke where the call failed, which reads the open file
 abbrev pub Keeps : ℕ → List Watched → List Watched → Fate → Option Stop → Type 0

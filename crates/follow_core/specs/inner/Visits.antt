@@ -1,30 +1,21 @@
 -- What a look leaves at one name, at one name after another and at all names, and what all looks of a run do.
 use Rattle.std.specs.Prelude.{Bool, true, false, ◌||◌, List, [], ◌∷◌, ◌≡◌, ℕ, ◌++◌, Option, Some, None, length, Result, Ok, Err, ◌<◌, take, ◌≤◌, IfErr, IfOk, OnOk, ◌+◌, map, is_some}
-use Rattle.follow_core.specs.declared.name.Standing.{Standing}
-use Rattle.follow_core.specs.declared.name.Standing.TheVariants.{New, Followed, Left}
-use Rattle.follow_core.specs.Standing.{NameState, NoneGoesOn, AllStand, CanVisit, Stands, StandsAmong, texts}
-use Rattle.ports_core.specs.Slot.{Slot, changed_at}
-use Rattle.ports_core.specs.Message.{SaysOn}
-use Rattle.ports_core.specs.Text.{message_of}
-use Rattle.ports_core.specs.declared.calling.Calling.{Calling}
-use Rattle.ports_core.specs.declared.reason.Reason.{Reason}
-use Rattle.follow_core.specs.Telling.{tail_by}
-use Rattle.ports_core.specs.declared.fault.Fault.{Fault}
-use Rattle.watch_core.specs.Snapshot.{Snapshot}
-use Rattle.watch_core.specs.Watched.{Watched, opens, watched_at, added}
-use Rattle.follow_core.specs.Share.{BeginsShare, Share, share_by, share_of, shares_at_look_from}
-use Rattle.follow_core.specs.Look.{Fate, Look, Ways, sound, fate_at, is_dropped, ways_of, snapshots}
-use Rattle.follow_core.specs.Printing.{PrinterState}
-use Rattle.follow_core.specs.Reading.{AreAtLook, IsBegun, IsGiven}
-use Rattle.follow_core.specs.inner.Giving.{IsFront, Shared, HasStopped}
-use Rattle.follow_core.specs.declared.visitor.Stop.{Stop}
-use Rattle.follow_core.specs.declared.visitor.Stop.TheVariants.{Broke, Over}
-use Rattle.follow_core.specs.Followed.{any_failed}
-use Rattle.follow_core.specs.FollowState.{AllReady, Begun, FollowState, Holds, IsCause, IsOther, LooksOn, SawOrNot, StopsOn, is_alive}
-use Rattle.follow_core.specs.declared.start.Start.{Start}
-use Rattle.follow_core.specs.Sharing.{AllShared, AllShort, CanPrint, HasError}
-use Rattle.follow_core.specs.declared.follow.Stage.TheVariants.{Fresh, Looking, Over}
-use Rattle.follow_core.specs.Ending.{Made}
+use Rattle.follow_core.specs.{
+  declared.{name.Standing.{Standing, TheVariants.{New, Followed, Left}}, visitor.Stop.{Stop, TheVariants.{Broke, Over}}, start.Start.Start, follow.Stage.TheVariants.{Fresh, Looking, Over}},
+  Standing.{NameState, NoneGoesOn, AllStand, CanVisit, Stands, StandsAmong, texts},
+  Telling.tail_by,
+  Share.{BeginsShare, Share, share_by, share_of, shares_at_look_from},
+  Look.{Fate, Look, Ways, sound, fate_at, is_dropped, ways_of, snapshots},
+  Printing.PrinterState,
+  Reading.{AreAtLook, IsBegun, IsGiven},
+  inner.Giving.{IsFront, Shared, HasStopped},
+  Followed.any_failed,
+  FollowState.{AllReady, Begun, FollowState, Holds, IsCause, IsOther, LooksOn, SawOrNot, StopsOn, is_alive},
+  Sharing.{AllShared, AllShort, CanPrint, HasError},
+  Ending.Made,
+}
+use Rattle.ports_core.specs.{Slot.{Slot, changed_at}, Message.SaysOn, Text.message_of, declared.{calling.Calling.Calling, reason.Reason.Reason, fault.Fault.Fault}}
+use Rattle.watch_core.specs.{Snapshot.Snapshot, Watched.{Watched, opens, watched_at, added}}
 
 -- a further look can give something of it
 abbrev pub goes_on_as : (by_name : Bool) → Standing → Bool

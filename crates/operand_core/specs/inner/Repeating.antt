@@ -1,8 +1,6 @@
 -- How often an operand is performed again, by the words after it; and the nearest line number.
 use Rattle.std.specs.Prelude.{◌≡◌, ℕ, List, [], ◌∷◌, Some, None}
-use Rattle.operand_core.specs.Operand.{Target, Number, Search, Times, Count}
-use Rattle.operand_core.specs.Word.{spelling}
-use Rattle.operand_core.specs.Reading.{times_by}
+use Rattle.operand_core.specs.{Operand.{Target, Number, Search, Times, Count}, Word.spelling, Reading.times_by}
 
 abbrev pub least_by : ℕ → Target → ℕ
 least_by least (Number n) = n

@@ -1,9 +1,7 @@
 -- What contracts see of a word that was read.
 use Rattle.std.specs.Prelude.{Result, Ok, Err}
-use Rattle.operand_core.specs.declared.operand_fault.OperandFaultKind.{OperandFaultKind}
-use Rattle.operand_core.specs.declared.word.Word.{Word}
+use Rattle.operand_core.specs.{declared.{operand_fault.OperandFaultKind.OperandFaultKind, word.Word.Word}, Word.{Spelling, number, search, again, wrong}}
 use Rattle.operand_core.specs.declared.word.Word.TheVariants as word
-use Rattle.operand_core.specs.Word.{Spelling, number, search, again, wrong}
 
 abbrev pub seen : Word → Spelling
 seen (word.Number n) = number n

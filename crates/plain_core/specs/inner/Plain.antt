@@ -1,9 +1,7 @@
 -- Going over a pattern's tokens with the stretches of a line.
 use Rattle.std.specs.Prelude.{◌≡◌, ℕ, Bool, List, [], ◌∷◌, ◌++◌, length, Option, Some, None}
-use Rattle.bre_core.specs.Pattern.{Pattern, nothing, append, Item}
-use Rattle.bre_core.specs.Search.{matches, matches_item}
-use Rattle.plain_core.specs.declared.plain.Plain.{Plain}
-use Rattle.plain_core.specs.inner.Table.{IsTable}
+use Rattle.bre_core.specs.{Pattern.{Pattern, nothing, append, Item}, Search.{matches, matches_item}}
+use Rattle.plain_core.specs.{declared.plain.Plain.Plain, inner.Table.IsTable}
 
 -- the stretches of a concatenation, its last item apart
 abbrev pub FrameIs : List ℕ → Pattern → List (List Bool) → Option (List (List Bool)) → Type 0

@@ -1,6 +1,5 @@
 ghost use Rattle.std.specs.Prelude.{◌≡◌, ◌≤◌, ◌++◌, ◌∷◌, [], length, OnOk};
-ghost use Rattle.ports_core.specs.Slot.{changed_at, closes, opened, told_of, with_written};
-ghost use Rattle.ports_core.specs.declared.slot.Mode.{Mode};
+ghost use Rattle.ports_core.specs.{Slot.{changed_at, closes, opened, told_of, with_written}, declared.slot.Mode.Mode};
 
 use ports_core::{Fault, Mode, Outs, write_whole};
 

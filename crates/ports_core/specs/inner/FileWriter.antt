@@ -1,16 +1,14 @@
 -- What private calls say of the writer of files.
 use Rattle.std.specs.Prelude.{◌≡◌, ℕ, ◌+◌, ◌<◌, ◌≤◌, ◌^◌, Bool, decimal, List, [], ◌∷◌, ◌++◌, length, Option, None, IfNone, IfSome, IsTrue, Result, Ok, Err}
-use Rattle.ports_core.specs.FileWriter.{WriterState}
-use Rattle.ports_core.specs.Names.{next_name, has_next, told_next, with_one_drawn, OpensNone}
-use Rattle.ports_core.specs.Slot.{Slot, opened}
-use Rattle.ports_core.specs.inner.Write.{Wrote}
-use Rattle.ports_core.specs.declared.fault.Fault.{Fault}
-use Rattle.ports_core.specs.declared.file_writer.Current.TheVariants.{File, Unopened}
-use Rattle.ports_core.specs.declared.file_writer.Keeps.{Keeps}
-use Rattle.ports_core.specs.declared.file_writer.Keeps.TheVariants.{Open, All}
-use Rattle.ports_core.specs.declared.file_writer.Tells.{Tells}
-use Rattle.ports_core.specs.declared.file_writer.Tells.TheVariants.{Nothing, Sizes, Openings}
-use Rattle.ports_core.specs.declared.slot.Mode.TheVariants.{Fresh}
+use Rattle.ports_core.specs.{
+  FileWriter.WriterState,
+  Names.{next_name, has_next, told_next, with_one_drawn, OpensNone},
+  Slot.{Slot, opened},
+  inner.Write.Wrote,
+  declared.fault.Fault.Fault,
+  declared.file_writer.{Current.TheVariants.{File, Unopened}, Keeps.{Keeps, TheVariants.{Open, All}}, Tells.{Tells, TheVariants.{Nothing, Sizes, Openings}}},
+  declared.slot.Mode.TheVariants.Fresh,
+}
 
 -- What the steps of the writer do.
 

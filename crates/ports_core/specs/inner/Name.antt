@@ -1,7 +1,6 @@
 -- What private calls say: where the name at a place stands among those that widen.
 use Rattle.std.specs.Prelude.{ℕ, ◌≡◌, ◌+◌, ◌<◌}
-use Rattle.ports_core.specs.declared.alphabet.Alphabet.{Alphabet}
-use Rattle.ports_core.specs.Name.{before_block, block_size}
+use Rattle.ports_core.specs.{declared.alphabet.Alphabet.Alphabet, Name.{before_block, block_size}}
 
 -- the place is this one of a block
 pub record IsInBlock (alphabet : Alphabet) (width place block number : ℕ) : Type 0 where

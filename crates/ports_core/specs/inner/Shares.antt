@@ -1,8 +1,6 @@
 -- What private calls say of what files get.
 use Rattle.std.specs.Prelude.{◌≡◌, List, [], ◌∷◌, ◌⊎◌}
-use Rattle.ports_core.specs.Draft.{Share}
-use Rattle.ports_core.specs.Part.{IsBeginning}
-use Rattle.ports_core.specs.declared.slot.State.TheVariants.{Open}
+use Rattle.ports_core.specs.{Draft.Share, Part.IsBeginning, declared.slot.State.TheVariants.Open}
 
 -- each share begins the one at its place, and there may be more of these; one whose file is open may be closed by then
 abbrev pub SharesBegin : List Share → List Share → Type 0

@@ -1,25 +1,27 @@
 -- What private calls say: what becomes of an input that is fed to an engine piece by piece, what each step of a run
 -- over its inputs leaves, and what it leaves of these.
 use Rattle.std.specs.Prelude.{◌≡◌, ℕ, Bool, true, false, List, Result, Ok, Err, ◌&&◌, ◌||◌, ◌∷◌, ◌++◌, length, Option, Some, None, if◌then◌else◌, ◌≤◌, ◌<◌}
-use Rattle.ports_core.specs.Slot.{Slot, is_open, streams}
-use Rattle.ports_core.specs.Swept.{Swept}
-use Rattle.ports_core.specs.Guard.{GuardState, IsRefusedThere}
-use Rattle.ports_core.specs.Engine.{Clears, Terms, Finishes, is_verdict}
-use Rattle.ports_core.specs.declared.fault.Fault.{Fault}
-use Rattle.run_core.specs.declared.feeding.Fed.{Fed}
-use Rattle.ports_core.specs.Source.{Content, Source, source_at}
-use Rattle.ports_core.specs.Part.{Part, OutputsAt, StoppedBetween}
-use Rattle.ports_core.specs.Write.{BrokeAfter}
-use Rattle.ports_core.specs.Message.{SaysAll}
-use Rattle.ports_core.specs.declared.fault.Fault.TheVariants.{Memory, Write}
-use Rattle.run_core.specs.declared.inputs.Progress.{Progress}
-use Rattle.run_core.specs.Feeding.{Step, Stops}
-use Rattle.ports_core.specs.Inputs.{KeepsOthers, empty, largest_piece, AsksAtMost}
-use Rattle.run_core.specs.Input.{Input, IsFor, World, is_dash, input_of, next_slot}
-use Rattle.run_core.specs.Reading.{AreDone, AreUntouched, IsDone}
-use Rattle.run_core.specs.RunEnds.{RunStep}
-use Rattle.ports_core.specs.Streams.{streams_with, standard_error}
-use Rattle.run_core.specs.Task.{Task, Outcome, made_by, after_part, header_text, is_missing, are_missing}
+use Rattle.ports_core.specs.{
+  Slot.{Slot, is_open, streams},
+  Swept.Swept,
+  Guard.{GuardState, IsRefusedThere},
+  Engine.{Clears, Terms, Finishes, is_verdict},
+  declared.{fault.Fault.{Fault, TheVariants.{Memory, Write}}, reason.Reason.{Reason, TheVariants.Other}},
+  Source.{Content, Source, source_at},
+  Part.{Part, OutputsAt, StoppedBetween},
+  Write.BrokeAfter,
+  Message.SaysAll,
+  Inputs.{KeepsOthers, empty, largest_piece, AsksAtMost},
+  Streams.{streams_with, standard_error},
+}
+use Rattle.run_core.specs.{
+  declared.{feeding.Fed.Fed, inputs.Progress.Progress},
+  Feeding.{Step, Stops},
+  Input.{Input, IsFor, World, is_dash, input_of, next_slot},
+  Reading.{AreDone, AreUntouched, IsDone},
+  RunEnds.RunStep,
+  Task.{Task, Outcome, made_by, after_part, header_text, is_missing, are_missing},
+}
 
 -- How closing an engine ends that has got all of its input: it finished; or a fault stopped it, and its files went if
 -- the work clears them, by itself where that fault is a verdict.
@@ -106,6 +108,11 @@ OfSource told (Some slot) sources P = (content : Content) × (told ≡ true → 
 abbrev pub OfName : Bool → World → Bool → ℕ → List ℕ → (Input → Type 0) → Type 0
 OfName told world was_read slot name P = (input : Input) × IsFor was_read slot name input
     × (told ≡ true → input ≡ input_of world was_read slot name (is_dash name)) × P input
+
+-- why a source broke; one that is no input never does
+abbrev pub reason_of : Option ℕ → List Source → Reason
+reason_of None sources = Other
+reason_of (Some slot) sources = (source_at sources slot).reason
 
 -- no input but that of the source was touched
 abbrev pub KeepsOther : Option ℕ → List Source → List Source → Type 0

@@ -1,6 +1,5 @@
 ghost use Rattle.std.specs.Prelude.{◌≡◌, [], map};
-ghost use Rattle.ports_core.specs.Slot.{streams};
-ghost use Rattle.ports_core.specs.Source.{IsFresh};
+ghost use Rattle.ports_core.specs.{Slot.streams, Source.IsFresh};
 ghost use Rattle.tools_core.specs.Outcome.{names_read};
 
 use ports_core::{Calling, Inputs, Outs};

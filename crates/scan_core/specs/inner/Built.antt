@@ -1,16 +1,13 @@
 -- A table that is being built.
 use Rattle.std.specs.Prelude.{◌≡◌, ◌⊎◌, ◌↔◌, ℕ, ◌*◌, ◌/◌, ◌%◌, ◌<◌, ◌≤◌, Bool, true, false, List, [], ◌∷◌, ◌++◌, length}
 use Rattle.bre_core.specs.ByteSet.{has}
-use Rattle.scan_core.specs.declared.node.Node.{Node}
-use Rattle.scan_core.specs.declared.node.Node.TheVariants.{Take}
-use Rattle.scan_core.specs.declared.build.Building.{Building}
-use Rattle.scan_core.specs.Code.{At}
-use Rattle.scan_core.specs.Counted.{set_at}
-use Rattle.scan_core.specs.Sets.{IsMarked}
-use Rattle.scan_core.specs.inner.Each.{AreEach}
-use Rattle.scan_core.specs.inner.Sets.{FlowsOn}
-use Rattle.scan_core.specs.inner.Table.{InSets, Tells}
-use Rattle.scan_core.specs.inner.Words.{IsIn, flags_of, width}
+use Rattle.scan_core.specs.{
+  declared.{node.Node.{Node, TheVariants.Take}, build.Building.Building},
+  Code.At,
+  Counted.set_at,
+  Sets.IsMarked,
+  inner.{Each.AreEach, Sets.FlowsOn, Table.{InSets, Tells}, Words.{IsIn, flags_of, width}},
+}
 
 -- every node takes both bytes or neither
 abbrev pub AreAlike : List Node → ℕ → ℕ → Type 0

@@ -1,13 +1,6 @@
 -- What private calls say: all that follows without a byte is entered, by words that are closed and by hops.
-use Rattle.std.specs.Prelude.{◌≡◌, ◌⊎◌, ℕ, ◌+◌, ◌*◌, ◌/◌, ◌<◌, ◌≤◌, false, List}
-use Rattle.std.specs.Int.{bit_at}
-use Rattle.scan_core.specs.declared.closures.Closures.{Closures}
-use Rattle.scan_core.specs.declared.hops.Hop.{Hop}
-use Rattle.scan_core.specs.declared.hops.Hops.{Hops}
-use Rattle.scan_core.specs.declared.node.Node.{Node}
-use Rattle.scan_core.specs.inner.Hops.{HopsTo, PartsTo, end_of}
-use Rattle.scan_core.specs.inner.Sets.{Flows}
-use Rattle.scan_core.specs.inner.Words.{Adds, IsIn, unset}
+use Rattle.std.specs.{Prelude.{◌≡◌, ◌⊎◌, ℕ, ◌+◌, ◌*◌, ◌/◌, ◌<◌, ◌≤◌, false, List}, Int.bit_at}
+use Rattle.scan_core.specs.{declared.{closures.Closures.Closures, hops.{Hop.Hop, Hops.Hops}, node.Node.Node}, inner.{Hops.{HopsTo, PartsTo, end_of}, Sets.Flows, Words.{Adds, IsIn, unset}}}
 
 -- each step from a set leads to it, or a hop leads there
 abbrev pub IsApart : List Node → Hops → List ℕ → Type 0

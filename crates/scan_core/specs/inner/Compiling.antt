@@ -1,14 +1,10 @@
 -- Going over a pattern's tokens from the last to the first: what one token does.
 use Rattle.std.specs.Prelude.{◌≡◌, ℕ, zero, suc, List, [], ◌∷◌, ◌++◌, length, reverse, Option, Some, None, All}
-use Rattle.bre_core.specs.declared.token.Token.{Token}
-use Rattle.bre_core.specs.declared.token.Token.TheVariants.{Set, Front, End, Open, Close, Repeat}
-use Rattle.scan_core.specs.declared.compile.Compiling.{Compiling}
-use Rattle.scan_core.specs.declared.compile.Pending.{Pending}
-use Rattle.scan_core.specs.declared.compile.Pending.TheVariants.{Group, Repeated}
-use Rattle.scan_core.specs.declared.emit.Duplication.{Duplication}
-use Rattle.scan_core.specs.declared.node.Node.{Node}
-use Rattle.scan_core.specs.declared.node.Node.TheVariants.{Take, First, Last, Back}
-use Rattle.scan_core.specs.inner.Backwards.{IsBegun, Repeats}
+use Rattle.bre_core.specs.declared.token.Token.{Token, TheVariants.{Set, Front, End, Open, Close, Repeat}}
+use Rattle.scan_core.specs.{
+  declared.{compile.{Compiling.Compiling, Pending.{Pending, TheVariants.{Group, Repeated}}}, emit.Duplication.Duplication, node.Node.{Node, TheVariants.{Take, First, Last, Back}}},
+  inner.Backwards.{IsBegun, Repeats},
+}
 
 -- what waits for an item waits for one that may stand among the nodes
 abbrev pub Waits : ℕ → Pending → Type 0

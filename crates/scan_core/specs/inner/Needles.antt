@@ -2,15 +2,14 @@
 use Rattle.std.specs.Prelude.{◌≡◌, ℕ, ◌+◌, ◌<◌, ◌≤◌, Bool, true, false, IsTrue, List, ◌++◌, length, slice_index}
 use Rattle.bre_core.specs.ByteSet.{has}
 use Rattle.memchr.specs.Find.{Passes, OccursAt, is_byte, is_byte2, is_byte3}
-use Rattle.scan_core.specs.declared.few_bytes.FewBytes.{FewBytes}
-use Rattle.scan_core.specs.declared.few_bytes.FewBytes.TheVariants.{Zero, One, Two, Three, More}
-use Rattle.scan_core.specs.declared.needle.Needle.{Needle}
-use Rattle.scan_core.specs.declared.needle.Needle.TheVariants.{Byte, Text}
-use Rattle.scan_core.specs.declared.node.Node.{Node}
-use Rattle.scan_core.specs.declared.node.Node.TheVariants.{Take, First, Last, Choose, Back}
-use Rattle.scan_core.specs.declared.rarest.Rarest.{Rarest}
-use Rattle.scan_core.specs.Code.{At}
-use Rattle.scan_core.specs.Counted.{EndsIn}
+use Rattle.scan_core.specs.{
+  declared.few_bytes.FewBytes.{FewBytes, TheVariants.{Zero, One, Two, Three, More}},
+  declared.needle.Needle.{Needle, TheVariants.{Byte, Text}},
+  declared.node.Node.{Node, TheVariants.{Take, First, Last, Choose, Back}},
+  declared.rarest.Rarest.Rarest,
+  Code.At,
+  Counted.EndsIn,
+}
 
 abbrev pub is_among : FewBytes → ℕ → Bool
 is_among Zero byte = false

@@ -1,13 +1,11 @@
 -- A table of few states as words, and a walk along a line with it.
 use Rattle.std.specs.Prelude.{◌≡◌, ℕ, ◌+◌, ◌*◌, ◌/◌, ◌%◌, ◌^◌, ◌<◌, ◌≤◌, Bool, List, length, slice_index_or}
-use Rattle.scan_core.specs.declared.node.Node.{Node}
-use Rattle.scan_core.specs.declared.shift_table.ShiftTable.{ShiftTable}
-use Rattle.scan_core.specs.declared.table.State.{State}
-use Rattle.scan_core.specs.declared.table.Table.{Table}
-use Rattle.scan_core.specs.Code.{weight}
-use Rattle.scan_core.specs.Counted.{HasStepsBefore}
-use Rattle.scan_core.specs.inner.Each.{AreEach}
-use Rattle.scan_core.specs.inner.Table.{entry, no_state, IsTable, IsTableOf, Walked}
+use Rattle.scan_core.specs.{
+  declared.{node.Node.Node, shift_table.ShiftTable.ShiftTable, table.{State.State, Table.Table}},
+  Code.weight,
+  Counted.HasStepsBefore,
+  inner.{Each.AreEach, Table.{entry, no_state, IsTable, IsTableOf, Walked}},
+}
 
 -- no entry is unknown
 abbrev pub IsComplete : List ℕ → Type 0

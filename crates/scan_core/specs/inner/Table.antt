@@ -1,12 +1,12 @@
 -- What private calls say: a table of sets of a code's numbers: which set a byte leads to.
 use Rattle.std.specs.Prelude.{◌≡◌, ◌⊎◌, ◌↔◌, ℕ, zero, suc, ◌+◌, ◌*◌, ◌<◌, ◌≤◌, Bool, true, false, IsTrue, List, length, slice_index_or}
-use Rattle.scan_core.specs.declared.node.Node.{Node}
-use Rattle.scan_core.specs.declared.table.State.{State}
-use Rattle.scan_core.specs.declared.table.Table.{Table}
-use Rattle.scan_core.specs.Code.{Entered, weight}
-use Rattle.scan_core.specs.Sets.{IsMarked, positions_among}
-use Rattle.scan_core.specs.inner.Sets.{FlowsOn, Passes, Reaches}
-use Rattle.scan_core.specs.Counted.{set_at, AreSteps}
+use Rattle.scan_core.specs.{
+  declared.{node.Node.Node, table.{State.State, Table.Table}},
+  Code.{Entered, weight},
+  Sets.{IsMarked, positions_among},
+  inner.Sets.{FlowsOn, Passes, Reaches},
+  Counted.{set_at, AreSteps},
+}
 
 -- what a byte and then none leads to from the numbers of a set, the search having begun once more
 abbrev pub Next : List Node → ℕ → (ℕ → Type 0) → ℕ → Type 0

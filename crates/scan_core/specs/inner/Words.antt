@@ -1,13 +1,6 @@
 -- Sets of a code's numbers as words, 64 numbers in each.
-use Rattle.std.specs.Prelude.{◌≡◌, ◌⊎◌, ◌↔◌, ℕ, zero, suc, ◌+◌, ◌-◌, ◌*◌, ◌/◌, ◌%◌, ◌^◌, ◌<◌, ◌≤◌, ◌==◌, Bool, List, [], ◌∷◌, ◌++◌, length, slice_index_or}
-use Rattle.std.specs.Int.{bit_at}
-use Rattle.scan_core.specs.declared.masks.Kind.{Kind}
-use Rattle.scan_core.specs.declared.masks.Kind.TheVariants.{Takes, Counts}
-use Rattle.scan_core.specs.declared.masks.Masks.{Masks}
-use Rattle.scan_core.specs.declared.node.Node.{Node}
-use Rattle.scan_core.specs.Code.{weight_of}
-use Rattle.scan_core.specs.inner.Each.{AreEach}
-use Rattle.scan_core.specs.inner.Sets.{FlowsOn, Passes}
+use Rattle.std.specs.{Prelude.{◌≡◌, ◌⊎◌, ◌↔◌, ℕ, zero, suc, ◌+◌, ◌-◌, ◌*◌, ◌/◌, ◌%◌, ◌^◌, ◌<◌, ◌≤◌, ◌==◌, Bool, List, [], ◌∷◌, ◌++◌, length, slice_index_or}, Int.bit_at}
+use Rattle.scan_core.specs.{declared.{masks.{Kind.{Kind, TheVariants.{Takes, Counts}}, Masks.Masks}, node.Node.Node}, Code.weight_of, inner.{Each.AreEach, Sets.{FlowsOn, Passes}}}
 
 unfoldable pub IsIn : List ℕ → ℕ → Type 0
 IsIn words number = bit_at (slice_index_or words (number / 64) 0) (number % 64) ≡ 1

@@ -2,8 +2,7 @@
 use Rattle.std.specs.Prelude.{ℕ, ◌≡◌, ◌+◌, ◌<◌, ◌≤◌, List, [], ◌∷◌, ◌++◌}
 use Rattle.ports_core.specs.Part.{IsBeginning}
 use Rattle.seg_core.specs.declared.cut.Chunks.{Chunks}
-use Rattle.split_core.specs.Chunks.{chunk_start, passed}
-use Rattle.split_core.specs.Parts.{CutUp}
+use Rattle.split_core.specs.{Chunks.{chunk_start, passed}, Parts.CutUp}
 
 -- just the chunks before this place have all that goes with them
 pub record HaveEnded (chunks : Chunks) (size : ℕ) (x : List ℕ) (place : ℕ) : Type 0 where

@@ -1,16 +1,13 @@
 -- What private calls say: cutting an input into chunks.
-use Rattle.std.specs.Prelude.{◌≡◌, ℕ, ◌+◌, ◌-◌, ◌<◌, ◌≤◌, ◌⊎◌, max, Bool, true, false, List, ◌++◌, length, take, drop, Option, Some, None, IfNone, Result, Ok, Err, IfErr, IfOk, OnOk}
-use Rattle.ports_core.specs.Part.{Part}
-use Rattle.ports_core.specs.Slot.{Slot}
-use Rattle.ports_core.specs.Turn.{fault_in}
-use Rattle.ports_core.specs.Work.{IsNeeded, Work}
-use Rattle.ports_core.specs.declared.fault.Fault.{Fault}
-use Rattle.split_core.specs.Chunks.{before_chunk, begun_before, chunk_start, chunks_within, ended, is_within}
-use Rattle.split_core.specs.ChunkerState.{Carries, CutterState, HasAll, HasCut, course, first_on, work_on}
-use Rattle.split_core.specs.Parts.{CutUp, uncut}
-use Rattle.split_core.specs.declared.chunk_cutter.ChunkCutter.{ChunkCutter}
-use Rattle.split_core.specs.inner.Seen.{is_past_on, seen_target}
-use Rattle.split_core.specs.inner.Sends.{Brings, Changes, Sends, with_fulls, with_rest, part_on, whole_on}
+use Rattle.std.specs.Prelude.{◌≡◌, ℕ, ◌+◌, ◌-◌, ◌<◌, ◌≤◌, ◌⊎◌, max, min, Bool, true, false, List, ◌++◌, length, take, drop, Option, Some, None, IfNone, Result, Ok, Err, IfErr, IfOk, OnOk}
+use Rattle.ports_core.specs.{Part.Part, Slot.Slot, Turn.fault_in, Work.{IsNeeded, Work}, declared.fault.Fault.Fault}
+use Rattle.split_core.specs.{
+  Chunks.{before_chunk, begun_before, chunks_within, ended, is_within},
+  ChunkerState.{Carries, CutterState, HasAll, HasCut, course, first_on, work_on},
+  Parts.{CutUp, uncut},
+  declared.chunk_cutter.ChunkCutter.ChunkCutter,
+  inner.{Seen.{is_past_on, seen_target}, Sends.{Brings, Changes, Sends, with_fulls, with_rest, part_on, whole_on}},
+}
 
 abbrev pub seen_cutter : ChunkCutter → CutterState
 seen_cutter cutter = record {
@@ -37,32 +34,6 @@ pub record WritesTo (told : Bool) (cutter : CutterState) (end : ℕ) (text : Lis
   pub within : OnOk result
       (next.is_within ≡ is_within cutter.chunks.unit cutter.chunks.delim (cut_to cutter end text))
 
--- just the chunks before this place end before another
-pub record IsUpTo (count size at place : ℕ) : Type 0 where
-  pub within : place ≤ count
-  pub before : chunk_start count size place ≤ at
-  pub next : place < count → at < chunk_start count size (place + 1)
-
--- a text that is cut up, and the place of a chunk up to which all end
-pub record EndsBefore (cutter : CutterState) (size : ℕ) (x : ℕ × CutUp) : Type 0 where
-  pub carries : Carries cutter.target x.1
-  pub all : HasAll (course cutter) cutter.chunks.count
-  pub from : cutter.target.place ≤ x.0
-  pub is : IsUpTo cutter.chunks.count size cutter.at x.0
-
-pub record EndsAll {X : Type 0} (So : X → Type 0) (from : X → CutUp) (to : X → ℕ) (told : Bool) (cutter : CutterState)
-    (old new : List Slot) (next : CutterState) (fault : Option Fault) : Type 0 where
-  pub chunks : next.chunks ≡ cutter.chunks
-  pub at : next.at ≡ cutter.at
-  pub within : next.is_within ≡ cutter.is_within
-  pub sends : Sends told cutter.target So from (λ x. with_fulls (to x - cutter.target.place) (from x)) old new
-      next.target fault
-
--- all chunks ended up to that place
-abbrev pub EndsUp : Bool → CutterState → ℕ → List Slot → List Slot → CutterState → Option Fault → Type 0
-EndsUp told cutter size old new next fault =
-    EndsAll (EndsBefore cutter size) (λ x. x.1) (λ x. x.0) told cutter old new next fault
-
 -- a text was cut off, all of it before the end of the chunk that was begun, and is cut up like this
 pub record IsCutOff (cutter : CutterState) (size : ℕ) (x : List ℕ × CutUp) : Type 0 where
   pub carries : Carries cutter.target x.1
@@ -75,9 +46,13 @@ pub record IsCutOff (cutter : CutterState) (size : ℕ) (x : List ℕ × CutUp) 
   pub from : cutter.target.place ≤ ended cutter.chunks size x.0
 
 -- the chunks ended that had all that goes with them
-abbrev pub EndsFull : Bool → CutterState → ℕ → List Slot → List Slot → CutterState → Option Fault → Type 0
-EndsFull told cutter size old new next fault =
-    EndsAll (IsCutOff cutter size) (λ x. x.1) (λ x. ended cutter.chunks size x.0) told cutter old new next fault
+pub record EndsFull (told : Bool) (cutter : CutterState) (size : ℕ) (old new : List Slot) (next : CutterState)
+    (fault : Option Fault) : Type 0 where
+  pub chunks : next.chunks ≡ cutter.chunks
+  pub at : next.at ≡ cutter.at
+  pub within : next.is_within ≡ cutter.is_within
+  pub sends : Sends told cutter.target (IsCutOff cutter size) (λ x. x.1)
+      (λ x. with_fulls (ended cutter.chunks size x.0 - cutter.target.place) x.1) old new next.target fault
 
 -- what is made of an input that says that it has this size
 abbrev pub said_work : CutterState → ℕ → Work
@@ -114,21 +89,22 @@ Steps told cutter size text old new next (Ok n) = (0 < n) × (n ≤ length text)
     → IsOpen cutter size (x ++ take (n - 1) text))
 Steps told cutter size text old new next (Err fault) = Cuts told cutter size text old new next (Some fault)
 
--- As much of a text was cut off as the output isn't complete without; the last `left` bytes are left.
+-- Of what stands within the size as much was cut off as the output isn't complete without; the last `left` bytes are left.
 pub record CutsAs (told : Bool) (cutter : CutterState) (size : ℕ) (text : List ℕ) (old new : List Slot)
     (next : CutterState) (left : ℕ) : Type 0 where
   pub few : left ≤ length text
   pub at : next.at ≡ cutter.at + (length text - left)
+  pub fits : cutter.at ≤ size → cutter.at + (length text - left) ≤ size
   pub still : is_past_on cutter.target ≡ true → left ≡ length text
   pub cuts : Cuts told cutter size (take (length text - left) text) old new next None
-  pub needed : (left ≡ length text) ⊎ ((x : List ℕ) → IsCut cutter size x → length (x ++ text) ≤ size
-      → IsNeeded (said_work cutter size).is_complete 1
-      (x ++ take (length text - left) text))
-  pub enough : (left ≡ 0) ⊎ (is_past_on next.target ≡ true)
+  pub needed : (left ≡ length text) ⊎ ((x : List ℕ) → IsCut cutter size x
+      → IsNeeded (said_work cutter size).is_complete 1 (x ++ take (length text - left) text))
+  pub enough : (left ≡ 0) ⊎ (is_past_on next.target ≡ true) ⊎ (size ≤ next.at)
 
 abbrev pub CutsSo : Bool → CutterState → ℕ → List ℕ → List Slot → List Slot → CutterState → Result ℕ Fault → Type 0
 CutsSo told cutter size text old new next (Ok left) = CutsAs told cutter size text old new next left
-CutsSo told cutter size text old new next (Err fault) = Cuts told cutter size text old new next (Some fault)
+CutsSo told cutter size text old new next (Err fault) =
+    Cuts told cutter size (take (min (length text) (size - cutter.at)) text) old new next (Some fault)
 
 -- Where the size isn't known
 
@@ -151,12 +127,6 @@ pub record Settles (told : Bool) (cutter : CutterState) (waiting : List ℕ) (en
   pub stands : IfNone fault ((z : List ℕ) → BeginsBefore cutter end z
       → HasCut next (all_before cutter waiting end z) (uncut (all_before cutter waiting end z))
       × (left ≡ drop (length (all_before cutter waiting end z)) (z ++ waiting)))
-
--- all that waits was cut off, or a fault came meanwhile
-pub record CutsHeld (told : Bool) (cutter : CutterState) (waiting : List ℕ) (size : ℕ) (old new : List Slot)
-    (next : CutterState) (left : List ℕ) (fault : Option Fault) : Type 0 where
-  pub bound : next.at + length left ≤ cutter.at + length waiting
-  pub cuts : Cuts told cutter size waiting old new next fault
 
 -- What was cut off is what is settled of a text that has this size with what waits.
 pub record IsSettled (cutter : CutterState) (waiting : List ℕ) (size : ℕ) (z : List ℕ) : Type 0 where

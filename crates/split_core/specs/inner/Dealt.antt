@@ -1,6 +1,5 @@
 -- The lines of a piece, dealt to files.
-use Rattle.std.specs.Prelude.{ℕ, ◌≡◌, ◌+◌, ◌%◌, List, map, min, ◌<◌, [], ◌∷◌, length}
-use Rattle.std.specs.List.{range_with_len}
+use Rattle.std.specs.{Prelude.{ℕ, ◌≡◌, ◌+◌, ◌%◌, List, map, min, ◌<◌, [], ◌∷◌, length}, List.range_with_len}
 use Rattle.seg_core.specs.Line.{lines_of, line_count, delimiters}
 use Rattle.split_core.specs.Parts.{dealt}
 

@@ -1,13 +1,7 @@
 -- What private calls say: where chunks go.
 use Rattle.std.specs.Prelude.{ℕ, Bool, true, false, nat_lt}
-use Rattle.ports_core.specs.FileWriter.{new_writer, seen_writer}
-use Rattle.ports_core.specs.Name.{Naming}
-use Rattle.ports_core.specs.declared.file_writer.Keeps.TheVariants.{Open}
-use Rattle.ports_core.specs.declared.file_writer.Tells.{Tells}
-use Rattle.split_core.specs.ChunkerState.{AimState, TargetState, to_files, to_output}
-use Rattle.split_core.specs.declared.chunk_target.Aim.{Aim}
-use Rattle.split_core.specs.declared.chunk_target.Aim.TheVariants.{Files, Output}
-use Rattle.split_core.specs.declared.chunk_target.Target.{Target}
+use Rattle.ports_core.specs.{FileWriter.{new_writer, seen_writer}, Name.Naming, declared.file_writer.{Keeps.TheVariants.Open, Tells.Tells}}
+use Rattle.split_core.specs.{ChunkerState.{AimState, TargetState, to_files, to_output}, declared.chunk_target.{Aim.{Aim, TheVariants.{Files, Output}}, Target.Target}}
 
 abbrev pub seen_aim : Aim → AimState
 seen_aim (Files writer elide) = to_files (seen_writer writer) elide

@@ -1,20 +1,20 @@
 -- What private calls say: what goes to the files of chunks, or to standard output where one of them goes there.
 use Rattle.std.specs.Prelude.{◌≡◌, ℕ, Bool, true, false, List, [], ◌∷◌, ◌++◌, length, map, zero, suc, Option, IfNone, IfSome, IsTrue}
-use Rattle.ports_core.specs.Draft.{Draft, Manner, draft_part, made_of, part_of, share, with_next}
-use Rattle.ports_core.specs.FileWriter.{KeepsOrBreaks, Leaves, Reaches, Writes, WriterState}
-use Rattle.ports_core.specs.Part.{Output, Part, OutputsAt, Begins, gets_bytes}
-use Rattle.ports_core.specs.Slot.{Slot, is_writable}
-use Rattle.ports_core.specs.Turn.{IsThere}
-use Rattle.ports_core.specs.Name.{has_name}
-use Rattle.ports_core.specs.declared.fault.Fault.{Fault}
-use Rattle.ports_core.specs.declared.fault.Fault.TheVariants.{Verdict, Write}
-use Rattle.ports_core.specs.declared.verdict.Verdict.TheVariants.{Suffixes}
-use Rattle.ports_core.specs.declared.file_writer.Opening.TheVariants.{Late, AtOnce}
-use Rattle.ports_core.specs.declared.slot.State.TheVariants.{Closed}
-use Rattle.split_core.specs.ChunkWork.{draft_by, files_by, piece_at}
-use Rattle.split_core.specs.Parts.{CutUp}
-use Rattle.split_core.specs.Split.{manner_of}
-use Rattle.split_core.specs.ChunkerState.{AimState, Carries, Course, in_files, in_output, IsAimed, OwnsAim, TargetState, course_of}
+use Rattle.ports_core.specs.{
+  Draft.{Draft, Manner, draft_part, made_of, part_of, share, with_next},
+  FileWriter.{KeepsOrBreaks, Leaves, Reaches, Writes, WriterState},
+  Part.{Output, Part, OutputsAt, Begins, gets_bytes},
+  Slot.{Slot, is_writable},
+  Turn.IsThere,
+  Name.has_name,
+  declared.{fault.Fault.{Fault, TheVariants.{Verdict, Write}}, verdict.Verdict.TheVariants.Suffixes, file_writer.Opening.TheVariants.{Late, AtOnce}, slot.State.TheVariants.Closed},
+}
+use Rattle.split_core.specs.{
+  ChunkWork.{draft_by, files_by, piece_at},
+  Parts.CutUp,
+  Split.manner_of,
+  ChunkerState.{AimState, Carries, Course, in_files, in_output, IsAimed, OwnsAim, TargetState, course_of},
+}
 
 -- what is written of a text that is cut up, and in the end
 abbrev pub part_on : Course → CutUp → Part

@@ -1,20 +1,16 @@
 -- What private calls say: how files in order get more bytes, and how more of them are opened.
-use Rattle.std.specs.Prelude.{◌≡◌, ℕ, ◌+◌, ◌-◌, ◌<◌, ◌≤◌, max, Bool, true, List, [], ◌∷◌, ◌++◌, ◌⊎◌, length, map, Result, Ok, Err, OnOk, IfErr, nat_lt, ◌==◌, if◌then◌else◌}
-use Rattle.std.specs.List.{range_with_len}
-use Rattle.ports_core.specs.Names.{with_one_drawn}
-use Rattle.ports_core.specs.Slot.{Slot}
-use Rattle.ports_core.specs.Part.{File, Part, OutputsAt, IsBeginning, StoppedBetween}
-use Rattle.ports_core.specs.declared.fault.Fault.{Fault}
-use Rattle.ports_core.specs.declared.fault.Fault.TheVariants.{Write}
+use Rattle.std.specs.{Prelude.{◌≡◌, ℕ, ◌+◌, ◌-◌, ◌<◌, ◌≤◌, max, Bool, true, List, [], ◌∷◌, ◌++◌, ◌⊎◌, length, map, Result, Ok, Err, OnOk, IfErr, nat_lt, ◌==◌, if◌then◌else◌}, List.range_with_len}
+use Rattle.ports_core.specs.{
+  Names.with_one_drawn,
+  Slot.{Slot, KeepsBroken, Rose},
+  Part.{File, Part, OutputsAt, IsBeginning, StoppedBetween},
+  declared.fault.Fault.{Fault, TheVariants.Write},
+  Draft.Manner,
+  FileWriter.{Breaks, CanTell},
+}
+use Rattle.split_core.specs.{Split.{Filing, Share, is_verbose, manner_of, output_by, share}, Sharing.CannotOpen, FilesState.{FilesState, filing_in}, Round.{AreReady, OwnsFiles}}
 use Rattle.ports_core.specs.declared.slot.State.TheVariants as state
 use Rattle.ports_core.specs.Draft as draft
-use Rattle.split_core.specs.Split.{Filing, Share, is_verbose, manner_of, output_by, share}
-use Rattle.ports_core.specs.Slot.{KeepsBroken, Rose}
-use Rattle.ports_core.specs.Draft.{Manner}
-use Rattle.ports_core.specs.FileWriter.{Breaks, CanTell}
-use Rattle.split_core.specs.Sharing.{CannotOpen}
-use Rattle.split_core.specs.FilesState.{FilesState, filing_in}
-use Rattle.split_core.specs.Round.{AreReady, OwnsFiles}
 
 -- the file of a share, by its place
 abbrev pub file_at : Filing → ℕ → Share → File

@@ -1,19 +1,13 @@
 -- What the next bytes of a piece do to the part that was begun, and to what is left after the full parts.
 use Rattle.std.specs.Prelude.{◌≡◌, ℕ, ◌+◌, ◌-◌, ◌<◌, ◌≤◌, Bool, true, false, List, [], ◌++◌, length, take, drop}
-use Rattle.seg_core.specs.Window.{ByteWindowState}
-use Rattle.seg_core.specs.declared.cut.Limit.{Limit}
-use Rattle.split_core.specs.declared.step.Step.{Step}
-use Rattle.split_core.specs.declared.step.Step.TheVariants.{Goes, Ends, Begins, Waits}
-use Rattle.seg_core.specs.Cut.{most}
-use Rattle.split_core.specs.Parts.{is_full, first_part, settled_rest, waiting_rest}
-use Rattle.split_core.specs.PartsState.{Lacks}
+use Rattle.seg_core.specs.{declared.cut.Limit.Limit, Cut.most}
+use Rattle.split_core.specs.{declared.step.Step.{Step, TheVariants.{Goes, Ends, Begins, Waits}}, Parts.{is_full, first_part, settled_rest, waiting_rest}, PartsState.Lacks}
 
--- what waits fits into the window
-pub record Fits (limit : Limit) (left : ℕ) (has_line : Bool) (window : ByteWindowState) : Type 0 where
+-- what waits fits into a part
+pub record Fits (limit : Limit) (left : ℕ) (has_line : Bool) (waiting : List ℕ) : Type 0 where
   pub some : 0 < left
-  pub room : window.most + 1 ≡ most limit
-  pub within : length window.held + left ≤ most limit
-  pub after_line : has_line ≡ true → length window.held + left < most limit
+  pub within : length waiting + left ≤ most limit
+  pub after_line : has_line ≡ true → length waiting + left < most limit
 
 -- the numbers of a step are within the piece, and what is still missing shrinks
 abbrev pub IsWithin : ℕ → Bool → List ℕ → Step → Type 0

@@ -1,17 +1,14 @@
 -- What calls on parts that follow one another do.
-use Rattle.std.specs.Prelude.{◌≡◌, ℕ, ◌-◌, ◌≤◌, ◌<◌, Bool, true, false, List, [], ◌++◌, length, take, Option, Some, None, IfNone, IfSome, Result, Ok, Err}
-use Rattle.ports_core.specs.Draft.{Draft, draft_part, part_of, with_bytes, with_next}
-use Rattle.ports_core.specs.FileWriter.{WriterState, Goes, Leaves, Reaches, At, IsWrite, is_file}
-use Rattle.ports_core.specs.Part.{Part, OutputsAt}
-use Rattle.ports_core.specs.Slot.{Slot}
-use Rattle.ports_core.specs.declared.fault.Fault.{Fault}
-use Rattle.ports_core.specs.declared.fault.Fault.TheVariants.{Verdict}
-use Rattle.ports_core.specs.declared.verdict.Verdict.TheVariants.{Suffixes}
-use Rattle.ports_core.specs.declared.file_writer.Opening.TheVariants.{Late}
+use Rattle.std.specs.Prelude.{◌≡◌, ℕ, ◌-◌, ◌≤◌, ◌<◌, Bool, false, List, [], ◌++◌, length, take, Option, Some, None, IfNone, IfSome, Result, Ok, Err}
+use Rattle.ports_core.specs.{
+  Draft.{Draft, draft_part, part_of, with_bytes, with_next},
+  FileWriter.{Goes, Leaves, Reaches, At, IsWrite},
+  Part.{Part, OutputsAt},
+  Slot.Slot,
+  declared.{fault.Fault.{Fault, TheVariants.Verdict}, verdict.Verdict.TheVariants.Suffixes, file_writer.Opening.TheVariants.Late},
+}
 use Rattle.seg_core.specs.Cut.{most}
-use Rattle.split_core.specs.Split.{are_named, draft_of, manner_of, output_by, settled_parts}
-use Rattle.split_core.specs.inner.CutLaws.{whole_parts}
-use Rattle.split_core.specs.PartsState.{PartsState, Stands, filing_of}
+use Rattle.split_core.specs.{Split.{are_named, draft_of, manner_of, output_by, settled_parts}, inner.CutLaws.whole_parts, PartsState.{PartsState, Stands, filing_of}}
 
 -- what is written once x came in, and in the end
 abbrev pub settled_part : PartsState → List ℕ → Part
@@ -45,15 +42,6 @@ abbrev pub Turns : Bool → PartsState → List ℕ → List Slot → List Slot 
 Turns told parts bytes old new next fault =
     Moves told parts (most parts.limit - length (parts.waiting ++ bytes), false, []) (turns (parts.waiting ++ bytes))
     old new next fault
-
--- a beginning of what the window held went to what is begun, and the window holds the rest
-pub record Emptying (told : Bool) (writer now : WriterState) (held left : List ℕ) (most now_most : ℕ)
-    (old slots : List Slot) : Type 0 where
-  pub gone : List ℕ
-  pub both : held ≡ gone ++ left
-  pub goes : Goes told writer (with_bytes gone) old slots now None
-  pub stays : is_file writer.current ≡ true → is_file now.current ≡ true
-  pub same : now_most ≡ most
 
 -- names ran out before these bytes of the input were written: the outputs have all that has a name
 pub record LacksNames (told : Bool) (parts : PartsState) (x bytes : List ℕ) (old new : List Slot) : Type 0 where

@@ -1,23 +1,18 @@
 -- Laws that traits cite: what of a text that goes on begins before a place.
-use Rattle.std.proofs.lemmas.Grind.{common_steps}
-use Rattle.std.proofs.Common.{◌≡◌, ℕ, ◌+◌, ◌-◌, ◌<◌, ◌≤◌, max, zero, suc, Bool, true, false, cond, eqb, nat_lt, List, [], ◌∷◌, ◌++◌, ◌⊎◌, length, take, drop, inl, inr, refl, sym, ◌∙◌, ap, subst, arith}
-use Rattle.std.proofs.lemmas.Bool.{cases_lt, lt-ltb, ltb-true, ltb-false}
-use Rattle.std.proofs.lemmas.List.{append-nil, take_all, length-append, take-append-le, take-append-drop, take-take}
-use Rattle.std.proofs.Math.Seq.{take-append-add}
-use Rattle.std.specs.List.{onto_first}
-use Rattle.seg_core.specs.Line.{joined, lines_of, delimiters, first_lines}
-use Rattle.seg_core.proofs.Delimiters.{delimiters-append, delimiters-le-length}
-use Rattle.seg_core.proofs.FirstLines.{first_lines-append, first_lines-cons, delimiters-first_lines, length-first_lines-le, joined-append}
-use Rattle.seg_core.proofs.LinesOf.{joined-lines_of}
-use Rattle.seg_core.specs.declared.unit.Unit.{Unit}
-use Rattle.seg_core.specs.declared.unit.Unit.TheVariants.{Bytes, Lines}
-use Rattle.ports_core.specs.Part.{IsBeginning}
-use Rattle.ports_core.proofs.PartLemmas.{begins_itself, begins_more}
-use Rattle.split_core.specs.Chunks.{lines_before, begun_before, open_from}
-use Rattle.split_core.specs.inner.Dealt.{EachSome}
-use Rattle.split_core.specs.laws.DealLaws.{each_line}
-use Rattle.split_core.specs.laws.ShareLaws.{first_lines_begin}
-use Rattle.ports_core.proofs.AgreedLemmas.{beginning_short}
+use Rattle.std.{
+  proofs.lemmas.{Grind.common_steps, Bool.{cases_lt, lt-ltb, ltb-true, ltb-false}, List.{append-nil, take_all, length-append, take-append-le, take-append-drop, take-take}},
+  proofs.Common.{◌≡◌, ℕ, ◌+◌, ◌-◌, ◌<◌, ◌≤◌, max, zero, suc, Bool, true, false, cond, eqb, nat_lt, List, [], ◌∷◌, ◌++◌, ◌⊎◌, length, take, drop, inl, inr, refl, sym, ◌∙◌, ap, subst, arith},
+  proofs.Math.Seq.take-append-add,
+  specs.List.onto_first,
+}
+use Rattle.seg_core.{
+  specs.{Line.{joined, lines_of, delimiters, first_lines}, declared.unit.Unit.{Unit, TheVariants.{Bytes, Lines}}},
+  proofs.Delimiters.{delimiters-append, delimiters-le-length},
+  proofs.FirstLines.{first_lines-append, first_lines-cons, delimiters-first_lines, length-first_lines-le, joined-append},
+  proofs.LinesOf.joined-lines_of,
+}
+use Rattle.ports_core.{specs.Part.IsBeginning, proofs.{PartLemmas.{begins_itself, begins_more}, AgreedLemmas.beginning_short}}
+use Rattle.split_core.specs.{Chunks.{lines_before, begun_before, open_from}, inner.Dealt.EachSome, laws.{DealLaws.each_line, ShareLaws.first_lines_begin}}
 
 -- What of a text begins before a place
 

@@ -1,23 +1,21 @@
 -- Laws that traits cite: laws of chunks: where they begin, and what of a text that goes on is in them.
-use Rattle.std.proofs.lemmas.Bool.Decides.{nat_tests}
-use Rattle.std.proofs.Common.{◌≡◌, ℕ, ◌+◌, ◌-◌, ◌*◌, ◌/◌, ◌%◌, ◌<◌, ◌≤◌, max, zero, suc, Bool, true, false, cond, nat_lt, List, [], ◌∷◌, ◌++◌, ◌⊎◌, length, take, drop, map, replicate, inl, inr, refl, sym, ◌∙◌, ap, subst, arith}
-use Rattle.std.proofs.lemmas.Bool.{cases_lt, le-leb, lt-leb, leb-true}
-use Rattle.std.proofs.lemmas.List.{append-nil, take_all, drop_all, length-take, length-append, take-append-le, length-take-le, drop-append-le}
-use Rattle.std.proofs.lemmas.List.FromFn.{map-range_with_len_more, take-map-range_with_len, length-map-range_with_len}
-use Rattle.std.proofs.lemmas.Nat.{div-add-mod', le-div}
-use Rattle.std.proofs.Math.Nat.{div-mul-le_self, mod-lt, mul-le-mul_right, mul-le-mul_left}
-use Rattle.std.proofs.Math.Seq.{drop-append_seam}
+use Rattle.std.proofs.{
+  lemmas.Bool.{cases_lt, le-leb, lt-leb, leb-true, Decides.nat_tests},
+  lemmas.List.{append-nil, take_all, drop_all, length-take, length-append, take-append-le, length-take-le, drop-append-le},
+  lemmas.List.FromFn.{map-range_with_len_more, take-map-range_with_len, length-map-range_with_len},
+  lemmas.Nat.{div-add-mod', le-div},
+  Common.{◌≡◌, ℕ, ◌+◌, ◌-◌, ◌*◌, ◌/◌, ◌%◌, ◌<◌, ◌≤◌, max, zero, suc, Bool, true, false, cond, nat_lt, List, [], ◌∷◌, ◌++◌, ◌⊎◌, length, take, drop, map, replicate, inl, inr, refl, sym, ◌∙◌, ap, subst, arith},
+  Math.{Nat.{div-mul-le_self, mod-lt, mul-le-mul_right, mul-le-mul_left}, Seq.drop-append_seam},
+}
 use Rattle.std.specs.List.{filter, range_with_len}
-use Rattle.seg_core.specs.Line.{joined}
-use Rattle.seg_core.proofs.FirstLines.{joined-append}
-use Rattle.seg_core.specs.declared.cut.Chunks.{Chunks}
-use Rattle.ports_core.specs.Part.{IsBeginning}
-use Rattle.ports_core.proofs.PartLemmas.{begins_trans}
-use Rattle.split_core.specs.Chunks.{chunk_start, begun_before, before_chunk, chunk_at, open_from, passed, has_ended, ended, chunks_within, chunks_of, pieces_in}
-use Rattle.split_core.specs.Parts.{CutUp}
-use Rattle.split_core.specs.inner.Chunks.{HaveEnded}
-use Rattle.split_core.specs.laws.BegunLaws.{begun_again, begun_all, begun_begins, begun_first_place, begun_grows, begun_long, begun_monotone, begun_on, begun_stays, begun_within, open_grows, open_within}
-use Rattle.ports_core.proofs.AgreedLemmas.{beginning_short}
+use Rattle.seg_core.{specs.{Line.joined, declared.cut.Chunks.Chunks}, proofs.FirstLines.joined-append}
+use Rattle.ports_core.{specs.Part.IsBeginning, proofs.{PartLemmas.begins_trans, AgreedLemmas.beginning_short}}
+use Rattle.split_core.specs.{
+  Chunks.{chunk_start, begun_before, before_chunk, chunk_at, open_from, passed, has_ended, ended, chunks_within, chunks_of, pieces_in},
+  Parts.CutUp,
+  inner.Chunks.HaveEnded,
+  laws.BegunLaws.{begun_again, begun_all, begun_begins, begun_first_place, begun_grows, begun_long, begun_monotone, begun_on, begun_stays, begun_within, open_grows, open_within},
+}
 
 -- Where chunks begin
 

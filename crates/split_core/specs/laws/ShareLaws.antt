@@ -1,26 +1,26 @@
 -- Laws that traits cite: laws of what files get: what is written once more came in, and in the end.
-use Rattle.std.proofs.lemmas.Grind.{common_steps}
-use Rattle.std.proofs.Common.{◌≡◌, ℕ, ◌+◌, ◌-◌, ◌<◌, ◌≤◌, zero, suc, List, [], ◌∷◌, ◌++◌, length, map, take, drop, Bool, true, false, ◌⊎◌, inl, inr, refl, sym, ◌∙◌, ap, subst, arith, append_assoc, rules}
-use Rattle.std.proofs.lemmas.List.{map-append, length-map, take-take}
-use Rattle.seg_core.specs.Line.{joined, lines_of, delimiters, first_lines}
-use Rattle.seg_core.proofs.Delimiters.{delimiters-append}
-use Rattle.seg_core.proofs.FirstLines.{first_lines-append, first_lines-full, first_lines-short, first_lines_then_rest, lines_of-first_lines}
-use Rattle.ports_core.specs.Name.{Naming, has_name}
-use Rattle.ports_core.specs.Draft.{opening_line, part_of, told_of_files}
-use Rattle.ports_core.specs.Part.{File, FilesBegin, IsBeginning, Begins}
-use Rattle.ports_core.specs.inner.Shares.{SharesBegin}
-use Rattle.ports_core.proofs.ShareLemmas.{files_begin, files_stop, made_begin, openings_begin, shares_after}
-use Rattle.ports_core.specs.declared.file_writer.Opening.TheVariants.{Late}
-use Rattle.ports_core.specs.declared.slot.State.TheVariants.{Open, Closed}
-use Rattle.ports_core.proofs.PartLemmas.{begins_itself, begins_more}
-use Rattle.seg_core.specs.declared.cut.Limit.{Limit}
-use Rattle.seg_core.specs.declared.cut.Limit.TheVariants.{Lines, Bytes, LineBytes}
-use Rattle.seg_core.specs.Cut.{most}
-use Rattle.split_core.specs.Parts.{whole_lines, measure, is_full, first_part, after_first, cut_up, unless_empty, parts, settled_rest}
-use Rattle.split_core.specs.Split.{Filing, Share, share, manner_of, are_named, output_by, settled_parts}
-use Rattle.split_core.specs.inner.Sharing.{file_at}
-use Rattle.split_core.specs.laws.CutLaws.{short_some, full_some, whole_of_lines, whole_of_none, settled_then_waiting, settled_some, cut_on, cut_none, cut_once, cuts_up, rest_short}
-use Rattle.split_core.specs.inner.CutLaws.{goes, cut_so, whole_parts, named}
+use Rattle.std.proofs.{
+  lemmas.{Grind.common_steps, List.{map-append, length-map, take-take}},
+  Common.{◌≡◌, ℕ, ◌+◌, ◌-◌, ◌<◌, ◌≤◌, zero, suc, List, [], ◌∷◌, ◌++◌, length, map, take, drop, Bool, true, false, ◌⊎◌, inl, inr, refl, sym, ◌∙◌, ap, subst, arith, append_assoc, rules},
+}
+use Rattle.seg_core.{
+  specs.{Line.{joined, lines_of, delimiters, first_lines}, declared.cut.Limit.{Limit, TheVariants.{Lines, Bytes, LineBytes}}, Cut.most},
+  proofs.{Delimiters.delimiters-append, FirstLines.{first_lines-append, first_lines-full, first_lines-short, first_lines_then_rest, lines_of-first_lines}},
+}
+use Rattle.ports_core.specs.{
+  Name.{Naming, has_name},
+  Draft.{opening_line, part_of, told_of_files},
+  Part.{File, FilesBegin, IsBeginning, Begins},
+  inner.Shares.SharesBegin,
+  declared.{file_writer.Opening.TheVariants.Late, slot.State.TheVariants.{Open, Closed}},
+}
+use Rattle.ports_core.proofs.{ShareLemmas.{files_begin, files_stop, made_begin, openings_begin, shares_after}, PartLemmas.{begins_itself, begins_more}}
+use Rattle.split_core.specs.{
+  Parts.{whole_lines, measure, is_full, first_part, after_first, cut_up, unless_empty, parts, settled_rest},
+  Split.{Filing, Share, share, manner_of, are_named, output_by, settled_parts},
+  inner.{Sharing.file_at, CutLaws.{goes, cut_so, whole_parts, named}},
+  laws.CutLaws.{short_some, full_some, whole_of_lines, whole_of_none, settled_then_waiting, settled_some, cut_on, cut_none, cut_once, cuts_up, rest_short},
+}
 
 -- the files of shares that begin others begin the files of those
 

@@ -1,33 +1,28 @@
 -- Laws that traits cite: those of the work of `split`, in each way to cut.
-use Rattle.std.proofs.lemmas.Grind.{common_steps}
-use Rattle.std.proofs.Common.{◌≡◌, ℕ, ◌+◌, ◌≤◌, zero, suc, List, [], ◌∷◌, ◌++◌, map, Bool, true, false, cond, refl, Option, arith, length, sym, ◌∙◌, ap, rules}
-use Rattle.std.specs.List.{range_with_len}
-use Rattle.std.proofs.lemmas.Bool.{false≢true, ltb-true, not-true}
-use Rattle.ports_core.specs.Name.{has_name}
-use Rattle.ports_core.specs.Part.{File, IsBeginning, FilesBegin, Begins, nothing}
-use Rattle.ports_core.specs.Work.{IsLawful, IsComplete, Work}
-use Rattle.ports_core.specs.declared.slot.State.{State}
-use Rattle.ports_core.specs.declared.slot.State.TheVariants.{Open, Closed}
-use Rattle.ports_core.proofs.PartLemmas.{begins_itself, part_begins_itself}
-use Rattle.ports_core.specs.Draft.{part_of}
-use Rattle.split_core.specs.inner.CutLaws.{named}
-use Rattle.split_core.specs.Split.{Filing, share, manner_of, dealt_files, are_named, settled_parts}
-use Rattle.split_core.specs.inner.Sharing.{file_at}
-use Rattle.split_core.specs.Round.{round_plan, round_work, opened_by}
-use Rattle.split_core.specs.inner.Dealt.{share_of}
-use Rattle.split_core.specs.laws.DealLaws.{dealt_append, dealt_files_are, opened_by-grows}
-use Rattle.std.proofs.lemmas.List.{append-nil, length-map}
-use Rattle.seg_core.specs.declared.cut.Limit.{Limit}
-use Rattle.split_core.specs.Parts.{cut_up, parts}
-use Rattle.split_core.specs.laws.ShareLaws.{part_begins, told_begins, settled_grow, settled_end, files_settled, files_whole, parts_grow, are_named_more}
-use Rattle.split_core.specs.PartsState.{filing_of, parts_work}
-use Rattle.split_core.specs.FilesState.{filing_in}
-use Rattle.split_core.specs.declared.splitter.Splitter.{Splitter}
-use Rattle.split_core.specs.declared.splitter.Splitter.TheVariants.{Parts, Round, Chunks, Turn}
-use Rattle.seg_core.specs.declared.cut.Chunks.{Chunks as Chunking}
-use Rattle.split_core.specs.ChunkerState.{Course, can_cut, course, in_files, in_output, made_if, work_on}
-use Rattle.split_core.specs.laws.ChunkWorkLaws.{chunk_lawful, chunks_lawful, turn_lawful}
-use Rattle.split_core.specs.Ways.{work}
+use Rattle.std.{
+  proofs.lemmas.{Grind.common_steps, Bool.{false≢true, ltb-true, not-true}, List.{append-nil, length-map}},
+  proofs.Common.{◌≡◌, ℕ, ◌+◌, ◌≤◌, zero, suc, List, [], ◌∷◌, ◌++◌, map, Bool, true, false, cond, refl, Option, arith, length, sym, ◌∙◌, ap, rules},
+  specs.List.range_with_len,
+}
+use Rattle.ports_core.{
+  specs.{Name.has_name, Part.{File, IsBeginning, FilesBegin, Begins, nothing}, Work.{IsLawful, IsComplete, Work}, declared.slot.State.{State, TheVariants.{Open, Closed}}, Draft.part_of},
+  proofs.PartLemmas.{begins_itself, part_begins_itself},
+}
+use Rattle.split_core.specs.{
+  inner.{CutLaws.named, Sharing.file_at, Dealt.share_of},
+  Split.{Filing, share, manner_of, dealt_files, are_named, settled_parts},
+  Round.{round_plan, round_work, opened_by},
+  laws.DealLaws.{dealt_append, dealt_files_are, opened_by-grows},
+  laws.ShareLaws.{part_begins, told_begins, settled_grow, settled_end, files_settled, files_whole, parts_grow, are_named_more},
+  laws.ChunkWorkLaws.{chunk_lawful, chunks_lawful, turn_lawful},
+  Parts.{cut_up, parts},
+  PartsState.{filing_of, parts_work},
+  FilesState.filing_in,
+  declared.splitter.Splitter.{Splitter, TheVariants.{Parts, Round, Chunks, Turn}},
+  ChunkerState.{Course, can_cut, course, in_files, in_output, made_if, work_on},
+  Ways.work,
+}
+use Rattle.seg_core.specs.declared.cut.{Limit.Limit, Chunks.Chunks as Chunking}
 
 begin_step : (is : Bool) (file high : File) (files wholes : List File) → file.name ≡ high.name → file.mode ≡ high.mode
     → file.is_broken ≡ high.is_broken → file.state ≡ Open → IsBeginning file.bytes high.bytes → FilesBegin files wholes

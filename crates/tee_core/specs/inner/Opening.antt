@@ -1,7 +1,6 @@
 -- What private calls say: how the files of a tee are opened.
 use Rattle.std.specs.Prelude.{◌≡◌, ℕ, List, [], ◌∷◌, ◌++◌}
-use Rattle.ports_core.specs.Slot.{Slot}
-use Rattle.ports_core.specs.declared.slot.Mode.{Mode}
+use Rattle.ports_core.specs.{Slot.Slot, declared.slot.Mode.Mode}
 use Rattle.tee_core.specs.Opening.{OpensAs}
 
 -- one file was opened so

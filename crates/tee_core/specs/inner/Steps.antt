@@ -1,41 +1,29 @@
 -- What each step of a run leaves.
-use Rattle.std.specs.Prelude.{◌≡◌, ℕ, ◌<◌, suc, Bool, true, false, List, [], ◌∷◌, ◌++◌, length, map, take, Option, Some, None, ◌⊎◌, if◌then◌else◌}
-use Rattle.std.specs.List.{concat}
-use Rattle.ports_core.specs.Slot.{Slot, slot_at, changed_at, is_open, opened, unopened, adds, breaks, told_of}
-use Rattle.ports_core.specs.Source.{Content, Source}
-use Rattle.ports_core.specs.Text.{Message, message_of}
-use Rattle.ports_core.specs.Message.{SaysAll}
-use Rattle.ports_core.specs.declared.calling.Calling.{Calling}
-use Rattle.ports_core.specs.declared.on_broken.OnBroken.{OnBroken}
-use Rattle.ports_core.specs.declared.slot.Mode.{Mode}
-use Rattle.ports_core.specs.declared.fault.Fault.{Fault}
-use Rattle.ports_core.specs.Streams.{standard_error}
-use Rattle.tee_core.specs.declared.standing.Standing.{Standing}
-use Rattle.tee_core.specs.declared.standing.Standing.TheVariants.{Sound, Broken, Gone}
-use Rattle.tee_core.specs.Run.{Break, ComesIn, EachFile, FilesLeft, OutputLeft, is_done, is_told, messages_of, output_names, said_before, standing_of, standings_before, tee_called}
-use Rattle.tee_core.specs.TeeState.{TeeState}
+use Rattle.std.specs.{Prelude.{◌≡◌, ℕ, ◌<◌, zero, suc, Bool, true, false, List, [], ◌∷◌, ◌++◌, length, map, take, Option, Some, None, ◌⊎◌, if◌then◌else◌}, List.concat}
+use Rattle.ports_core.specs.{
+  Slot.{Slot, slot_at, changed_at, is_open, opened, unopened, adds, breaks, told_of},
+  Source.{Content, Source},
+  Text.{Message, message_of},
+  Message.SaysAll,
+  declared.{calling.Calling.Calling, on_broken.OnBroken.OnBroken, reason.Reason.Reason, slot.Mode.Mode, fault.Fault.Fault},
+  Streams.standard_error,
+}
+use Rattle.tee_core.specs.{
+  declared.standing.Standing.{Standing, TheVariants.Sound},
+  Run.{Break, ComesIn, EachFile, FilesLeft, OutputLeft, is_done, is_told, messages_of, output_names, said_before, standing_of, standings_before, stands_as, tee_called},
+  TeeState.TeeState,
+}
 
--- which of the outputs are broken: standard output, and then the files
-abbrev pub broken_of : List Slot → List Bool
-broken_of [] = []
-broken_of (output ∷ []) = []
-broken_of (output ∷ error ∷ files) = output.is_broken ∷ map (λ file. file.is_broken) files
+-- the number of an output: standard error stands between standard output and the files
+abbrev pub output_slot : ℕ → ℕ
+output_slot zero = 0
+output_slot (suc n) = suc (suc n)
 
-abbrev pub is_lost : Standing → Bool
-is_lost Sound = false
-is_lost Broken = true
-is_lost Gone = true
-
--- an output is known to stand so that was known to stand otherwise, or as now, and is broken or not
-pub record Sees (was : Standing) (is_broken : Bool) (now : Standing) : Type 0 where
-  pub broken : is_lost now ≡ is_broken
-  pub kept : is_lost was ≡ true → is_lost now ≡ true → now ≡ was
-
--- the same of each output
-abbrev pub SeesAll : List Standing → List Bool → List Standing → Type 0
-SeesAll [] [] [] = Unit {0}
-SeesAll (was ∷ known) (is_broken ∷ broken) (now ∷ nows) = Sees was is_broken now × SeesAll known broken nows
-SeesAll known broken nows = ⊥
+-- how they stand: standard output, and then the files
+abbrev pub standings_of : List Slot → List Standing
+standings_of [] = []
+standings_of (output ∷ []) = []
+standings_of (output ∷ error ∷ files) = stands_as output ∷ map stands_as files
 
 -- there is a message for an output that was known to stand as the first says, and now stands as the second
 abbrev pub tells : OnBroken → Standing → Standing → Bool
@@ -75,12 +63,12 @@ pub record IsTeeOf (names : List (List ℕ)) (tee : TeeState) : Type 0 where
 pub data FileHas (told : Bool) (mode : Mode) (pieces : List (List ℕ)) (name : List ℕ) : Option Break → Slot → Type 0
   where
     has_all : FileHas told mode pieces name None (adds (told_of told (concat pieces)) (opened name mode))
-    has_none : {is_gone : Bool} (kept : List ℕ) → (kept ≡ name) ⊎ (kept ≡ [])
-        → FileHas told mode pieces name (Some (record { call = 0; is_gone = is_gone })) (unopened kept)
-    has_begun : {is_gone : Bool} (before : List (List ℕ)) (piece : List ℕ) (after : List (List ℕ)) (n : ℕ)
+    has_none : {why : Reason} (kept : List ℕ) → (kept ≡ name) ⊎ (kept ≡ [])
+        → FileHas told mode pieces name (Some (record { call = 0; why = why })) (unopened why kept)
+    has_begun : {why : Reason} (before : List (List ℕ)) (piece : List ℕ) (after : List (List ℕ)) (n : ℕ)
         → pieces ≡ before ++ piece ∷ after → n < length piece
-        → FileHas told mode pieces name (Some (record { call = suc (length before); is_gone = is_gone }))
-        (breaks (adds (told_of told (concat before ++ take n piece)) (opened name mode)))
+        → FileHas told mode pieces name (Some (record { call = suc (length before); why = why }))
+        (breaks why (adds (told_of told (concat before ++ take n piece)) (opened name mode)))
 
 -- these pieces were copied, before the files are closed
 pub record Copies (told : Bool) (calling : Calling) (mode : Mode) (on_broken : OnBroken) (names : List (List ℕ))

@@ -1,6 +1,5 @@
 ghost use Rattle.std.specs.Prelude.{◌≡◌, IfOk};
-ghost use Rattle.bre_core.specs.Pattern.{Pattern, Reads};
-ghost use Rattle.bre_core.specs.Search.{contains};
+ghost use Rattle.bre_core.specs.{Pattern.{Pattern, Reads}, Search.contains};
 
 use bre_core::{BreFault, Expression};
 use plain_core::matches_expression;

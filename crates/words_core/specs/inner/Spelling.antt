@@ -1,11 +1,8 @@
 -- What private calls say: what the words after a tool's name spell: options with their values, and operands. What a
 -- word means depends on what the words before it left. 45 is a hyphen, 61 `=`.
 use Rattle.std.specs.Prelude.{◌≡◌, ℕ, nat_lt, List, [], ◌∷◌, ◌⊎◌, Option, Some, None, Result, Ok, Err, if◌then◌else◌}
-use Rattle.ports_core.specs.declared.fault.Fault.{Fault}
-use Rattle.ports_core.specs.declared.fault.Fault.TheVariants.{Memory}
-use Rattle.words_core.specs.declared.spelling.State.{State}
-use Rattle.words_core.specs.Given.{Given}
-use Rattle.words_core.specs.Spelling.{Meaning, before}
+use Rattle.ports_core.specs.declared.fault.Fault.{Fault, TheVariants.Memory}
+use Rattle.words_core.specs.{declared.spelling.State.State, Given.Given, Spelling.{Meaning, before}}
 
 -- A cluster: letters, each an option. The value of one that takes one is the rest of the word, or the next word.
 

@@ -1,11 +1,8 @@
 -- What private calls say: the way to split, one option after another.
 use Rattle.std.specs.Prelude.{ℕ, Option, Some, None, Result, Ok, Err}
-use Rattle.ports_core.specs.declared.fault.Fault.{Fault}
-use Rattle.ports_core.specs.declared.fault.Fault.TheVariants.{Usage}
-use Rattle.ports_core.specs.declared.fault.UsageKind.TheVariants.{TwoWays}
+use Rattle.ports_core.specs.declared.fault.{Fault.{Fault, TheVariants.Usage}, UsageKind.TheVariants.TwoWays}
 use Rattle.seg_core.specs.declared.cut.Way.{Way}
-use Rattle.words_core.specs.declared.spelled.Chosen.{Chosen}
-use Rattle.words_core.specs.SplitWords.{way_in}
+use Rattle.words_core.specs.{declared.spelled.Chosen.Chosen, SplitWords.way_in}
 
 -- the way so far, with one more option, which stands in the word at this place
 

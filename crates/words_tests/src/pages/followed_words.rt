@@ -1,6 +1,5 @@
 ghost use Rattle.std.specs.Prelude.{map, IfErr};
-ghost use Rattle.words_core.specs.Spelling.{IsRefused};
-ghost use Rattle.words_core.specs.Words.{HasBadOperands, settings_of};
+ghost use Rattle.words_core.specs.{Spelling.IsRefused, Words.{HasBadOperands, settings_of}};
 
 use ports_core::{Calling, Fault};
 use std::alloc::Global;

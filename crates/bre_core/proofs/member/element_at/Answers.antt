@@ -1,5 +1,4 @@
-use Rattle.std.proofs.Common.{arith}
-use Rattle.std.proofs.lemmas.Grind.{common_steps}
+use Rattle.std.proofs.{Common.arith, lemmas.Grind.common_steps}
 use Rattle.bre_core.proofs.member.element_at.Goals as goal
 
 pub returns-then-byte-eq91-clause-exact : goal.returns-then-byte-eq91-clause-exact

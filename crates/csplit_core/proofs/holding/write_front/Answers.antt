@@ -1,8 +1,6 @@
-use Rattle.ports_core.proofs.HandedOn.{handed_on}
-use Rattle.std.proofs.Common.{◌<◌, ◌^◌, length, arith}
-use Rattle.std.proofs.lemmas.Grind.{common_steps}
+use Rattle.ports_core.proofs.{HandedOn.handed_on, FileWriterLemmas.can_count}
+use Rattle.std.proofs.{Common.{◌<◌, ◌^◌, length, arith}, lemmas.Grind.common_steps}
 use Rattle.csplit_core.proofs.CutterLemmas.{all_held, fits_front, empties, empties_short, emptied_went, emptied_window, left_within}
-use Rattle.ports_core.proofs.FileWriterLemmas.{can_count}
 use Rattle.csplit_core.proofs.holding.write_front.Goals as goal
 
 pub loop-left-init : goal.loop-left-init

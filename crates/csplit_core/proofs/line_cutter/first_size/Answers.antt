@@ -1,6 +1,5 @@
 use Rattle.std.proofs.Common.{length, take, sym, ◌∙◌, ap, subst, take_at}
-use Rattle.csplit_core.specs.inner.Cutter.{IsLine}
-use Rattle.csplit_core.proofs.LineLemmas.{first_line}
+use Rattle.csplit_core.{specs.inner.Cutter.IsLine, proofs.LineLemmas.first_line}
 use Rattle.csplit_core.proofs.line_cutter.first_size.Goals as goal
 
 pub returns-in-None-clause-line : goal.returns-in-None-clause-line

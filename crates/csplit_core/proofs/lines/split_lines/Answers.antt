@@ -1,9 +1,6 @@
-use Rattle.std.proofs.Common.{length, sym, ◌∙◌, arith}
-use Rattle.std.proofs.lemmas.List.{take_all, drop_all}
-use Rattle.seg_core.proofs.EndLines.{after_lines-past}
-use Rattle.seg_core.proofs.FirstLines.{first_lines-short}
-use Rattle.csplit_core.specs.Input.{newline}
-use Rattle.csplit_core.proofs.LineLemmas.{rest_is}
+use Rattle.std.proofs.{Common.{length, sym, ◌∙◌, arith}, lemmas.List.{take_all, drop_all}}
+use Rattle.seg_core.proofs.{EndLines.after_lines-past, FirstLines.first_lines-short}
+use Rattle.csplit_core.{specs.Input.newline, proofs.LineLemmas.rest_is}
 use Rattle.csplit_core.proofs.lines.split_lines.Goals as goal
 
 pub returns-in-Ends-clause-rest : goal.returns-in-Ends-clause-rest

@@ -1,6 +1,5 @@
 use Rattle.std.proofs.Common.{◌≡◌, ◌-◌, ◌∙◌, ap, arith, refl, length, drop, length-append, length-drop, length-take}
-use Rattle.ports_core.specs.Source.{Source}
-use Rattle.ports_core.proofs.LoadLemmas.{looked_none}
+use Rattle.ports_core.{specs.Source.Source, proofs.LoadLemmas.looked_none}
 use Rattle.ends_core.proofs.FindLemmas.{found_all, found_in, found_none, looked_block, seen_more, seen_none}
 use Rattle.ends_core.proofs.find.find_lines.Goals as goal
 

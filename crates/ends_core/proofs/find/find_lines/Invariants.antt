@@ -1,6 +1,5 @@
 use Rattle.std.proofs.Common.{◌≡◌, ◌-◌, ◌<◌, ◌≤◌, length}
-use Rattle.ports_core.specs.Source.{source_at}
-use Rattle.ports_core.specs.Inputs.{HasLooked}
+use Rattle.ports_core.specs.{Source.source_at, Inputs.HasLooked}
 use Rattle.ends_core.proofs.FindLemmas.{SeenFrom}
 use Rattle.ends_core.proofs.find.find_lines.Given as goal
 

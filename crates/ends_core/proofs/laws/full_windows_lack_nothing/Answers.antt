@@ -1,16 +1,13 @@
-use Rattle.std.proofs.Common.{◌≡◌, ℕ, List, ◌++◌, length, Bool, true, false, ◌⊎◌, inl, inr, refl, sym, ◌∙◌, ap, subst}
-use Rattle.std.proofs.lemmas.Bool.{false≢true}
-use Rattle.ports_core.specs.Slot.{Slot}
-use Rattle.ports_core.specs.Work.{Means, on_output}
-use Rattle.ports_core.specs.Engine.{EndsWith, IsCaused, IsMet, over, long, met}
-use Rattle.ports_core.specs.Guard.{GuardState, HoldsIn, IsRefusedWith}
-use Rattle.ports_core.specs.declared.fault.Fault.{Fault}
-use Rattle.ports_core.specs.declared.fault.Fault.TheVariants.{Memory, Write, Open, TooLong}
+use Rattle.std.proofs.{Common.{◌≡◌, ℕ, List, ◌++◌, length, Bool, true, false, ◌⊎◌, inl, inr, refl, sym, ◌∙◌, ap, subst}, lemmas.Bool.false≢true}
+use Rattle.ports_core.specs.{
+  Slot.Slot,
+  Work.{Means, on_output},
+  Engine.{EndsWith, IsCaused, IsMet, over, long, met},
+  Guard.{GuardState, HoldsIn, IsRefusedWith},
+  declared.{fault.Fault.{Fault, TheVariants.{Memory, Write, Open, TooLong}}, verdict.Verdict.Verdict},
+}
+use Rattle.ends_core.{specs.{declared.ends.Ends.Ends, Stage.{Holds, count_of, delim_of, terms, keeps, may_lack, stretch_of, unit_of}}, proofs.EndsLemmas.{none_settled, on_means}}
 use Rattle.ports_core.specs.declared.fault.Fault.TheVariants as fault_is
-use Rattle.ports_core.specs.declared.verdict.Verdict.{Verdict}
-use Rattle.ends_core.specs.declared.ends.Ends.{Ends}
-use Rattle.ends_core.specs.Stage.{Holds, count_of, delim_of, terms, keeps, may_lack, stretch_of, unit_of}
-use Rattle.ends_core.proofs.EndsLemmas.{none_settled, on_means}
 use Rattle.ends_core.proofs.laws.full_windows_lack_nothing.Goals as goal
 
 -- of what writes to standard output alone, lacks no memory and has no fault of its own

@@ -1,5 +1,4 @@
-use Rattle.std.proofs.lemmas.Grind.{common_steps}
-use Rattle.std.proofs.Common.{arith}
+use Rattle.std.proofs.{lemmas.Grind.common_steps, Common.arith}
 use Rattle.follow_core.proofs.RunLemmas.{failed-append, messages-append, shares_more, text-append}
 use Rattle.follow_core.proofs.laws.one_look_more.Goals as goal
 

@@ -1,7 +1,6 @@
 use Rattle.std.proofs.Common.{◌≡◌, ◌≤◌, ◌^◌, ◌++◌, map, length}
 use Rattle.watch_core.specs.Watched.{added}
-use Rattle.follow_core.specs.inner.Giving.{IsFront}
-use Rattle.follow_core.specs.Standing.{texts}
+use Rattle.follow_core.specs.{inner.Giving.IsFront, Standing.texts}
 use Rattle.follow_core.proofs.name.add_all.Given as goal
 
 abbrev pub invariant-loop-left : goal.invariant-loop-left

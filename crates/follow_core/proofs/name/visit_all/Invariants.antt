@@ -1,11 +1,6 @@
 use Rattle.std.proofs.Common.{◌≡◌, ◌+◌, ◌-◌, ◌<◌, ◌≤◌, ℕ, List, length}
-use Rattle.follow_core.specs.inner.Visits.{StandFrom, VisitedTo}
-use Rattle.watch_core.specs.Snapshot.{latest}
-use Rattle.watch_core.specs.Watched.{watched_at}
-use Rattle.follow_core.specs.Sharing.{CanPrint}
-use Rattle.follow_core.specs.Look.{Look, ways_of}
-use Rattle.follow_core.specs.FollowState.{AllReady}
-use Rattle.follow_core.specs.Standing.{texts}
+use Rattle.follow_core.specs.{inner.Visits.{StandFrom, VisitedTo}, Sharing.CanPrint, Look.{Look, ways_of}, FollowState.AllReady, Standing.texts}
+use Rattle.watch_core.specs.{Snapshot.latest, Watched.watched_at}
 use Rattle.follow_core.proofs.name.visit_all.Given as goal
 
 abbrev pub invariant-loop-place : goal.invariant-loop-place

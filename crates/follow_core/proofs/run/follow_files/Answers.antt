@@ -1,8 +1,6 @@
-use Rattle.ports_core.proofs.Runs.{as_status}
+use Rattle.ports_core.{proofs.Runs.as_status, specs.declared.reason.Reason.TheVariants.Other}
 use Rattle.std.proofs.Common.{Bor, arith, ℕ, List, map, ◌∙◌, ap, sym, if◌then◌else◌}
-use Rattle.follow_core.specs.Ending.{stopped, looked, no_room, shows_by}
-use Rattle.follow_core.specs.Look.{ways_of}
-use Rattle.follow_core.proofs.LookedLemmas.{ends_by, most_made, open_holds, watched_are}
+use Rattle.follow_core.{specs.{Ending.{stopped, looked, no_room, shows_by}, Look.ways_of}, proofs.LookedLemmas.{ends_by, most_made, open_holds, watched_are}}
 use Rattle.follow_core.proofs.run.follow_files.Goals as goal
 
 pub returns-in-Ok-make_looks : goal.returns-in-Ok-make_looks
@@ -23,12 +21,12 @@ returns g c =
     let ways = ways_of 0 c.args.by_name c.args.start in
     let slots = g.O.Outs.slots c.args.outs.now in
     let (most, are, stops) = c.in-Err-make_looks.ensures.stopped in
-    let (why, is_why, tells, is) = c.tell-in-Err-make_looks.ensures in
-    rw (← c.forgive_by.ensures.shows) (ends_by c.args.limits.process most are (stopped (g.O.Outs.slots c.make_looks.new.outs) c.in-Err-make_looks.fault why
-    (stops c.args.calling ways c.args.headers names slots (open_holds c.in-Ok.ensures.ok (c.forgive_by.ensures.watched ∙ c.requires.unwatched))) is_why tells is))
+    let tells = c.tell-in-Err-make_looks.ensures in
+    rw (← c.forgive_by.ensures.shows) (ends_by c.args.limits.process most are (stopped (g.O.Outs.slots c.make_looks.new.outs) c.in-Err-make_looks.fault
+    (stops c.args.calling ways c.args.headers names slots (open_holds c.in-Ok.ensures.ok (c.forgive_by.ensures.watched ∙ c.requires.unwatched))) tells.told tells.status))
 
 pub returns-in-Err : goal.returns-in-Err
 returns-in-Err g c =
     let (most, are, above) = most_made g.W.Watch.told c.args.limits.process (shows_by c.args.calling c.args.by_name (g.W.Watch.shows c.args.watch.now)) c.args.limits.looks 0 (omega arith) (λ t. omega arith) in
-    let (why, is_why, tells, is) = rw c.in-Err.ensures.err at c.tell.ensures in
-    ends_by c.args.limits.process most are (no_room why c.requires.unseen c.requires.unwatched tells is)
+    let tells = rw c.in-Err.ensures.err at c.tell.ensures in
+    ends_by c.args.limits.process most are (no_room Other c.requires.unseen c.requires.unwatched tells.told tells.status)

@@ -1,11 +1,6 @@
 use Rattle.std.proofs.Common.{◌≡◌, ◌≤◌, ◌+◌, ◌-◌, ℕ, Bool, true, List, [], length}
-use Rattle.follow_core.specs.Ending.{until_over}
-use Rattle.ports_core.specs.Slot.{Slot}
-use Rattle.ports_core.specs.declared.calling.Calling.{Calling}
-use Rattle.follow_core.specs.Sharing.{HasError}
-use Rattle.follow_core.specs.FollowState.{CanLook, Holds}
-use Rattle.follow_core.specs.Look.{Ways}
-use Rattle.follow_core.proofs.LookedLemmas.{Progress}
+use Rattle.follow_core.{specs.{Ending.until_over, Sharing.HasError, FollowState.{CanLook, Holds}, Look.Ways}, proofs.LookedLemmas.Progress}
+use Rattle.ports_core.specs.{Slot.Slot, declared.calling.Calling.Calling}
 use Rattle.follow_core.proofs.run.make_looks.Given as goal
 
 abbrev pub invariant-loop-made : goal.invariant-loop-made

@@ -1,7 +1,5 @@
-use Rattle.std.proofs.Common.{◌≡◌, ◌-◌, arith, length, min, rules}
-use Rattle.std.proofs.lemmas.Grind.{common_steps}
-use Rattle.watch_core.specs.Snapshot.{latest}
-use Rattle.watch_core.specs.Watched.{open_contents, watched_at}
+use Rattle.std.proofs.{Common.{◌≡◌, ◌-◌, arith, length, min, rules}, lemmas.Grind.common_steps}
+use Rattle.watch_core.specs.{Snapshot.latest, Watched.{open_contents, watched_at}}
 use Rattle.ends_core.proofs.FindLemmas.{all_wanted, begins_in, begins_last, wanted_before}
 use Rattle.follow_core.proofs.StartLemmas.{contents_same, block_read, room_kept}
 use Rattle.follow_core.proofs.start.find_last_lines.Goals as goal

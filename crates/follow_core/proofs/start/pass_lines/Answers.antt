@@ -1,7 +1,5 @@
-use Rattle.std.proofs.lemmas.Grind.{common_steps}
-use Rattle.std.proofs.Common.{◌-◌, arith}
-use Rattle.watch_core.specs.Snapshot.{latest}
-use Rattle.watch_core.specs.Watched.{open_contents, watched_at}
+use Rattle.std.proofs.{lemmas.Grind.common_steps, Common.{◌-◌, arith}}
+use Rattle.watch_core.specs.{Snapshot.latest, Watched.{open_contents, watched_at}}
 use Rattle.follow_core.proofs.StartLemmas.{contents_same, block_read, passed_by, passed_in, room_kept}
 use Rattle.follow_core.proofs.start.pass_lines.Goals as goal
 

@@ -1,7 +1,6 @@
 use Rattle.std.proofs.Common.{◌≡◌, ◌-◌, ◌<◌, drop, length, true}
 use Rattle.seg_core.specs.Line.{after_lines}
-use Rattle.watch_core.specs.Snapshot.{latest}
-use Rattle.watch_core.specs.Watched.{open_contents, watched_at}
+use Rattle.watch_core.specs.{Snapshot.latest, Watched.{open_contents, watched_at}}
 use Rattle.follow_core.proofs.start.pass_lines.Given as goal
 
 abbrev pub invariant-loop-at : goal.invariant-loop-at

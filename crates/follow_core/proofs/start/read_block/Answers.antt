@@ -1,7 +1,5 @@
 use Rattle.std.proofs.Common.{◌∙◌, ◌+◌, ◌-◌, ap, length, take, drop, subst}
-use Rattle.watch_core.specs.Snapshot.{latest}
-use Rattle.watch_core.specs.Watched.{open_contents, watched_at, GaveFrom, breaks}
-use Rattle.watch_core.specs.declared.watch.Broken.TheVariants.{Read}
+use Rattle.watch_core.specs.{Snapshot.latest, Watched.{open_contents, watched_at, GaveFrom, breaks}, declared.watch.Broken.TheVariants.Read}
 use Rattle.ports_core.specs.Slot.{changed_at}
 use Rattle.follow_core.proofs.StartLemmas.{contents_same, fill_ends, fill_more}
 use Rattle.follow_core.proofs.start.read_block.Goals as goal
@@ -30,5 +28,5 @@ pub returns-in-Err-clause-err : goal.returns-in-Err-clause-err
 returns-in-Err-clause-err g c =
     let l = c.loop-filled in (
       c.in-Err.ensures.err.0,
-      (c.args.from + l.filled, c.in-Err.ensures.err.1 ∙ ap (changed_at c.args.place (breaks (λ file. Read file (c.args.from + l.filled)))) l.invariant.filling.watched_same),
+      (c.args.from + l.filled, (c.in-Err.ensures.err.1.0, c.in-Err.ensures.err.1.1 ∙ ap (changed_at c.args.place (breaks c.in-Err.ensures.err.1.0 (λ file. Read file (c.args.from + l.filled)))) l.invariant.filling.watched_same)),
     )

@@ -1,6 +1,5 @@
 use Rattle.std.proofs.Common.{length, ◌-◌, ◌≡◌}
-use Rattle.watch_core.specs.Snapshot.{latest}
-use Rattle.watch_core.specs.Watched.{open_contents, watched_at}
+use Rattle.watch_core.specs.{Snapshot.latest, Watched.{open_contents, watched_at}}
 use Rattle.follow_core.proofs.StartLemmas.{Filling}
 use Rattle.follow_core.proofs.start.read_block.Given as goal
 

@@ -1,5 +1,4 @@
-use Rattle.std.proofs.Common.{arith}
-use Rattle.std.proofs.lemmas.Grind.{common_steps}
+use Rattle.std.proofs.{Common.arith, lemmas.Grind.common_steps}
 use Rattle.follow_core.proofs.CallGivesLemmas.{due_as, nothing_due, past_noted}
 use Rattle.follow_core.proofs.visitor.begin_at.Goals as goal
 

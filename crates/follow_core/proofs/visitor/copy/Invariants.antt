@@ -1,6 +1,5 @@
 use Rattle.std.proofs.Common.{◌≡◌, ◌-◌, ◌<◌, ◌≤◌, IsTrue, None, length}
-use Rattle.watch_core.specs.Snapshot.{latest}
-use Rattle.watch_core.specs.Watched.{open_contents, watched_at}
+use Rattle.watch_core.specs.{Snapshot.latest, Watched.{open_contents, watched_at}}
 use Rattle.ports_core.specs.Slot.{is_writable}
 use Rattle.follow_core.proofs.CallGivesLemmas.{Copied}
 use Rattle.follow_core.proofs.visitor.copy.Given as goal

@@ -1,5 +1,4 @@
-use Rattle.std.proofs.Common.{arith}
-use Rattle.std.proofs.lemmas.Grind.{common_steps}
+use Rattle.std.proofs.{Common.arith, lemmas.Grind.common_steps}
 use Rattle.mem_core.proofs.mem_world.copy_bars.Goals as goal
 
 pub loop-bar-preserved : goal.loop-bar-preserved

@@ -1,8 +1,5 @@
-use Rattle.std.proofs.Common.{arith, sym, rules}
-use Rattle.std.proofs.lemmas.Grind.{common_steps}
-use Rattle.std.proofs.lemmas.List.{take_rest}
-use Rattle.operand_core.specs.Reading.{no_memory}
-use Rattle.operand_core.proofs.ReadingLemmas.{no_operand, ends_at, reads_next}
+use Rattle.std.proofs.{Common.{arith, sym, rules}, lemmas.{Grind.common_steps, List.take_rest}}
+use Rattle.operand_core.{specs.Reading.no_memory, proofs.ReadingLemmas.{no_operand, ends_at, reads_next}}
 use Rattle.operand_core.proofs.operands.read_operands.Goals as goal
 
 pub returns-then-is_empty-clause-err : goal.returns-then-is_empty-clause-err

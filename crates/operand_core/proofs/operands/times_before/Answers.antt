@@ -1,5 +1,4 @@
-use Rattle.std.proofs.Common.{arith}
-use Rattle.std.proofs.lemmas.Grind.{common_steps}
+use Rattle.std.proofs.{Common.arith, lemmas.Grind.common_steps}
 use Rattle.operand_core.proofs.ReadingLemmas.{no_first, first_says, first_is_other}
 use Rattle.operand_core.proofs.operands.times_before.Goals as goal
 

@@ -1,7 +1,5 @@
-use Rattle.std.proofs.lemmas.Grind.{common_steps}
-use Rattle.std.proofs.Common.{◌∙◌, Err, ap, arith, ◌==◌}
-use Rattle.operand_core.specs.Word.{unescaped}
-use Rattle.operand_core.proofs.AimLemmas.{lacks, is_refused_so, is_read}
+use Rattle.std.proofs.{lemmas.Grind.common_steps, Common.{◌∙◌, Err, ap, arith, ◌==◌}}
+use Rattle.operand_core.{specs.Word.unescaped, proofs.AimLemmas.{lacks, is_refused_so, is_read}}
 use Rattle.operand_core.proofs.target.read_pattern.Goals as goal
 
 pub returns-in_err-text : goal.returns-in_err-text

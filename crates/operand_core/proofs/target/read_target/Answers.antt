@@ -1,6 +1,5 @@
 use Rattle.std.proofs.Common.{sym, ap}
-use Rattle.operand_core.specs.Reading.{aim_of}
-use Rattle.operand_core.proofs.AimLemmas.{goes_wrong, no_target}
+use Rattle.operand_core.{specs.Reading.aim_of, proofs.AimLemmas.{goes_wrong, no_target}}
 use Rattle.operand_core.proofs.target.read_target.Goals as goal
 
 pub returns-in_err-number : goal.returns-in_err-number

@@ -1,6 +1,5 @@
 use Rattle.std.proofs.Common.{◌≡◌, false, drop}
-use Rattle.operand_core.specs.Word.{closing}
-use Rattle.operand_core.proofs.AimLemmas.{last_of}
+use Rattle.operand_core.{specs.Word.closing, proofs.AimLemmas.last_of}
 use Rattle.operand_core.proofs.word.find_closing.Given as goal
 
 abbrev pub invariant-loop-place : goal.invariant-loop-place

@@ -1,5 +1,4 @@
-use Rattle.std.proofs.Common.{arith}
-use Rattle.std.proofs.lemmas.Grind.{common_steps}
+use Rattle.std.proofs.{Common.arith, lemmas.Grind.common_steps}
 use Rattle.operand_core.proofs.word.read_offset.Goals as goal
 
 pub returns-in_err-read_number-in-43 : goal.returns-in_err-read_number-in-43

@@ -1,5 +1,4 @@
-use Rattle.std.proofs.Common.{arith}
-use Rattle.std.proofs.lemmas.Grind.{common_steps}
+use Rattle.std.proofs.{Common.arith, lemmas.Grind.common_steps}
 use Rattle.operand_core.proofs.AimLemmas.{search_closed}
 use Rattle.operand_core.proofs.word.read_search.Goals as goal
 

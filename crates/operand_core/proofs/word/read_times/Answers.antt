@@ -1,6 +1,4 @@
-use Rattle.std.proofs.lemmas.Grind.{common_steps}
-use Rattle.std.proofs.Common.{sym, ◌∙◌, ap, arith}
-use Rattle.operand_core.specs.Word.{before_brace, braced}
+use Rattle.std.proofs.{lemmas.Grind.common_steps, Common.arith}
 use Rattle.operand_core.proofs.AimLemmas.{is_brace, is_no_brace}
 use Rattle.operand_core.proofs.word.read_times.Goals as goal
 

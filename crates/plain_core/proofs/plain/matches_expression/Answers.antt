@@ -1,7 +1,5 @@
-use Rattle.std.proofs.Common.{ap, sym, ◌∙◌}
-use Rattle.std.proofs.lemmas.List.{at_drop_all}
-use Rattle.bre_core.specs.Flat.{read_on}
-use Rattle.bre_core.specs.Search.{contains}
+use Rattle.std.proofs.{Common.{ap, sym, ◌∙◌}, lemmas.List.at_drop_all}
+use Rattle.bre_core.specs.{Flat.read_on, Search.contains}
 use Rattle.plain_core.proofs.Tables.{found_is}
 use Rattle.plain_core.proofs.plain.matches_expression.Goals as goal
 

@@ -1,5 +1,4 @@
-use Rattle.std.proofs.Common.{◌≡◌, ◌&&◌, nat_le, []}
-use Rattle.std.specs.Prelude.{slice_index_or}
+use Rattle.std.{proofs.Common.{◌≡◌, ◌&&◌, nat_le, []}, specs.Prelude.slice_index_or}
 use Rattle.bre_core.specs.Search.{any_below, is_at_most}
 use Rattle.plain_core.specs.inner.Table.{at}
 use Rattle.plain_core.proofs.table.repeated_at.Given as goal

@@ -1,5 +1,4 @@
-use Rattle.std.proofs.Common.{◌≡◌, ℕ, ◌<◌, length, false}
-use Rattle.std.specs.Prelude.{slice_index_or}
+use Rattle.std.{proofs.Common.{◌≡◌, ℕ, ◌<◌, length, false}, specs.Prelude.slice_index_or}
 use Rattle.plain_core.proofs.table.row_of.Given as goal
 
 abbrev pub invariant-loop-to : goal.invariant-loop-to

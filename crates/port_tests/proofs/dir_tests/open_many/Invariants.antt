@@ -1,5 +1,4 @@
-use Rattle.std.proofs.Common.{◌≡◌, ◌+◌, length}
-use Rattle.std.specs.List.{AllPass}
+use Rattle.std.{proofs.Common.{◌≡◌, ◌+◌, length}, specs.List.AllPass}
 use Rattle.ports_core.specs.Slot.{can_write}
 use Rattle.port_tests.proofs.dir_tests.open_many.Given as goal
 

@@ -11,4 +11,4 @@ returns-in-Ok-clause-others g c =
 
 pub returns-in-Err-clause-others : goal.returns-in-Err-clause-others
 returns-in-Err-clause-others g c =
-    λ other differs. others_stay c.args.slot other _ (g.I.Inputs.sources c.args.inputs.now) (g.I.Inputs.sources c.read.new.self) c.in-Err.ensures.err.1 differs
+    λ other differs. others_stay c.args.slot other _ (g.I.Inputs.sources c.args.inputs.now) (g.I.Inputs.sources c.read.new.self) c.in-Err.ensures.err.1.1 differs

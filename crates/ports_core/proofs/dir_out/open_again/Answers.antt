@@ -1,5 +1,4 @@
-use Rattle.std.proofs.Common.{arith, rules}
-use Rattle.std.proofs.lemmas.Grind.{common_steps}
+use Rattle.std.proofs.{Common.{arith, rules}, lemmas.Grind.common_steps}
 use Rattle.ports_core.proofs.dir_out.open_again.Goals as goal
 
 pub returns-then-holds_file : goal.returns-then-holds_file

@@ -1,10 +1,5 @@
-use Rattle.std.proofs.Common.{◌∙◌, ap, subst, arith}
-use Rattle.std.proofs.lemmas.Grind.{common_steps}
-use Rattle.ports_core.specs.Slot.{told_of, with_written}
-use Rattle.ports_core.specs.Write.{BrokeAfter}
-use Rattle.ports_core.specs.inner.Write.{broke, Wrote}
-use Rattle.ports_core.proofs.HandedOn.{of_write}
-use Rattle.ports_core.proofs.FileWriterLemmas.{stop_is, line_is}
+use Rattle.std.proofs.{Common.{◌∙◌, ap, subst, arith}, lemmas.Grind.common_steps}
+use Rattle.ports_core.{specs.{Slot.{told_of, with_written}, Write.BrokeAfter, inner.Write.{broke, Wrote}}, proofs.{HandedOn.of_write, FileWriterLemmas.{stop_is, line_is}}}
 use Rattle.ports_core.proofs.file_writer.write_size.Goals as goal
 
 pub returns : goal.returns

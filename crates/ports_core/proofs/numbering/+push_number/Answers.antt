@@ -1,6 +1,4 @@
-use Rattle.std.proofs.lemmas.Grind.{common_steps}
-use Rattle.std.proofs.Common.{arith}
-use Rattle.std.proofs.lemmas.Result.{IfOk-weaker}
+use Rattle.std.proofs.{lemmas.{Grind.common_steps, Result.IfOk-weaker}, Common.arith}
 use Rattle.ports_core.proofs.CounterLemmas.{front_small, pushed}
 use Rattle.ports_core.proofs.numbering.+push_number.Goals as goal
 

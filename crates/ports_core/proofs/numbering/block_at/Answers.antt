@@ -1,5 +1,4 @@
-use Rattle.std.proofs.lemmas.Grind.{common_steps}
-use Rattle.std.proofs.Common.{arith}
+use Rattle.std.proofs.{lemmas.Grind.common_steps, Common.arith}
 use Rattle.ports_core.proofs.CounterLemmas.{block_has_two, block_more, next_size}
 use Rattle.ports_core.proofs.numbering.block_at.Goals as goal
 

@@ -1,14 +1,17 @@
-use Rattle.std.proofs.lemmas.List.{length-take-le, take_at}
-use Rattle.ports_core.proofs.LoadLemmas.{passed_at}
-use Rattle.std.proofs.Common.{◌&&◌, not, Err, inl, inr, ◌≡◌, ◌≤◌, drop, length, ◌++◌, ◌∙◌, [], true, false, sym, ap, refl, take, arith, append_assoc, append-nil, length-append}
-use Rattle.std.proofs.lemmas.Bool.{false≢true, not-false}
-use Rattle.ports_core.specs.Source.{gets_back, Source, source_at}
-use Rattle.ports_core.specs.Work.{Work, IsSettled}
-use Rattle.ports_core.specs.Engine.{EndsWith, is_verdict}
-use Rattle.ports_core.proofs.SpareLemmas.{complete_used, spare_within, none_spare}
-use Rattle.run_core.specs.Feeding.{IsUnread, enough, is_stop, to_end, broke_off}
-use Rattle.run_core.proofs.FeedingLemmas.{OfVerdict, of_more, of_read, read_to_used, told_by_complete, alike_after, alike_itself, judges, goes_on, stopped_feeding, ended, needed_more, piece_within, ends_sound, needed_within, read_used, takes_more, uses_all, uses_judged, uses_part, needed_front}
-use Rattle.ports_core.proofs.InputsLemmas.{came_broken, came_sound, changed_source, ended_now, sound_at, read_none_more, keeps_again, keeps_others, read_broken, still_readable, read_more, read_failed, read_to_end, asked_again, asked_at_end, broken_now}
+use Rattle.std.proofs.{
+  lemmas.{List.{length-take-le, take_at}, Bool.{false≢true, not-false}},
+  Common.{◌&&◌, not, Err, inl, inr, ◌≡◌, ◌≤◌, drop, length, ◌++◌, ◌∙◌, [], true, false, sym, ap, refl, take, arith, append_assoc, append-nil, length-append},
+}
+use Rattle.ports_core.{
+  proofs.LoadLemmas.passed_at,
+  proofs.SpareLemmas.{complete_used, spare_within, none_spare},
+  proofs.InputsLemmas.{came_broken, came_sound, changed_source, ended_now, sound_at, read_none_more, keeps_again, keeps_others, read_broken, still_readable, read_more, read_failed, read_to_end, asked_again, asked_at_end, broken_now},
+  specs.{Source.{gets_back, Source, source_at}, Work.{Work, IsSettled}, Engine.{EndsWith, is_verdict}},
+}
+use Rattle.run_core.{
+  specs.Feeding.{IsUnread, enough, is_stop, to_end, broke_off},
+  proofs.FeedingLemmas.{OfVerdict, of_more, of_read, read_to_used, told_by_complete, alike_after, alike_itself, judges, goes_on, stopped_feeding, ended, needed_more, piece_within, ends_sound, needed_within, read_used, takes_more, uses_all, uses_judged, uses_part, needed_front},
+}
 use Rattle.run_core.proofs.feeding.feed_input.Goals as goal
 
 -- what was taken in before the first piece
@@ -59,14 +62,14 @@ returns-in-Err g c =
                 (broke_off breaks (ap (g.S.Stage.terms.work c.pieces.engine.stage).is_complete bytes ∙ going) (g.O.Outs.slots c.pieces.outs) (rw bytes (so_far.feeds.outputs before own at)) (c.abandon.ensures.sweeps.swept (length before) (so_far.feeds.owns (length before) own))),
             λ ends sound going. absurd (false≢true (sym sound ∙ breaks)),
           ));
-      others = keeps_again _ _ _ _ so_far.others (keeps_others _ _ _ _ c.in-Err.ensures.err);
+      others = keeps_again _ _ _ _ so_far.others (keeps_others _ _ _ _ c.in-Err.ensures.err.1);
       reads = λ told. (so_far.fed, so_far.needed, read_failed _ _ _ _ _ _ (so_far.read told) so_far.readable c.in-Err.ensures.err);
       used = λ told ends unread.
           let failed = c.in-Err.ensures.err in
           uses_all (read_failed _ _ _ _ _ _ (so_far.read told) so_far.readable failed)
-          (ap (λ (source : Source). source.left.bytes) (changed_source _ _ _ _ so_far.readable failed) ∙ (c.in-Err.ensures.break_off told).no_more)
+          (ap (λ (source : Source). source.left.bytes) (changed_source _ _ _ _ so_far.readable failed.1) ∙ (c.in-Err.ensures.break_off told).no_more)
           so_far.needed (ap (λ (work : Work). work.is_complete so_far.fed) (sym so_far.feeds.same) ∙ going)
-          (rw (ap (λ (source : Source). source.reached) (changed_source _ _ _ _ so_far.readable failed)) ((so_far.took told).far unread));
+          (rw (ap (λ (source : Source). source.reached) (changed_source _ _ _ _ so_far.readable failed.1)) ((so_far.took told).far unread));
       asked = λ within. asked_at_end _ _ _ _ _ so_far.readable c.in-Err.ensures.err (omega (arith, c.piece_size-size.ensures.within, so_far.room)) (so_far.asked within);
       broke = λ is. broken_now _ _ _ _ so_far.readable c.in-Err.ensures.err;
       laid = c.read_part.ensures.kept ∙ so_far.laid;

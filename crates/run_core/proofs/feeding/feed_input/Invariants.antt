@@ -1,9 +1,6 @@
 use Rattle.std.proofs.Common.{◌≡◌, ◌≤◌, ◌-◌, ◌^◌, ℕ, List, length, true, IsTrue}
-use Rattle.ports_core.specs.Source.{source_at, is_readable}
-use Rattle.ports_core.specs.Work.{IsNeeded, IsSpare}
-use Rattle.ports_core.specs.Inputs.{KeepsOthers}
+use Rattle.ports_core.{specs.{Source.{source_at, is_readable}, Work.{IsNeeded, IsSpare}, Inputs.KeepsOthers}, proofs.InputsLemmas.HasRead}
 use Rattle.run_core.proofs.FeedingLemmas.{Feeds, HasTaken}
-use Rattle.ports_core.proofs.InputsLemmas.{HasRead}
 use Rattle.run_core.proofs.feeding.feed_input.Given as goal
 
 abbrev pub invariant-pieces : goal.invariant-pieces

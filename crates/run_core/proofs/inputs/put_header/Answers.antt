@@ -1,8 +1,6 @@
-use Rattle.run_core.specs.inner.RunSteps.{broke, no_room}
-use Rattle.std.proofs.Common.{refl, ◌∙◌, ap, sym, arith}
-use Rattle.std.proofs.lemmas.Grind.{common_steps}
+use Rattle.run_core.specs.{inner.RunSteps.{broke, no_room}, Task.header_text}
+use Rattle.std.proofs.{Common.{refl, ◌∙◌, ap, sym, arith}, lemmas.Grind.common_steps}
 use Rattle.ports_core.proofs.HandedOn.{fault_is, of_write}
-use Rattle.run_core.specs.Task.{header_text}
 use Rattle.run_core.proofs.inputs.put_header.Goals as goal
 
 pub returns-in_err-text-clause-err : goal.returns-in_err-text-clause-err

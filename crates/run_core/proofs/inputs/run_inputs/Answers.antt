@@ -1,16 +1,14 @@
-use Rattle.run_core.specs.inner.RunSteps.{not_begun}
+use Rattle.run_core.{specs.inner.RunSteps.not_begun, proofs.InputLemmas.{fresh_counts, ran_into, ran_through, stop_open, none_touched}}
 use Rattle.std.proofs.Common.{◌∙◌, map, refl, ap, length}
-use Rattle.ports_core.proofs.InputsLemmas.{fresh_asks}
-use Rattle.ports_core.proofs.Runs.{as_status}
-use Rattle.run_core.proofs.InputLemmas.{fresh_counts, ran_into, ran_through, stop_open, none_touched}
+use Rattle.ports_core.proofs.{InputsLemmas.fresh_asks, Runs.as_status}
 use Rattle.run_core.proofs.inputs.run_inputs.Goals as goal
 
 pub returns-in_default : goal.returns-in_default
 returns-in_default g c = record {
   untouched = λ none. refl;
   ends = let (found, finds, untouched) = none_touched c.requires.fresh in
-      let (why, is_why, tells, is) = rw c.speaker.ensures at c.tell.ensures in
-      (found, finds, ran_into (not_begun c.requires.outputs untouched (ap length c.requires.fresh.only)) (why, is_why, tells, is));
+      let tells = rw c.speaker.ensures at c.tell.ensures in
+      (found, finds, ran_into (not_begun c.requires.outputs untouched (ap length c.requires.fresh.only)) tells.told tells.status);
   opened = fresh_counts (map (λ name. name.now) c.args.names.now) c.requires.fresh;
   asked = fresh_asks _ _ c.requires.fresh;
 }
@@ -24,4 +22,4 @@ returns-in-Ok-take_names-clause-ends g c = let (found, finds, took) = c.in-Ok-ta
 pub returns-clause-ends : goal.returns-clause-ends
 returns-clause-ends g c =
     let (found, finds, took) = c.in-Err.ensures.took in
-    let (why, is_why, tells, is) = rw c.speaker-in-Err.ensures at c.tell-in-Err.ensures in (found, finds, ran_into took (why, is_why, tells, is))
+    let tells = rw c.speaker-in-Err.ensures at c.tell-in-Err.ensures in (found, finds, ran_into took tells.told tells.status)

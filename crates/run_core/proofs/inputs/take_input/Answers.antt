@@ -1,7 +1,9 @@
 use Rattle.std.proofs.Common.{ap, Err, inl, inr, refl, rules}
 use Rattle.ports_core.proofs.HandedOn.{handed_on}
-use Rattle.run_core.specs.Feeding.{is_stop}
-use Rattle.run_core.proofs.InputLemmas.{of_source_too, shows_something, from_source, part_two, headed, headed_count, stopped_in_header, took_well, took_broken, took_verdict, took_stopped, fed_open, unread_source}
+use Rattle.run_core.{
+  specs.Feeding.is_stop,
+  proofs.InputLemmas.{of_source_too, shows_something, from_source, part_two, headed, headed_count, stopped_in_header, took_well, took_broken, took_verdict, took_stopped, fed_open, unread_source},
+}
 use Rattle.run_core.proofs.inputs.take_input.Goals as goal
 
 pub returns-in_err-put_header-clause-took : goal.returns-in_err-put_header-clause-took
@@ -34,7 +36,7 @@ returns-in-Ok-Enough-clause-took g c so_far error opened at =
 pub returns-in-Ok-Broken-clause-took : goal.returns-in-Ok-Broken-clause-took
 returns-in-Ok-Broken-clause-took g c so_far error opened at =
     let (shown, says, fed) = c.in-Ok-Broken.ensures.fed in
-    (shown, says, of_source_too _ _ _ _ _ _ (λ content fed done. took_broken _ _ _ _ _ _ _ _ so_far error _ _ _ _ _ (headed_count g.O.Outs.told _ _ c.in_ok-put_header.ensures.ok) (part_two at) (headed _ at c.in_ok-put_header.ensures.ok) (done refl) c.in-Ok-Broken.field-0-is fed c.say_why.ensures.2) fed)
+    (shown, says, of_source_too _ _ _ _ _ _ (λ content fed done. took_broken _ _ _ _ _ _ _ _ so_far error _ _ _ _ _ (headed_count g.O.Outs.told _ _ c.in_ok-put_header.ensures.ok) (part_two at) (headed _ at c.in_ok-put_header.ensures.ok) (done refl) c.in-Ok-Broken.field-0-is fed c.say_why.ensures) fed)
 
 pub returns-in_default : goal.returns-in_default
 returns-in_default g c = record {

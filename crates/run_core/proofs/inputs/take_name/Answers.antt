@@ -1,6 +1,5 @@
-use Rattle.std.proofs.Common.{◌∙◌, sym, arith}
-use Rattle.std.proofs.lemmas.Grind.{common_steps}
-use Rattle.run_core.proofs.InputLemmas.{of_missing, of_no_room, took_opened, took_standard, takes_file, takes_missing}
+use Rattle.std.proofs.{Common.{◌∙◌, sym, arith}, lemmas.Grind.common_steps}
+use Rattle.run_core.proofs.InputLemmas.{of_missing, of_no_room, opens_missing, took_opened, took_standard, takes_file, takes_missing}
 use Rattle.run_core.proofs.inputs.take_name.Goals as goal
 
 -- the name is `-`
@@ -47,4 +46,4 @@ pub returns-in-Ok-clause-opens : goal.returns-in-Ok-clause-opens
 returns-in-Ok-clause-opens g c = grind (arith, common_steps)
 
 pub returns-in-Open-clause-opens : goal.returns-in-Open-clause-opens
-returns-in-Open-clause-opens g c = grind (arith, common_steps)
+returns-in-Open-clause-opens g c = opens_missing (sym c.is_dash.ensures ∙ c.if-is_dash.false) c.in-Err.ensures.err c.in-Open.is

@@ -1,7 +1,6 @@
 use Rattle.std.proofs.Common.{◌≡◌, ℕ, Bool, true, false, cond, List, [], ◌∷◌, Option, Some, refl, sym, ◌∙◌, ap, subst}
 use Rattle.run_core.specs.Input.{World, input_of, is_dash, shown_of}
-use Rattle.tools_core.specs.Outcome.{names_read}
-use Rattle.tools_core.specs.Promises.{FindAlike, GivesBytes, HasInput, IsSteady, Run, give_same}
+use Rattle.tools_core.specs.{Outcome.names_read, Promises.{FindAlike, GivesBytes, HasInput, IsSteady, Run, give_same}}
 use Rattle.run_tests.proofs.law_tests.both.Goals as goal
 
 -- the only input of a run gives its bytes, whatever it shows of these before

@@ -1,14 +1,7 @@
 -- What these words ask for is what the table and the words' own definitions give, so that it is enough to compute it.
 use Rattle.std.proofs.Common.{◌≡◌, ◌^◌, ◌-◌, [], ◌∷◌, None, Ok, codes, refl}
-use Rattle.seg_core.specs.Count.{count_of, factor_of}
-use Rattle.seg_core.specs.declared.count.Sign.TheVariants.{Plain, Plus}
-use Rattle.seg_core.specs.declared.unit.Unit.TheVariants.{Lines}
-use Rattle.words_core.specs.EndsWords.{EndsAsked}
-use Rattle.words_core.specs.Spelling.{foremost}
-use Rattle.words_core.specs.Table.{tools}
-use Rattle.words_core.specs.Words.{settings_of}
-use Rattle.words_core.specs.declared.settings.Headers.TheVariants.{ForSeveral}
-use Rattle.words_core.specs.declared.settings.Settings.TheVariants.{Head, Tail}
+use Rattle.seg_core.specs.{Count.{count_of, factor_of}, declared.{count.Sign.TheVariants.{Plain, Plus}, unit.Unit.TheVariants.Lines}}
+use Rattle.words_core.specs.{EndsWords.EndsAsked, Spelling.foremost, Table.tools, Words.settings_of, declared.settings.{Headers.TheVariants.ForSeveral, Settings.TheVariants.{Head, Tail}}}
 use Rattle.tools_core.specs.Promises.{counted}
 use Rattle.ports_core.specs.declared.calling.Calling.TheVariants.{Cutters}
 use Rattle.run_tests.proofs.law_tests.first_and_rest.Goals as goal

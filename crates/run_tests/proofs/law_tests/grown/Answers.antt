@@ -1,17 +1,9 @@
-use Rattle.std.proofs.Common.{◌≡◌, ℕ, ◌+◌, ◌++◌, true, false, List, [], ◌∷◌, length, Option, Some, None, Ok, subst}
+use Rattle.std.proofs.Common.{◌≡◌, ℕ, ◌+◌, ◌++◌, true, List, [], ◌∷◌, length, Option, Some, None, Ok, subst}
 use Rattle.ends_core.specs.Ends.{tail_of}
-use Rattle.ports_core.specs.Slot.{Slot, slot_at}
-use Rattle.ports_core.specs.Source.{Content, Source, source_of, unshown}
-use Rattle.watch_core.specs.Snapshot.{Snapshot}
-use Rattle.watch_core.specs.Watched.{Watched}
-use Rattle.words_core.specs.EndsWords.{EndsAsked}
-use Rattle.words_core.specs.Words.{settings_of}
-use Rattle.words_core.specs.declared.settings.Settings.TheVariants.{Tail}
-use Rattle.words_core.specs.declared.value.Followed.{Followed}
-use Rattle.tools_core.specs.Program.{ProgramEnds}
-use Rattle.tools_core.specs.Promises.{AsksToFollow, Follows, IsBare, IsOfProgram, OnlyGrows, Run, showing}
-use Rattle.tools_core.specs.Tasks.{is_plus}
-use Rattle.ports_core.specs.declared.calling.Calling.TheVariants.{Cutters}
+use Rattle.ports_core.specs.{Slot.{Slot, slot_at}, Source.{Content, Source, source_of, unshown}, declared.calling.Calling.TheVariants.Cutters}
+use Rattle.watch_core.specs.{Snapshot.Snapshot, Watched.Watched}
+use Rattle.words_core.specs.{EndsWords.EndsAsked, Words.settings_of, declared.{settings.Settings.TheVariants.Tail, value.Followed.Followed}}
+use Rattle.tools_core.specs.{Program.ProgramEnds, Promises.{AsksToFollow, Follows, IsBare, IsOfProgram, OnlyGrows, Run, showing}, Tasks.is_plus}
 use Rattle.run_tests.proofs.law_tests.grown.Goals as goal
 
 -- both laws, of one run
@@ -25,13 +17,13 @@ TellAll = (run : Run) (options : EndsAsked) (followed : Followed) (name came : L
 
 -- what standard output has after a run of these words
 grown_so : AreRuns → TellAll → (words : List (List ℕ)) (laid : ℕ → List ℕ → Option Content) (old sources : List Source) (shows : ℕ → Snapshot) (seen : List Snapshot) (watched : List Watched) (outs : List Slot) (status : ℕ)
-    → old ≡ source_of (unshown []) ∷ [] → ProgramEnds Cutters true true true (λ slot why. true) words laid old sources shows seen watched outs status → status ≡ 0
+    → old ≡ source_of (unshown []) ∷ [] → ProgramEnds Cutters true true true words laid old sources shows seen watched outs status → status ≡ 0
     → (options : EndsAsked) (followed : Followed) (name came : List ℕ) (file n pause : ℕ) → settings_of Cutters words ≡ Ok (Tail (record { ends = options; followed = Some followed; looks = n + 1; pause = pause; process = None })) → IsBare options → options.names ≡ name ∷ []
     → ((count : ℕ) → OnlyGrows count shows name file) → (shows n).holds file ≡ (shows 0).holds file ++ came
     → (slot_at outs 0).written ≡ tail_of options.delim options.unit (is_plus options.count.sign) options.count.amount ((shows 0).holds file) ++ came
 grown_so law tells words laid old sources shows seen watched outs status fresh ends well options followed name came file n pause read bare named grows held =
-    let run : Run = record { calling = Cutters; words = words; breaks_for = λ slot why. true; world = record { laid = laid; standard = unshown [] }; shows = shows; inputs = sources; seen = seen; watched = watched; outputs = outs; status = status } in
-    let is_of : IsOfProgram run = subst (λ old. ProgramEnds Cutters true true true (λ slot why. true) words laid old sources shows seen watched outs status) fresh ends in
+    let run : Run = record { calling = Cutters; words = words; world = record { laid = laid; standard = unshown [] }; shows = shows; inputs = sources; seen = seen; watched = watched; outputs = outs; status = status } in
+    let is_of : IsOfProgram run = subst (λ old. ProgramEnds Cutters true true true words laid old sources shows seen watched outs status) fresh ends in
     tells run options followed name came file n (law run options followed (n + 1) is_of (pause, read) well).0 bare named (grows (length seen)) held
 
 pub returns : goal.returns

@@ -1,7 +1,5 @@
-use Rattle.std.proofs.Common.{◌≡◌, ℕ, List, ◌∙◌, false, sym}
-use Rattle.std.proofs.lemmas.Bool.{false≢true}
-use Rattle.ports_core.specs.declared.calling.Calling.TheVariants.{Cutters}
-use Rattle.ports_core.specs.Slot.{Slot}
+use Rattle.std.proofs.{Common.{◌≡◌, ℕ, List, ◌∙◌, false, sym}, lemmas.Bool.false≢true}
+use Rattle.ports_core.specs.{declared.calling.Calling.TheVariants.Cutters, Slot.Slot}
 use Rattle.words_core.specs.declared.settings.Settings.{Settings}
 use Rattle.tools_core.specs.Promises.{Does, HasInput, Ran, Run, forgives_gone}
 use Rattle.run_tests.proofs.law_tests.left_of.Goals as goal

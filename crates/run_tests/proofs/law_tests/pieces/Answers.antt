@@ -1,7 +1,6 @@
 use Rattle.std.proofs.Common.{◌≡◌, List, [], ◌∷◌, map, drop, Option, Some, None, Result, Ok, Err, refl, sym, ◌∙◌, ap, IfOk, IfSome}
 use Rattle.seg_core.specs.Line.{joined}
-use Rattle.ports_core.specs.Slot.{Slot}
-use Rattle.ports_core.specs.declared.fault.Fault.{Fault}
+use Rattle.ports_core.specs.{Slot.Slot, declared.fault.Fault.Fault}
 use Rattle.words_core.specs.declared.settings.Settings.TheVariants.{Split}
 use Rattle.run_tests.proofs.law_tests.pieces.Goals as goal
 

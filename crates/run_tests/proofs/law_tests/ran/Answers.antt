@@ -1,17 +1,9 @@
 -- A run of these words is one in the sense of the laws.
 use Rattle.std.proofs.Common.{◌≡◌, ℕ, true, false, List, [], ◌∷◌, Option, None, Result, Ok, codes, inl, refl, ◌∙◌, ap, subst}
-use Rattle.ports_core.specs.Slot.{Slot}
-use Rattle.ports_core.specs.Source.{Content, Source, source_of, unshown}
-use Rattle.ports_core.specs.declared.fault.Fault.{Fault}
-use Rattle.watch_core.specs.Snapshot.{Snapshot}
-use Rattle.watch_core.specs.Watched.{Watched}
-use Rattle.words_core.specs.declared.settings.Settings.{Settings}
-use Rattle.words_core.specs.Words.{follows, settings_of}
-use Rattle.tools_core.specs.Outcome.{names_at}
-use Rattle.tools_core.specs.Program.{ProgramEnds}
-use Rattle.tools_core.specs.Promises.{HasInput, IsOfProgram, Ran, Run}
-use Rattle.tools_core.specs.Tasks.{names_of}
-use Rattle.ports_core.specs.declared.calling.Calling.TheVariants.{Cutters}
+use Rattle.ports_core.specs.{Slot.Slot, Source.{Content, Source, source_of, unshown}, declared.{fault.Fault.Fault, calling.Calling.TheVariants.Cutters}}
+use Rattle.watch_core.specs.{Snapshot.Snapshot, Watched.Watched}
+use Rattle.words_core.specs.{declared.settings.Settings.Settings, Words.{follows, settings_of}}
+use Rattle.tools_core.specs.{Outcome.names_at, Program.ProgramEnds, Promises.{HasInput, IsOfProgram, Ran, Run}, Tasks.names_of}
 use Rattle.run_tests.proofs.law_tests.ran.Goals as goal
 
 -- the law, of one run
@@ -19,11 +11,11 @@ abbrev AreRuns : Type 0
 AreRuns = (run : Run) (asked : Settings) → IsOfProgram run → settings_of run.calling run.words ≡ Ok asked → follows asked ≡ false → Ran run asked × (run.seen ≡ []) × (run.watched ≡ [])
 
 ran_so : AreRuns → (words : List (List ℕ)) (asked : Settings) (bytes : List ℕ) (laid : ℕ → List ℕ → Option Content) (old sources : List Source) (shows : ℕ → Snapshot) (seen : List Snapshot) (watched : List Watched) (outs : List Slot) (status : ℕ)
-    → old ≡ source_of (unshown bytes) ∷ [] → ProgramEnds Cutters true true true (λ slot why. true) words laid old sources shows seen watched outs status → settings_of Cutters words ≡ Ok asked → names_of asked ≡ codes "-" ∷ [] → follows asked ≡ false
+    → old ≡ source_of (unshown bytes) ∷ [] → ProgramEnds Cutters true true true words laid old sources shows seen watched outs status → settings_of Cutters words ≡ Ok asked → names_of asked ≡ codes "-" ∷ [] → follows asked ≡ false
     → (one : Run) × Ran one asked × HasInput one bytes × (one.calling ≡ Cutters) × (one.words ≡ words) × (one.outputs ≡ outs) × (one.status ≡ status)
 ran_so law words asked bytes laid old sources shows seen watched outs status fresh ends read only none =
-    let one : Run = record { calling = Cutters; words = words; breaks_for = λ slot why. true; world = record { laid = laid; standard = unshown bytes }; shows = shows; inputs = sources; seen = seen; watched = watched; outputs = outs; status = status } in
-    let is_of : IsOfProgram one = subst (λ old. ProgramEnds Cutters true true true (λ slot why. true) words laid old sources shows seen watched outs status) fresh ends in (
+    let one : Run = record { calling = Cutters; words = words; world = record { laid = laid; standard = unshown bytes }; shows = shows; inputs = sources; seen = seen; watched = watched; outputs = outs; status = status } in
+    let is_of : IsOfProgram one = subst (λ old. ProgramEnds Cutters true true true words laid old sources shows seen watched outs status) fresh ends in (
       one,
       (law one asked is_of read none).0,
       record { name = codes "-"; only = ap (λ (meant : Result Settings Fault). names_at meant) read ∙ only; shown = None; holds = refl; steady = inl refl },

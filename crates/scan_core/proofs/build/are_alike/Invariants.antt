@@ -1,7 +1,6 @@
 use Rattle.std.proofs.Common.{◌≡◌, ◌<◌, ℕ, List, Bool}
 use Rattle.bre_core.specs.ByteSet.{has}
-use Rattle.scan_core.specs.declared.node.Node.TheVariants.{Take}
-use Rattle.scan_core.specs.Code.{At}
+use Rattle.scan_core.specs.{declared.node.Node.TheVariants.Take, Code.At}
 use Rattle.scan_core.proofs.build.are_alike.Given as goal
 
 abbrev pub invariant-loop-number : goal.invariant-loop-number

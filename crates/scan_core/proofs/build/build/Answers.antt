@@ -1,10 +1,9 @@
-use Rattle.std.proofs.Common.{◌≡◌, ◌*◌, length, refl, subst, arith}
-use Rattle.std.proofs.lemmas.Grind.{common_steps}
-use Rattle.scan_core.specs.inner.Each.{AreEach}
-use Rattle.scan_core.specs.inner.Table.{IsState, no_state}
-use Rattle.scan_core.proofs.Searchings.{building_more, table_is}
+use Rattle.std.proofs.{Common.{◌≡◌, ◌*◌, length, refl, subst, arith}, lemmas.Grind.common_steps}
+use Rattle.scan_core.{
+  specs.inner.{Each.AreEach, Table.{IsState, no_state}},
+  proofs.{Searchings.{building_more, table_is}, build.build.Goals.{else-loop-place-test, then-loop-place-test+then-place-len}},
+}
 use Rattle.scan_core.proofs.build.build.Goals as goal
-use Rattle.scan_core.proofs.build.build.Goals.{else-loop-place-test, then-loop-place-test+then-place-len}
 
 pub loop-place-preserved : goal.loop-place-preserved
 loop-place-preserved c = building_more c.in_ok-read.ensures.ok refl refl c.in_ok-push.ensures.items

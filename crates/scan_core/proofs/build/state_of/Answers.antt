@@ -1,7 +1,5 @@
-use Rattle.std.proofs.Common.{[], ap, length, ◌∙◌, sym}
-use Rattle.std.proofs.lemmas.List.{get_or_default}
-use Rattle.scan_core.specs.inner.Words.{flags_of}
-use Rattle.scan_core.proofs.Searchings.{set_size, state_is}
+use Rattle.std.proofs.{Common.{[], ap, length, ◌∙◌, sym}, lemmas.List.get_or_default}
+use Rattle.scan_core.{specs.inner.Words.flags_of, proofs.Searchings.{set_size, state_is}}
 use Rattle.scan_core.proofs.build.state_of.Goals as goal
 
 pub copy_from_slice-requires : goal.copy_from_slice-requires

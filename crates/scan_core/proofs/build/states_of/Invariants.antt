@@ -1,7 +1,5 @@
 use Rattle.std.proofs.Common.{◌≡◌, length}
-use Rattle.scan_core.specs.inner.Each.{AreEach}
-use Rattle.scan_core.specs.inner.Table.{IsState, no_state}
-use Rattle.scan_core.specs.inner.Words.{width}
+use Rattle.scan_core.specs.inner.{Each.AreEach, Table.{IsState, no_state}, Words.width}
 use Rattle.scan_core.proofs.build.states_of.Given as goal
 
 abbrev pub invariant-loop-state : goal.invariant-loop-state

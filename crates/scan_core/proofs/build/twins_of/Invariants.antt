@@ -1,5 +1,4 @@
-use Rattle.scan_core.specs.inner.Each.{AreEach}
-use Rattle.scan_core.specs.inner.Built.{AreAlike}
+use Rattle.scan_core.specs.inner.{Each.AreEach, Built.AreAlike}
 use Rattle.scan_core.proofs.build.twins_of.Given as goal
 
 abbrev pub invariant-loop-byte : goal.invariant-loop-byte

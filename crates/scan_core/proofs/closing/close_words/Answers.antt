@@ -1,9 +1,6 @@
-use Rattle.std.proofs.Common.{rules, ◌<◌, ◌^◌, get_or, refl, sym, ap, ◌∙◌, arith, bit_and}
-use Rattle.std.proofs.lemmas.List.{get_or_default}
-use Rattle.scan_core.specs.inner.Words.{width}
-use Rattle.scan_core.proofs.Closings.{apart_skip, apart_more, apart_ends}
+use Rattle.std.proofs.{Common.{rules, ◌<◌, ◌^◌, get_or, refl, sym, ap, ◌∙◌, arith, bit_and}, lemmas.List.get_or_default}
+use Rattle.scan_core.{specs.inner.Words.width, proofs.{Closings.{apart_skip, apart_more, apart_ends}, closing.close_words.Goals.{then-word-index-ne0, else-word-index-ne0}}}
 use Rattle.scan_core.proofs.closing.close_words.Goals as goal
-use Rattle.scan_core.proofs.closing.close_words.Goals.{then-word-index-ne0, else-word-index-ne0}
 
 pub loop-at-preserved : goal.loop-at-preserved
 loop-at-preserved c =

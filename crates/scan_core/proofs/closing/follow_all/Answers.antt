@@ -1,7 +1,5 @@
-use Rattle.std.proofs.Common.{◌<◌, length, ◌∙◌, arith}
-use Rattle.std.proofs.lemmas.List.{get_or_default}
-use Rattle.scan_core.specs.inner.Hops.{no_hop}
-use Rattle.scan_core.proofs.Closings.{following_more, following_ends}
+use Rattle.std.proofs.{Common.{◌<◌, length, ◌∙◌, arith}, lemmas.List.get_or_default}
+use Rattle.scan_core.{specs.inner.Hops.no_hop, proofs.Closings.{following_more, following_ends}}
 use Rattle.scan_core.proofs.closing.follow_all.Goals as goal
 
 pub follow-over-requires-clause-hop : goal.follow-over-requires-clause-hop

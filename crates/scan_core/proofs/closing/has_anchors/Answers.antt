@@ -1,8 +1,5 @@
-use Rattle.std.proofs.Common.{◌<◌, ap, sym, ◌∙◌, arith, bit_and, get_or}
-use Rattle.std.proofs.lemmas.List.{get_or_default}
-use Rattle.scan_core.specs.inner.Words.{width}
-use Rattle.scan_core.proofs.Closings.{none_more}
-use Rattle.scan_core.proofs.Insides.{is_within}
+use Rattle.std.proofs.{Common.{◌<◌, ap, sym, ◌∙◌, arith, bit_and, get_or}, lemmas.List.get_or_default}
+use Rattle.scan_core.{specs.inner.Words.width, proofs.{Closings.none_more, Insides.is_within}}
 use Rattle.scan_core.proofs.closing.has_anchors.Goals as goal
 
 pub loop-at-preserved : goal.loop-at-preserved

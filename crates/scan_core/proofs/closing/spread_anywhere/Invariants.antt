@@ -1,6 +1,5 @@
 use Rattle.std.proofs.Common.{◌+◌, min}
-use Rattle.scan_core.specs.inner.Words.{unset}
-use Rattle.scan_core.proofs.Closings.{Spreads}
+use Rattle.scan_core.{specs.inner.Words.unset, proofs.Closings.Spreads}
 use Rattle.scan_core.proofs.closing.spread_anywhere.Given as goal
 
 abbrev pub invariant-passes : goal.invariant-passes

@@ -1,6 +1,5 @@
 use Rattle.std.proofs.Common.{◌≡◌, ◌⊎◌, ◌+◌, ◌*◌}
-use Rattle.scan_core.specs.inner.Closures.{IsPlain}
-use Rattle.scan_core.proofs.Insides.{AreBits}
+use Rattle.scan_core.{specs.inner.Closures.IsPlain, proofs.Insides.AreBits}
 use Rattle.scan_core.proofs.closures.anchors_in.Given as goal
 
 abbrev pub invariant-loop-bit : goal.invariant-loop-bit

@@ -1,6 +1,5 @@
 use Rattle.std.proofs.Common.{◌≡◌, arith}
-use Rattle.scan_core.specs.inner.Words.{width}
-use Rattle.scan_core.proofs.Enterings.{each_more, each_to}
+use Rattle.scan_core.{specs.inner.Words.width, proofs.Enterings.{each_more, each_to}}
 use Rattle.scan_core.proofs.closures.closures_of.Goals as goal
 
 pub loop-at-preserved : goal.loop-at-preserved

@@ -1,5 +1,4 @@
-use Rattle.scan_core.specs.inner.Closures.{HasAnchors, IsLeading}
-use Rattle.scan_core.specs.inner.Each.{AreEach}
+use Rattle.scan_core.specs.inner.{Closures.{HasAnchors, IsLeading}, Each.AreEach}
 use Rattle.scan_core.proofs.closures.closures_of.Given as goal
 
 abbrev pub invariant-loop-at : goal.invariant-loop-at

@@ -1,5 +1,4 @@
-use Rattle.scan_core.specs.inner.Closures.{IsInside}
-use Rattle.scan_core.specs.inner.Each.{AreEach}
+use Rattle.scan_core.specs.inner.{Closures.IsInside, Each.AreEach}
 use Rattle.scan_core.proofs.closures.insides_of.Given as goal
 
 abbrev pub invariant-loop-place : goal.invariant-loop-place

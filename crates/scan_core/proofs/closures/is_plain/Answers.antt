@@ -1,5 +1,4 @@
-use Rattle.std.proofs.Common.{arith}
-use Rattle.std.proofs.lemmas.Bool.{not-true}
+use Rattle.std.proofs.{Common.arith, lemmas.Bool.not-true}
 use Rattle.scan_core.proofs.Closings.{plain_node, plain_beyond}
 use Rattle.scan_core.proofs.closures.is_plain.Goals as goal
 

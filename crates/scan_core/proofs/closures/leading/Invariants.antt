@@ -1,7 +1,5 @@
 use Rattle.std.proofs.Common.{◌≡◌, ◌⊎◌, ◌+◌, ◌*◌, ℕ, false}
-use Rattle.scan_core.specs.inner.Sets.{Flows}
-use Rattle.scan_core.specs.inner.Words.{IsIn}
-use Rattle.scan_core.proofs.Insides.{AreBits}
+use Rattle.scan_core.{specs.inner.{Sets.Flows, Words.IsIn}, proofs.Insides.AreBits}
 use Rattle.scan_core.proofs.closures.leading.Given as goal
 
 abbrev pub invariant-loop-bit : goal.invariant-loop-bit

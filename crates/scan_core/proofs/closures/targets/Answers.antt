@@ -1,5 +1,4 @@
-use Rattle.std.proofs.Common.{false, sym, ◌∙◌}
-use Rattle.std.proofs.lemmas.Bool.{false≢true}
+use Rattle.std.proofs.{Common.{false, sym, ◌∙◌}, lemmas.Bool.false≢true}
 use Rattle.scan_core.proofs.Insides.{both_led, none_led}
 use Rattle.scan_core.proofs.closures.targets.Goals as goal
 

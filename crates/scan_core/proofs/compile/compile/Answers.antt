@@ -1,7 +1,5 @@
-use Rattle.std.proofs.Common.{rules, ◌≡◌, ◌-◌, length, refl, ap, ◌∙◌, arith}
-use Rattle.std.proofs.lemmas.List.{at_drop_all}
-use Rattle.scan_core.specs.inner.Compiling.{depth_in}
-use Rattle.scan_core.proofs.Compiled.{bounded_at, compiled, ordered, way_more}
+use Rattle.std.proofs.{Common.{rules, ◌≡◌, ◌-◌, length, refl, ap, ◌∙◌, arith}, lemmas.List.at_drop_all}
+use Rattle.scan_core.{specs.inner.Compiling.depth_in, proofs.Compiled.{bounded_at, compiled, ordered, way_more}}
 use Rattle.scan_core.proofs.compile.compile.Goals as goal
 
 pub loop-place-init : goal.loop-place-init

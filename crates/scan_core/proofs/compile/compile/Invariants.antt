@@ -1,6 +1,5 @@
 use Rattle.std.proofs.Common.{◌+◌, ◌≤◌, [], None, length, drop}
-use Rattle.scan_core.specs.declared.compile.Compiling.{Compiling}
-use Rattle.scan_core.specs.inner.Compiling.{AreBegun, TakesAll, IsNow, depth_in}
+use Rattle.scan_core.specs.{declared.compile.Compiling.Compiling, inner.Compiling.{AreBegun, TakesAll, IsNow, depth_in}}
 use Rattle.scan_core.proofs.compile.compile.Given as goal
 
 abbrev pub invariant-loop-place : goal.invariant-loop-place

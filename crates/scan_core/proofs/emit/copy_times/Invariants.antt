@@ -1,6 +1,5 @@
 use Rattle.std.proofs.Common.{◌≡◌, ◌++◌}
-use Rattle.scan_core.specs.Code.{copies}
-use Rattle.scan_core.specs.inner.Backwards.{stretch}
+use Rattle.scan_core.specs.{Code.copies, inner.Backwards.stretch}
 use Rattle.scan_core.proofs.emit.copy_times.Given as goal
 
 abbrev pub invariant-loop-done : goal.invariant-loop-done

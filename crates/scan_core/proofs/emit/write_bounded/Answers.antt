@@ -1,6 +1,4 @@
-use Rattle.std.proofs.Common.{arith}
-use Rattle.std.proofs.lemmas.Grind.{common_steps}
-use Rattle.std.proofs.lemmas.Result.{on_ok_weaker}
+use Rattle.std.proofs.{Common.arith, lemmas.{Grind.common_steps, Result.on_ok_weaker}}
 use Rattle.scan_core.proofs.Emitting.{exact_out, optional_more, bounded_out, grown_on}
 use Rattle.scan_core.proofs.emit.write_bounded.Goals as goal
 

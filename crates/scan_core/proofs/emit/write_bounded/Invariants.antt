@@ -1,6 +1,5 @@
 use Rattle.std.proofs.Common.{◌≡◌, ◌++◌, List, length, reverse}
-use Rattle.scan_core.specs.declared.node.Node.{Node}
-use Rattle.scan_core.specs.Code.{up_to}
+use Rattle.scan_core.specs.{declared.node.Node.Node, Code.up_to}
 use Rattle.scan_core.proofs.emit.write_bounded.Given as goal
 
 abbrev pub invariant-loop-more : goal.invariant-loop-more

@@ -1,5 +1,4 @@
-use Rattle.std.proofs.Common.{refl, arith}
-use Rattle.std.proofs.lemmas.Result.{on_ok_weaker}
+use Rattle.std.proofs.{Common.{refl, arith}, lemmas.Result.on_ok_weaker}
 use Rattle.scan_core.proofs.Emitting.{starred_out}
 use Rattle.scan_core.proofs.emit.write_starred.Goals as goal
 

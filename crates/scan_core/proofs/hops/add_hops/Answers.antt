@@ -1,5 +1,4 @@
-use Rattle.std.proofs.Common.{false, sym, ◌∙◌}
-use Rattle.std.proofs.lemmas.Bool.{false≢true}
+use Rattle.std.proofs.{Common.{false, sym, ◌∙◌}, lemmas.Bool.false≢true}
 use Rattle.scan_core.proofs.Closings.{both_met}
 use Rattle.scan_core.proofs.hops.add_hops.Goals as goal
 

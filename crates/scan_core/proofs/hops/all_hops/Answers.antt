@@ -1,6 +1,5 @@
 use Rattle.std.proofs.Common.{arith}
-use Rattle.scan_core.proofs.Closings.{all_met}
-use Rattle.scan_core.proofs.Enterings.{at_least}
+use Rattle.scan_core.proofs.{Closings.all_met, Enterings.at_least}
 use Rattle.scan_core.proofs.hops.all_hops.Goals as goal
 
 pub loop-number-preserved : goal.loop-number-preserved

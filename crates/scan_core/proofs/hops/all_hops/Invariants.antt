@@ -1,6 +1,5 @@
 use Rattle.std.proofs.Common.{◌<◌, ◌/◌, ℕ, false}
-use Rattle.scan_core.specs.inner.Hops.{AreHops, Meets}
-use Rattle.scan_core.specs.inner.Sets.{Flows}
+use Rattle.scan_core.specs.inner.{Hops.{AreHops, Meets}, Sets.Flows}
 use Rattle.scan_core.proofs.hops.all_hops.Given as goal
 
 abbrev pub invariant-loop-number : goal.invariant-loop-number

@@ -1,6 +1,5 @@
 use Rattle.std.proofs.Common.{◌≡◌, ◌↔◌, ◌+◌, ◌*◌, false}
-use Rattle.scan_core.specs.inner.Sets.{Flows}
-use Rattle.scan_core.proofs.Insides.{AreBits}
+use Rattle.scan_core.{specs.inner.Sets.Flows, proofs.Insides.AreBits}
 use Rattle.scan_core.proofs.hops.from_of.Given as goal
 
 abbrev pub invariant-loop-bit : goal.invariant-loop-bit

@@ -1,7 +1,5 @@
-use Rattle.std.proofs.Common.{false, sym, ◌∙◌}
-use Rattle.std.proofs.lemmas.Bool.{false≢true}
-use Rattle.scan_core.specs.inner.Words.{IsIn}
-use Rattle.scan_core.proofs.Enterings.{led_by}
+use Rattle.std.proofs.{Common.{false, sym, ◌∙◌}, lemmas.Bool.false≢true}
+use Rattle.scan_core.{specs.inner.Words.IsIn, proofs.Enterings.led_by}
 use Rattle.scan_core.proofs.hops.is_within.Goals as goal
 
 pub returns-then-not-is_open : goal.returns-then-not-is_open

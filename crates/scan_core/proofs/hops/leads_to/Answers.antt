@@ -1,5 +1,4 @@
-use Rattle.std.proofs.Common.{inl, inr, false, sym, refl, ◌∙◌, eqb-true, eq-eqb}
-use Rattle.std.proofs.lemmas.Bool.{false≢true}
+use Rattle.std.proofs.{Common.{inl, inr, false, sym, refl, ◌∙◌, eqb-true, eq-eqb}, lemmas.Bool.false≢true}
 use Rattle.scan_core.proofs.hops.leads_to.Goals as goal
 
 pub returns-then-not-is_open : goal.returns-then-not-is_open

@@ -1,7 +1,5 @@
 use Rattle.std.proofs.Common.{◌/◌, ◌%◌}
-use Rattle.scan_core.specs.declared.masks.Kind.TheVariants.{Takes, Counts}
-use Rattle.scan_core.specs.inner.Each.{AreEach}
-use Rattle.scan_core.specs.inner.Words.{IsMask, width}
+use Rattle.scan_core.specs.{declared.masks.Kind.TheVariants.{Takes, Counts}, inner.{Each.AreEach, Words.{IsMask, width}}}
 use Rattle.scan_core.proofs.masks.masks_of.Given as goal
 
 abbrev pub invariant-loop-place : goal.invariant-loop-place

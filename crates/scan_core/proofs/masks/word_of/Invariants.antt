@@ -1,6 +1,5 @@
 use Rattle.std.proofs.Common.{◌≡◌, ◌↔◌, ◌+◌, ◌*◌}
-use Rattle.scan_core.specs.inner.Words.{IsOf}
-use Rattle.scan_core.proofs.Insides.{AreBits}
+use Rattle.scan_core.{specs.inner.Words.IsOf, proofs.Insides.AreBits}
 use Rattle.scan_core.proofs.masks.word_of.Given as goal
 
 abbrev pub invariant-loop-bit : goal.invariant-loop-bit

@@ -1,5 +1,4 @@
-use Rattle.scan_core.proofs.Enterings.{node_here}
-use Rattle.scan_core.proofs.Needles.{is_byte_needle}
+use Rattle.scan_core.proofs.{Enterings.node_here, Needles.is_byte_needle}
 use Rattle.std.proofs.Common.{arith}
 use Rattle.scan_core.proofs.rarest.byte_needle.Goals as goal
 

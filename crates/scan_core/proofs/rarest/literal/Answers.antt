@@ -1,6 +1,5 @@
 use Rattle.std.proofs.Common.{◌∷◌, [], length, refl, ap, ◌∙◌, arith, length-append}
-use Rattle.scan_core.proofs.Enterings.{node_here}
-use Rattle.scan_core.proofs.Needles.{literal_more}
+use Rattle.scan_core.proofs.{Enterings.node_here, Needles.literal_more}
 use Rattle.scan_core.proofs.rarest.literal.Goals as goal
 
 pub loop-at-preserved : goal.loop-at-preserved

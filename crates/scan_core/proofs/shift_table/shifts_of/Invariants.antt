@@ -1,6 +1,5 @@
 use Rattle.std.proofs.Common.{◌%◌}
-use Rattle.scan_core.specs.inner.Each.{AreEach}
-use Rattle.scan_core.specs.inner.Shifts.{IsWeight, IsWord}
+use Rattle.scan_core.specs.inner.{Each.AreEach, Shifts.{IsWeight, IsWord}}
 use Rattle.scan_core.proofs.shift_table.shifts_of.Given as goal
 
 abbrev pub invariant-loop-byte : goal.invariant-loop-byte

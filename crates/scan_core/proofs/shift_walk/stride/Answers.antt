@@ -1,5 +1,4 @@
-use Rattle.std.proofs.Common.{rules, ◌<◌, ◌+◌, ◌%◌, slice_index, refl, ◌∙◌, arith}
-use Rattle.std.proofs.lemmas.List.{get_or_default}
+use Rattle.std.proofs.{Common.{rules, ◌<◌, ◌+◌, ◌%◌, slice_index, refl, ◌∙◌, arith}, lemmas.List.get_or_default}
 use Rattle.scan_core.proofs.Shiftings.{at_more, at_moved}
 use Rattle.scan_core.proofs.shift_walk.stride.Goals as goal
 

@@ -1,5 +1,4 @@
-use Rattle.std.proofs.Common.{rules, ◌≡◌, ◌/◌, ◌<◌, ◌^◌, min, refl, sym, ◌∙◌, slice_index_or}
-use Rattle.std.proofs.lemmas.Bool.{false≢true}
+use Rattle.std.proofs.{Common.{rules, ◌≡◌, ◌/◌, ◌<◌, ◌^◌, min, refl, sym, ◌∙◌, slice_index_or}, lemmas.Bool.false≢true}
 use Rattle.scan_core.proofs.Insides.{grows_one}
 use Rattle.scan_core.proofs.words.enter.Goals as goal
 

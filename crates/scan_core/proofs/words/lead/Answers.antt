@@ -1,5 +1,4 @@
-use Rattle.std.proofs.Common.{sym, ◌∙◌}
-use Rattle.std.proofs.lemmas.Bool.{false≢true}
+use Rattle.std.proofs.{Common.{sym, ◌∙◌}, lemmas.Bool.false≢true}
 use Rattle.scan_core.proofs.Insides.{grows_closed, grows_way}
 use Rattle.scan_core.proofs.words.lead.Goals as goal
 

@@ -1,5 +1,4 @@
-use Rattle.std.proofs.Common.{◌<◌, ◌+◌, ◌*◌, ◌^◌, length, refl, arith, rules, slice_index_or}
-use Rattle.std.proofs.lemmas.Nat.{and_le_l}
+use Rattle.std.proofs.{Common.{◌<◌, ◌+◌, ◌*◌, ◌^◌, length, refl, arith, rules, slice_index_or}, lemmas.Nat.and_le_l}
 use Rattle.scan_core.proofs.Countings.{takes_word, passing_more, passing_ends}
 use Rattle.scan_core.proofs.words.pass.Goals as goal
 

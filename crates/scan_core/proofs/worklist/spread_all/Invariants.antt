@@ -1,6 +1,5 @@
 use Rattle.std.proofs.Common.{◌+◌, ◌*◌, ◌-◌, length}
-use Rattle.scan_core.specs.inner.Words.{unset}
-use Rattle.scan_core.proofs.Insides.{Spreading}
+use Rattle.scan_core.{specs.inner.Words.unset, proofs.Insides.Spreading}
 use Rattle.scan_core.proofs.worklist.spread_all.Given as goal
 
 abbrev pub invariant-numbers : goal.invariant-numbers

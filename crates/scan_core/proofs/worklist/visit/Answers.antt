@@ -1,8 +1,5 @@
-use Rattle.std.proofs.Common.{sym, ◌∙◌}
-use Rattle.std.proofs.lemmas.Bool.{false≢true}
-use Rattle.scan_core.specs.inner.Sets.{Flows}
-use Rattle.scan_core.specs.inner.Words.{IsIn}
-use Rattle.scan_core.proofs.Insides.{grows_none, grows_by}
+use Rattle.std.proofs.{Common.{sym, ◌∙◌}, lemmas.Bool.false≢true}
+use Rattle.scan_core.{specs.inner.{Sets.Flows, Words.IsIn}, proofs.Insides.{grows_none, grows_by}}
 use Rattle.scan_core.proofs.worklist.visit.Goals as goal
 
 pub returns-then-not-has : goal.returns-then-not-has

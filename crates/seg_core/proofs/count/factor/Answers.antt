@@ -1,5 +1,4 @@
-use Rattle.std.proofs.Common.{arith}
-use Rattle.std.proofs.lemmas.Grind.{common_steps}
+use Rattle.std.proofs.{Common.arith, lemmas.Grind.common_steps}
 use Rattle.seg_core.specs.Count.{factor_of}
 use Rattle.seg_core.proofs.count.factor.Goals as goal
 

@@ -1,5 +1,4 @@
-use Rattle.std.proofs.lemmas.Grind.{common_steps}
-use Rattle.std.proofs.Common.{arith}
+use Rattle.std.proofs.{lemmas.Grind.common_steps, Common.arith}
 use Rattle.seg_core.proofs.Counts.{count_of-parts, unsigned-none, count_of-scaled, sized-ok, sized-too_large}
 use Rattle.seg_core.proofs.count.read_count.Goals as goal
 

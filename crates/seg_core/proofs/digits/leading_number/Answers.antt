@@ -1,7 +1,4 @@
-use Rattle.std.proofs.lemmas.Grind.{common_steps}
-use Rattle.std.proofs.Common.{◌<◌, arith, sym, length}
-use Rattle.std.proofs.lemmas.List.Sums.{prefix_len_is}
-use Rattle.std.specs.Char.{is_ascii_digit}
+use Rattle.std.{proofs.{lemmas.{Grind.common_steps, List.Sums.prefix_len_is}, Common.{◌<◌, arith, sym, length}}, specs.Char.is_ascii_digit}
 use Rattle.seg_core.proofs.Value.{value_of_more, held_step}
 use Rattle.seg_core.proofs.digits.leading_number.Goals as goal
 

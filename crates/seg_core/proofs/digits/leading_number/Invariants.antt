@@ -1,5 +1,4 @@
-use Rattle.std.proofs.Common.{◌≡◌, ◌-◌, ◌^◌, ◌<◌, ℕ, true, min, take, get_or}
-use Rattle.std.specs.Char.{is_ascii_digit}
+use Rattle.std.{proofs.Common.{◌≡◌, ◌-◌, ◌^◌, ◌<◌, ℕ, true, min, take, get_or}, specs.Char.is_ascii_digit}
 use Rattle.seg_core.specs.Count.{value_of}
 use Rattle.seg_core.proofs.digits.leading_number.Given as goal
 

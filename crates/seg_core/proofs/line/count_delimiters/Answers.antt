@@ -1,5 +1,4 @@
-use Rattle.std.proofs.lemmas.Grind.{common_steps}
-use Rattle.std.proofs.Common.{arith}
+use Rattle.std.proofs.{lemmas.Grind.common_steps, Common.arith}
 use Rattle.seg_core.proofs.Delimiters.{delimiters-append, delimiters-le-length}
 use Rattle.seg_core.proofs.line.count_delimiters.Goals as goal
 

@@ -1,7 +1,5 @@
-use Rattle.std.proofs.Common.{◌≡◌, ◌+◌, length}
-use Rattle.std.specs.Simd.Lanes.{Each1, sum_l}
-use Rattle.seg_core.specs.Line.{delimiters}
-use Rattle.seg_core.proofs.Lanes.{IsFew}
+use Rattle.std.{proofs.Common.{◌≡◌, ◌+◌, length}, specs.Simd.Lanes.{Each1, sum_l}}
+use Rattle.seg_core.{specs.Line.delimiters, proofs.Lanes.IsFew}
 use Rattle.seg_core.proofs.line.count_in_run.Given as goal
 
 abbrev pub invariant-loop-left : goal.invariant-loop-left

@@ -1,7 +1,6 @@
 use Rattle.std.proofs.Common.{arith, ◌∙◌}
-use Rattle.seg_core.proofs.Delimiters.{count_yes, count_no}
+use Rattle.seg_core.proofs.{Delimiters.{count_yes, count_no}, line.count_one_by_one.Goals.{then-byte-delim, else-byte-delim}}
 use Rattle.seg_core.proofs.line.count_one_by_one.Goals as goal
-use Rattle.seg_core.proofs.line.count_one_by_one.Goals.{then-byte-delim, else-byte-delim}
 
 pub loop-byte-preserved : goal.loop-byte-preserved
 loop-byte-preserved c = elim c.if-byte-delim.branch [

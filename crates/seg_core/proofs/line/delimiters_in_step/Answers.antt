@@ -1,8 +1,6 @@
-use Rattle.std.proofs.Common.{rules}
-use Rattle.std.proofs.lemmas.List.{length-take-le, length-map}
+use Rattle.std.proofs.{Common.rules, lemmas.List.{length-take-le, length-map}}
 use Rattle.seg_core.proofs.Lanes.{chosen_flags, flags_small, sum-flags}
 use Rattle.seg_core.proofs.line.delimiters_in_step.Goals as goal
-use Rattle.seg_core.proofs.line.delimiters_in_step.Goals.{Start}
 
 pub returns-clause-long : goal.returns-clause-long
 returns-clause-long c = search (rules, length-take-le, chosen_flags, length-map)

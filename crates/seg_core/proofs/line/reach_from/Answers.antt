@@ -1,8 +1,5 @@
-use Rattle.std.proofs.lemmas.Grind.{common_steps}
-use Rattle.std.proofs.Common.{arith}
-use Rattle.seg_core.proofs.Delimiters.{count_more, delimiters-le-length}
-use Rattle.seg_core.proofs.BackLines.{added}
-use Rattle.seg_core.proofs.FirstLines.{EndsAt_counted}
+use Rattle.std.proofs.{lemmas.Grind.common_steps, Common.arith}
+use Rattle.seg_core.proofs.{Delimiters.{count_more, delimiters-le-length}, BackLines.added, FirstLines.EndsAt_counted}
 use Rattle.seg_core.proofs.line.reach_from.Goals as goal
 
 pub returns-then-seen-lines : goal.returns-then-seen-lines

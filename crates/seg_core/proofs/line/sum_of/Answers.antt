@@ -1,7 +1,5 @@
-use Rattle.std.proofs.Common.{replicate}
-use Rattle.std.proofs.lemmas.Simd.{dot4_Fits}
-use Rattle.seg_core.specs.declared.line.TheConstants.{STEP}
-use Rattle.seg_core.proofs.Lanes.{fours_fit, fold-fours}
+use Rattle.std.proofs.{Common.replicate, lemmas.Simd.dot4_Fits}
+use Rattle.seg_core.{specs.declared.line.TheConstants.STEP, proofs.Lanes.{fours_fit, fold-fours}}
 use Rattle.seg_core.proofs.line.sum_of.Goals as goal
 
 pub dot4 : goal.dot4

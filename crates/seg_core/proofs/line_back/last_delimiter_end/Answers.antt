@@ -1,5 +1,3 @@
-use Rattle.std.proofs.Common.{◌≡◌, IfNone, sym, subst}
-use Rattle.seg_core.specs.Line.{delimiters}
 use Rattle.seg_core.proofs.EndOfLast.{delimiters-after, last_ends}
 use Rattle.seg_core.proofs.line_back.last_delimiter_end.Goals as goal
 

@@ -1,5 +1,4 @@
-use Rattle.std.proofs.lemmas.Grind.{common_steps}
-use Rattle.std.proofs.Common.{◌-◌, length, arith}
+use Rattle.std.proofs.{lemmas.Grind.common_steps, Common.{◌-◌, length, arith}}
 use Rattle.seg_core.proofs.LineCounts.{closed_text, closed_delimiters, open_text}
 use Rattle.seg_core.proofs.line_back.last_delimiter_off.Goals as goal
 

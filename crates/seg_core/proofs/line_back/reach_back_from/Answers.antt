@@ -1,7 +1,5 @@
-use Rattle.std.proofs.Common.{◌-◌, ◌+◌, ◌≡◌, subst, ap, ◌∙◌, drop, arith}
-use Rattle.std.proofs.lemmas.Grind.{common_steps}
-use Rattle.seg_core.specs.Line.{delimiters, BeginsAt}
-use Rattle.seg_core.proofs.BackLines.{begins_after}
+use Rattle.std.proofs.{Common.{◌-◌, ◌+◌, ◌≡◌, ap, ◌∙◌, drop, arith}, lemmas.Grind.common_steps}
+use Rattle.seg_core.{specs.Line.delimiters, proofs.BackLines.begins_after}
 use Rattle.seg_core.proofs.line_back.reach_back_from.Goals as goal
 
 pub returns-then-seen-wanted : goal.returns-then-seen-wanted

@@ -1,7 +1,5 @@
-use Rattle.std.proofs.lemmas.Grind.{common_steps}
-use Rattle.std.proofs.Common.{arith, length-drop}
-use Rattle.seg_core.proofs.Delimiters.{delimiters-le-length}
-use Rattle.seg_core.proofs.BackLines.{stretch_back}
+use Rattle.std.proofs.{lemmas.Grind.common_steps, Common.{arith, length-drop}}
+use Rattle.seg_core.proofs.{Delimiters.delimiters-le-length, BackLines.stretch_back}
 use Rattle.seg_core.proofs.line_back.skip_back.Goals as goal
 
 pub overflow_add-more : goal.overflow_add-more

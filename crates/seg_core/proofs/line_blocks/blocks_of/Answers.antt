@@ -1,8 +1,5 @@
-use Rattle.std.proofs.lemmas.Grind.{common_steps}
-use Rattle.std.proofs.Common.{arith}
-use Rattle.std.proofs.lemmas.List.Elements.{All-push}
-use Rattle.seg_core.proofs.Delimiters.{delimiters-le-length}
-use Rattle.seg_core.proofs.BlockLemmas.{text_push, split_counted}
+use Rattle.std.proofs.{lemmas.{Grind.common_steps, List.Elements.All-push}, Common.arith}
+use Rattle.seg_core.proofs.{Delimiters.delimiters-le-length, BlockLemmas.{text_push, split_counted}}
 use Rattle.seg_core.proofs.line_blocks.blocks_of.Goals as goal
 
 pub count_first-near_count-requires : goal.count_first-near_count-requires

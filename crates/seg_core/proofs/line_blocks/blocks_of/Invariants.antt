@@ -1,6 +1,5 @@
 use Rattle.std.proofs.Common.{◌≡◌, ◌++◌, length}
-use Rattle.seg_core.specs.Line.{delimiters}
-use Rattle.seg_core.specs.Blocks.{HaveCounts, text_of}
+use Rattle.seg_core.specs.{Line.delimiters, Blocks.{HaveCounts, text_of}}
 use Rattle.seg_core.proofs.line_blocks.blocks_of.Given as goal
 
 abbrev pub invariant-loop-left : goal.invariant-loop-left

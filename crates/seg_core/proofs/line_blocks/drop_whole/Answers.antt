@@ -1,5 +1,4 @@
-use Rattle.std.proofs.lemmas.Grind.{common_steps}
-use Rattle.std.proofs.Common.{◌<◌, length, refl, arith}
+use Rattle.std.proofs.{lemmas.Grind.common_steps, Common.{◌<◌, length, refl, arith}}
 use Rattle.seg_core.proofs.BlockLemmas.{gone_fits, first_goes}
 use Rattle.seg_core.proofs.line_blocks.drop_whole.Goals as goal
 

@@ -1,5 +1,4 @@
-use Rattle.std.proofs.Common.{arith}
-use Rattle.std.proofs.lemmas.Grind.{common_steps}
+use Rattle.std.proofs.{Common.arith, lemmas.Grind.common_steps}
 use Rattle.seg_core.proofs.BlockLemmas.{dropped_counts}
 use Rattle.seg_core.proofs.line_blocks.drop_within.Goals as goal
 

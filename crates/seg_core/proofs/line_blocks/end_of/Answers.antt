@@ -1,5 +1,4 @@
-use Rattle.std.proofs.lemmas.Grind.{common_steps}
-use Rattle.std.proofs.Common.{arith}
+use Rattle.std.proofs.{lemmas.Grind.common_steps, Common.arith}
 use Rattle.seg_core.proofs.LastLines.{begins_first}
 use Rattle.seg_core.proofs.line_blocks.end_of.Goals as goal
 

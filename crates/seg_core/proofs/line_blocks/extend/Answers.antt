@@ -1,7 +1,5 @@
-use Rattle.std.proofs.Common.{arith}
-use Rattle.std.proofs.lemmas.Grind.{common_steps}
-use Rattle.seg_core.proofs.Delimiters.{delimiters-le-length}
-use Rattle.seg_core.proofs.BlockLemmas.{extended, split_counted}
+use Rattle.std.proofs.{Common.arith, lemmas.Grind.common_steps}
+use Rattle.seg_core.proofs.{Delimiters.delimiters-le-length, BlockLemmas.{extended, split_counted}}
 use Rattle.seg_core.proofs.line_blocks.extend.Goals as goal
 
 pub count_first-near_count-requires : goal.count_first-near_count-requires

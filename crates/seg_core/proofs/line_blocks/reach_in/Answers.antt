@@ -1,10 +1,8 @@
-use Rattle.std.proofs.lemmas.Grind.{common_steps}
-use Rattle.std.proofs.Common.{◌≡◌, ◌+◌, ◌<◌, ◌≤◌, ◌++◌, ℕ, List, drop, length, arith, length-append}
-use Rattle.seg_core.specs.Line.{delimiters, first_lines}
-use Rattle.seg_core.specs.Blocks.{text_of}
-use Rattle.seg_core.proofs.Delimiters.{delimiters-append}
-use Rattle.seg_core.proofs.FirstLines.{first_lines-full, length-first_lines-le}
-use Rattle.seg_core.proofs.BlockLemmas.{counted_at, text_from, lines_pass}
+use Rattle.std.proofs.{lemmas.Grind.common_steps, Common.{◌≡◌, ◌+◌, ◌<◌, ◌≤◌, ◌++◌, ℕ, List, drop, length, arith, length-append}}
+use Rattle.seg_core.{
+  specs.{Line.{delimiters, first_lines}, Blocks.text_of},
+  proofs.{Delimiters.delimiters-append, FirstLines.{first_lines-full, length-first_lines-le}, BlockLemmas.{counted_at, text_from, lines_pass}},
+}
 use Rattle.seg_core.proofs.line_blocks.reach_in.Goals as goal
 
 -- the lines end in this block

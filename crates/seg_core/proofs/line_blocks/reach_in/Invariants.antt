@@ -1,6 +1,5 @@
 use Rattle.std.proofs.Common.{◌≡◌, ◌+◌, ◌<◌, ◌≤◌, length, drop}
-use Rattle.seg_core.specs.Line.{delimiters, first_lines}
-use Rattle.seg_core.specs.Blocks.{text_of}
+use Rattle.seg_core.specs.{Line.{delimiters, first_lines}, Blocks.text_of}
 use Rattle.seg_core.proofs.line_blocks.reach_in.Given as goal
 
 abbrev pub invariant-loop-i : goal.invariant-loop-i

@@ -1,8 +1,6 @@
-use Rattle.std.proofs.Common.{ap, sym, ◌∙◌, arith, max, suc, ◌≡◌, ◌-◌}
-use Rattle.std.proofs.lemmas.List.{take_rest}
+use Rattle.std.proofs.{Common.{ap, sym, ◌∙◌, arith, max, suc, ◌≡◌, ◌-◌}, lemmas.List.take_rest}
 use Rattle.seg_core.specs.declared.unit.Unit.TheVariants.{Lines}
-use Rattle.split_core.specs.Chunks.{begun_before}
-use Rattle.split_core.proofs.CutterLemmas.{cut_lines}
+use Rattle.split_core.{specs.Chunks.begun_before, proofs.CutterLemmas.cut_lines}
 use Rattle.split_core.proofs.chunk_cut.next_cut.Goals as goal
 
 pub returns-in-Lines-clause-cut : goal.returns-in-Lines-clause-cut

@@ -1,16 +1,14 @@
 use Rattle.std.proofs.Common.{refl}
 use Rattle.ports_core.proofs.AgreedLemmas.{agreed_now, common}
-use Rattle.split_core.specs.ChunkWork.{turn_work}
-use Rattle.split_core.specs.laws.ChunkWorkLaws.{turn_lawful}
-use Rattle.split_core.proofs.ChunkAgreedLemmas.{chunk_agreed, chunks_agreed, files_agreed}
-use Rattle.split_core.proofs.ChunkMadeLemmas.{chunks_made}
-use Rattle.split_core.proofs.ChunkWaitLemmas.{chunks_placed, chunks_wait}
-use Rattle.split_core.proofs.OneChunkLemmas.{chunk_placed, chunk_waits}
+use Rattle.split_core.{
+  specs.{ChunkWork.turn_work, laws.ChunkWorkLaws.turn_lawful},
+  proofs.{ChunkAgreedLemmas.{chunk_agreed, chunks_agreed, files_agreed}, ChunkMadeLemmas.chunks_made, ChunkWaitLemmas.{chunks_placed, chunks_wait}, OneChunkLemmas.{chunk_placed, chunk_waits}},
+}
 use Rattle.split_core.proofs.chunk_laws.chunks_agree.Goals as goal
 
 pub returns : goal.returns
 returns c = record {
-  outputs = chunks_agreed;
+  outputs = λ plan said x some quiet named fits. chunks_agreed plan said x some named fits quiet;
   files = files_agreed;
   made = chunks_made;
   waits = chunks_wait;

@@ -1,7 +1,6 @@
 use Rattle.std.proofs.Common.{◌++◌, ap}
 use Rattle.ports_core.specs.Draft.{told_of_files}
-use Rattle.split_core.specs.ChunkWork.{chunks_settled, chunks_whole}
-use Rattle.split_core.specs.Split.{output_by}
+use Rattle.split_core.specs.{ChunkWork.{chunks_settled, chunks_whole}, Split.output_by}
 use Rattle.split_core.proofs.chunk_laws.lines_are_of_chunk_files.Goals as goal
 
 pub returns : goal.returns

@@ -1,7 +1,5 @@
-use Rattle.std.proofs.Common.{refl, ◌∙◌, ◌+◌, ap, take}
-use Rattle.std.proofs.lemmas.List.{take_rest}
-use Rattle.split_core.specs.inner.Ahead.{delimiter_mask}
-use Rattle.split_core.proofs.DealLemmas.{sees_further}
+use Rattle.std.proofs.{Common.{refl, ◌∙◌, ◌+◌, ap, take}, lemmas.List.take_rest}
+use Rattle.split_core.{specs.inner.Ahead.delimiter_mask, proofs.DealLemmas.sees_further}
 use Rattle.split_core.proofs.complete_lines.find.Goals as goal
 
 pub blocks-2-preserved : goal.blocks-2-preserved

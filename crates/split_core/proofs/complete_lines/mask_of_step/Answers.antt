@@ -1,5 +1,4 @@
-use Rattle.std.proofs.Common.{eqb, take, arith, w8, length-take-le}
-use Rattle.std.proofs.lemmas.Simd.{bitmask_splat}
+use Rattle.std.proofs.{Common.{eqb, take, arith, w8, length-take-le}, lemmas.Simd.bitmask_splat}
 use Rattle.split_core.specs.declared.complete_lines.TheConstants.{STEP}
 use Rattle.split_core.proofs.complete_lines.mask_of_step.Goals as goal
 

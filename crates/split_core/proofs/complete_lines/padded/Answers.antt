@@ -1,5 +1,4 @@
-use Rattle.std.proofs.Common.{length}
-use Rattle.std.proofs.lemmas.List.{drop-replicate}
+use Rattle.std.proofs.{Common.length, lemmas.List.drop-replicate}
 use Rattle.split_core.proofs.complete_lines.padded.Goals as goal
 
 pub returns : goal.returns

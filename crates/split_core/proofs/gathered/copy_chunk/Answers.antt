@@ -1,6 +1,4 @@
-use Rattle.std.proofs.lemmas.Grind.{common_steps}
-use Rattle.std.proofs.Common.{arith, drop-drop, length-take-le}
-use Rattle.std.proofs.lemmas.Simd.{put_chunk_is}
+use Rattle.std.proofs.{lemmas.{Grind.common_steps, Simd.put_chunk_is}, Common.{arith, drop-drop, length-take-le}}
 use Rattle.split_core.proofs.gathered.copy_chunk.Goals as goal
 
 pub returns-clause-copied : goal.returns-clause-copied

@@ -1,5 +1,4 @@
-use Rattle.split_core.proofs.AgreedLemmas.{agreed_at}
-use Rattle.split_core.proofs.UndecidedLemmas.{placed_at, placed_quiet, undecided_at}
+use Rattle.split_core.proofs.{AgreedLemmas.agreed_at, UndecidedLemmas.{placed_at, placed_quiet, undecided_at}}
 use Rattle.split_core.proofs.laws.agreed_is_settled.Goals as goal
 
 pub returns : goal.returns

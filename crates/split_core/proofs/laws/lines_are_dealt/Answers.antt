@@ -1,8 +1,5 @@
-use Rattle.std.proofs.Common.{arith}
-use Rattle.std.proofs.lemmas.Grind.{common_steps}
-use Rattle.std.proofs.lemmas.List.FromFn.{length-map-range_with_len}
-use Rattle.split_core.specs.laws.DealLaws.{dealt_append}
-use Rattle.split_core.proofs.SectionLemmas.{line_at, all_dealt, first_files}
+use Rattle.std.proofs.{Common.arith, lemmas.{Grind.common_steps, List.FromFn.length-map-range_with_len}}
+use Rattle.split_core.{specs.laws.DealLaws.dealt_append, proofs.SectionLemmas.{line_at, all_dealt, first_files}}
 use Rattle.split_core.proofs.laws.lines_are_dealt.Goals as goal
 
 pub returns : goal.returns

@@ -1,5 +1,4 @@
-use Rattle.std.proofs.Common.{◌+◌, ap, ◌∙◌, inr}
-use Rattle.std.proofs.lemmas.List.{length-map}
+use Rattle.std.proofs.{Common.{◌+◌, ap, ◌∙◌, inr}, lemmas.List.length-map}
 use Rattle.tee_core.proofs.CopyLemmas.{copies_ready, known_many, closed_next, closing_said, error_no_output, mid_streams}
 use Rattle.tee_core.proofs.run.close_all.Goals as goal
 
@@ -17,6 +16,8 @@ tell_broken-requires-clause-known g c =
     let (mode, pieces, messages, copies) = c.requires.copies in
     known_many _ _ mode _ _ copies ∙ ap (λ n. n + 1) (length-map c.args.job.now.names.now _)
 
-pub returns-clause-closed : goal.returns-clause-closed
-returns-clause-closed g c mode pieces fault copies =
-    closing_said _ _ mode _ _ copies (closed_next _ _ mode _ _ c.requires.tee copies (c.close.ensures.closes c.requires.tee.live) c.tell_broken.ensures.seen) c.tell_broken.ensures.said
+pub returns : goal.returns
+returns g c = record {
+  closed = λ mode pieces fault copies.
+      closing_said _ _ mode _ _ copies (closed_next _ _ mode _ _ c.requires.tee copies (c.close.ensures.closes c.requires.tee.live) c.tell_broken.ensures.seen) c.tell_broken.ensures.said;
+}

@@ -1,10 +1,5 @@
-use Rattle.std.proofs.Common.{arith}
-use Rattle.std.proofs.lemmas.Grind.{common_steps}
-use Rattle.std.proofs.lemmas.List.{length-map}
-use Rattle.tee_core.specs.Run.{said_of_input}
-use Rattle.tee_core.proofs.CopyLemmas.{copies_said, copies_streams}
-use Rattle.tee_core.proofs.EndLemmas.{all_sound, ends_copied}
-use Rattle.tee_core.proofs.StartLemmas.{length-names, opened_streams, starts}
+use Rattle.std.proofs.{Common.arith, lemmas.{Grind.common_steps, List.length-map}}
+use Rattle.tee_core.{specs.Run.said_of_input, proofs.{CopyLemmas.{copies_said, copies_streams}, EndLemmas.ends_copied, StartLemmas.{length-names, opened_streams, starts}}}
 use Rattle.tee_core.proofs.run.copy_all.Goals as goal
 
 pub tell_broken-requires-clause-streams : goal.tell_broken-requires-clause-streams
@@ -28,7 +23,7 @@ close_all-requires-clause-copies g c =
 pub returns-clause-copied : goal.returns-clause-copied
 returns-clause-copied g c mode opens =
     let (content, is, (read, breaks)) = c.copy_pieces-fault.ensures.copies mode (starts _ _ opens (length-names c.args.job.now.names.now c.requires.unknown) c.tell_broken.ensures.said c.tell_broken.ensures.seen) in
-    (content, is, (ends_copied _ c.status_for.ensures (c.close_all.ensures.stand (c.copy_pieces-fault.ensures.stand (c.tell_broken.ensures.stand (all_sound g.O.Outs.breaks_for _ _ c.requires.unknown)))) read.read (c.close_all.ensures.closed mode read.pieces c.copy_pieces-fault.result (copies_said _ _ mode _ _ read.copies c.tell_input.ensures.told)), breaks))
+    (content, is, (ends_copied _ c.status_for.ensures read.read (c.close_all.ensures.closed mode read.pieces c.copy_pieces-fault.result (copies_said _ _ mode _ _ read.copies c.tell_input.ensures.told)), breaks))
 
 pub tell_broken-requires-clause-known : goal.tell_broken-requires-clause-known
 tell_broken-requires-clause-known g c = grind (arith, common_steps)

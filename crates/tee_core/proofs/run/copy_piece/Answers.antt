@@ -1,5 +1,4 @@
-use Rattle.std.proofs.Common.{◌+◌, ap, ◌∙◌}
-use Rattle.std.proofs.lemmas.List.{length-map}
+use Rattle.std.proofs.{Common.{◌+◌, ap, ◌∙◌}, lemmas.List.length-map}
 use Rattle.tee_core.proofs.CopyLemmas.{copies_ready, error_no_output, fed_next, known_many, mid_streams, piece_said}
 use Rattle.tee_core.proofs.run.copy_piece.Goals as goal
 

@@ -1,10 +1,12 @@
-use Rattle.std.proofs.Common.{◌≡◌, ◌+◌, length, length-take, ◌∷◌, ap, ◌++◌, ◌∙◌, [], take, Some, inl, inr, arith, refl, sym}
-use Rattle.std.proofs.lemmas.Bool.{false≢true}
-use Rattle.ports_core.specs.Source.{Source, fails, gives, source_at}
-use Rattle.ports_core.proofs.InputsLemmas.{asked_again, changed_source, ended_now, keeps_again, keeps_itself, keeps_others, nothing_read, read_more, sound_at, still_readable}
-use Rattle.tee_core.proofs.CopyLemmas.{joined_more}
-use Rattle.tee_core.specs.Run.{to_break, to_broken_output, to_end, to_limit}
-use Rattle.tee_core.proofs.EndLemmas.{counted_more, gave_last, gave_none, more_sized, none_sized, reads_copied, reads_more, reads_once, seen_broken, seen_ended, seen_more, seen_so_far}
+use Rattle.std.proofs.{Common.{◌≡◌, ◌+◌, length, length-take, ◌∷◌, ap, ◌++◌, ◌∙◌, [], take, Some, inl, inr, arith, refl, sym}, lemmas.Bool.false≢true}
+use Rattle.ports_core.{
+  specs.Source.{Source, fails, gives, source_at},
+  proofs.InputsLemmas.{asked_again, changed_source, ended_now, keeps_again, keeps_itself, keeps_others, nothing_read, read_more, sound_at, still_readable},
+}
+use Rattle.tee_core.{
+  proofs.{CopyLemmas.joined_more, EndLemmas.{counted_more, gave_last, gave_none, more_sized, none_sized, reads_copied, reads_more, reads_once, seen_broken, seen_ended, seen_more, seen_so_far}},
+  specs.Run.{to_break, to_broken_output, to_end, to_limit},
+}
 use Rattle.tee_core.proofs.run.copy_pieces.Goals as goal
 
 pub pieces-init : goal.pieces-init
@@ -14,7 +16,6 @@ pieces-init g c = record {
   joined = refl;
   sized = none_sized;
   copies = λ mode at. at;
-  stand = λ stand. stand;
   same = refl;
   counted = refl;
   small = omega arith;
@@ -37,7 +38,6 @@ pieces-preserved g c =
       joined = ap (λ bytes. bytes ++ take c.in-Ok.n c.read.new.buffer) so_far.joined ∙ joined_more so_far.pieces (take c.in-Ok.n c.read.new.buffer);
       sized = more_sized so_far.pieces c.read.new.buffer so_far.sized c.if-n-eq0.false (omega (arith, c.in-Ok.ensures.bound, c.read.auto.buffer)) (omega (arith, c.requires.most, c.read.auto.buffer, c.pieces.auto.buffer));
       copies = λ mode at. c.copy_piece.ensures.copies mode so_far.pieces (sym c.is_done.ensures ∙ c.pieces-test.true) (so_far.copies mode at);
-      stand = λ stand. c.copy_piece.ensures.stand (so_far.stand stand);
       same = c.copy_piece.ensures.same ∙ so_far.same;
       counted = counted_more so_far.came c.read.new.buffer c.in-Ok.n so_far.counted (omega (arith, c.in-Ok.ensures.bound, c.read.auto.buffer)) c.in-Some.ensures.1;
       small = omega (arith, c.in-Some.ensures.0, c.in-Some.ensures.1);
@@ -55,7 +55,7 @@ pub returns-in-Err-clause-copies : goal.returns-in-Err-clause-copies
 returns-in-Err-clause-copies g c mode at =
     let so_far = c.pieces.invariant in
     let (content, is, bytes, ended, leaves, breaks) = seen_broken _ _ _ _ _ _ so_far.read so_far.readable c.in-Err.ensures.break_off c.in-Err.ensures.err.1 in
-    let copied = reads_copied _ so_far.joined (sym c.is_done.ensures ∙ c.pieces-test.true) so_far.sized (omega (arith, so_far.counted, so_far.small)) (inl (ap Some c.in-Err.ensures.err.0)) (λ none. absurd (cc)) (λ told vain. absurd (false≢true vain)) (reads_once so_far.pieces so_far.joined so_far.sized (omega (arith, so_far.counted, so_far.small)) so_far.reads (ap (λ (source : Source). source.reads) (changed_source 0 (fails _) _ _ so_far.readable c.in-Err.ensures.err.1)))
+    let copied = reads_copied _ so_far.joined (sym c.is_done.ensures ∙ c.pieces-test.true) so_far.sized (omega (arith, so_far.counted, so_far.small)) (inl (ap Some c.in-Err.ensures.err.0)) (λ none. absurd (cc)) (λ told vain. absurd (false≢true vain)) (reads_once so_far.pieces so_far.joined so_far.sized (omega (arith, so_far.counted, so_far.small)) so_far.reads (ap (λ (source : Source). source.reads) (changed_source 0 (fails _ _) _ _ so_far.readable c.in-Err.ensures.err.1.1)))
     (rw c.in-Err.ensures.err.0 (to_break _ bytes ended leaves)) (so_far.copies mode at) in
     (content, is, (copied, breaks))
 

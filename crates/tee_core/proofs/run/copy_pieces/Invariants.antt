@@ -1,12 +1,6 @@
-use Rattle.std.proofs.Common.{◌≡◌, ◌≤◌, ◌<◌, ◌-◌, ◌^◌, ℕ, List, [], length, map, true, IsTrue}
-use Rattle.std.specs.List.{concat}
-use Rattle.ports_core.specs.Source.{source_at, is_readable}
-use Rattle.ports_core.specs.declared.slot.Mode.{Mode}
-use Rattle.ports_core.specs.Inputs.{KeepsOthers}
-use Rattle.ports_core.proofs.InputsLemmas.{HasRead}
-use Rattle.tee_core.specs.Run.{EachStandsFor, GaveLast}
-use Rattle.tee_core.specs.inner.Steps.{Copies}
-use Rattle.tee_core.proofs.EndLemmas.{AreSized}
+use Rattle.std.{proofs.Common.{◌≡◌, ◌≤◌, ◌<◌, ◌-◌, ◌^◌, ℕ, List, [], length, map, true, IsTrue}, specs.List.concat}
+use Rattle.ports_core.{specs.{Source.{source_at, is_readable}, declared.slot.Mode.Mode, Inputs.KeepsOthers}, proofs.InputsLemmas.HasRead}
+use Rattle.tee_core.{specs.{Run.GaveLast, inner.Steps.Copies}, proofs.EndLemmas.AreSized}
 use Rattle.tee_core.proofs.run.copy_pieces.Given as goal
 
 abbrev pub invariant-pieces : goal.invariant-pieces
@@ -20,7 +14,6 @@ invariant-pieces g l = record {
       (g.O.Outs.slots l.fn.outs) l.fn.known
       → Copies g.O.Outs.told l.job.calling mode l.job.on_broken (map (λ name. name.now) l.job.names.now) pieces []
       (g.O.Outs.slots l.outs) l.known;
-  stand : EachStandsFor g.O.Outs.breaks_for l.fn.known → EachStandsFor g.O.Outs.breaks_for l.known;
   same : l.tee ≡ l.fn.tee;
   counted : l.fed ≡ length came;
   small : l.fed < 2 ^ 63;

@@ -6,5 +6,5 @@ returns-in-Ok-clause-whole g c = λ tells zero_is sound. whole_of _ _ tells zero
 
 pub returns-in-Err-clause-ends : goal.returns-in-Err-clause-ends
 returns-in-Err-clause-ends g c =
-    let (why, is_why, tells, is) = rw c.tee_called.ensures at c.tell.ensures in
-    ends_at_once _ c.in-Err.ensures.err.0 c.requires.fresh c.requires.outputs c.in-Err.ensures.err.1 c.in-Err.ensures.err.2 (why, tells, is)
+    let tells = rw c.tee_called.ensures at c.tell.ensures in
+    ends_at_once _ c.in-Err.ensures.err.0 c.requires.fresh c.requires.outputs c.in-Err.ensures.err.1 c.in-Err.ensures.err.2 (tells.told, tells.status)

@@ -1,23 +1,17 @@
 use Rattle.std.proofs.Common.{arith}
 use Rattle.tee_core.proofs.CopyLemmas.{count_names, error_open, tells_next, tells_none, told_all}
-use Rattle.tee_core.proofs.EndLemmas.{stands_next}
 use Rattle.tee_core.proofs.run.tell_broken.Goals as goal
 
 pub loop-n-init : goal.loop-n-init
-loop-n-init g c = (λ stand. stand, tells_none _ _ _ _ _ _ c.requires.streams)
+loop-n-init g c = tells_none _ _ _ _ _ _ c.requires.streams
 
 pub tell_one-requires : goal.tell_one-requires
-tell_one-requires g c = error_open _ c.requires.streams c.loop-n.invariant.1
+tell_one-requires g c = error_open _ c.requires.streams c.loop-n.invariant
 
 pub loop-n-preserved : goal.loop-n-preserved
-loop-n-preserved g c = (
-  λ stand. stands_next g.O.Outs.breaks_for _ _ _ c.loop-n.invariant.0 stand (omega (arith, c.loop-n-test.true, c.loop-n.auto.known)) c.tell_one.ensures.sees (rw c.output_slot.ensures at c.tell_one.ensures.reason),
-  tells_next _ _ c.requires.streams (count_names c.args.job.now.names.now) c.requires.known (omega (arith, c.loop-n-test.true, c.loop-n.auto.known)) c.loop-n.invariant.1
-      c.output_name-name.ensures (rw c.output_slot.ensures at c.tell_one.ensures.sees) (λ is. let (why, known, lost, said) = c.tell_one.ensures.told is in (why, said)) c.tell_one.ensures.quiet,
-)
+loop-n-preserved g c =
+    tells_next _ _ c.requires.streams (count_names c.args.job.now.names.now) c.requires.known (omega (arith, c.loop-n-test.true, c.loop-n.auto.known)) c.loop-n.invariant
+    c.output_name-name.ensures (rw c.output_slot.ensures at c.tell_one.ensures.stands) (λ is. (_, c.tell_one.ensures.told is)) c.tell_one.ensures.quiet
 
 pub returns-clause-seen : goal.returns-clause-seen
-returns-clause-seen g c = told_all _ c.requires.streams c.requires.known (omega (arith, c.loop-n-test.false)) c.loop-n.invariant.1
-
-pub returns-clause-stand : goal.returns-clause-stand
-returns-clause-stand g c = c.loop-n.invariant.0
+returns-clause-seen g c = told_all _ c.requires.streams c.requires.known (omega (arith, c.loop-n-test.false)) c.loop-n.invariant

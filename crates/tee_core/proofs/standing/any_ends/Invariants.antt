@@ -1,5 +1,4 @@
-use Rattle.std.proofs.Common.{◌≡◌, length}
-use Rattle.std.specs.List.{list_any}
+use Rattle.std.{proofs.Common.{◌≡◌, length}, specs.List.list_any}
 use Rattle.tee_core.specs.Run.{ends_run}
 use Rattle.tee_core.proofs.standing.any_ends.Given as goal
 

@@ -1,5 +1,4 @@
-use Rattle.std.proofs.Common.{arith}
-use Rattle.std.proofs.lemmas.Grind.{common_steps}
+use Rattle.std.proofs.{Common.arith, lemmas.Grind.common_steps}
 use Rattle.ports_core.proofs.HandedOn.{handed_on}
 use Rattle.tee_core.proofs.StartLemmas.{begins_opening, none_left, opens_more_at, some_now}
 use Rattle.tee_core.proofs.tee.open_files.Goals as goal

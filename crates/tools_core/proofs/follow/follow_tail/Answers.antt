@@ -1,7 +1,6 @@
 use Rattle.std.proofs.Common.{ap, max}
 use Rattle.words_core.specs.declared.tail_words.TailSettings.{TailSettings}
-use Rattle.tools_core.specs.Following.{is_name}
-use Rattle.tools_core.proofs.RunLemmas.{ends_names, shows_by-waiting}
+use Rattle.tools_core.{specs.Following.is_name, proofs.RunLemmas.{ends_names, shows_by-waiting}}
 use Rattle.tools_core.proofs.follow.follow_tail.Goals as goal
 
 pub returns : goal.returns

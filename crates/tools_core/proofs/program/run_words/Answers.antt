@@ -1,7 +1,6 @@
 use Rattle.std.proofs.Common.{map}
 use Rattle.run_core.proofs.InputLemmas.{fresh_counts}
-use Rattle.tools_core.specs.Outcome.{names_read}
-use Rattle.tools_core.proofs.RunLemmas.{program_refuses}
+use Rattle.tools_core.{specs.Outcome.names_read, proofs.RunLemmas.program_refuses}
 use Rattle.tools_core.proofs.program.run_words.Goals as goal
 
 -- files are followed
@@ -13,7 +12,7 @@ returns-then-follows-clause-opened g c = fresh_counts (names_read c.args.calling
 
 pub returns-clause-ends : goal.returns-clause-ends
 returns-clause-ends g c =
-    program_refuses c.args.calling g.I.Inputs.told g.W.Watch.told g.O.Outs.breaks_for (map (λ word. word.now) c.args.words.now) (g.I.Inputs.laid c.args.inputs.now) (g.W.Watch.shows c.args.watch.now)
+    program_refuses c.args.calling g.I.Inputs.told g.W.Watch.told (map (λ word. word.now) c.args.words.now) (g.I.Inputs.laid c.args.inputs.now) (g.W.Watch.shows c.args.watch.now)
     c.requires.inputs c.requires.unseen c.requires.unwatched c.in-Err.ensures.err c.refuse_words.ensures
 
 pub returns-clause-opened : goal.returns-clause-opened

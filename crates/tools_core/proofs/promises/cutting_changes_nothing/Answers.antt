@@ -1,6 +1,4 @@
-use Rattle.tools_core.proofs.LeftLemmas.{leave_alike}
-use Rattle.tools_core.proofs.PromiseLemmas.{leave_same}
-use Rattle.tools_core.proofs.StoppedPromises.{completes_or}
+use Rattle.tools_core.proofs.{LeftLemmas.leave_alike, PromiseLemmas.leave_same, StoppedPromises.completes_or}
 use Rattle.tools_core.proofs.promises.cutting_changes_nothing.Goals as goal
 
 pub returns : goal.returns

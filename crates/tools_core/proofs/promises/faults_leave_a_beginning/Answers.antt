@@ -1,6 +1,4 @@
-use Rattle.tools_core.proofs.BesidePromises.{one_completes}
-use Rattle.tools_core.proofs.PromiseLemmas.{begins_each}
-use Rattle.tools_core.proofs.StoppedPromises.{is_broken, says_why}
+use Rattle.tools_core.proofs.{BesidePromises.one_completes, PromiseLemmas.begins_each, StoppedPromises.{is_broken, says_why}}
 use Rattle.tools_core.proofs.promises.faults_leave_a_beginning.Goals as goal
 
 pub returns : goal.returns

@@ -1,5 +1,4 @@
-use Rattle.tools_core.proofs.PromiseLemmas.{is_copied}
-use Rattle.tools_core.proofs.TeePromises.{tee_stops}
+use Rattle.tools_core.proofs.{PromiseLemmas.is_copied, TeePromises.tee_stops}
 use Rattle.tools_core.proofs.promises.tee_copies.Goals as goal
 
 pub returns-clause-files : goal.returns-clause-files

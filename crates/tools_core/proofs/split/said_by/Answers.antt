@@ -1,6 +1,5 @@
 use Rattle.std.proofs.Common.{ap, subst, sym}
-use Rattle.run_core.specs.RunSteps.{IsShown}
-use Rattle.run_core.proofs.InputLemmas.{shows_something}
+use Rattle.run_core.{specs.RunSteps.IsShown, proofs.InputLemmas.shows_something}
 use Rattle.split_core.specs.ChunkWork.{way_work}
 use Rattle.tools_core.proofs.AdapterLemmas.{length_matters, said_shown}
 use Rattle.tools_core.proofs.split.said_by.Goals as goal

@@ -1,7 +1,5 @@
 use Rattle.std.proofs.Common.{◌≡◌, map, take}
-use Rattle.words_core.specs.CsplitWords.{chosen_by}
-use Rattle.words_core.specs.inner.Choice.{options_seen}
-use Rattle.words_core.specs.Given.{option_seen}
+use Rattle.words_core.specs.{CsplitWords.chosen_by, inner.Choice.options_seen, Given.option_seen}
 use Rattle.words_core.proofs.csplit_words.choose_csplit.Given as goal
 
 abbrev pub invariant-loop-option : goal.invariant-loop-option

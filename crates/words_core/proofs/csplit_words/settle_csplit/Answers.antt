@@ -1,7 +1,5 @@
-use Rattle.std.proofs.Common.{◌∙◌, ap, map, arith}
-use Rattle.std.proofs.lemmas.Bool.Decides.{nat_tests}
-use Rattle.words_core.specs.Given.{Given, operand_seen, option_seen}
-use Rattle.words_core.proofs.CsplitLemmas.{settled}
+use Rattle.std.proofs.{Common.{◌∙◌, ap, map, arith}, lemmas.Bool.Decides.nat_tests}
+use Rattle.words_core.{specs.Given.{Given, operand_seen, option_seen}, proofs.CsplitLemmas.settled}
 use Rattle.words_core.proofs.csplit_words.settle_csplit.Goals as goal
 
 pub returns-in_ok-style-in-len1-up : goal.returns-in_ok-style-in-len1-up

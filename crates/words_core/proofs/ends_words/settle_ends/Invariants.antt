@@ -1,6 +1,5 @@
 use Rattle.std.proofs.Common.{◌≡◌, map, take}
-use Rattle.words_core.specs.Given.{asked_by, option_seen}
-use Rattle.words_core.specs.EndsWords.{ends_by}
+use Rattle.words_core.specs.{Given.{asked_by, option_seen}, EndsWords.ends_by}
 use Rattle.words_core.proofs.ends_words.settle_ends.Given as goal
 
 abbrev pub invariant-loop-option : goal.invariant-loop-option

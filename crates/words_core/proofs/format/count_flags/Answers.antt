@@ -1,6 +1,4 @@
-use Rattle.std.proofs.lemmas.Grind.{common_steps}
-use Rattle.std.proofs.Common.{◌<◌, arith, sym, length}
-use Rattle.std.proofs.lemmas.List.Sums.{prefix_len_is}
+use Rattle.std.proofs.{lemmas.{Grind.common_steps, List.Sums.prefix_len_is}, Common.{◌<◌, arith, sym, length}}
 use Rattle.words_core.specs.Format.{is_flag}
 use Rattle.words_core.proofs.format.count_flags.Goals as goal
 

@@ -1,6 +1,4 @@
-use Rattle.std.proofs.lemmas.Grind.{common_steps}
-use Rattle.std.proofs.Common.{arith}
-use Rattle.std.proofs.lemmas.Str.Pattern.{split_once_first}
+use Rattle.std.proofs.{lemmas.{Grind.common_steps, Str.Pattern.split_once_first}, Common.arith}
 use Rattle.words_core.proofs.FormatLemmas.{no_percent, percent_at}
 use Rattle.words_core.proofs.format.push_plain.Goals as goal
 

@@ -1,6 +1,4 @@
-use Rattle.std.proofs.lemmas.Grind.{common_steps}
-use Rattle.std.proofs.Common.{arith}
-use Rattle.std.proofs.lemmas.List.Sums.{prefix_len-le-length}
+use Rattle.std.proofs.{lemmas.{Grind.common_steps, List.Sums.prefix_len-le-length}, Common.arith}
 use Rattle.words_core.proofs.FormatLemmas.{after_drop, after_slice, some_too}
 use Rattle.words_core.proofs.format.read_conversion.Goals as goal
 

@@ -1,5 +1,4 @@
-use Rattle.std.proofs.lemmas.Grind.{common_steps}
-use Rattle.std.proofs.Common.{arith}
+use Rattle.std.proofs.{lemmas.Grind.common_steps, Common.arith}
 use Rattle.words_core.proofs.FormatLemmas.{conversion_begins, is_format, rest_ends}
 use Rattle.words_core.proofs.format.read_format.Goals as goal
 

@@ -1,5 +1,4 @@
-use Rattle.std.proofs.lemmas.Grind.{common_steps}
-use Rattle.std.proofs.Common.{arith}
+use Rattle.std.proofs.{lemmas.Grind.common_steps, Common.arith}
 use Rattle.words_core.proofs.FormatLemmas.{after_letter_of_precision, after_slice, letter_clipped, some_too}
 use Rattle.words_core.proofs.format.read_width.Goals as goal
 

@@ -1,6 +1,5 @@
 use Rattle.std.proofs.Common.{◌≡◌, ◌++◌, map, drop}
-use Rattle.words_core.specs.Help.{option_lines}
-use Rattle.words_core.specs.Table.{row_seen}
+use Rattle.words_core.specs.{Help.option_lines, Table.row_seen}
 use Rattle.words_core.proofs.help.write_options.Given as goal
 
 abbrev pub invariant-loop-row : goal.invariant-loop-row

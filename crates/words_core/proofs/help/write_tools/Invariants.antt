@@ -1,6 +1,5 @@
 use Rattle.std.proofs.Common.{◌≡◌, ◌++◌, map, drop}
-use Rattle.words_core.specs.Help.{tool_lines}
-use Rattle.words_core.specs.Table.{tool_seen}
+use Rattle.words_core.specs.{Help.tool_lines, Table.tool_seen}
 use Rattle.words_core.proofs.help.write_tools.Given as goal
 
 abbrev pub invariant-loop-row : goal.invariant-loop-row

@@ -1,11 +1,9 @@
-use Rattle.std.proofs.Common.{◌≡◌, sym, refl, arith, ℕ, zero, suc, Bool, true, false, eqb, if◌then◌else◌, List, [], ◌∷◌, ◌++◌, drop, length}
-use Rattle.std.proofs.lemmas.Bool.Decides.{Decides-eqb}
-use Rattle.std.proofs.lemmas.List.Elements.{Contains-append_right}
-use Rattle.std.proofs.lemmas.Slice.Eq.{starts_is}
-use Rattle.std.specs.List.{Contains, starts_with}
-use Rattle.words_core.specs.Table.{begins_one}
-use Rattle.words_core.proofs.SpellingLemmas.{either}
-use Rattle.words_core.proofs.ValueLemmas.{long_name}
+use Rattle.std.{
+  proofs.Common.{◌≡◌, sym, refl, arith, ℕ, zero, suc, Bool, true, false, eqb, if◌then◌else◌, List, [], ◌∷◌, ◌++◌, drop, length},
+  proofs.lemmas.{Bool.Decides.Decides-eqb, List.Elements.Contains-append_right, Slice.Eq.starts_is},
+  specs.List.{Contains, starts_with},
+}
+use Rattle.words_core.{specs.Table.begins_one, proofs.{SpellingLemmas.either, ValueLemmas.long_name}}
 use Rattle.words_core.proofs.laws.beginnings_are_of_one_option.Goals as goal
 
 abbrev HasBeginning : List ℕ → List (List ℕ) → Type 0

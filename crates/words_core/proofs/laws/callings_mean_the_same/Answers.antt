@@ -1,15 +1,15 @@
 use Rattle.std.proofs.Common.{ap, refl}
 use Rattle.ports_core.specs.declared.calling.Calling.TheVariants.{Cutters}
-use Rattle.ports_core.specs.declared.tool.Tool.TheVariants as tool
 use Rattle.seg_core.specs.declared.unit.Unit.TheVariants.{Lines}
-use Rattle.words_core.specs.declared.choice.Kind.TheVariants.{Amount, LinesEach}
-use Rattle.words_core.specs.declared.spelling.State.TheVariants.{Reading}
-use Rattle.words_core.specs.declared.table.Letters.TheVariants.{Never, OfHead, OfTail}
-use Rattle.words_core.specs.Spelling.{spelled}
-use Rattle.words_core.specs.Table.{head_table, row_named, split_table, tail_table, tee_table, tools}
-use Rattle.words_core.specs.Value.{then_check}
-use Rattle.words_core.specs.Words.{settings_for}
+use Rattle.words_core.specs.{
+  declared.{choice.Kind.TheVariants.{Amount, LinesEach}, spelling.State.TheVariants.Reading, table.Letters.TheVariants.{Never, OfHead, OfTail}},
+  Spelling.spelled,
+  Table.{head_table, row_named, split_table, tail_table, tee_table, tools},
+  Value.then_check,
+  Words.settings_for,
+}
 use Rattle.words_core.proofs.CallingLemmas.{begins_head, begins_never, left_open, same_tee, same_unknown, same_words}
+use Rattle.ports_core.specs.declared.tool.Tool.TheVariants as tool
 use Rattle.words_core.proofs.laws.callings_mean_the_same.Goals as goal
 
 pub returns : goal.returns

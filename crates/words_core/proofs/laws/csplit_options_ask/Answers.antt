@@ -1,5 +1,4 @@
-use Rattle.std.proofs.lemmas.Grind.{common_steps}
-use Rattle.std.proofs.Common.{arith}
+use Rattle.std.proofs.{lemmas.Grind.common_steps, Common.arith}
 use Rattle.words_core.specs.Table.{tools}
 use Rattle.words_core.proofs.laws.csplit_options_ask.Goals as goal
 

@@ -1,7 +1,5 @@
-use Rattle.std.proofs.lemmas.Grind.{common_steps}
-use Rattle.std.proofs.Common.{arith}
-use Rattle.words_core.specs.Spelling.{foremost}
-use Rattle.words_core.specs.Table.{tools}
+use Rattle.std.proofs.{lemmas.Grind.common_steps, Common.arith}
+use Rattle.words_core.specs.{Spelling.foremost, Table.tools}
 use Rattle.words_core.proofs.laws.ends_options_ask.Goals as goal
 
 pub returns : goal.returns

@@ -1,15 +1,9 @@
-use Rattle.std.proofs.lemmas.Grind.{common_steps}
-use Rattle.std.proofs.Common.{◌≡◌, ◌≤◌, ℕ, ◌+◌, arith, List, [], ◌∷◌, ◌++◌, length, Result, Ok, Err, refl, rules}
-use Rattle.ports_core.specs.declared.fault.Fault.{Fault}
-use Rattle.ports_core.specs.declared.fault.Fault.TheVariants.{Usage}
-use Rattle.ports_core.specs.declared.fault.UsageKind.{UsageKind}
-use Rattle.words_core.specs.declared.spelling.State.{State}
-use Rattle.words_core.specs.declared.spelling.State.TheVariants.{Awaiting}
-use Rattle.words_core.specs.Table.{OptionRow}
-use Rattle.words_core.specs.Given.{Given}
-use Rattle.words_core.specs.Spelling.{Meaning, ended, given_before, meaning_of, onward, spelled}
-use Rattle.words_core.proofs.MeaningLemmas.{Awaits, GivesItself, meaning-gives}
-use Rattle.words_core.proofs.SpellingLemmas.{of_more, told_whatever_follows}
+use Rattle.std.proofs.{lemmas.Grind.common_steps, Common.{◌≡◌, ◌≤◌, ℕ, ◌+◌, arith, List, [], ◌∷◌, ◌++◌, length, Result, Ok, Err, refl, rules}}
+use Rattle.ports_core.specs.declared.fault.{Fault.{Fault, TheVariants.Usage}, UsageKind.UsageKind}
+use Rattle.words_core.{
+  specs.{declared.spelling.State.{State, TheVariants.Awaiting}, Table.OptionRow, Given.Given, Spelling.{Meaning, ended, given_before, meaning_of, onward, spelled}},
+  proofs.{MeaningLemmas.{Awaits, GivesItself, meaning-gives}, SpellingLemmas.{of_more, told_whatever_follows}},
+}
 use Rattle.words_core.proofs.laws.leftmost_fault_decides.Goals as goal
 
 well_more : (given whole : Given) (meant : Result Given Fault) → given_before given meant ≡ Ok whole

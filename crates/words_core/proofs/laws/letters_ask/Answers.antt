@@ -1,28 +1,19 @@
-use Rattle.std.proofs.lemmas.Bool.{and_parts, lt-ltb}
-use Rattle.std.specs.Prelude.{⊤, IfSome}
-use Rattle.std.proofs.lemmas.Bool.Decides.{nat_tests}
-use Rattle.std.proofs.lemmas.List.{append-nil, take-append-drop}
-use Rattle.std.proofs.lemmas.List.Elements.{All-from_recursion, recursion_from_All}
-use Rattle.std.proofs.lemmas.List.Sums.{take_while-cons}
-use Rattle.std.specs.Char.{is_ascii_digit}
-use Rattle.std.specs.List.{list_all, prefix_len}
-use Rattle.std.specs.Prelude.{filter, nat_lt}
-use Rattle.std.proofs.Common.{◌≡◌, ◌≢◌, ◌<◌, ◌⊎◌, suc, ◌&&◌, ◌||◌, inl, inr, refl, sym, ap, arith, rules, ℕ, Bool, true, false, if◌then◌else◌, List, [], ◌∷◌, ◌++◌, length, codes, Option, Some, None}
-use Rattle.seg_core.specs.Count.{after_digits, is_number, leading_digits}
-use Rattle.seg_core.specs.declared.unit.Unit.{Unit as Measured}
-use Rattle.seg_core.specs.declared.unit.Unit.TheVariants.{Lines}
+use Rattle.std.{
+  proofs.lemmas.{Bool.{and_parts, lt-ltb, Decides.nat_tests}, List.{append-nil, take-append-drop, Elements.{All-from_recursion, recursion_from_All}, Sums.take_while-cons}},
+  proofs.Common.{◌≡◌, ◌≢◌, ◌<◌, ◌⊎◌, suc, ◌&&◌, ◌||◌, inl, inr, refl, sym, ap, arith, rules, ℕ, Bool, true, false, if◌then◌else◌, List, [], ◌∷◌, ◌++◌, length, codes, Option, Some, None},
+  specs.{Prelude.{⊤, IfSome, filter, nat_lt}, Char.is_ascii_digit, List.{list_all, prefix_len}},
+}
+use Rattle.seg_core.specs.{Count.{after_digits, is_number, leading_digits}, declared.unit.Unit.{Unit as Measured, TheVariants.Lines}}
+use Rattle.words_core.{
+  specs.declared.{settings.Headers.TheVariants.{Always, Never}, table.{Letters.TheVariants.{OfHead, OfTail}, Takes.Takes}, choice.Choice.Choice, value.Followed.TheVariants.Descriptor},
+  specs.Laws.{HasLetters, IsNumberWithLetters, of_lines, of_unit},
+  specs.Lettered.{are_known, are_of_tail, is_known, is_lettered, is_switch, is_unit, letter_named, unit_of, without_digits},
+  specs.Table.{OptionRow, alone, head_table, is_among, tail_table},
+  proofs.LetteredLemmas.{AreOthers, HasParts, IsOther, begins_with_unit, letters_ask, no_digit, no_digit_first, parts},
+}
 use Rattle.words_core.specs.declared.choice.Choice.TheVariants as choice
-use Rattle.words_core.specs.declared.settings.Headers.TheVariants.{Always, Never}
-use Rattle.words_core.specs.declared.table.Letters.TheVariants.{OfHead, OfTail}
-use Rattle.words_core.specs.declared.table.Takes.{Takes}
 use Rattle.words_core.specs.declared.table.Takes.TheVariants as takes
-use Rattle.words_core.specs.declared.choice.Choice.{Choice}
-use Rattle.words_core.specs.declared.value.Followed.TheVariants.{Descriptor}
 use Rattle.words_core.specs.declared.choice.Kind.TheVariants as kind
-use Rattle.words_core.specs.Laws.{HasLetters, IsNumberWithLetters, of_lines, of_unit}
-use Rattle.words_core.specs.Lettered.{are_known, are_of_tail, is_known, is_lettered, is_switch, is_unit, letter_named, unit_of, without_digits}
-use Rattle.words_core.specs.Table.{OptionRow, alone, head_table, is_among, tail_table}
-use Rattle.words_core.proofs.LetteredLemmas.{AreOthers, HasParts, IsOther, begins_with_unit, letters_ask, no_digit, no_digit_first, parts}
 use Rattle.words_core.proofs.laws.letters_ask.Goals as goal
 
 -- letters of options, or these and one that says what is counted

@@ -1,9 +1,5 @@
-use Rattle.std.proofs.Common.{◌≡◌, sym, ap, ◌∙◌, rules, ℕ, ◌+◌, List, [], ◌∷◌, All, Some}
-use Rattle.std.proofs.lemmas.List.Elements.{All-contains, All-from_recursion, All-weaker}
-use Rattle.std.specs.List.{AllByRecursion}
-use Rattle.words_core.specs.Laws.{AreAlike}
-use Rattle.words_core.specs.Spelling.{mixed, onward, spelled}
-use Rattle.words_core.specs.Table.{OptionRow, ToolRow, option_named, tools}
+use Rattle.std.{proofs.{Common.{◌≡◌, sym, ap, ◌∙◌, rules, ℕ, ◌+◌, List, [], ◌∷◌, All, Some}, lemmas.List.Elements.{All-contains, All-from_recursion, All-weaker}}, specs.List.AllByRecursion}
+use Rattle.words_core.specs.{Laws.AreAlike, Spelling.{mixed, onward, spelled}, Table.{OptionRow, ToolRow, option_named, tools}}
 use Rattle.words_core.proofs.laws.names_mean_the_same.Goals as goal
 
 -- what is so of each row of each table

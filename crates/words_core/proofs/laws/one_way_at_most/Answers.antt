@@ -1,6 +1,5 @@
 use Rattle.std.proofs.Common.{filter}
-use Rattle.words_core.specs.SplitWords.{is_way, separator_in}
-use Rattle.words_core.proofs.ChoiceLemmas.{few_ways, second_told, way_is}
+use Rattle.words_core.{specs.SplitWords.{is_way, separator_in}, proofs.ChoiceLemmas.{few_ways, second_told, way_is}}
 use Rattle.words_core.proofs.laws.one_way_at_most.Goals as goal
 
 pub returns : goal.returns

@@ -1,11 +1,13 @@
 use Rattle.std.proofs.Common.{refl}
 use Rattle.ports_core.specs.declared.slot.Mode.TheVariants.{Append}
-use Rattle.words_core.specs.CsplitWords.{csplit_by, plain}
-use Rattle.words_core.specs.Given.{texts_of}
-use Rattle.words_core.specs.EndsWords.{ends_by, ten_lines}
-use Rattle.words_core.specs.SplitWords.{no_options, split_by}
-use Rattle.words_core.specs.Laws.{appends, drops_sizes, elides_files, ends_with_zero, has, keeps_files, leaves_lines_out, tells_of_files}
-use Rattle.words_core.specs.TeeWords.{fresh, tee_by}
+use Rattle.words_core.specs.{
+  CsplitWords.{csplit_by, plain},
+  Given.texts_of,
+  EndsWords.{ends_by, ten_lines},
+  SplitWords.{no_options, split_by},
+  Laws.{appends, drops_sizes, elides_files, ends_with_zero, has, keeps_files, leaves_lines_out, tells_of_files},
+  TeeWords.{fresh, tee_by},
+}
 use Rattle.words_core.proofs.ChoiceLemmas.{append_is, csplit-sets, ends-sets, given_anywhere, so_where_given, split-sets, tee-sets}
 use Rattle.words_core.proofs.laws.options_stand_anywhere.Goals as goal
 

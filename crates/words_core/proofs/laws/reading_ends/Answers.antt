@@ -1,15 +1,12 @@
-use Rattle.std.proofs.Common.{◌≡◌, ℕ, ◌+◌, ◌⊎◌, List, [], ◌∷◌, ◌++◌, length, Result, Ok, Err, inl, inr, refl, sym, ap, ◌∙◌, arith, append_assoc}
-use Rattle.std.proofs.lemmas.Grind.{common_steps}
+use Rattle.std.proofs.{Common.{◌≡◌, ℕ, ◌+◌, ◌⊎◌, List, [], ◌∷◌, ◌++◌, length, Result, Ok, Err, inl, inr, refl, sym, ap, ◌∙◌, arith, append_assoc}, lemmas.Grind.common_steps}
 use Rattle.ports_core.specs.declared.fault.Fault.{Fault}
-use Rattle.words_core.specs.declared.spelling.State.{State}
-use Rattle.words_core.specs.declared.spelling.State.TheVariants.{Reading, Ended}
-use Rattle.words_core.specs.declared.choice.Choice.TheVariants.{About}
-use Rattle.words_core.specs.declared.settings.Topic.{Topic}
-use Rattle.words_core.specs.declared.table.Takes.TheVariants.{Last}
-use Rattle.words_core.specs.Table.{OptionRow, csplit_table, head_table, program_table, split_table, tail_table, tee_table, tools}
-use Rattle.words_core.specs.Given.{Given, joined, nothing, one_option}
-use Rattle.words_core.specs.Laws.{IsLong, LeaveTheRest}
-use Rattle.words_core.specs.Spelling.{Meaning, foremost, given_before, meaning_of, onward, spelled}
+use Rattle.words_core.specs.{
+  declared.{spelling.State.{State, TheVariants.{Reading, Ended}}, choice.Choice.TheVariants.About, settings.Topic.Topic, table.Takes.TheVariants.Last},
+  Table.{OptionRow, csplit_table, head_table, program_table, split_table, tail_table, tee_table, tools},
+  Given.{Given, joined, nothing, one_option},
+  Laws.{IsLong, LeaveTheRest},
+  Spelling.{Meaning, foremost, given_before, meaning_of, onward, spelled},
+}
 use Rattle.words_core.proofs.ValueLemmas.{long_name}
 use Rattle.words_core.proofs.laws.reading_ends.Goals as goal
 
@@ -29,7 +26,10 @@ module _ (rows : List OptionRow) where
       → ((next : State) → LeaveTheRest rows first (place + 1) next)
       → ((fault : Fault) × ((more : List (List ℕ))
       → onward (spelled rows (first ++ more) (place + 1)) meant ≡ Err fault))
-      ⊎ ((given : Given) × (next : State) × ((more : List (List ℕ)) → onward (spelled rows (first ++ more) (place + 1)) meant ≡ given_before given (spelled rows more (place + 1 + length first) next)))
+      ⊎ ((given : Given) × (next : State)
+      × ((more : List (List ℕ))
+      → onward (spelled rows (first ++ more) (place + 1)) meant
+      ≡ given_before given (spelled rows more (place + 1 + length first) next)))
   leaves first place (Err fault) rest = inl (fault, λ more. refl)
   leaves first place (Ok meaning) rest = elim (rest meaning.next) [
     | inl (fault, is) ↦ inl (fault, λ more. ap (given_before meaning.given) (is more))

@@ -1,7 +1,5 @@
 use Rattle.std.proofs.Common.{◌≡◌, drop, map}
-use Rattle.words_core.specs.Given.{joined}
-use Rattle.words_core.specs.Lettered.{switches}
-use Rattle.words_core.specs.Table.{row_seen}
+use Rattle.words_core.specs.{Given.joined, Lettered.switches, Table.row_seen}
 use Rattle.words_core.proofs.lettered.add_switches.Given as goal
 
 abbrev pub invariant-loop-letter : goal.invariant-loop-letter

@@ -1,6 +1,5 @@
 use Rattle.std.proofs.Common.{◌≡◌, drop, map}
-use Rattle.words_core.specs.Lettered.{are_known}
-use Rattle.words_core.specs.Table.{row_seen}
+use Rattle.words_core.specs.{Lettered.are_known, Table.row_seen}
 use Rattle.words_core.proofs.lettered.are_known.Given as goal
 
 abbrev pub invariant-loop-letter : goal.invariant-loop-letter

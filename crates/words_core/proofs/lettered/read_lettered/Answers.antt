@@ -1,6 +1,5 @@
 use Rattle.std.proofs.Common.{map}
-use Rattle.words_core.specs.Table.{row_seen}
-use Rattle.words_core.proofs.LetteredLemmas.{adds_count}
+use Rattle.words_core.{specs.Table.row_seen, proofs.LetteredLemmas.adds_count}
 use Rattle.words_core.proofs.lettered.read_lettered.Goals as goal
 
 pub returns-in_ok-add_option-in-Ok : goal.returns-in_ok-add_option-in-Ok

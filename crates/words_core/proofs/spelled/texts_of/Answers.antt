@@ -1,5 +1,4 @@
-use Rattle.std.proofs.Common.{arith}
-use Rattle.std.proofs.lemmas.Grind.{common_steps}
+use Rattle.std.proofs.{Common.arith, lemmas.Grind.common_steps}
 use Rattle.words_core.proofs.spelled.texts_of.Goals as goal
 
 pub loop-operand-preserved : goal.loop-operand-preserved

@@ -1,8 +1,4 @@
-use Rattle.std.proofs.Common.{rules, tests, arith}
-use Rattle.std.specs.Char.{is_ascii_digit}
-use Rattle.std.proofs.lemmas.Bool.Decides.{nat_tests}
-use Rattle.std.proofs.lemmas.Iterator.Search.{all_from_yields_List}
-use Rattle.std.proofs.lemmas.Iterator.{YieldsList-from_slice}
+use Rattle.std.{proofs.{Common.{rules, tests, arith}, lemmas.{Bool.Decides.nat_tests, Iterator.{YieldsList-from_slice, Search.all_from_yields_List}}}, specs.Char.is_ascii_digit}
 use Rattle.words_core.proofs.spelling.is_number.Goals as goal
 
 pub returns-then-not-is_empty : goal.returns-then-not-is_empty

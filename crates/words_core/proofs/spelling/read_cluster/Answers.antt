@@ -1,5 +1,4 @@
-use Rattle.std.proofs.Common.{arith}
-use Rattle.std.proofs.lemmas.Grind.{common_steps}
+use Rattle.std.proofs.{Common.arith, lemmas.Grind.common_steps}
 use Rattle.words_core.proofs.spelling.read_cluster.Goals as goal
 
 pub returns-in-Some-Value : goal.returns-in-Some-Value

@@ -1,6 +1,5 @@
 use Rattle.std.proofs.Common.{◌≡◌, map, length, IsUtf8}
-use Rattle.words_core.specs.Table.{row_seen}
-use Rattle.words_core.specs.Spelling.{before, cluster}
+use Rattle.words_core.specs.{Table.row_seen, Spelling.{before, cluster}}
 use Rattle.words_core.proofs.spelling.read_cluster.Given as goal
 
 abbrev pub invariant-loop-left : goal.invariant-loop-left

@@ -1,5 +1,4 @@
-use Rattle.std.proofs.Common.{arith}
-use Rattle.std.proofs.lemmas.Grind.{common_steps}
+use Rattle.std.proofs.{Common.arith, lemmas.Grind.common_steps}
 use Rattle.words_core.proofs.spelling.read_items.Goals as goal
 
 pub returns-in_err-state : goal.returns-in_err-state

@@ -1,6 +1,5 @@
 use Rattle.std.proofs.Common.{◌≡◌, ◌+◌, map, length}
-use Rattle.words_core.specs.Table.{row_seen}
-use Rattle.words_core.specs.Spelling.{given_before, spelled}
+use Rattle.words_core.specs.{Table.row_seen, Spelling.{given_before, spelled}}
 use Rattle.words_core.proofs.spelling.read_items.Given as goal
 
 abbrev pub invariant-loop-left : goal.invariant-loop-left

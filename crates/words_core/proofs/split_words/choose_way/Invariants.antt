@@ -1,7 +1,5 @@
 use Rattle.std.proofs.Common.{◌≡◌, map, length, filter}
-use Rattle.words_core.specs.Given.{option_seen}
-use Rattle.words_core.specs.SplitWords.{is_way, only_way}
-use Rattle.words_core.proofs.ChoiceLemmas.{way_then}
+use Rattle.words_core.{specs.{Given.option_seen, SplitWords.{is_way, only_way}}, proofs.ChoiceLemmas.way_then}
 use Rattle.words_core.proofs.split_words.choose_way.Given as goal
 
 abbrev pub invariant-loop-left : goal.invariant-loop-left

@@ -1,7 +1,5 @@
-use Rattle.std.proofs.lemmas.Grind.{common_steps}
-use Rattle.std.proofs.Common.{arith, refl}
-use Rattle.words_core.specs.SplitWords.{least_width}
-use Rattle.words_core.proofs.WidthLemmas.{least_next}
+use Rattle.std.proofs.{lemmas.Grind.common_steps, Common.{arith, refl}}
+use Rattle.words_core.{specs.SplitWords.least_width, proofs.WidthLemmas.least_next}
 use Rattle.words_core.proofs.split_words.least_width.Goals as goal
 
 pub loop-width-init : goal.loop-width-init

@@ -1,6 +1,5 @@
 use Rattle.std.proofs.Common.{◌≡◌, map, take}
-use Rattle.words_core.specs.Given.{asked_by, option_seen}
-use Rattle.words_core.specs.SplitWords.{delim_by}
+use Rattle.words_core.specs.{Given.{asked_by, option_seen}, SplitWords.delim_by}
 use Rattle.words_core.proofs.split_words.separator_in.Given as goal
 
 abbrev pub invariant-loop-option : goal.invariant-loop-option

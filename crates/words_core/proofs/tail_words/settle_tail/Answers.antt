@@ -1,5 +1,4 @@
-use Rattle.std.proofs.lemmas.Grind.{common_steps}
-use Rattle.std.proofs.Common.{arith}
+use Rattle.std.proofs.{lemmas.Grind.common_steps, Common.arith}
 use Rattle.words_core.proofs.ChoiceLemmas.{tail_of_these}
 use Rattle.words_core.proofs.tail_words.settle_tail.Goals as goal
 

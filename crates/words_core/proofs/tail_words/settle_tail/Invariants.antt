@@ -1,6 +1,5 @@
 use Rattle.std.proofs.Common.{◌≡◌, false, map, take}
-use Rattle.words_core.specs.Given.{asked_by, option_seen}
-use Rattle.words_core.specs.TailWords.{retry_by, tail_by}
+use Rattle.words_core.specs.{Given.{asked_by, option_seen}, TailWords.{retry_by, tail_by}}
 use Rattle.words_core.proofs.tail_words.settle_tail.Given as goal
 
 abbrev pub invariant-loop-option : goal.invariant-loop-option

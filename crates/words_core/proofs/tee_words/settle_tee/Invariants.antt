@@ -1,6 +1,5 @@
 use Rattle.std.proofs.Common.{◌≡◌, map, take}
-use Rattle.words_core.specs.Given.{asked_by, option_seen}
-use Rattle.words_core.specs.TeeWords.{tee_by}
+use Rattle.words_core.specs.{Given.{asked_by, option_seen}, TeeWords.tee_by}
 use Rattle.words_core.proofs.tee_words.settle_tee.Given as goal
 
 abbrev pub invariant-loop-option : goal.invariant-loop-option

@@ -1,6 +1,4 @@
-use Rattle.std.proofs.Common.{◌≡◌, drop}
-use Rattle.std.specs.Char.{is_ascii_digit}
-use Rattle.std.specs.List.{list_all}
+use Rattle.std.{proofs.Common.{◌≡◌, drop}, specs.{Char.is_ascii_digit, List.list_all}}
 use Rattle.words_core.proofs.value.are_digits.Given as goal
 
 abbrev pub invariant-loop-byte : goal.invariant-loop-byte

@@ -1,6 +1,5 @@
-use Rattle.std.proofs.Common.{◌≡◌, drop}
+use Rattle.std.{proofs.Common.{◌≡◌, drop}, specs.List.list_all}
 use Rattle.words_core.specs.Value.{is_zero}
-use Rattle.std.specs.List.{list_all}
 use Rattle.words_core.proofs.value.are_zeros.Given as goal
 
 abbrev pub invariant-loop-digit : goal.invariant-loop-digit

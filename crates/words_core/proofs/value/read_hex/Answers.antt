@@ -1,6 +1,4 @@
-use Rattle.std.proofs.lemmas.Grind.{common_steps}
-use Rattle.std.proofs.Common.{arith}
-use Rattle.std.proofs.lemmas.Int.Digits.{digits_value_more}
+use Rattle.std.proofs.{lemmas.{Grind.common_steps, Int.Digits.digits_value_more}, Common.arith}
 use Rattle.seg_core.proofs.Value.{held_step}
 use Rattle.words_core.proofs.value.read_hex.Goals as goal
 

@@ -1,6 +1,4 @@
-use Rattle.std.proofs.Common.{◌≡◌, ◌-◌, ◌^◌, min, take, drop}
-use Rattle.std.specs.List.{list_all}
-use Rattle.std.specs.Str.Parse.{digits_value}
+use Rattle.std.{proofs.Common.{◌≡◌, ◌-◌, ◌^◌, min, take, drop}, specs.{List.list_all, Str.Parse.digits_value}}
 use Rattle.words_core.specs.Value.{is_hex}
 use Rattle.words_core.proofs.value.read_hex.Given as goal
 

@@ -1,5 +1,4 @@
-use Rattle.words_core.proofs.LimitLemmas.{read-can}
-use Rattle.words_core.proofs.WordsLemmas.{returned}
+use Rattle.words_core.proofs.{LimitLemmas.read-can, WordsLemmas.returned}
 use Rattle.words_core.proofs.words.read_words.Goals as goal
 
 pub returns : goal.returns

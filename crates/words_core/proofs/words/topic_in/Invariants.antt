@@ -1,6 +1,5 @@
 use Rattle.std.proofs.Common.{◌≡◌, map, drop}
-use Rattle.words_core.specs.Given.{option_seen}
-use Rattle.words_core.specs.Words.{topic_in}
+use Rattle.words_core.specs.{Given.option_seen, Words.topic_in}
 use Rattle.words_core.proofs.words.topic_in.Given as goal
 
 abbrev pub invariant-loop-option : goal.invariant-loop-option

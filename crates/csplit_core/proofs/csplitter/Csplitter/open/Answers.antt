@@ -1,12 +1,7 @@
 use Rattle.std.proofs.Common.{◌≡◌, List, [], length, refl, ap, arith}
 use Rattle.seg_core.specs.Line.{delimiters}
-use Rattle.ports_core.specs.Part.{OutputsAt, StoppedBetween, nothing}
-use Rattle.csplit_core.specs.Output.{sizes_wanted}
-use Rattle.ports_core.specs.Slot.{Slot}
-use Rattle.ports_core.proofs.HandedOn.{fault_is}
-use Rattle.csplit_core.specs.Csplit.{settled_by}
-use Rattle.csplit_core.specs.Input.{newline}
-use Rattle.csplit_core.proofs.StageLemmas.{begins_at, cannot_begin}
+use Rattle.ports_core.{specs.{Part.{OutputsAt, StoppedBetween, nothing}, Slot.Slot}, proofs.HandedOn.fault_is}
+use Rattle.csplit_core.{specs.{Output.sizes_wanted, Csplit.settled_by, Input.newline}, proofs.StageLemmas.{begins_at, cannot_begin}}
 use Rattle.csplit_core.proofs.csplitter.Csplitter.open.Goals as goal
 
 pub returns-clause-holds : goal.returns-clause-holds

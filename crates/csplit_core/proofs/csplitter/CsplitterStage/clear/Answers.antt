@@ -1,7 +1,5 @@
 use Rattle.std.proofs.Common.{◌∙◌, ap, sym}
-use Rattle.csplit_core.specs.CsplitState.{CsplitState}
-use Rattle.csplit_core.specs.Output.{Style}
-use Rattle.csplit_core.proofs.StageLemmas.{sweeps}
+use Rattle.csplit_core.{specs.{CsplitState.CsplitState, Output.Style}, proofs.StageLemmas.sweeps}
 use Rattle.csplit_core.proofs.csplitter.CsplitterStage.clear.Goals as goal
 
 pub returns-then-not-style : goal.returns-then-not-style

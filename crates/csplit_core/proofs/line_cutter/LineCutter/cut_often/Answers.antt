@@ -1,9 +1,7 @@
 use Rattle.std.proofs.Common.{◌∙◌, ap, arith, rules}
-use Rattle.ports_core.proofs.HandedOn.{fault_is}
-use Rattle.csplit_core.specs.Cutter.{CutterState, seen}
-use Rattle.csplit_core.proofs.TakeLemmas.{spread_more, spread_stopped, spread_fit, spread_ready, spread_fewer}
+use Rattle.ports_core.{proofs.HandedOn.fault_is, specs.FileWriter.size_of}
+use Rattle.csplit_core.{specs.Cutter.{CutterState, seen}, proofs.TakeLemmas.{spread_more, spread_stopped, spread_fit, spread_ready, spread_fewer}}
 use Rattle.csplit_core.proofs.line_cutter.LineCutter.cut_often.Goals as goal
-use Rattle.ports_core.specs.FileWriter.{size_of}
 
 pub returns-in_err-left-clause-err : goal.returns-in_err-left-clause-err
 returns-in_err-left-clause-err g c = fault_is _ _ _ c.from_residual.ensures.1 (c.in_err-left.ensures.err c.args.line.now)

@@ -1,6 +1,4 @@
-use Rattle.csplit_core.specs.inner.PlanLaws.{needed}
-use Rattle.csplit_core.specs.Cutter.{seen, state_in}
-use Rattle.csplit_core.specs.inner.Cutter.{Spreading}
+use Rattle.csplit_core.specs.{inner.{PlanLaws.needed, Cutter.Spreading}, Cutter.{seen, state_in}}
 use Rattle.csplit_core.proofs.line_cutter.LineCutter.cut_often.Given as goal
 
 abbrev pub invariant-loop-cut : goal.invariant-loop-cut

@@ -1,5 +1,4 @@
-use Rattle.std.proofs.Common.{arith, inl, refl}
-use Rattle.std.proofs.lemmas.Grind.{common_steps}
+use Rattle.std.proofs.{Common.{arith, inl, refl}, lemmas.Grind.common_steps}
 use Rattle.ports_core.proofs.HandedOn.{handed_on}
 use Rattle.csplit_core.proofs.TakeLemmas.{cut_on, cut_not_on, from_left, spread_fit, spread_ready}
 use Rattle.csplit_core.proofs.line_cutter.LineCutter.cut_on.Goals as goal

@@ -1,7 +1,6 @@
 use Rattle.std.proofs.Common.{refl}
 use Rattle.ports_core.proofs.HandedOn.{handed_on}
-use Rattle.csplit_core.proofs.TakeLemmas.{gone_on}
-use Rattle.csplit_core.proofs.LineLemmas.{rest_all}
+use Rattle.csplit_core.proofs.{TakeLemmas.gone_on, LineLemmas.rest_all}
 use Rattle.csplit_core.proofs.line_cutter.LineCutter.go_on.Goals as goal
 
 pub returns-in_err-hold : goal.returns-in_err-hold

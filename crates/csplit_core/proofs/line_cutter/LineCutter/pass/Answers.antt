@@ -1,7 +1,5 @@
 use Rattle.std.proofs.Common.{◌∙◌, ap}
-use Rattle.csplit_core.specs.Output.{Style}
-use Rattle.csplit_core.specs.Cutter.{seen}
-use Rattle.csplit_core.proofs.TryLemmas.{passes_again, passes_next}
+use Rattle.csplit_core.{specs.{Output.Style, Cutter.seen}, proofs.TryLemmas.{passes_again, passes_next}}
 use Rattle.csplit_core.proofs.line_cutter.LineCutter.pass.Goals as goal
 
 pub returns-then-self-done : goal.returns-then-self-done

@@ -1,7 +1,6 @@
 use Rattle.std.proofs.Common.{arith}
 use Rattle.seg_core.proofs.Delimiters.{delimiters-le-length}
-use Rattle.csplit_core.specs.Input.{newline}
-use Rattle.csplit_core.proofs.TryLemmas.{passes_used_up, stops_unfound}
+use Rattle.csplit_core.{specs.Input.newline, proofs.TryLemmas.{passes_used_up, stops_unfound}}
 use Rattle.csplit_core.proofs.line_cutter.LineCutter.pass_over.Goals as goal
 
 pub overflow_add-self : goal.overflow_add-self

@@ -1,8 +1,5 @@
-use Rattle.std.proofs.Common.{refl, ap, arith}
-use Rattle.std.proofs.lemmas.Grind.{common_steps}
-use Rattle.csplit_core.specs.Cutter.{CutterState}
-use Rattle.csplit_core.proofs.LineLemmas.{rest_all}
-use Rattle.csplit_core.proofs.TryLemmas.{few_counted, all_left, one_more_at, more_clear, left_whole, all_passed_at, next_found, stops_unfound}
+use Rattle.std.proofs.{Common.{refl, ap, arith}, lemmas.Grind.common_steps}
+use Rattle.csplit_core.{specs.Cutter.CutterState, proofs.{LineLemmas.rest_all, TryLemmas.{few_counted, all_left, one_more_at, more_clear, left_whole, all_passed_at, next_found, stops_unfound}}}
 use Rattle.csplit_core.proofs.line_cutter.LineCutter.pass_unmatched.Goals as goal
 
 pub loop-end-init : goal.loop-end-init

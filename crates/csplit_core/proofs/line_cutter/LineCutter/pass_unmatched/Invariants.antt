@@ -1,6 +1,5 @@
 use Rattle.std.proofs.Common.{length}
-use Rattle.csplit_core.specs.Cutter.{seen}
-use Rattle.csplit_core.proofs.TryLemmas.{Unmatched}
+use Rattle.csplit_core.{specs.Cutter.seen, proofs.TryLemmas.Unmatched}
 use Rattle.csplit_core.proofs.line_cutter.LineCutter.pass_unmatched.Given as goal
 
 abbrev pub invariant-loop-end : goal.invariant-loop-end

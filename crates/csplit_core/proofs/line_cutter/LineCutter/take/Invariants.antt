@@ -1,7 +1,5 @@
 use Rattle.std.proofs.Common.{IfSome, length}
-use Rattle.csplit_core.specs.Cutter.{seen}
-use Rattle.csplit_core.specs.inner.Cutter.{IsNextFound}
-use Rattle.csplit_core.proofs.TakeLemmas.{Taking}
+use Rattle.csplit_core.{specs.{Cutter.seen, inner.Cutter.IsNextFound}, proofs.TakeLemmas.Taking}
 use Rattle.csplit_core.proofs.line_cutter.LineCutter.take.Given as goal
 
 abbrev pub invariant-stretches : goal.invariant-stretches

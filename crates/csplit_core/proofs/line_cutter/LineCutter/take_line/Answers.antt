@@ -1,8 +1,6 @@
 use Rattle.ports_core.proofs.HandedOn.{handed_on}
-use Rattle.std.proofs.Common.{inl, rules, subst, sym, length, arith}
-use Rattle.std.proofs.lemmas.List.{drop_all, take_all}
-use Rattle.csplit_core.specs.inner.Cutter.{IsLine}
-use Rattle.csplit_core.proofs.TakeLemmas.{stretched_line}
+use Rattle.std.proofs.{Common.{inl, rules, subst, sym, length, arith}, lemmas.List.{drop_all, take_all}}
+use Rattle.csplit_core.{specs.inner.Cutter.IsLine, proofs.TakeLemmas.stretched_line}
 use Rattle.csplit_core.proofs.line_cutter.LineCutter.take_line.Goals as goal
 
 pub stretch-requires : goal.stretch-requires

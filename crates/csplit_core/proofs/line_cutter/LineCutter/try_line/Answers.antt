@@ -1,6 +1,5 @@
 use Rattle.std.proofs.Common.{ap}
-use Rattle.csplit_core.specs.Cutter.{CutterState, seen}
-use Rattle.csplit_core.proofs.TryLemmas.{next_cut, next_stays, next_tries}
+use Rattle.csplit_core.{specs.Cutter.{CutterState, seen}, proofs.TryLemmas.{next_cut, next_stays, next_tries}}
 use Rattle.csplit_core.proofs.line_cutter.LineCutter.try_line.Goals as goal
 
 pub returns-then-self-line-clause-tries : goal.returns-then-self-line-clause-tries

@@ -1,6 +1,5 @@
 use Rattle.std.proofs.Common.{◌∙◌, ap}
-use Rattle.csplit_core.specs.Output.{Style}
-use Rattle.csplit_core.proofs.TryLemmas.{tries_cut, tries_none}
+use Rattle.csplit_core.{specs.Output.Style, proofs.TryLemmas.{tries_cut, tries_none}}
 use Rattle.csplit_core.proofs.line_cutter.LineCutter.turn_last.Goals as goal
 
 pub returns-in-Some-clause-tries : goal.returns-in-Some-clause-tries

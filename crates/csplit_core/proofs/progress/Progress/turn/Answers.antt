@@ -1,9 +1,5 @@
-use Rattle.std.proofs.Common.{arith}
-use Rattle.std.proofs.lemmas.Bool.Decides.{nat_tests}
-use Rattle.std.proofs.lemmas.List.{drop_all}
-use Rattle.csplit_core.specs.Plan.{used_up, is_used_up}
-use Rattle.csplit_core.specs.Progress.{state_of}
-use Rattle.csplit_core.proofs.TryLemmas.{left_is, falls_number, falls_search, misses_search}
+use Rattle.std.proofs.{Common.arith, lemmas.{Bool.Decides.nat_tests, List.drop_all}}
+use Rattle.csplit_core.{specs.{Plan.{used_up, is_used_up}, Progress.state_of}, proofs.TryLemmas.{left_is, falls_number, falls_search, misses_search}}
 use Rattle.csplit_core.proofs.progress.Progress.turn.Goals as goal
 
 pub returns-in_default-clause-says : goal.returns-in_default-clause-says

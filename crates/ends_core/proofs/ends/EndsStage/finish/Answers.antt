@@ -1,7 +1,5 @@
-use Rattle.std.proofs.Common.{ap}
-use Rattle.std.proofs.lemmas.Result.{IfErr-weaker}
-use Rattle.ends_core.specs.Stage.{missing_of}
-use Rattle.ends_core.proofs.EndsLemmas.{ends_changed, ends_stopped}
+use Rattle.std.proofs.{Common.ap, lemmas.Result.IfErr-weaker}
+use Rattle.ends_core.{specs.Stage.missing_of, proofs.EndsLemmas.{ends_changed, ends_stopped}}
 use Rattle.ends_core.proofs.ends.EndsStage.finish.Goals as goal
 
 pub returns-in-First-clause-cut : goal.returns-in-First-clause-cut

@@ -1,5 +1,4 @@
-use Rattle.std.proofs.Common.{◌∙◌, ap, sym, arith}
-use Rattle.std.proofs.lemmas.Grind.{common_steps}
+use Rattle.std.proofs.{Common.{◌∙◌, ap, sym, arith}, lemmas.Grind.common_steps}
 use Rattle.follow_core.specs.FollowState.{FollowState, was_over}
 use Rattle.follow_core.proofs.follow.Follow.look.Goals as goal
 

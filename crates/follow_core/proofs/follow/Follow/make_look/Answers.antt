@@ -1,6 +1,4 @@
-use Rattle.std.proofs.Common.{sym, ◌∙◌, arith}
-use Rattle.std.proofs.lemmas.List.{with_items_is}
-use Rattle.std.proofs.lemmas.Grind.{common_steps}
+use Rattle.std.proofs.{Common.{sym, ◌∙◌, arith}, lemmas.{List.with_items_is, Grind.common_steps}}
 use Rattle.follow_core.proofs.LookedLemmas.{makes_all, makes_few, makes_look}
 use Rattle.follow_core.proofs.follow.Follow.make_look.Goals as goal
 

@@ -1,7 +1,5 @@
-use Rattle.std.proofs.lemmas.Grind.{common_steps}
-use Rattle.std.proofs.Common.{arith}
-use Rattle.follow_core.proofs.LookGivesLemmas.{left_visited}
-use Rattle.follow_core.specs.Look.{ways_of}
+use Rattle.std.proofs.{lemmas.Grind.common_steps, Common.arith}
+use Rattle.follow_core.{proofs.LookGivesLemmas.left_visited, specs.Look.ways_of}
 use Rattle.follow_core.proofs.name.Name.visit.Goals as goal
 
 pub returns-in-New-clause-visits : goal.returns-in-New-clause-visits

@@ -1,6 +1,5 @@
 use Rattle.std.proofs.Common.{subst, ap, ◌∙◌}
-use Rattle.ports_core.specs.Write.{BrokeAfter}
-use Rattle.ports_core.specs.Text.{header_of}
+use Rattle.ports_core.specs.{Write.BrokeAfter, Text.header_of}
 use Rattle.follow_core.specs.Printing.{broke}
 use Rattle.follow_core.proofs.printer.Printer.show.Goals as goal
 

@@ -1,8 +1,9 @@
-use Rattle.std.proofs.lemmas.Grind.{common_steps}
-use Rattle.std.proofs.Common.{◌∙◌, ap, arith, refl}
+use Rattle.std.proofs.{lemmas.Grind.common_steps, Common.{◌∙◌, ap, arith, refl}}
 use Rattle.watch_core.specs.Snapshot.{latest}
-use Rattle.follow_core.proofs.CallGivesLemmas.{breaks_at, change_seen, opened_led, opened_there, reopens_as}
-use Rattle.follow_core.proofs.CatchLemmas.{leads_opened, leads_same, leads_unled, leads_unopened, leads_unsaid, none_seen, told_now}
+use Rattle.follow_core.proofs.{
+  CallGivesLemmas.{breaks_at, change_seen, opened_led, opened_there, reopens_as},
+  CatchLemmas.{leads_opened, leads_same, leads_unled, leads_unopened, leads_unsaid, none_seen, told_now},
+}
 use Rattle.follow_core.proofs.visitor.Visitor.follow_name.Goals as goal
 
 pub returns-in-Err-clause-leads : goal.returns-in-Err-clause-leads

@@ -1,11 +1,6 @@
-use Rattle.std.proofs.Common.{◌≡◌, ◌∙◌, ap, sym, arith}
-use Rattle.std.proofs.lemmas.Grind.{common_steps}
-use Rattle.watch_core.specs.Snapshot.{latest}
-use Rattle.std.proofs.lemmas.Result.{IfOk-weaker}
-use Rattle.follow_core.specs.inner.Giving.{stop_in}
-use Rattle.follow_core.proofs.CallGivesLemmas.{breaks_at, ends_can, is_held, long_at, starts_copied, starts_unmeasured, starts_unsought}
-use Rattle.follow_core.proofs.StartLemmas.{contents_same}
-use Rattle.watch_core.specs.Watched.{watched_at}
+use Rattle.std.proofs.{Common.{◌≡◌, ◌∙◌, ap, sym, arith}, lemmas.{Grind.common_steps, Result.IfOk-weaker}}
+use Rattle.watch_core.specs.{Snapshot.latest, Watched.watched_at}
+use Rattle.follow_core.{specs.inner.Giving.stop_in, proofs.{CallGivesLemmas.{breaks_at, ends_can, is_held, long_at, starts_copied, starts_unmeasured, starts_unsought}, StartLemmas.contents_same}}
 use Rattle.follow_core.proofs.visitor.Visitor.write_start.Goals as goal
 
 pub returns-in-Err-clause-starts : goal.returns-in-Err-clause-starts

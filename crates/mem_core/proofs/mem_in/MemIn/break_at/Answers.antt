@@ -1,6 +1,5 @@
 use Rattle.std.proofs.Common.{◌<◌, ◌∙◌, ap, map, length, arith}
-use Rattle.mem_core.specs.MemInState.{with_break}
-use Rattle.mem_core.proofs.MemInLemmas.{break_there}
+use Rattle.mem_core.{specs.MemInState.with_break, proofs.MemInLemmas.break_there}
 use Rattle.mem_core.proofs.mem_in.MemIn.break_at.Goals as goal
 
 pub returns-then-slot-len-clause-ok : goal.returns-then-slot-len-clause-ok

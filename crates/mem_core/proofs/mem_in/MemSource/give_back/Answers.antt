@@ -7,5 +7,5 @@ pub returns : goal.returns
 returns c =
     let s = c.self.inside in
     let few : c.args.count ≤ s.last = subst (λ (those : Source). c.args.count ≤ those.last) (sym c.self.view_is) c.requires in
-    set_back (option_map (λ v. v.items) s.shown) s.bytes.items s.given c.args.count s.reached s.asked s.last s.reads s.breaks_off s.is_open s.is_broken s.ended (omega (arith, c.self.invariant)) (omega (arith, few, c.self.invariant))
+    set_back (option_map (λ v. v.items) s.shown) s.reason s.bytes.items s.given c.args.count s.reached s.asked s.last s.reads s.breaks_off s.is_open s.is_broken s.ended (omega (arith, c.self.invariant)) (omega (arith, few, c.self.invariant))
     ∙ ap (gets_back c.args.count) c.self.view_is

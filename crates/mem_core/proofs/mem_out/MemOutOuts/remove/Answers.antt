@@ -1,13 +1,15 @@
 use Rattle.std.proofs.Common.{[], arith, refl, ◌∙◌, sym}
-use Rattle.ports_core.specs.Slot.{Slot, closes, removes, breaks}
-use Rattle.ports_core.proofs.SlotLemmas.{kept_changes, changed_at-again, file_kept}
+use Rattle.ports_core.{specs.Slot.{Slot, closes, removes, breaks}, proofs.SlotLemmas.{kept_changes, changed_at-again, file_kept}}
 use Rattle.mem_core.proofs.mem_out.MemOutOuts.remove.Goals as goal
 
 pub returns-then-fails-clause-err : goal.returns-then-fails-clause-err
 returns-then-fails-clause-err c = (
   refl,
-  kept_changes [] _ _ c.self.view_is (omega arith) (λ (slot : Slot). breaks (closes slot)) (file_kept [] _ _ c.self.view_is (omega arith) c.requires.1) c.index_mut-out.ensures.value c.close_broken.ensures
-      ∙ sym (changed_at-again c.args.slot closes breaks c.args.self.now),
+  (
+    c.planned-why.result,
+    kept_changes [] _ _ c.self.view_is (omega arith) (λ (slot : Slot). breaks c.planned-why.result (closes slot)) (file_kept [] _ _ c.self.view_is (omega arith) c.requires.1) c.index_mut-out.ensures.value c.close_broken.ensures
+        ∙ sym (changed_at-again c.args.slot closes (breaks c.planned-why.result) c.args.self.now),
+  ),
 )
 
 pub returns-clause-ok : goal.returns-clause-ok

@@ -1,8 +1,6 @@
 use Rattle.std.proofs.Common.{ap, sym, ◌∙◌}
-use Rattle.mem_core.specs.MemWatchState.{MemWatchState, world_at}
-use Rattle.watch_core.specs.Watched.{Watched}
-use Rattle.watch_core.proofs.NameLemmas.{names_within, readable_watchable}
-use Rattle.mem_core.proofs.MemWatchLemmas.{opened_now}
+use Rattle.mem_core.{specs.MemWatchState.{MemWatchState, world_at}, proofs.MemWatchLemmas.opened_now}
+use Rattle.watch_core.{specs.Watched.Watched, proofs.NameLemmas.{names_within, readable_watchable}}
 use Rattle.mem_core.proofs.mem_watch.MemWatch.open_bytes.Goals as goal
 
 pub returns-in-Some : goal.returns-in-Some

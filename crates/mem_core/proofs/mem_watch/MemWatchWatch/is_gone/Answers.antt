@@ -1,8 +1,6 @@
-use Rattle.std.proofs.Common.{◌≡◌, ◌+◌, ◌-◌, ◌∙◌, ap, arith, min}
-use Rattle.mem_core.specs.MemWatchState.{seen, shows, world_at}
-use Rattle.mem_core.proofs.MemWatchLemmas.{gone_next}
+use Rattle.std.{proofs.Common.{◌≡◌, ◌+◌, ◌-◌, ◌∙◌, ap, arith, min}, specs.Prelude.length}
+use Rattle.mem_core.{specs.MemWatchState.{seen, shows, world_at}, proofs.MemWatchLemmas.gone_next}
 use Rattle.mem_core.proofs.mem_watch.MemWatchWatch.is_gone.Goals as goal
-use Rattle.std.specs.Prelude.{length}
 
 is_gone : (g : goal.After-has_ended)
     → g.has_ended.result ≡ (shows g.args.self.now (length (seen g.args.self.now))).lacks g.args.process

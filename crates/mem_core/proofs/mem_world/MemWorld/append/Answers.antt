@@ -1,6 +1,5 @@
 use Rattle.std.proofs.Common.{◌<◌, ◌≤◌, ◌∙◌, ◌++◌, length, sym, ap, subst, arith}
-use Rattle.watch_core.specs.Edits.{World}
-use Rattle.watch_core.proofs.WorldLemmas.{file_changed, file_stays}
+use Rattle.watch_core.{specs.Edits.World, proofs.WorldLemmas.{file_changed, file_stays}}
 use Rattle.mem_core.proofs.mem_world.MemWorld.append.Goals as goal
 
 pub returns-in_ok-extend_from_slice : goal.returns-in_ok-extend_from_slice

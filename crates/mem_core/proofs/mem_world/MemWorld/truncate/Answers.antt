@@ -1,6 +1,5 @@
 use Rattle.std.proofs.Common.{◌<◌, ◌≤◌, ◌∙◌, take, length, sym, ap, subst, arith}
-use Rattle.watch_core.specs.Edits.{World}
-use Rattle.watch_core.proofs.WorldLemmas.{file_changed, file_stays}
+use Rattle.watch_core.{specs.Edits.World, proofs.WorldLemmas.{file_changed, file_stays}}
 use Rattle.mem_core.proofs.mem_world.MemWorld.truncate.Goals as goal
 
 pub returns-then-file-len : goal.returns-then-file-len

@@ -1,6 +1,5 @@
 use Rattle.std.proofs.Common.{◌≡◌, ℕ, ◌+◌, Bool, length}
-use Rattle.plain_core.specs.inner.Table.{IsTable}
-use Rattle.plain_core.proofs.Tables.{AreRuns}
+use Rattle.plain_core.{specs.inner.Table.IsTable, proofs.Tables.AreRuns}
 use Rattle.plain_core.proofs.table.Table.repeated.Given as goal
 
 abbrev pub invariant-loop-count : goal.invariant-loop-count

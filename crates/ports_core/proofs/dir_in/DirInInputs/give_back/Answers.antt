@@ -1,6 +1,5 @@
 use Rattle.std.proofs.Common.{◌≡◌, ◌-◌, suc, arith}
-use Rattle.ports_core.specs.Source.{gets_back}
-use Rattle.ports_core.proofs.DirInLemmas.{file_changes}
+use Rattle.ports_core.{specs.Source.gets_back, proofs.DirInLemmas.file_changes}
 use Rattle.ports_core.proofs.dir_in.DirInInputs.give_back.Goals as goal
 
 pub returns-else-slot-eq0-clause-rest : goal.returns-else-slot-eq0-clause-rest

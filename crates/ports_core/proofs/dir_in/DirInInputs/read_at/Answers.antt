@@ -1,6 +1,5 @@
 use Rattle.std.proofs.Common.{◌≡◌, ◌-◌, suc, arith}
-use Rattle.ports_core.specs.Source.{looks}
-use Rattle.ports_core.proofs.DirInLemmas.{file_changes}
+use Rattle.ports_core.{specs.Source.looks, proofs.DirInLemmas.file_changes}
 use Rattle.ports_core.proofs.dir_in.DirInInputs.read_at.Goals as goal
 
 pub returns-clause-rest : goal.returns-clause-rest

@@ -1,5 +1,4 @@
-use Rattle.std.proofs.Common.{arith, rules}
-use Rattle.std.proofs.lemmas.Grind.{common_steps}
+use Rattle.std.proofs.{Common.{arith, rules}, lemmas.Grind.common_steps}
 use Rattle.ports_core.proofs.dir_out.DirOutOuts.broken.Goals as goal
 
 pub overflow_sub-result-in-None : goal.overflow_sub-result-in-None

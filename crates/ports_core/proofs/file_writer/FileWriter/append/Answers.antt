@@ -1,8 +1,5 @@
 use Rattle.std.proofs.Common.{refl}
-use Rattle.ports_core.proofs.HandedOn.{of_write}
-use Rattle.ports_core.specs.inner.Write.{broke}
-use Rattle.ports_core.specs.inner.FileWriter.{Appends}
-use Rattle.ports_core.proofs.FileWriterLemmas.{stop_is}
+use Rattle.ports_core.{proofs.{HandedOn.of_write, FileWriterLemmas.stop_is}, specs.inner.{Write.broke, FileWriter.Appends}}
 use Rattle.ports_core.proofs.file_writer.FileWriter.append.Goals as goal
 
 pub returns-in_err-write_whole : goal.returns-in_err-write_whole

@@ -1,7 +1,5 @@
-use Rattle.ports_core.proofs.HandedOn.{handed_on}
+use Rattle.ports_core.{proofs.{HandedOn.handed_on, FileBegunLemmas.{begin_made, begin_none, begin_unmade}}, specs.declared.file_writer.Current.TheVariants.{Skipped, Due}}
 use Rattle.std.proofs.Common.{refl}
-use Rattle.ports_core.specs.declared.file_writer.Current.TheVariants.{Skipped, Due}
-use Rattle.ports_core.proofs.FileBegunLemmas.{begin_made, begin_none, begin_unmade}
 use Rattle.ports_core.proofs.file_writer.FileWriter.begin.Goals as goal
 
 pub returns-in-Never-clause-goes : goal.returns-in-Never-clause-goes

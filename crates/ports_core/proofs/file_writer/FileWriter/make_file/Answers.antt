@@ -1,7 +1,5 @@
 use Rattle.std.proofs.Common.{refl, sym, ◌∙◌}
-use Rattle.ports_core.proofs.HandedOn.{handed_on}
-use Rattle.ports_core.specs.Names.{no_memory}
-use Rattle.ports_core.proofs.SlotLemmas.{length-changed_at}
+use Rattle.ports_core.{proofs.{HandedOn.handed_on, SlotLemmas.length-changed_at}, specs.Names.no_memory}
 use Rattle.ports_core.proofs.file_writer.FileWriter.make_file.Goals as goal
 
 pub returns-in_err-make_room : goal.returns-in_err-make_room

@@ -1,5 +1,4 @@
-use Rattle.ports_core.proofs.HandedOn.{handed_on}
-use Rattle.ports_core.proofs.WriterSteps.{next_not_ended, next_begun}
+use Rattle.ports_core.proofs.{HandedOn.handed_on, WriterSteps.{next_not_ended, next_begun}}
 use Rattle.ports_core.proofs.file_writer.FileWriter.next.Goals as goal
 
 pub returns-in_err-end-clause-goes : goal.returns-in_err-end-clause-goes

@@ -1,8 +1,5 @@
-use Rattle.ports_core.proofs.HandedOn.{handed_on}
-use Rattle.std.proofs.Common.{arith}
-use Rattle.std.proofs.lemmas.Grind.{common_steps}
-use Rattle.ports_core.proofs.FileWriterLemmas.{put_file, put_nothing, put_skipped}
-use Rattle.ports_core.proofs.FileBegunLemmas.{first_bytes, goes_made, goes_unmade}
+use Rattle.ports_core.proofs.{HandedOn.handed_on, FileWriterLemmas.{put_file, put_nothing, put_skipped}, FileBegunLemmas.{first_bytes, goes_made, goes_unmade}}
+use Rattle.std.proofs.{Common.arith, lemmas.Grind.common_steps}
 use Rattle.ports_core.proofs.file_writer.FileWriter.put.Goals as goal
 
 pub returns-in-Skipped-clause-goes : goal.returns-in-Skipped-clause-goes

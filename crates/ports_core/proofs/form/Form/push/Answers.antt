@@ -1,6 +1,4 @@
-use Rattle.std.proofs.Common.{arith}
-use Rattle.std.proofs.lemmas.Grind.{common_steps}
-use Rattle.std.proofs.lemmas.Result.{IfOk-weaker}
+use Rattle.std.proofs.{Common.arith, lemmas.{Grind.common_steps, Result.IfOk-weaker}}
 use Rattle.ports_core.proofs.FormLemmas.{blanks_after, blanks_before}
 use Rattle.ports_core.proofs.form.Form.push.Goals as goal
 

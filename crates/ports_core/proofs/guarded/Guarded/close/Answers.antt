@@ -1,6 +1,5 @@
 use Rattle.std.proofs.Common.{refl, sym, ◌∙◌}
-use Rattle.ports_core.specs.Engine.{over}
-use Rattle.ports_core.proofs.GuardLemmas.{finish_refused, finishes_caused}
+use Rattle.ports_core.{specs.Engine.over, proofs.GuardLemmas.{finish_refused, finishes_caused}}
 use Rattle.ports_core.proofs.guarded.Guarded.close.Goals as goal
 
 pub returns-then-replace-clause-finishes : goal.returns-then-replace-clause-finishes

@@ -1,7 +1,5 @@
-use Rattle.std.proofs.Common.{refl, length, arith, inl, inr}
-use Rattle.std.proofs.lemmas.Grind.{common_steps}
-use Rattle.ports_core.specs.Engine.{over, long}
-use Rattle.ports_core.proofs.GuardLemmas.{is_long, pass_refused, passes_caused}
+use Rattle.std.proofs.{Common.{refl, length, arith, inl, inr}, lemmas.Grind.common_steps}
+use Rattle.ports_core.{specs.Engine.{over, long}, proofs.GuardLemmas.{is_long, pass_refused, passes_caused}}
 use Rattle.ports_core.proofs.guarded.Guarded.feed.Goals as goal
 
 pub returns-then-self-clause-passes : goal.returns-then-self-clause-passes

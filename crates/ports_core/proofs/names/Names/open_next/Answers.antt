@@ -1,10 +1,5 @@
-use Rattle.std.proofs.Common.{refl, subst, sym, ◌∙◌, arith}
-use Rattle.std.proofs.lemmas.Grind.{common_steps}
-use Rattle.std.proofs.lemmas.Result.{IfErr-weaker, IfOk-weaker}
-use Rattle.ports_core.proofs.HandedOn.{fault_is}
-use Rattle.ports_core.specs.Names.{OpensNone, no_memory, no_name}
-use Rattle.ports_core.proofs.OpenLemmas.{opens_none, told_so, untold}
-use Rattle.ports_core.proofs.SlotLemmas.{length-changed_at}
+use Rattle.std.proofs.{Common.{refl, subst, sym, ◌∙◌, arith}, lemmas.{Grind.common_steps, Result.{IfErr-weaker, IfOk-weaker}}}
+use Rattle.ports_core.{proofs.{HandedOn.fault_is, OpenLemmas.{opens_none, told_so, untold}, SlotLemmas.length-changed_at}, specs.Names.{OpensNone, no_memory, no_name}}
 use Rattle.ports_core.proofs.names.Names.open_next.Goals as goal
 
 pub returns-in_err-name-clause-err : goal.returns-in_err-name-clause-err

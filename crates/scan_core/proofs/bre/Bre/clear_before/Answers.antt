@@ -1,6 +1,5 @@
 use Rattle.std.proofs.Common.{rules, subst}
-use Rattle.scan_core.specs.inner.Needles.{AreBytes, IsNeedle}
-use Rattle.scan_core.proofs.Needles.{clear_of}
+use Rattle.scan_core.{specs.inner.Needles.{AreBytes, IsNeedle}, proofs.Needles.clear_of}
 use Rattle.scan_core.proofs.bre.Bre.clear_before.Goals as goal
 
 pub returns-in-Some-clause-clear : goal.returns-in-Some-clause-clear

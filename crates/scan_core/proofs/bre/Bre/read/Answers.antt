@@ -1,8 +1,5 @@
-use Rattle.std.proofs.Common.{Ok, Err, IsErrOf, length, ap, ◌∙◌, arith}
-use Rattle.std.proofs.lemmas.Result.{err_from_is_err_and}
-use Rattle.bre_core.specs.declared.fault.BreFault.{BreFault}
-use Rattle.bre_core.specs.declared.fault.BreFault.TheVariants.{Memory, TooLarge}
-use Rattle.bre_core.specs.Pattern.{Pattern}
+use Rattle.std.proofs.{Common.{Ok, Err, IsErrOf, length, ap, ◌∙◌, arith}, lemmas.Result.err_from_is_err_and}
+use Rattle.bre_core.specs.{declared.fault.BreFault.{BreFault, TheVariants.{Memory, TooLarge}}, Pattern.Pattern}
 use Rattle.scan_core.proofs.Codes.{is_code, enough_room}
 use Rattle.scan_core.proofs.bre.Bre.read.Goals as goal
 

@@ -1,8 +1,5 @@
-use Rattle.std.proofs.Common.{◌≡◌, [], ◌∷◌, ◌++◌, length, sym, ap, ◌∙◌, arith}
-use Rattle.std.proofs.lemmas.Bool.{false≢true}
-use Rattle.std.proofs.lemmas.List.{with_items_is}
-use Rattle.scan_core.specs.inner.Words.{IsIn, flags_of, width}
-use Rattle.scan_core.proofs.Searchings.{front_built}
+use Rattle.std.proofs.{Common.{◌≡◌, [], ◌∷◌, ◌++◌, length, sym, ap, ◌∙◌, arith}, lemmas.{Bool.false≢true, List.with_items_is}}
+use Rattle.scan_core.{specs.inner.Words.{IsIn, flags_of, width}, proofs.Searchings.front_built}
 use Rattle.scan_core.proofs.build.Building.begin.Goals as goal
 
 pub returns-clause-ok : goal.returns-clause-ok

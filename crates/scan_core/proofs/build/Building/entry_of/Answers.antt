@@ -1,12 +1,5 @@
-use Rattle.std.proofs.Common.{◌≡◌, ◌/◌, [], refl, ap, ◌∙◌, length, arith}
-use Rattle.std.proofs.lemmas.List.{get_or_default, with_items_is}
-use Rattle.std.specs.Vec.{with_items}
-use Rattle.std.proofs.lemmas.Result.{IfOk-weaker}
-use Rattle.scan_core.specs.Counted.{set_at}
-use Rattle.scan_core.specs.declared.build.Building.{Building}
-use Rattle.scan_core.specs.inner.Built.{Led}
-use Rattle.scan_core.specs.inner.Words.{flags_of}
-use Rattle.scan_core.proofs.Searchings.{twin_entry, led_on, set_size}
+use Rattle.std.{proofs.{Common.{◌≡◌, ◌/◌, [], refl, ap, ◌∙◌, length, arith}, lemmas.{List.{get_or_default, with_items_is}, Result.IfOk-weaker}}, specs.Vec.with_items}
+use Rattle.scan_core.{specs.{Counted.set_at, declared.build.Building.Building, inner.{Built.Led, Words.flags_of}}, proofs.Searchings.{twin_entry, led_on, set_size}}
 use Rattle.scan_core.proofs.build.Building.entry_of.Goals as goal
 
 pub returns-then-twin-byte-clause-ok : goal.returns-then-twin-byte-clause-ok

@@ -1,6 +1,5 @@
 use Rattle.std.proofs.Common.{◌≡◌, None, length}
-use Rattle.scan_core.specs.declared.compile.Compiling.{Compiling}
-use Rattle.scan_core.specs.inner.Compiling.{AreBegun, Finishes}
+use Rattle.scan_core.specs.{declared.compile.Compiling.Compiling, inner.Compiling.{AreBegun, Finishes}}
 use Rattle.scan_core.proofs.compile.Compiling.finish.Given as goal
 
 abbrev pub invariant-loop-duplication : goal.invariant-loop-duplication

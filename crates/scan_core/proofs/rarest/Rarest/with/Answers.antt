@@ -1,5 +1,4 @@
-use Rattle.scan_core.proofs.Enterings.{node_here}
-use Rattle.scan_core.proofs.Needles.{other_node}
+use Rattle.scan_core.proofs.{Enterings.node_here, Needles.other_node}
 use Rattle.scan_core.proofs.rarest.Rarest.with.Goals as goal
 
 pub with_bytes-requires-clause-takes : goal.with_bytes-requires-clause-takes

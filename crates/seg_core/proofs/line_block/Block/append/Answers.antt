@@ -1,5 +1,4 @@
-use Rattle.std.proofs.Common.{arith}
-use Rattle.std.proofs.lemmas.Grind.{common_steps}
+use Rattle.std.proofs.{Common.arith, lemmas.Grind.common_steps}
 use Rattle.seg_core.proofs.line_block.Block.append.Goals as goal
 
 pub overflow_add-self : goal.overflow_add-self

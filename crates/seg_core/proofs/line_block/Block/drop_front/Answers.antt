@@ -1,7 +1,5 @@
-use Rattle.std.proofs.lemmas.Grind.{common_steps}
-use Rattle.std.proofs.Common.{arith, rules, length-drop}
-use Rattle.seg_core.proofs.Delimiters.{delimiters-le-length}
-use Rattle.seg_core.proofs.BlockLemmas.{part_counted, split_counted}
+use Rattle.std.proofs.{lemmas.Grind.common_steps, Common.{arith, rules, length-drop}}
+use Rattle.seg_core.proofs.{Delimiters.delimiters-le-length, BlockLemmas.{part_counted, split_counted}}
 use Rattle.seg_core.proofs.line_block.Block.drop_front.Goals as goal
 
 pub count_first-gone-requires : goal.count_first-gone-requires

@@ -1,8 +1,5 @@
 use Rattle.std.proofs.Common.{◌≤◌, subst, sym, length, arith}
-use Rattle.seg_core.specs.Window.{Window}
-use Rattle.seg_core.specs.Blocks.{text_of}
-use Rattle.seg_core.proofs.Delimiters.{delimiters-take-le}
-use Rattle.seg_core.proofs.BlockLemmas.{counted_drop}
+use Rattle.seg_core.{specs.{Window.Window, Blocks.text_of}, proofs.{Delimiters.delimiters-take-le, BlockLemmas.counted_drop}}
 use Rattle.seg_core.proofs.line_window.LineWindow.drop_front.Goals as goal
 
 pub overflow_sub-self : goal.overflow_sub-self

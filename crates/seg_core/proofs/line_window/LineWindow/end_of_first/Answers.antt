@@ -1,5 +1,4 @@
-use Rattle.std.proofs.lemmas.Grind.{common_steps}
-use Rattle.std.proofs.Common.{arith}
+use Rattle.std.proofs.{lemmas.Grind.common_steps, Common.arith}
 use Rattle.seg_core.proofs.FirstLines.{length-first_lines-le}
 use Rattle.seg_core.proofs.line_window.LineWindow.end_of_first.Goals as goal
 

@@ -1,7 +1,5 @@
-use Rattle.std.proofs.lemmas.Grind.{common_steps}
-use Rattle.std.proofs.Common.{arith, rules}
-use Rattle.seg_core.proofs.Delimiters.{delimiters-le-length}
-use Rattle.seg_core.proofs.BlockLemmas.{counted_put}
+use Rattle.std.proofs.{lemmas.Grind.common_steps, Common.{arith, rules}}
+use Rattle.seg_core.proofs.{Delimiters.delimiters-le-length, BlockLemmas.counted_put}
 use Rattle.seg_core.proofs.line_window.LineWindow.put_counted.Goals as goal
 
 pub overflow_add-self-2 : goal.overflow_add-self-2

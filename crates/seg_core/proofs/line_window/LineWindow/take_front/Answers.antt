@@ -1,5 +1,4 @@
-use Rattle.std.proofs.lemmas.Grind.{common_steps}
-use Rattle.std.proofs.Common.{arith, drop-drop, length-append, length-drop}
+use Rattle.std.proofs.{lemmas.Grind.common_steps, Common.{arith, drop-drop, length-append, length-drop}}
 use Rattle.seg_core.proofs.Taken.{taken_more}
 use Rattle.seg_core.proofs.line_window.LineWindow.take_front.Goals as goal
 

@@ -1,6 +1,5 @@
 use Rattle.std.proofs.Common.{◌-◌}
-use Rattle.split_core.specs.inner.Cutter.{seen_cutter}
-use Rattle.split_core.proofs.CutterLemmas.{Ending}
+use Rattle.split_core.{specs.inner.Cutter.seen_cutter, proofs.CutterLemmas.Ending}
 use Rattle.split_core.proofs.chunk_cutter.ChunkCutter.end_all.Given as goal
 
 abbrev pub invariant-places : goal.invariant-places

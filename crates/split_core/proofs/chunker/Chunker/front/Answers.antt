@@ -1,7 +1,5 @@
 use Rattle.std.proofs.Common.{◌-◌, ap, arith, false, subst, sym, true}
-use Rattle.split_core.specs.inner.Chunker.{TakesFront}
-use Rattle.split_core.specs.inner.Seen.{seen_aim}
-use Rattle.split_core.proofs.FrontLemmas.{takes_bytes, takes_lines}
+use Rattle.split_core.{specs.inner.{Chunker.TakesFront, Seen.seen_aim}, proofs.FrontLemmas.{takes_bytes, takes_lines}}
 use Rattle.split_core.proofs.chunker.Chunker.front.Goals as goal
 
 pub returns-in-Bytes : goal.returns-in-Bytes

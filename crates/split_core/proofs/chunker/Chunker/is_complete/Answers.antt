@@ -1,8 +1,5 @@
-use Rattle.std.proofs.Common.{◌∙◌, ap, sym}
-use Rattle.std.specs.Option.{is_some}
-use Rattle.split_core.specs.ChunkerState.{ChunkerState}
-use Rattle.split_core.specs.inner.Seen.{is_past_on}
-use Rattle.split_core.proofs.WantedLemmas.{complete_is}
+use Rattle.std.{proofs.Common.{◌∙◌, ap, sym}, specs.Option.is_some}
+use Rattle.split_core.{specs.{ChunkerState.ChunkerState, inner.Seen.is_past_on}, proofs.WantedLemmas.complete_is}
 use Rattle.split_core.proofs.chunker.Chunker.is_complete.Goals as goal
 
 pub returns-then-is_some : goal.returns-then-is_some

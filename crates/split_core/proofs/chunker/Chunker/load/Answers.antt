@@ -1,11 +1,7 @@
 use Rattle.std.proofs.Common.{IfSome, subst, sym}
-use Rattle.ports_core.specs.Engine.{TookIn}
-use Rattle.ports_core.proofs.LoadLemmas.{loads_none, loads_still, passes_by, passes_so}
-use Rattle.split_core.specs.Alike.{as_if}
-use Rattle.split_core.specs.Ways.{terms}
+use Rattle.ports_core.{specs.Engine.TookIn, proofs.LoadLemmas.{loads_none, loads_still, passes_by, passes_so}}
+use Rattle.split_core.{specs.{Alike.as_if, Ways.terms, inner.Chunker.{TakesFront, passed_to}}, proofs.AlikeLemmas.holds_itself}
 use Rattle.split_core.specs.declared.splitter.Splitter.TheVariants as way
-use Rattle.split_core.specs.inner.Chunker.{TakesFront, passed_to}
-use Rattle.split_core.proofs.AlikeLemmas.{holds_itself}
 use Rattle.split_core.proofs.chunker.Chunker.load.Goals as goal
 
 pub returns-in_default-clause-loads : goal.returns-in_default-clause-loads

@@ -1,7 +1,5 @@
-use Rattle.std.proofs.Common.{ap, ◌∙◌, ◌+◌, ◌++◌, take, drop, List, ℕ}
-use Rattle.std.proofs.lemmas.List.{with_items_is}
-use Rattle.split_core.specs.declared.gathered.TheConstants.{CHUNK}
-use Rattle.split_core.proofs.DealLemmas.{chunk_taken}
+use Rattle.std.proofs.{Common.{ap, ◌∙◌, ◌+◌, ◌++◌, take, drop, List, ℕ}, lemmas.List.with_items_is}
+use Rattle.split_core.{specs.declared.gathered.TheConstants.CHUNK, proofs.DealLemmas.chunk_taken}
 use Rattle.split_core.proofs.gathered.Gathered.append.Goals as goal
 
 pub returns-then-len-self-ge-CHUNK : goal.returns-then-len-self-ge-CHUNK

@@ -1,9 +1,6 @@
 use Rattle.std.proofs.Common.{◌≡◌, ◌<◌, ◌∙◌, ap, length, arith}
-use Rattle.ports_core.specs.Slot.{changed_at, closes}
-use Rattle.ports_core.proofs.HandedOn.{result_is}
-use Rattle.split_core.specs.FilesState.{FilesState}
-use Rattle.split_core.specs.inner.Sharing.{ClosesAll}
-use Rattle.split_core.proofs.FilesLemmas.{not_closed, one_closed, output_is}
+use Rattle.ports_core.{specs.Slot.{changed_at, closes}, proofs.HandedOn.result_is}
+use Rattle.split_core.{specs.{FilesState.FilesState, inner.Sharing.ClosesAll}, proofs.FilesLemmas.{not_closed, one_closed, output_is}}
 use Rattle.split_core.proofs.round_files.RoundFiles.close.Goals as goal
 
 pub returns-in_err-close : goal.returns-in_err-close

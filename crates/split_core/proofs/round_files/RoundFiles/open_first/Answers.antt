@@ -1,8 +1,6 @@
 use Rattle.std.proofs.Common.{◌+◌, [], refl, arith, ap, Ok}
-use Rattle.split_core.specs.Split.{Filing}
+use Rattle.split_core.{specs.{Split.Filing, inner.Sharing.Opens}, proofs.FilesLemmas.{adds_then, adds_wider, cannot_later}}
 use Rattle.ports_core.proofs.HandedOn.{result_is}
-use Rattle.split_core.specs.inner.Sharing.{Opens}
-use Rattle.split_core.proofs.FilesLemmas.{adds_then, adds_wider, cannot_later}
 use Rattle.split_core.proofs.round_files.RoundFiles.open_first.Goals as goal
 
 pub returns-in_err-reach : goal.returns-in_err-reach

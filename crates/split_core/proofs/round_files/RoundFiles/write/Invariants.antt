@@ -1,6 +1,5 @@
 use Rattle.std.proofs.Common.{[], Ok, get_or}
-use Rattle.split_core.specs.inner.Sharing.{Adds}
-use Rattle.split_core.proofs.FilesLemmas.{up_to}
+use Rattle.split_core.{specs.inner.Sharing.Adds, proofs.FilesLemmas.up_to}
 use Rattle.split_core.proofs.round_files.RoundFiles.write.Given as goal
 
 abbrev pub invariant-loop-place : goal.invariant-loop-place

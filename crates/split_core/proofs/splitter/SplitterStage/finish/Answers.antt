@@ -1,10 +1,8 @@
 use Rattle.std.proofs.Common.{Ok}
-use Rattle.split_core.specs.Ways.{terms}
-use Rattle.split_core.proofs.AlikeLemmas.{finishes_as_if}
+use Rattle.split_core.{specs.Ways.terms, proofs.AlikeLemmas.finishes_as_if}
 use Rattle.split_core.proofs.PartsLemmas as part
 use Rattle.split_core.proofs.RoundLemmas as dealing
 use Rattle.split_core.proofs.TurnLemmas as turn
-use Rattle.split_core.proofs.ChunkerWays as chunks
 use Rattle.split_core.proofs.splitter.SplitterStage.finish.Goals as goal
 
 pub returns-in-Parts : goal.returns-in-Parts
@@ -20,5 +18,4 @@ returns-in-Turn g c = rw c.in-Turn.is (finishes_as_if terms (Ok tt)
     (turn.finishes_by _ _ _ (rw c.in-Turn.is at c.requires.ready)))
 
 pub returns-in-Chunks : goal.returns-in-Chunks
-returns-in-Chunks g c = rw c.in-Chunks.is (finishes_as_if terms c.finish-in-Chunks.result
-    (chunks.finishes_by _ _ _ _ _ c.finish-in-Chunks.result (rw c.in-Chunks.is at c.requires.ready) c.finish-in-Chunks.ensures))
+returns-in-Chunks g c = rw c.in-Chunks.is (finishes_as_if terms c.finish-in-Chunks.result c.finish-in-Chunks.ensures)

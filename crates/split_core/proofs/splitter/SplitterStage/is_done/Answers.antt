@@ -1,6 +1,5 @@
 use Rattle.std.proofs.Common.{◌∙◌, sym}
-use Rattle.split_core.proofs.AlikeLemmas.{complete_as}
-use Rattle.split_core.proofs.RoundLemmas.{never_done}
+use Rattle.split_core.proofs.{AlikeLemmas.complete_as, RoundLemmas.never_done}
 use Rattle.split_core.proofs.splitter.SplitterStage.is_done.Goals as goal
 
 pub returns-in_default : goal.returns-in_default

@@ -1,5 +1,4 @@
-use Rattle.tee_core.proofs.ChangeLemmas.{InTurn}
-use Rattle.tee_core.specs.Outputs.{Closes}
+use Rattle.tee_core.{proofs.ChangeLemmas.InTurn, specs.Outputs.Closes}
 use Rattle.tee_core.proofs.tee.Tee.close_files.Given as goal
 
 abbrev pub invariant-loop-n : goal.invariant-loop-n

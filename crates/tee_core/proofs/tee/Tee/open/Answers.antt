@@ -1,6 +1,4 @@
-use Rattle.std.proofs.Common.{length, false, arith, sym}
-use Rattle.std.proofs.lemmas.Grind.{common_steps}
-use Rattle.std.proofs.lemmas.List.{length-map}
+use Rattle.std.proofs.{Common.{length, false, arith, sym}, lemmas.{Grind.common_steps, List.length-map}}
 use Rattle.ports_core.proofs.HandedOn.{handed_on}
 use Rattle.tee_core.proofs.StartLemmas.{in_range, none_left, opens_next_at, ready_to_go, some_next_at, some_now}
 use Rattle.tee_core.proofs.tee.Tee.open.Goals as goal

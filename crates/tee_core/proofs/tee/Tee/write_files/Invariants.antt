@@ -1,5 +1,4 @@
-use Rattle.tee_core.proofs.ChangeLemmas.{InTurn}
-use Rattle.tee_core.specs.Outputs.{Gets}
+use Rattle.tee_core.{proofs.ChangeLemmas.InTurn, specs.Outputs.Gets}
 use Rattle.tee_core.proofs.tee.Tee.write_files.Given as goal
 
 abbrev pub invariant-loop-n : goal.invariant-loop-n

@@ -1,12 +1,9 @@
-use Rattle.ports_core.proofs.SlotSteps.{swept_none}
-use Rattle.std.proofs.Common.{◌∙◌, refl, ap}
-use Rattle.ports_core.proofs.HandedOn.{fault_is}
+use Rattle.ports_core.proofs.{SlotSteps.swept_none, HandedOn.fault_is, PartLemmas.nothing_out}
+use Rattle.std.proofs.{Common.{◌∙◌, refl, ap}, lemmas.Result.on_ok_weaker}
 use Rattle.words_core.specs.CsplitWords.{CsplitAsked}
 use Rattle.run_core.proofs.InputLemmas.{shows_something}
 use Rattle.tools_core.proofs.AdapterLemmas.{csplit_halts, no_memory, none_opened, only_looked_none, opened_of, opened_short, some_there}
 use Rattle.csplit_core.specs.Csplit.{csplit_work}
-use Rattle.std.proofs.lemmas.Result.{on_ok_weaker}
-use Rattle.ports_core.proofs.PartLemmas.{nothing_out}
 use Rattle.tools_core.proofs.csplit.CsplitAdapterAdapter.open.Goals as goal
 
 pub returns-in_err-style-clause-opens : goal.returns-in_err-style-clause-opens

@@ -1,12 +1,10 @@
 use Rattle.std.proofs.Common.{rules, refl}
-use Rattle.watch_core.specs.declared.watch.Broken.TheVariants.{Len}
-use Rattle.watch_core.specs.Watched.{breaks}
-use Rattle.watch_core.proofs.DirWatchLemmas.{finds_any, may_break, one_changes}
-use Rattle.watch_core.proofs.NameLemmas.{readable_watchable}
+use Rattle.watch_core.{specs.{declared.watch.Broken.TheVariants.Len, Watched.breaks}, proofs.{DirWatchLemmas.{finds_any, may_break, one_changes}, NameLemmas.readable_watchable}}
 use Rattle.watch_core.proofs.dir_watch.DirWatchWatch.open_len.Goals as goal
 
 pub returns-in_default-clause-err : goal.returns-in_default-clause-err
-returns-in_default-clause-err g c = (refl, one_changes _ c.args.place (breaks (λ file. Len file)) c.self.view_is (readable_watchable _ c.args.place c.requires) c.index_mut-2.ensures.value c.in_default.ensures.broke)
+returns-in_default-clause-err g c =
+    let (why, broke) = c.in_default.ensures.broke in (refl, (why, one_changes _ c.args.place (breaks why (λ file. Len file)) c.self.view_is (readable_watchable _ c.args.place c.requires) c.index_mut-2.ensures.value broke))
 
 pub returns-clause-found : goal.returns-clause-found
 returns-clause-found g c = search (rules, finds_any)
