@@ -1,7 +1,16 @@
 -- Intervals and bracket lists as the author of a pattern spells them (XBD 9.3.5, 9.3.6), and what they stand for.
-use Rattle.std.specs.{Prelude.{◌≡◌, ◌≢◌, ℕ, ◌+◌, ◌-◌, ◌*◌, ◌≤◌, Bool, true, false, ◌==◌, ◌&&◌, ◌||◌, nat_le, List, [], ◌∷◌, ◌++◌, map, fold, Option, Some, None, codes, if◌then◌else◌}, List.list_all}
+use Rattle.std.specs.{
+  Prelude.{
+    ◌≡◌, ◌≢◌, ℕ, ◌+◌, ◌-◌, ◌*◌, ◌≤◌, Bool, true, false, ◌==◌, ◌&&◌, ◌||◌, nat_le, List, [], ◌∷◌, ◌++◌, map, fold,
+    Option, Some, None, codes, if◌then◌else◌,
+  },
+  List.list_all,
+}
 use Rattle.bre_core.specs.{
-  declared.class.Class.{Class, TheVariants.{Upper, Lower, Alpha, Digit, Alnum, Xdigit, Blank, Space, Cntrl, Graph, Print, Punct}},
+  declared.class.Class.{
+    Class,
+    TheVariants.{Upper, Lower, Alpha, Digit, Alnum, Xdigit, Blank, Space, Cntrl, Graph, Print, Punct},
+  },
   declared.member.Member.{Member, TheVariants.{Range, Class as InClass}},
   declared.token.Token.{Token, TheVariants.Repeat},
   Bracket.{begins_with, is_dash_inside, matched_bytes},

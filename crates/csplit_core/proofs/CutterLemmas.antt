@@ -1,31 +1,71 @@
 -- Lemmas on the cutter of lines: what is settled, what holding lines leaves, and that a cut ends the open section and the next one begins.
 use Rattle.std.{
-  proofs.lemmas.{Grind.{common_steps, flat_map-append}, Bool.cases_lt, List.{append-nil, length-take-le, length-drop, take-append-le, take_all, drop_all, drop-drop, map-append}},
-  proofs.Common.{◌≡◌, ℕ, ◌+◌, ◌-◌, ◌≤◌, Bool, true, false, List, [], ◌++◌, length, refl, sym, ◌∙◌, ap, arith, inl, inr, Option, None, subst, ◌<◌, min, Some, Result, Err, OnOk, take, drop, IfNone, rules, suc, ◌∷◌, map, append_assoc},
+  proofs.lemmas.{
+    Grind.{common_steps, flat_map-append},
+    Bool.cases_lt,
+    List.{append-nil, length-take-le, length-drop, take-append-le, take_all, drop_all, drop-drop, map-append},
+  },
+  proofs.Common.{
+    ◌≡◌, ℕ, ◌+◌, ◌-◌, ◌≤◌, Bool, true, false, List, [], ◌++◌, length, refl, sym, ◌∙◌, ap, arith, inl, inr, Option, None,
+    subst, ◌<◌, min, Some, Result, Err, OnOk, take, drop, IfNone, rules, suc, ◌∷◌, map, append_assoc,
+  },
   proofs.Math.{Nat.{min-eq_left, min-eq_right}, Seq.{take-add, take-append-add}},
   specs.List.flat_map,
 }
 use Rattle.seg_core.{
-  specs.{Line.{line_count, first_lines, after_lines, but_last_lines}, inner.Lines.last_lines, Window.{Window, without_first}},
-  proofs.{FirstLines.{first_lines-is_take, first_lines-zero, first_lines_then_rest}, Carried.{left_after, left_alone, but_last_lines-last, over-le-length}},
+  specs.{
+    Line.{line_count, first_lines, after_lines, but_last_lines},
+    inner.Lines.last_lines,
+    Window.{Window, without_first},
+  },
+  proofs.{
+    FirstLines.{first_lines-is_take, first_lines-zero, first_lines_then_rest},
+    Carried.{left_after, left_alone, but_last_lines-last, over-le-length},
+  },
 }
 use Rattle.csplit_core.specs.{
   Csplit.{settled_of, whole_of},
   Input.{newline, all_lines},
   Operand.{Operand, Line, is_kept},
   Output.{Style, manner_of, opening_of, file_in, shares_in, part_of, sizes_wanted},
-  Plan.{State, start, Step, Ending, Runs, search_line, line_after, state_after, step_of, is_used_up, misses, is_above, is_below, cuts},
+  Plan.{
+    State, start, Step, Ending, Runs, search_line, line_after, state_after, step_of, is_used_up, misses, is_above,
+    is_below, cuts,
+  },
   Planned.{Plan, plan, plan_within},
-  Section.{lines_between, is_last_kept, settled_end, whole_end, is_final, most_waiting, bytes_of, Section, section, section_of},
+  Section.{
+    lines_between, is_last_kept, settled_end, whole_end, is_final, most_waiting, bytes_of, Section, section, section_of,
+  },
   Progress.AimsAt,
   declared.{progress.Turn.{Turn, TheVariants.Below}, line_cutter.Cut.Cut},
-  laws.{PlanLaws.{plan_once, goes_on, runs}, SectionLaws.{ends_as, closed_still, are_within, shares-append, section_grows}},
-  inner.{PlanLaws.{EndsAs, needed}, Cutter.{Joins, settled_part, Keeps, part_at, Arrives, Holds, GoesPast, search_after, CutsNow, WentOn, PassesCut, IsAfter, CutAt, CutsAll, WillCut, IsEnd}},
-  Cutter.{kept_by, most_by, text_from, draft_by, settled_draft, CutterState, suppress_in, state_in, IsAt, EndsNow, IsLive, IsFit, Leads},
+  laws.{
+    PlanLaws.{plan_once, goes_on, runs},
+    SectionLaws.{ends_as, closed_still, are_within, shares-append, section_grows},
+  },
+  inner.{
+    PlanLaws.{EndsAs, needed},
+    Cutter.{
+      Joins, settled_part, Keeps, part_at, Arrives, Holds, GoesPast, search_after, CutsNow, WentOn, PassesCut, IsAfter,
+      CutAt, CutsAll, WillCut, IsEnd,
+    },
+  },
+  Cutter.{
+    kept_by, most_by, text_from, draft_by, settled_draft, CutterState, suppress_in, state_in, IsAt, EndsNow, IsLive,
+    IsFit, Leads,
+  },
 }
-use Rattle.csplit_core.proofs.{LineLemmas.{all_lines-append, bytes_between, length-all_lines, count-append, count_from, first_still, rest_more, from_further, first_further}, WholeLemmas.after_within}
+use Rattle.csplit_core.proofs.{
+  LineLemmas.{
+    all_lines-append, bytes_between, length-all_lines, count-append, count_from, first_still, rest_more, from_further,
+    first_further,
+  },
+  WholeLemmas.after_within,
+}
 use Rattle.ports_core.specs.{
-  Draft.{Draft, share, made_of, shares_of, draft_part, with_bytes, with_next, told_of_files, size_of_file, part_of as part_by},
+  Draft.{
+    Draft, share, made_of, shares_of, draft_part, with_bytes, with_next, told_of_files, size_of_file,
+    part_of as part_by,
+  },
   Slot.Slot,
   declared.{fault.Fault.Fault, file_writer.Opening.{Opening, TheVariants.Never}, slot.State.TheVariants.{Open, Closed}},
   FileWriter.{Goes, Reaches, Leaves, WriterState, Writes, IsReady, size_of},
@@ -33,7 +73,10 @@ use Rattle.ports_core.specs.{
 }
 use Rattle.ports_core.proofs.{
   ShareLemmas.{next_shares, bytes_begin, next_begins},
-  FileWriterLemmas.{leaves_again, leaves_still, keeps_files, reaches_again, reaches_as, reaches_still, where_three, stops_wider, put_nothing},
+  FileWriterLemmas.{
+    leaves_again, leaves_still, keeps_files, reaches_again, reaches_as, reaches_still, where_three, stops_wider,
+    put_nothing,
+  },
   WriterSteps.{goes_as, goes_more, stops_among, goes_or_lacks},
   PartLemmas.part_trans,
 }

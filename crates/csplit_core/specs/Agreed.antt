@@ -3,7 +3,12 @@
 use Rattle.std.specs.Prelude.{◌<◌, Bool, List, [], ◌∷◌, All, if◌then◌else◌}
 use Rattle.seg_core.specs.Line.{IsComplete}
 use Rattle.ports_core.specs.{Agreed.AgreeOn, Part.IsBeginning}
-use Rattle.csplit_core.specs.{Input.newline, Operand.{Operand, Line}, Planned.plan, Section.{Section, whole_sections, settled_sections}}
+use Rattle.csplit_core.specs.{
+  Input.newline,
+  Operand.{Operand, Line},
+  Planned.plan,
+  Section.{Section, whole_sections, settled_sections},
+}
 
 -- lines that may still come: each is of bytes, ends with a newline and has no other
 abbrev pub CanCome : List Line → Type 0

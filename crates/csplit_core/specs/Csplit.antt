@@ -1,6 +1,10 @@
 -- What `csplit` makes of an input (POSIX.1-2017, XCU csplit).
 use Rattle.std.specs.Prelude.{ℕ, Bool, true, false, not, ◌&&◌, List, [], ◌++◌, Option, Some, None, if◌then◌else◌}
-use Rattle.ports_core.specs.{Part.Part, Work.{Work, Means}, declared.verdict.Verdict.{Verdict, TheVariants.{NoMatch, Range}}}
+use Rattle.ports_core.specs.{
+  Part.Part,
+  Work.{Work, Means},
+  declared.verdict.Verdict.{Verdict, TheVariants.{NoMatch, Range}},
+}
 use Rattle.csplit_core.specs.{
   Operand.{Operand, Line, is_endless, is_number},
   Plan.{Ending, used_up, missed, above, below},

@@ -1,8 +1,20 @@
 -- What contracts see of the stage that takes in bytes, and what its calls do.
 use Rattle.std.specs.Prelude.{◌≡◌, ◌≢◌, ℕ, ◌+◌, ◌<◌, ◌≤◌, ◌^◌, true, List, [], length, IsTrue}
 use Rattle.seg_core.specs.Line.{delimiters, first_lines}
-use Rattle.ports_core.specs.{FileWriter.{OwnsFiles, IsManner, IsReady as CanWrite, manner_in}, Slot.{Slot, is_writable}, declared.file_writer.Keeps.TheVariants.All, Work.Work, Engine.Terms}
-use Rattle.csplit_core.specs.{Csplit.csplit_work, Cutter.{CutterState, IsSound, Stands, load}, Output.manner_of, Input.{newline, open_line}, declared.progress.Turn.TheVariants.Below}
+use Rattle.ports_core.specs.{
+  FileWriter.{OwnsFiles, IsManner, IsReady as CanWrite, manner_in},
+  Slot.{Slot, is_writable},
+  declared.file_writer.Keeps.TheVariants.All,
+  Work.Work,
+  Engine.Terms,
+}
+use Rattle.csplit_core.specs.{
+  Csplit.csplit_work,
+  Cutter.{CutterState, IsSound, Stands, load},
+  Output.manner_of,
+  Input.{newline, open_line},
+  declared.progress.Turn.TheVariants.Below,
+}
 
 pub record CsplitState : Type 0 where
   pub cutter : CutterState

@@ -4,7 +4,11 @@ use Rattle.std.specs.{Prelude.{true, Bool, ℕ, List, map, if◌then◌else◌},
 use Rattle.ports_core.specs.{
   Draft.{Manner, Share, share, made_of, part_of as part_by},
   Name.{Naming, name_at},
-  declared.{numbering.Numbering.TheVariants.Formatted, file_writer.Opening.{Opening, TheVariants.{Never, Late, AtOnce}}, slot.State.{State, TheVariants.{Open, Closed}}},
+  declared.{
+    numbering.Numbering.TheVariants.Formatted,
+    file_writer.Opening.{Opening, TheVariants.{Never, Late, AtOnce}},
+    slot.State.{State, TheVariants.{Open, Closed}},
+  },
   Part.{Part, Output, gets_none, gets_lines},
 }
 pub use Rattle.ports_core.specs.Draft.{size_of_file}

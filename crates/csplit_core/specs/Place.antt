@@ -1,7 +1,15 @@
 -- Where a line goes, and which lines continuations put into different places.
-use Rattle.std.specs.Prelude.{◌≡◌, eqb, ℕ, ◌+◌, ◌≤◌, nat_lt, nat_le, ◌&&◌, Bool, true, false, List, [], ◌∷◌, get_or, length, map, if◌then◌else◌}
+use Rattle.std.specs.Prelude.{
+  ◌≡◌, eqb, ℕ, ◌+◌, ◌≤◌, nat_lt, nat_le, ◌&&◌, Bool, true, false, List, [], ◌∷◌, get_or, length, map, if◌then◌else◌,
+}
 use Rattle.ports_core.specs.Agreed.{DifferOn}
-use Rattle.csplit_core.specs.{Agreed.CanCome, Operand.{Operand, Line}, Plan.{Step, Ending}, Planned.{Plan, plan}, Section.{Section, whole_end, whole_sections, is_final}}
+use Rattle.csplit_core.specs.{
+  Agreed.CanCome,
+  Operand.{Operand, Line},
+  Plan.{Step, Ending},
+  Planned.{Plan, plan},
+  Section.{Section, whole_end, whole_sections, is_final},
+}
 
 -- A line goes into a section, one that is skipped too; or it is left out at a cut; or it goes nowhere, where a run ends
 -- before it. Sections and cuts are counted from 0.

@@ -1,6 +1,11 @@
 -- The plan of a run, computed.
-use Rattle.std.specs.Prelude.{ℕ, ◌+◌, ◌-◌, ◌*◌, zero, suc, nat_lt, Bool, List, [], ◌∷◌, length, drop, Option, Some, None, if◌then◌else◌}
-use Rattle.csplit_core.specs.{Operand.{Offset, Target, Number, Search, Operand, Line, moved}, Plan.{State, start, Step, Ending, used_up, missed, above, below, search_line, state_after, step_of}}
+use Rattle.std.specs.Prelude.{
+  ℕ, ◌+◌, ◌-◌, ◌*◌, zero, suc, nat_lt, Bool, List, [], ◌∷◌, length, drop, Option, Some, None, if◌then◌else◌,
+}
+use Rattle.csplit_core.specs.{
+  Operand.{Offset, Target, Number, Search, Operand, Line, moved},
+  Plan.{State, start, Step, Ending, used_up, missed, above, below, search_line, state_after, step_of},
+}
 
 pub record Plan : Type 0 where
   pub steps : List Step

@@ -1,7 +1,13 @@
 -- The sections of a plan: one for each step, and one where the plan ends.
-use Rattle.std.specs.Prelude.{ℕ, ◌-◌, suc, Bool, true, false, List, [], ◌∷◌, ◌++◌, length, map, take, drop, if◌then◌else◌}
+use Rattle.std.specs.Prelude.{
+  ℕ, ◌-◌, suc, Bool, true, false, List, [], ◌∷◌, ◌++◌, length, map, take, drop, if◌then◌else◌,
+}
 use Rattle.seg_core.specs.Line.{joined}
-use Rattle.csplit_core.specs.{Operand.{Line, is_kept, most_held}, Plan.{Step, Ending, used_up, missed, above, below}, Planned.Plan}
+use Rattle.csplit_core.specs.{
+  Operand.{Line, is_kept, most_held},
+  Plan.{Step, Ending, used_up, missed, above, below},
+  Planned.Plan,
+}
 
 pub record Section : Type 0 where
   -- it is kept, and not skipped

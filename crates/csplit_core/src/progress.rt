@@ -1,6 +1,11 @@
 //! Where a run stands, and what its next operand does.
 ghost use Rattle.std.specs.Prelude.{◌≡◌, ◌<◌, ◌≤◌, ◌-◌, ◌^◌, ◌∷◌, drop, min, List};
-ghost use Rattle.csplit_core.specs.{Operand.{Line, has_more, moved}, Plan.{line_after, search_line, state_after}, inner.Cutter.{AreSeen, FallsAt, MovesOn, Turns}, Progress.state_of};
+ghost use Rattle.csplit_core.specs.{
+  Operand.{Line, has_more, moved},
+  Plan.{line_after, search_line, state_after},
+  inner.Cutter.{AreSeen, FallsAt, MovesOn, Turns},
+  Progress.state_of,
+};
 ghost use Rattle.operand_core.specs.declared.operand.Operand.{Operand};
 
 use crate::{Offset, Operand, Target, Times};

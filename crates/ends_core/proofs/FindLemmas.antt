@@ -3,16 +3,34 @@ use Rattle.std.proofs.{
   lemmas.Grind.common_steps,
   lemmas.Bool.false≢true,
   lemmas.Option.none-some,
-  lemmas.List.{length-take, length-drop, length-replicate, drop-drop, take-append-drop, take-take, take_at, drop_at, drop_all, drop-append-le, drop-take},
-  Common.{◌≡◌, ℕ, ◌+◌, ◌-◌, ◌<◌, ◌≤◌, ◌==◌, zero, suc, List, [], ◌∷◌, ◌++◌, length, take, drop, replicate, min, Bool, true, false, IsTrue, Option, Some, None, option_map, refl, sym, ◌∙◌, ap, arith, length-append, subst, if◌then◌else◌, rules},
+  lemmas.List.{
+    length-take, length-drop, length-replicate, drop-drop, take-append-drop, take-take, take_at, drop_at, drop_all,
+    drop-append-le, drop-take,
+  },
+  Common.{
+    ◌≡◌, ℕ, ◌+◌, ◌-◌, ◌<◌, ◌≤◌, ◌==◌, zero, suc, List, [], ◌∷◌, ◌++◌, length, take, drop, replicate, min, Bool, true,
+    false, IsTrue, Option, Some, None, option_map, refl, sym, ◌∙◌, ap, arith, length-append, subst, if◌then◌else◌,
+    rules,
+  },
   Math.Seq.take-add,
 }
 use Rattle.std.specs.List.{onto_first}
 use Rattle.seg_core.{
-  specs.{Line.{BeginsAt, FallsShort, after_lines, delimiters, ends_with, line_count, lines_of}, inner.Lines.last_lines, declared.unit.Unit.{Unit as Counted, TheVariants.{Lines, Bytes}}},
-  proofs.{Delimiters.delimiters-append, LineCounts.{ends_with-append, ends_with-some}, LinesOf.{joined-lines_of, lines_of-append}},
+  specs.{
+    Line.{BeginsAt, FallsShort, after_lines, delimiters, ends_with, line_count, lines_of},
+    inner.Lines.last_lines,
+    declared.unit.Unit.{Unit as Counted, TheVariants.{Lines, Bytes}},
+  },
+  proofs.{
+    Delimiters.delimiters-append,
+    LineCounts.{ends_with-append, ends_with-some},
+    LinesOf.{joined-lines_of, lines_of-append},
+  },
 }
-use Rattle.ports_core.{specs.{Slot.changed_at, Source.{Content, ShowsOf, Source, count_shown, is_readable, looks}, Inputs.HasLooked}, proofs.LoadLemmas.{looked_again, looked_once, looked_readable}}
+use Rattle.ports_core.{
+  specs.{Slot.changed_at, Source.{Content, ShowsOf, Source, count_shown, is_readable, looks}, Inputs.HasLooked},
+  proofs.LoadLemmas.{looked_again, looked_once, looked_readable},
+}
 use Rattle.ends_core.{specs.{Ends.last_of, Shown.{SeenLast, place_of}}, proofs.AgreedLemmas.none_last}
 
 -- Where the last lines of a text begin

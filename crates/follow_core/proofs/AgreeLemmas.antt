@@ -1,16 +1,35 @@
 -- That looks don't matter.
 use Rattle.std.proofs.{
-  lemmas.{Grind.common_steps, List.{append-nil, get_or_append_left}, Bool.{eq-eqb, le-leb, false≢true}, Slice.Eq.bytes_eq-Decides},
+  lemmas.{
+    Grind.common_steps,
+    List.{append-nil, get_or_append_left},
+    Bool.{eq-eqb, le-leb, false≢true},
+    Slice.Eq.bytes_eq-Decides,
+  },
   Math.Seq.drop-append_seam as drop_front,
-  Common.{◌≡◌, ℕ, Bool, true, false, List, [], ◌∷◌, ◌++◌, length, Some, refl, sym, ◌∙◌, ap, arith, length-append, if◌then◌else◌, ◌⊎◌, inl, inr, ◌<◌, take, Option, None, subst, bytes_eq, rules},
+  Common.{
+    ◌≡◌, ℕ, Bool, true, false, List, [], ◌∷◌, ◌++◌, length, Some, refl, sym, ◌∙◌, ap, arith, length-append,
+    if◌then◌else◌, ◌⊎◌, inl, inr, ◌<◌, take, Option, None, subst, bytes_eq, rules,
+  },
 }
-use Rattle.ports_core.{specs.Part.IsBeginning, proofs.{InputsLemmas.changed_elsewhere, SlotLemmas.length-changed_at, PartLemmas.{begins_itself, begins_trans}}}
+use Rattle.ports_core.{
+  specs.Part.IsBeginning,
+  proofs.{InputsLemmas.changed_elsewhere, SlotLemmas.length-changed_at, PartLemmas.{begins_itself, begins_trans}},
+}
 use Rattle.watch_core.{
-  specs.{Snapshot.Snapshot, Edits.{Edit, append, truncate, replace, remove, end, bar, World, led_to, with_file, edited, edited_by, seen_in, snapshots_from, snapshots_of}},
+  specs.{
+    Snapshot.Snapshot,
+    Edits.{
+      Edit, append, truncate, replace, remove, end, bar, World, led_to, with_file, edited, edited_by, seen_in,
+      snapshots_from, snapshots_of,
+    },
+  },
   proofs.WorldLemmas.{append_leads, append_grows},
 }
 use Rattle.follow_core.{
-  specs.Version.{Version, Entry, version, gap, version_in, entries_led, entries_later, is_file, entries_at_look, entries_of},
+  specs.Version.{
+    Version, Entry, version, gap, version_in, entries_led, entries_later, is_file, entries_at_look, entries_of,
+  },
   specs.Gain.{file_of, gain_between, gains_later, last_from, gains_after},
   specs.Run.{AreKept, name_text},
   specs.Placing.{all_edits, IsUncut, AreSeen, AllSeen},

@@ -1,8 +1,14 @@
 -- Lists of events: what is in two of them, what entries give, and beginnings.
-use Rattle.std.proofs.{Common.{◌≡◌, ℕ, List, [], ◌∷◌, ◌++◌, refl, sym, ◌∙◌, ap, append_assoc, map}, lemmas.List.append-nil}
+use Rattle.std.proofs.{
+  Common.{◌≡◌, ℕ, List, [], ◌∷◌, ◌++◌, refl, sym, ◌∙◌, ap, append_assoc, map},
+  lemmas.List.append-nil,
+}
 use Rattle.follow_core.specs.{
   declared.notice.Notice.Notice,
-  Event.{Begins, begins_none, begins_within, begins_on, Event, bytes_in, events_between, events_later, gives, lines_in, notes},
+  Event.{
+    Begins, begins_none, begins_within, begins_on, Event, bytes_in, events_between, events_later, gives, lines_in,
+    notes,
+  },
   Gain.{gain_between, gains_later, last_from},
   Notice.{notice_of, notices_between},
   inner.Giving.IsFront,

@@ -1,22 +1,41 @@
 -- Looks at all names, one after another
 use Rattle.std.proofs.{
-  Common.{◌≡◌, ℕ, zero, suc, ◌<◌, ◌≤◌, ◌+◌, ◌-◌, Bool, true, false, IsTrue, if◌then◌else◌, ◌||◌, List, [], ◌∷◌, ◌++◌, length, take, slice_index_or, refl, sym, ◌∙◌, ap, subst, arith, inl, inr, ◌⊎◌, Option, Some, subst₂, Err, not, ◌&&◌, map, Ok, Result, None, is_some, rules},
+  Common.{
+    ◌≡◌, ℕ, zero, suc, ◌<◌, ◌≤◌, ◌+◌, ◌-◌, Bool, true, false, IsTrue, if◌then◌else◌, ◌||◌, List, [], ◌∷◌, ◌++◌, length,
+    take, slice_index_or, refl, sym, ◌∙◌, ap, subst, arith, inl, inr, ◌⊎◌, Option, Some, subst₂, Err, not, ◌&&◌, map,
+    Ok, Result, None, is_some, rules,
+  },
   Math.{Bool.{or-false as or_none, and-false as and_none}, Seq.take-append_seam},
   lemmas.Bool.{or_parts, cases_lt, and_parts, false≢true, not-true},
-  lemmas.List.{append-nil, get_or-map, length-append, length-map, take_all, get_or-append-add, get_or_append_left, map-append, take-append-le},
+  lemmas.List.{
+    append-nil, get_or-map, length-append, length-map, take_all, get_or-append-add, get_or_append_left, map-append,
+    take-append-le,
+  },
 }
 use Rattle.ports_core.specs.{Slot.{Slot, adds}, declared.{fault.Fault.Fault, calling.Calling.Calling}}
 use Rattle.follow_core.specs.{
-  FollowState.{AllReady, Begun, CanLook, FollowState, Holds, IsCause, IsOther, LooksOn, StandsIn, StopsOn, goes_on_at, is_alive, is_alive_from, new_state, nothing, lacks_memory, output_broke, Halted, SawOrNot, opened_follow},
+  FollowState.{
+    AllReady, Begun, CanLook, FollowState, Holds, IsCause, IsOther, LooksOn, StandsIn, StopsOn, goes_on_at, is_alive,
+    is_alive_from, new_state, nothing, lacks_memory, output_broke, Halted, SawOrNot, opened_follow,
+  },
   Followed.any_failed,
   Look.{Look, Ways, snapshots, ways_of},
   Share.{shares_at_look_from, shares_of},
-  inner.{Visits.{StandFrom, VisitedTo, VisitsAll, any_goes_on, goes_on_as, AddsSome, Begins, MakesLook, LookedAll}, Giving.{IsFront, HasStopped}},
+  inner.{
+    Visits.{StandFrom, VisitedTo, VisitsAll, any_goes_on, goes_on_as, AddsSome, Begins, MakesLook, LookedAll},
+    Giving.{IsFront, HasStopped},
+  },
   Printing.{PrinterState, Short},
   Reading.{AreAtLook, looks_more, no_looks},
   Sharing.CanPrint,
-  Standing.{AllStand, CanVisit, NoneGoesOn, NameState, Stands, no_state, state_at, texts, AreWatched, IsFollowed, IsWatched},
-  declared.{name.Standing.{Standing, TheVariants.{New, Followed, Left}}, follow.Stage.{Stage, TheVariants.{Fresh, Looking, Over}}, start.Start.Start},
+  Standing.{
+    AllStand, CanVisit, NoneGoesOn, NameState, Stands, no_state, state_at, texts, AreWatched, IsFollowed, IsWatched,
+  },
+  declared.{
+    name.Standing.{Standing, TheVariants.{New, Followed, Left}},
+    follow.Stage.{Stage, TheVariants.{Fresh, Looking, Over}},
+    start.Start.Start,
+  },
   Version.open_after,
   Ending.{AreMost, FollowEndsAs, FollowEndsBy, is_over, until_over, Made, StoppedIn, seen_first},
 }
@@ -26,7 +45,10 @@ use Rattle.follow_core.proofs.{
   RunLemmas.{failed-append, shares_more},
   FollowLemmas.{nothing_shared, all_both, text_there, same_length, unbroken_watched, watched_there},
 }
-use Rattle.watch_core.{specs.{Snapshot.{Snapshot, latest}, Watched.{Watched, watched_at, added, no_name}}, proofs.NameLemmas.latest-last}
+use Rattle.watch_core.{
+  specs.{Snapshot.{Snapshot, latest}, Watched.{Watched, watched_at, added, no_name}},
+  proofs.NameLemmas.latest-last,
+}
 use Rattle.ports_core.specs.declared.fault.Fault.TheVariants as fault
 
 -- A look at all names more, and one that was stopped.

@@ -8,7 +8,11 @@ use borrow.Rule.Slice.PartMut.{put_mid}
 use Rattle.watch_core.specs.{Snapshot.{Snapshot, latest}, Watched.{Watched, GaveFrom, open_contents, watched_at}}
 use Rattle.seg_core.{
   specs.{Line.{EndsAt, FallsShort, after_lines, delimiters, joined}, declared.unit.Unit.TheVariants.Lines},
-  proofs.{LinesOf.joined-lines_of, FirstLines.{EndsAt-enough, EndsAt-rest}, EndLines.{after_lines-append, after_lines-past}},
+  proofs.{
+    LinesOf.joined-lines_of,
+    FirstLines.{EndsAt-enough, EndsAt-rest},
+    EndLines.{after_lines-append, after_lines-past},
+  },
 }
 use Rattle.ends_core.{specs.laws.EndsLaws.after_of-append, proofs.FindLemmas.block_then}
 

@@ -1,10 +1,17 @@
 -- How a run of following ends, by what its looks saw.
-use Rattle.std.specs.Prelude.{◌≡◌, ◌<◌, ◌≤◌, ◌+◌, ◌++◌, ◌∷◌, ℕ, zero, suc, Bool, true, false, IsTrue, List, [], length, take, Option, Some, None, if◌then◌else◌}
+use Rattle.std.specs.Prelude.{
+  ◌≡◌, ◌<◌, ◌≤◌, ◌+◌, ◌++◌, ◌∷◌, ℕ, zero, suc, Bool, true, false, IsTrue, List, [], length, take, Option, Some, None,
+  if◌then◌else◌,
+}
 use Rattle.ports_core.specs.{
   Message.{SaysOn, TellsOn, output_reason},
   Slot.Slot,
   Text.{message_of, status_after},
-  declared.{calling.Calling.{Calling, TheVariants.OwnName}, reason.Reason.Reason, fault.Fault.{Fault, TheVariants.Memory}},
+  declared.{
+    calling.Calling.{Calling, TheVariants.OwnName},
+    reason.Reason.Reason,
+    fault.Fault.{Fault, TheVariants.Memory},
+  },
 }
 use Rattle.watch_core.specs.{Snapshot.{Snapshot, forgiving}, Watched.Watched}
 use Rattle.follow_core.specs.{

@@ -1,7 +1,12 @@
 -- What a look gives for a name, step by step: a line that tells what it found, and bytes.
 use Rattle.std.specs.Prelude.{ℕ, ◌-◌, List, [], ◌∷◌, ◌++◌, length, map, take}
 use Rattle.ports_core.specs.Part.{IsBeginning}
-use Rattle.follow_core.specs.{declared.notice.Notice.Notice, Gain.gain_between, Notice.{notice_of, notices_between}, Version.{Entry, version, gap}}
+use Rattle.follow_core.specs.{
+  declared.notice.Notice.Notice,
+  Gain.gain_between,
+  Notice.{notice_of, notices_between},
+  Version.{Entry, version, gap},
+}
 
 pub data Event : Type 0 where
   -- a line that tells this

@@ -1,6 +1,12 @@
 -- Following: its names and how they stand, from one look to the next.
-use Rattle.std.specs.Prelude.{◌≡◌, ◌⊎◌, ◌<◌, ◌∷◌, ◌++◌, ◌+◌, ℕ, Bool, true, false, not, ◌&&◌, ◌||◌, List, [], length, map, take, slice_index_or, is_some}
-use Rattle.ports_core.specs.{Slot.{Slot, Rose}, declared.{calling.Calling.Calling, fault.Fault.{Fault, TheVariants.{Failed, Memory, Write}}}}
+use Rattle.std.specs.Prelude.{
+  ◌≡◌, ◌⊎◌, ◌<◌, ◌∷◌, ◌++◌, ◌+◌, ℕ, Bool, true, false, not, ◌&&◌, ◌||◌, List, [], length, map, take, slice_index_or,
+  is_some,
+}
+use Rattle.ports_core.specs.{
+  Slot.{Slot, Rose},
+  declared.{calling.Calling.Calling, fault.Fault.{Fault, TheVariants.{Failed, Memory, Write}}},
+}
 use Rattle.watch_core.specs.{Snapshot.Snapshot, Watched.{Watched, watched_at}}
 use Rattle.follow_core.specs.{
   declared.{follow.Stage.{Stage, TheVariants.{Fresh, Looking, Over}}, name.Standing.TheVariants.New, start.Start.Start},

@@ -1,7 +1,11 @@
 -- What is told of a name from look to look.
 use Rattle.std.specs.Prelude.{ℕ, ◌==◌, Bool, true, false, List, [], ◌∷◌, ◌++◌, codes, if◌then◌else◌}
 use Rattle.ports_core.specs.{Text.{in_quotes, tool_name}, declared.tool.Tool.TheVariants.Tail}
-use Rattle.follow_core.specs.{declared.notice.Notice.{Notice, TheVariants.{Truncated, Replaced, Inaccessible, Appeared}}, Version.{Entry, version, gap}, Run.goes_on}
+use Rattle.follow_core.specs.{
+  declared.notice.Notice.{Notice, TheVariants.{Truncated, Replaced, Inaccessible, Appeared}},
+  Version.{Entry, version, gap},
+  Run.goes_on,
+}
 
 abbrev pub notice_words : Notice → List ℕ
 notice_words Truncated = codes "file truncated"

@@ -1,6 +1,10 @@
 -- How bytes of a name come to standard output, under headers; and how messages are told.
 use Rattle.std.specs.Prelude.{◌≡◌, ℕ, ◌≤◌, Bool, List, Option, None, length, take}
-use Rattle.ports_core.specs.{Slot.{Slot, with_written, told_of}, Write.BrokeAfter, declared.{calling.Calling.Calling, fault.Fault.Fault}}
+use Rattle.ports_core.specs.{
+  Slot.{Slot, with_written, told_of},
+  Write.BrokeAfter,
+  declared.{calling.Calling.Calling, fault.Fault.Fault},
+}
 use Rattle.ports_core.specs.declared.fault.Fault.TheVariants as fault
 
 pub record PrinterState : Type 0 where

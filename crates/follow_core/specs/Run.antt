@@ -1,5 +1,8 @@
 -- Runs of versions, and the text that they give.
-use Rattle.std.specs.{Prelude.{◌≡◌, ℕ, ◌==◌, Bool, true, false, ◌&&◌, nat_le, List, [], ◌∷◌, ◌++◌, length, drop, if◌then◌else◌}, List.onto_first}
+use Rattle.std.specs.{
+  Prelude.{◌≡◌, ℕ, ◌==◌, Bool, true, false, ◌&&◌, nat_le, List, [], ◌∷◌, ◌++◌, length, drop, if◌then◌else◌},
+  List.onto_first,
+}
 use Rattle.ports_core.specs.Part.{IsBeginning}
 use Rattle.follow_core.specs.Version.{Version, Entry, version, gap}
 

@@ -1,8 +1,16 @@
 -- How what a look gives for a name comes to the outputs: text to standard output, under a header where one is due, and
 -- lines to standard error.
 use Rattle.std.specs.Prelude.{◌≡◌, ℕ, Bool, true, List, ◌∷◌, Option, Some, None, IsTrue}
-use Rattle.ports_core.specs.{Slot.{Slot, is_open, is_writable, slot_at, told_of, with_written}, declared.{calling.Calling.Calling, fault.Fault.Fault}}
-use Rattle.follow_core.specs.{Telling.TellsAll, Followed.{last_header_from, messages_of, text_from}, Printing.{PrinterState, Short}, Share.Share}
+use Rattle.ports_core.specs.{
+  Slot.{Slot, is_open, is_writable, slot_at, told_of, with_written},
+  declared.{calling.Calling.Calling, fault.Fault.Fault},
+}
+use Rattle.follow_core.specs.{
+  Telling.TellsAll,
+  Followed.{last_header_from, messages_of, text_from},
+  Printing.{PrinterState, Short},
+  Share.Share,
+}
 
 -- the text came to standard output, or a beginning of it before this fault
 abbrev pub CameTo : Bool → List ℕ → List Slot → List Slot → Option Fault → Type 0

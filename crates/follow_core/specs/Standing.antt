@@ -1,6 +1,12 @@
 -- How a name stands between two looks.
-use Rattle.std.specs.Prelude.{◌≡◌, ◌<◌, ◌≤◌, ◌+◌, ℕ, Bool, true, false, List, [], Option, Some, None, ◌⊎◌, length, map, slice_index_or, is_some}
-use Rattle.watch_core.specs.{declared.watch.Broken.Broken, Snapshot.{Snapshot, latest}, Watched.{Watched, added, watched_at}}
+use Rattle.std.specs.Prelude.{
+  ◌≡◌, ◌<◌, ◌≤◌, ◌+◌, ℕ, Bool, true, false, List, [], Option, Some, None, ◌⊎◌, length, map, slice_index_or, is_some,
+}
+use Rattle.watch_core.specs.{
+  declared.watch.Broken.Broken,
+  Snapshot.{Snapshot, latest},
+  Watched.{Watched, added, watched_at},
+}
 use Rattle.follow_core.specs.{
   declared.name.Standing.{Standing, TheVariants.{New, Followed, Left}},
   Gain.{file_of, last_of, seen_length},

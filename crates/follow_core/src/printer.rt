@@ -1,7 +1,13 @@
 //! Where the bytes of followed names go, under headers.
-ghost use Rattle.std.specs.Prelude.{◌≡◌, [], Some, IsTrue, IfErr, OnOk, if◌then◌else◌, string_bytes, option_map, is_none};
+ghost use Rattle.std.specs.Prelude.{
+  ◌≡◌, [], Some, IsTrue, IfErr, OnOk, if◌then◌else◌, string_bytes, option_map, is_none,
+};
 ghost use Rattle.ports_core.specs.{Slot.{is_writable, with_written, told_of}, Text.header_of};
-ghost use Rattle.follow_core.specs.{Printing.{PrinterState, Short, fresh_printer}, inner.Giving.{Puts, over_by, over_in}, Followed.{has_header, is_last}};
+ghost use Rattle.follow_core.specs.{
+  Printing.{PrinterState, Short, fresh_printer},
+  inner.Giving.{Puts, over_by, over_in},
+  Followed.{has_header, is_last},
+};
 
 use ports_core::{Calling, Fault, Outs, header, write_whole};
 use std::alloc::Global;

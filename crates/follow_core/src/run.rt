@@ -1,7 +1,13 @@
 //! A whole run of following.
 ghost use Rattle.std.specs.Prelude.{◌≡◌, [], ℕ, Bool, List, true, length, map, IfErr, IsTrue, OnOk};
 ghost use Rattle.ports_core.specs.{Slot.{Slot, streams}, declared.calling.Calling.Calling};
-ghost use Rattle.follow_core.specs.{Sharing.HasError, Ending.{AreMost, FollowEndsBy, StoppedIn, is_over, shows_by}, inner.Visits.LookedAll, FollowState.{CanLook, Holds}, Look.{Ways, ways_of}};
+ghost use Rattle.follow_core.specs.{
+  Sharing.HasError,
+  Ending.{AreMost, FollowEndsBy, StoppedIn, is_over, shows_by},
+  inner.Visits.LookedAll,
+  FollowState.{CanLook, Holds},
+  Look.{Ways, ways_of},
+};
 
 use crate::follow::Follow;
 use crate::start::Start;

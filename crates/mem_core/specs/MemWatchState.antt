@@ -1,6 +1,10 @@
 -- What contracts see of a watch in memory.
 use Rattle.std.specs.Prelude.{ℕ, ◌+◌, zero, suc, Bool, false, List, [], ◌∷◌, ◌++◌, length, if◌then◌else◌}
-use Rattle.watch_core.specs.{Snapshot.{Snapshot, forgiving, waiting}, Edits.{Edit, append, bar, truncate, replace, remove, end, World, empty_world, edited_by, seen_in}, Watched.Watched}
+use Rattle.watch_core.specs.{
+  Snapshot.{Snapshot, forgiving, waiting},
+  Edits.{Edit, append, bar, truncate, replace, remove, end, World, empty_world, edited_by, seen_in},
+  Watched.Watched,
+}
 use Rattle.ports_core.specs.declared.reason.Reason.{Reason, TheVariants.Other}
 use Rattle.mem_core.specs.declared.edit.Edit.{Edit as Change}
 use Rattle.mem_core.specs.declared.edit.Edit.TheVariants as change

@@ -1,5 +1,10 @@
-ghost use Rattle.std.specs.Prelude.{◌≡◌, [], ◌≤◌, ◌<◌, List, length, take, string_bytes, true, IfOk, IfErr, IfSome, IfNone};
-ghost use Rattle.ports_core.specs.{declared.reason.Reason.TheVariants.Other, Slot.{Slot, adds, breaks, closes, removes, opened, unopened, with_lost, streams, slot_at, is_removed}};
+ghost use Rattle.std.specs.Prelude.{
+  ◌≡◌, [], ◌≤◌, ◌<◌, List, length, take, string_bytes, true, IfOk, IfErr, IfSome, IfNone,
+};
+ghost use Rattle.ports_core.specs.{
+  declared.reason.Reason.TheVariants.Other,
+  Slot.{Slot, adds, breaks, closes, removes, opened, unopened, with_lost, streams, slot_at, is_removed},
+};
 
 use crate::failing::{Cause, fails, planned};
 use ports_core::{Fault, Mode, Outs, Reason, Slots, State, Unopened};

@@ -1,17 +1,29 @@
 -- Reading operands, and that there is one reading.
 use Rattle.std.proofs.{
   lemmas.{Grind.common_steps, List.{append-nil, drop-map}},
-  Common.{◌≡◌, ℕ, ◌+◌, ◌-◌, ◌<◌, ◌≤◌, Bor, get_or, List, [], ◌∷◌, ◌++◌, map, length, drop, Option, Some, None, Result, Ok, Err, refl, sym, ◌∙◌, ap, subst, arith, append_assoc, rules, ◌==◌, true},
+  Common.{
+    ◌≡◌, ℕ, ◌+◌, ◌-◌, ◌<◌, ◌≤◌, Bor, get_or, List, [], ◌∷◌, ◌++◌, map, length, drop, Option, Some, None, Result, Ok,
+    Err, refl, sym, ◌∙◌, ap, subst, arith, append_assoc, rules, ◌==◌, true,
+  },
 }
 use Rattle.operand_core.specs.{
   Operand.{Target, Number, Search, Times, Count, Operand},
   Word.spelling,
-  Reading.{Aim, line, match, Spelled, aims, fails, aim_of, least_after, times_by, Words, failed, with_operand, words_from, words_of, IsTarget, IsRead, AreRead, IsFault, Asks, HasRefused, is_wrong, is_refused, no_memory, IsOfWords},
-  inner.{Aiming.{IsAimed, is_target, is_wrong, is_refused, no_memory}, Repeating.{least_by, SayTimes, no_word, again, other}},
+  Reading.{
+    Aim, line, match, Spelled, aims, fails, aim_of, least_after, times_by, Words, failed, with_operand, words_from,
+    words_of, IsTarget, IsRead, AreRead, IsFault, Asks, HasRefused, is_wrong, is_refused, no_memory, IsOfWords,
+  },
+  inner.{
+    Aiming.{IsAimed, is_target, is_wrong, is_refused, no_memory},
+    Repeating.{least_by, SayTimes, no_word, again, other},
+  },
   declared.operand_fault.{OperandFaultKind.OperandFaultKind, OperandFault.OperandFault},
 }
 use Rattle.operand_core.proofs.AimLemmas.{read_or_too_large}
-use Rattle.bre_core.{specs.declared.fault.BreFault.{BreFault, TheVariants.{TooLarge, Memory}}, proofs.Existence.one_tree_alone}
+use Rattle.bre_core.{
+  specs.declared.fault.BreFault.{BreFault, TheVariants.{TooLarge, Memory}},
+  proofs.Existence.one_tree_alone,
+}
 use Rattle.operand_core.specs.Reading as reading
 use Rattle.operand_core.specs.declared.operand_fault.OperandFaultKind.TheVariants as kind
 

@@ -1,6 +1,9 @@
 -- The numbers of the kinds of operand faults.
 use Rattle.std.specs.Prelude.{ℕ}
-use Rattle.operand_core.specs.declared.operand_fault.OperandFaultKind.{OperandFaultKind, TheVariants.{Missing, Unclosed, Offset, LineZero, RepeatFirst, RepeatText, Bre, LineOrder, Memory, Number}}
+use Rattle.operand_core.specs.declared.operand_fault.OperandFaultKind.{
+  OperandFaultKind,
+  TheVariants.{Missing, Unclosed, Offset, LineZero, RepeatFirst, RepeatText, Bre, LineOrder, Memory, Number},
+}
 
 abbrev pub number_of_kind : OperandFaultKind → ℕ
 number_of_kind Missing = 1

@@ -1,6 +1,12 @@
 -- What a list of words asks of `csplit`: its operands, or the first fault.
-use Rattle.std.specs.Prelude.{◌≡◌, ℕ, ◌+◌, ◌==◌, ◌≤◌, nat_lt, Bool, List, [], ◌∷◌, ◌++◌, Option, Some, None, if◌then◌else◌}
-use Rattle.bre_core.specs.{Pattern.{Pattern, Reads, depth_of, positions_of}, Refusal.IsTooLarge, declared.fault.BreFault.{BreFault, TheVariants.{TooLarge, Memory}}}
+use Rattle.std.specs.Prelude.{
+  ◌≡◌, ℕ, ◌+◌, ◌==◌, ◌≤◌, nat_lt, Bool, List, [], ◌∷◌, ◌++◌, Option, Some, None, if◌then◌else◌,
+}
+use Rattle.bre_core.specs.{
+  Pattern.{Pattern, Reads, depth_of, positions_of},
+  Refusal.IsTooLarge,
+  declared.fault.BreFault.{BreFault, TheVariants.{TooLarge, Memory}},
+}
 use Rattle.operand_core.specs.{
   Operand.{Offset, Target, Number, Search, Times, Count, Operand},
   declared.operand_fault.{OperandFault.OperandFault, OperandFaultKind.OperandFaultKind},

@@ -1,6 +1,9 @@
 //! A law of the definitions, with no code: it stands on the contract of a function whose body is empty.
 ghost use Rattle.std.specs.Prelude.{◌≡◌, List, ℕ};
-ghost use Rattle.operand_core.specs.{Reading.{Asks, IsFault, IsOfWords}, declared.{operand_fault.OperandFault.OperandFault, operand.Operand.Operand}};
+ghost use Rattle.operand_core.specs.{
+  Reading.{Asks, IsFault, IsOfWords},
+  declared.{operand_fault.OperandFault.OperandFault, operand.Operand.Operand},
+};
 
 /// Words ask for one list of operands at most, and for none where a word is no operand, or its pattern is none or too large.
 pub fn one_reading()

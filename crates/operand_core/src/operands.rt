@@ -1,6 +1,10 @@
 //! Reading a list of operands (POSIX.1-2017, XCU csplit, OPERANDS; `{*}` is GNU's).
 ghost use Rattle.std.specs.Prelude.{◌≡◌, ◌≤◌, ◌∷◌, ◌++◌, [], map, length, IfOk, IfErr, OnOk};
-ghost use Rattle.operand_core.specs.{Reading.{Asks, IsFault, times_by}, inner.Repeating.{SayTimes, least_by}, Word.spelling};
+ghost use Rattle.operand_core.specs.{
+  Reading.{Asks, IsFault, times_by},
+  inner.Repeating.{SayTimes, least_by},
+  Word.spelling,
+};
 
 use crate::target::read_target;
 use crate::word::{Word, read_word};

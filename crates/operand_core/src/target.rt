@@ -1,6 +1,10 @@
 //! Where an operand cuts, from the word that says it.
 ghost use Rattle.std.specs.Prelude.{◌≡◌, ◌<◌, ◌++◌, IfOk, length};
-ghost use Rattle.operand_core.specs.{inner.Aiming.IsAimed, Reading.aim_of, Word.{search, spelling, unescaped, number as line_number}};
+ghost use Rattle.operand_core.specs.{
+  inner.Aiming.IsAimed,
+  Reading.aim_of,
+  Word.{search, spelling, unescaped, number as line_number},
+};
 
 use crate::word::{Word, read_word};
 use crate::{Offset, OperandFaultKind, Target};

@@ -1,6 +1,10 @@
 //! What one word of the operands spells (POSIX.1-2017, XCU csplit, OPERANDS; `{*}` is GNU's).
 ghost use Rattle.std.specs.Prelude.{◌≡◌, ◌<◌, false, length, IfSome};
-ghost use Rattle.operand_core.specs.{Reading.times_by, inner.Seen.{seen, seen_in}, Word.{before_brace, braced, closed_at, closing, numbered, number_of, offset_of, spelling, times_of}};
+ghost use Rattle.operand_core.specs.{
+  Reading.times_by,
+  inner.Seen.{seen, seen_in},
+  Word.{before_brace, braced, closed_at, closing, numbered, number_of, offset_of, spelling, times_of},
+};
 
 use crate::{Offset, OperandFaultKind, Times};
 use seg_core::digits::read_digits;

@@ -1,10 +1,24 @@
 -- What is found by tables is what the pattern's tests say.
 use Rattle.std.proofs.{
-  Common.{◌≡◌, ℕ, suc, zero, ◌+◌, ◌<◌, ◌≤◌, Bool, nat_le, ◌&&◌, List, [], ◌∷◌, ◌++◌, length, Option, Some, arith, refl, rules, ap, sym, ◌∙◌, drop, slice_index_or, subst},
+  Common.{
+    ◌≡◌, ℕ, suc, zero, ◌+◌, ◌<◌, ◌≤◌, Bool, nat_le, ◌&&◌, List, [], ◌∷◌, ◌++◌, length, Option, Some, arith, refl, rules,
+    ap, sym, ◌∙◌, drop, slice_index_or, subst,
+  },
   lemmas.{Grind.common_steps, List.{get_or_read_under, same_from_push}},
 }
-use Rattle.bre_core.{specs.{Search.{any_below, has_parts, is_at_most, matches, contains}, Pattern.Pattern, Flat.{tree_of, read_on, group_closed}, declared.token.Token.Token}, proofs.Existence.no_end}
-use Rattle.plain_core.specs.{declared.plain.Plain.Plain, inner.{Plain.{FrameIs, Means}, Table.{at, IsTable, joined, repeats}}}
+use Rattle.bre_core.{
+  specs.{
+    Search.{any_below, has_parts, is_at_most, matches, contains},
+    Pattern.Pattern,
+    Flat.{tree_of, read_on, group_closed},
+    declared.token.Token.Token,
+  },
+  proofs.Existence.no_end,
+}
+use Rattle.plain_core.specs.{
+  declared.plain.Plain.Plain,
+  inner.{Plain.{FrameIs, Means}, Table.{at, IsTable, joined, repeats}},
+}
 
 any_same : (bound : ℕ) (one other : ℕ → Bool) → ((number : ℕ) → number < bound → one number ≡ other number)
     → any_below bound one ≡ any_below bound other

@@ -1,7 +1,12 @@
 //! The plain matcher: it goes over a pattern with tables of which stretches there are.
 
 ghost use Rattle.std.specs.Prelude.{◌≡◌, List, [], None, IfOk, OnOk, IfErr, length};
-ghost use Rattle.bre_core.specs.{Flat.{current_after, around_after}, Pattern.{Pattern, nothing}, Search.{contains, matches}, declared.fault.BreFault.TheVariants.Memory};
+ghost use Rattle.bre_core.specs.{
+  Flat.{current_after, around_after},
+  Pattern.{Pattern, nothing},
+  Search.{contains, matches},
+  declared.fault.BreFault.TheVariants.Memory,
+};
 ghost use Rattle.plain_core.specs.inner.{Plain.{FrameIs, Means}, Table.IsTable};
 
 use crate::table::Table;

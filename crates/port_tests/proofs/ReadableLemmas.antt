@@ -1,6 +1,13 @@
 -- A change of one input leaves all others as they were, and one that takes bytes leaves it as readable as it was.
-use Rattle.std.proofs.{Common.{◌≡◌, ℕ, zero, suc, Bool, true, false, Option, List, [], ◌∷◌, ◌++◌, nat_eq, IsTrue, refl, ap, ◌∙◌, sym, arith}, lemmas.Bool.{false≢true, Decides.nat_tests}}
-use Rattle.ports_core.specs.{Slot.changed_at, Source.{Source, Content, OpensNothing, broke, no_room, missing, gives, looks, skips, is_readable}, declared.fault.Fault.Fault}
+use Rattle.std.proofs.{
+  Common.{◌≡◌, ℕ, zero, suc, Bool, true, false, Option, List, [], ◌∷◌, ◌++◌, nat_eq, IsTrue, refl, ap, ◌∙◌, sym, arith},
+  lemmas.Bool.{false≢true, Decides.nat_tests},
+}
+use Rattle.ports_core.specs.{
+  Slot.changed_at,
+  Source.{Source, Content, OpensNothing, broke, no_room, missing, gives, looks, skips, is_readable},
+  declared.fault.Fault.Fault,
+}
 
 nat_eq-suc : (a b : ℕ) → nat_eq (suc a) (suc b) ≡ nat_eq a b
 nat_eq-suc a b = grind (arith, nat_tests)

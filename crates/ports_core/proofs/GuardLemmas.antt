@@ -1,7 +1,16 @@
 -- Lemmas on what all engines share.
-use Rattle.std.proofs.{lemmas.Grind.common_steps, Common.{◌≡◌, ℕ, ◌+◌, ◌≤◌, ◌<◌, ◌⊎◌, ◌++◌, rules, Bool, false, List, arith, Result, Ok, Err, IfErr, inl, inr, refl}}
+use Rattle.std.proofs.{
+  lemmas.Grind.common_steps,
+  Common.{◌≡◌, ℕ, ◌+◌, ◌≤◌, ◌<◌, ◌⊎◌, ◌++◌, rules, Bool, false, List, arith, Result, Ok, Err, IfErr, inl, inr, refl},
+}
 use Rattle.ports_core.{
-  specs.{Slot.Slot, Part.{Part, Begins}, Work.IsLawful, Engine.{CutsOff, Terms, Finishes, IsCaused, Passes, cut, met}, declared.fault.Fault.{Fault, TheVariants.{Failed, TooLong}}},
+  specs.{
+    Slot.Slot,
+    Part.{Part, Begins},
+    Work.IsLawful,
+    Engine.{CutsOff, Terms, Finishes, IsCaused, Passes, cut, met},
+    declared.fault.Fault.{Fault, TheVariants.{Failed, TooLong}},
+  },
   proofs.PartLemmas.stopped_here,
 }
 

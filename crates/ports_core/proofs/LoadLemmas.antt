@@ -1,11 +1,27 @@
 -- Lemmas on what an engine takes in without a read.
 use Rattle.std.proofs.{
-  lemmas.{Grind.common_steps, Bool.false≢true, List.{length-replicate, length-take-le, nil_from_length, take-append-drop}},
-  Common.{◌≡◌, ℕ, ◌<◌, ◌≤◌, ◌^◌, max, zero, suc, not, ◌&&◌, Bool, true, false, IsTrue, List, [], ◌∷◌, length, take, replicate, if◌then◌else◌, inl, refl, sym, ◌∙◌, ap, subst, arith},
+  lemmas.{
+    Grind.common_steps,
+    Bool.false≢true,
+    List.{length-replicate, length-take-le, nil_from_length, take-append-drop},
+  },
+  Common.{
+    ◌≡◌, ℕ, ◌<◌, ◌≤◌, ◌^◌, max, zero, suc, not, ◌&&◌, Bool, true, false, IsTrue, List, [], ◌∷◌, length, take, replicate,
+    if◌then◌else◌, inl, refl, sym, ◌∙◌, ap, subst, arith,
+  },
 }
 use Rattle.ports_core.{
-  specs.{Slot.changed_at, Source.{Source, source_at, is_readable, looks, skips}, Inputs.{HasLooked, PassesOver}, Engine.{Terms, Loads, TookIn}},
-  proofs.{InputsLemmas.{changed_source, keeps_again, keeps_itself, keeps_others}, SlotLemmas.changed_there, SourceLemmas.readable_within},
+  specs.{
+    Slot.changed_at,
+    Source.{Source, source_at, is_readable, looks, skips},
+    Inputs.{HasLooked, PassesOver},
+    Engine.{Terms, Loads, TookIn},
+  },
+  proofs.{
+    InputsLemmas.{changed_source, keeps_again, keeps_itself, keeps_others},
+    SlotLemmas.changed_there,
+    SourceLemmas.readable_within,
+  },
 }
 
 -- an input of which nothing is passed over is as it was

@@ -1,5 +1,8 @@
 -- Lemmas that runs of several tools need.
-use Rattle.std.proofs.{lemmas.Grind.common_steps, Common.{◌≡◌, ℕ, Bool, true, false, if◌then◌else◌, List, [], ◌++◌, refl, arith}}
+use Rattle.std.proofs.{
+  lemmas.Grind.common_steps,
+  Common.{◌≡◌, ℕ, Bool, true, false, if◌then◌else◌, List, [], ◌++◌, refl, arith},
+}
 use mir.Val.{bool_byte}
 use Rattle.ports_core.specs.Slot.{Slot, adds, told_of}
 

@@ -1,7 +1,10 @@
 -- What the writer of files does, one change after another, and where one is stopped.
 use Rattle.std.proofs.{
   lemmas.{Grind.common_steps, Bool.false≢true},
-  Common.{◌≡◌, ℕ, Bool, false, List, [], ◌∷◌, ◌++◌, ◌⊎◌, length, map, Option, Some, None, Result, Ok, Err, IfErr, inl, inr, refl, sym, ◌∙◌, ap, subst, arith, rules, append_assoc},
+  Common.{
+    ◌≡◌, ℕ, Bool, false, List, [], ◌∷◌, ◌++◌, ◌⊎◌, length, map, Option, Some, None, Result, Ok, Err, IfErr, inl, inr,
+    refl, sym, ◌∙◌, ap, subst, arith, rules, append_assoc,
+  },
 }
 use Rattle.ports_core.specs.{
   Draft.{Manner, Draft, share, part_of, made_of, draft_part, with_bytes, with_next},
@@ -10,12 +13,19 @@ use Rattle.ports_core.specs.{
   Slot.Slot,
   Swept.Removes,
   Turn.fault_in,
-  declared.{fault.Fault.{Fault, TheVariants.{Memory, Verdict}}, verdict.Verdict.TheVariants.Suffixes, file_writer.{Current.TheVariants.Skipped, Opening.{Opening, TheVariants.Never}}},
+  declared.{
+    fault.Fault.{Fault, TheVariants.{Memory, Verdict}},
+    verdict.Verdict.TheVariants.Suffixes,
+    file_writer.{Current.TheVariants.Skipped, Opening.{Opening, TheVariants.Never}},
+  },
 }
 use Rattle.ports_core.proofs.{
   ShareLemmas.{stopped_part, bytes_begin, next_begins, begun_begins, still_made},
   SweepLemmas.{left_apart, left_has, left_there, same_size},
-  FileWriterLemmas.{lacks_memory, leaves_again, leaves_lacking, put_nothing, reaches_again, reaches_as, stops_wider, where_short, where_well},
+  FileWriterLemmas.{
+    lacks_memory, leaves_again, leaves_lacking, put_nothing, reaches_again, reaches_as, stops_wider, where_short,
+    where_well,
+  },
 }
 use Rattle.ports_core.specs.declared.fault.Fault.TheVariants as fault
 use Rattle.ports_core.specs.declared.slot.State.TheVariants as state

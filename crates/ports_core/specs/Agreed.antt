@@ -1,6 +1,8 @@
 -- What all continuations of an input agree on, and on which parts of it they don't. An input is bytes, or lines, and a
 -- continuation is what may still come, perhaps nothing.
-use Rattle.std.specs.Prelude.{◌≡◌, ◌≢◌, ◌⊎◌, ℕ, ◌+◌, ◌-◌, ◌<◌, ◌≤◌, nat_lt, List, [], ◌∷◌, ◌++◌, All, get_or, length, map, if◌then◌else◌}
+use Rattle.std.specs.Prelude.{
+  ◌≡◌, ◌≢◌, ◌⊎◌, ℕ, ◌+◌, ◌-◌, ◌<◌, ◌≤◌, nat_lt, List, [], ◌∷◌, ◌++◌, All, get_or, length, map, if◌then◌else◌,
+}
 use Rattle.ports_core.specs.{Part.{File, Part, IsBeginning, Begins}, Work.Work}
 
 -- The most that the outputs of all continuations of x have in common. `whole` is what is made of an input in the end,

@@ -1,8 +1,13 @@
 -- What a tool has written that writes one file after another: the files that ended, and the one that is open.
-use Rattle.std.specs.Prelude.{◌≡◌, ℕ, ◌+◌, ◌<◌, Bool, true, false, List, [], ◌∷◌, ◌++◌, length, map, codes, decimal, if◌then◌else◌}
+use Rattle.std.specs.Prelude.{
+  ◌≡◌, ℕ, ◌+◌, ◌<◌, Bool, true, false, List, [], ◌∷◌, ◌++◌, length, map, codes, decimal, if◌then◌else◌,
+}
 use Rattle.ports_core.specs.{
   declared.reason.Reason.TheVariants.Other,
-  declared.file_writer.{Opening.{Opening, TheVariants.{Never, Late, AtOnce}}, Tells.{Tells, TheVariants.{Nothing, Sizes, Openings}}},
+  declared.file_writer.{
+    Opening.{Opening, TheVariants.{Never, Late, AtOnce}},
+    Tells.{Tells, TheVariants.{Nothing, Sizes, Openings}},
+  },
   declared.slot.{Mode.TheVariants.Fresh, State.{State, TheVariants.{Open, Closed}}},
   Name.{Naming, has_name, name_at},
   Part.{File, Part, Output, gets_none, gets_bytes, gets_lines, gets_openings, lines_for, openings_for},

@@ -3,7 +3,11 @@ use Rattle.std.specs.Prelude.{◌≡◌, ℕ, ◌<◌, Bool, true, false, List, 
 use Rattle.ports_core.specs.{
   Slot.{Slot, slot_at, adds, breaks, told_of},
   Text.{Message, is_quiet, line_of, message_of},
-  declared.{calling.Speaker.Speaker, reason.Reason.{Reason, TheVariants.Other}, fault.Fault.{Fault, TheVariants.{Memory, Write, Open}}},
+  declared.{
+    calling.Speaker.Speaker,
+    reason.Reason.{Reason, TheVariants.Other},
+    fault.Fault.{Fault, TheVariants.{Memory, Write, Open}},
+  },
 }
 
 -- an output got the text, or a beginning of it and broke; one that was broken is passed over

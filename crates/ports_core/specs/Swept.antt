@@ -1,6 +1,9 @@
 -- Which files are left where a tool removes what it made.
 use Rattle.std.specs.Prelude.{◌≡◌, ℕ, ◌≤◌, ◌<◌, eqb, ◌||◌, Bool, true, false, List, [], ◌∷◌, ◌++◌, length}
-use Rattle.ports_core.specs.{Slot.{Slot, slot_at, has_file, changed_at, closes, breaks, removes, is_removable}, declared.reason.Reason.Reason}
+use Rattle.ports_core.specs.{
+  Slot.{Slot, slot_at, has_file, changed_at, closes, breaks, removes, is_removable},
+  declared.reason.Reason.Reason,
+}
 
 -- one file: it is removed; or its removal failed, and it is broken and closed; or there is none
 pub data Cleared (old : Slot) : Slot → Type 0 where

@@ -1,6 +1,10 @@
 //! What a tool says on standard error.
 ghost use Rattle.std.specs.Prelude.{◌≡◌, true, IfOk};
-ghost use Rattle.ports_core.specs.{Slot.{is_open, slot_at}, Text.{Message, line_of, message_of, status_after}, Message.{PrintsOn, SaysOn, TellsOn, output_named, output_reason}};
+ghost use Rattle.ports_core.specs.{
+  Slot.{is_open, slot_at},
+  Text.{Message, line_of, message_of, status_after},
+  Message.{PrintsOn, SaysOn, TellsOn, output_named, output_reason},
+};
 
 use crate::{Fault, Outs, Reason, Speaker, is_quiet, memory_exhausted, message_for, write_whole};
 use std::alloc::Global;

@@ -1,4 +1,7 @@
-ghost use Rattle.std.specs.Prelude.{◌≡◌, [], ◌≤◌, ◌<◌, ◌+◌, ◌-◌, ◌^◌, ◌∷◌, ◌++◌, ℕ, List, false, length, string_bytes, IsTrue, IfOk, IfSome, IfNone, OnOk, vec_capacity, vec_len};
+ghost use Rattle.std.specs.Prelude.{
+  ◌≡◌, [], ◌≤◌, ◌<◌, ◌+◌, ◌-◌, ◌^◌, ◌∷◌, ◌++◌, ℕ, List, false, length, string_bytes, IsTrue, IfOk, IfSome, IfNone, OnOk,
+  vec_capacity, vec_len,
+};
 ghost use Rattle.ports_core.specs.Slot.{with_lost};
 
 use std::alloc::{AllocError, Global};

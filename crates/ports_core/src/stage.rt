@@ -1,5 +1,11 @@
 ghost use Rattle.std.specs.Prelude.{◌≡◌, ◌+◌, ◌^◌, ◌<◌, ◌↔◌, ℕ, List, [], false, length, IsTrue};
-ghost use Rattle.ports_core.specs.{Slot.Slot, Source.is_readable, Work.{IsLawful, IsSpare}, Engine.{Terms, Finishes, IsMetThere, IsMetWith, Loads, MayGet, Passes, Sweeps}, Swept.AreThere};
+ghost use Rattle.ports_core.specs.{
+  Slot.Slot,
+  Source.is_readable,
+  Work.{IsLawful, IsSpare},
+  Engine.{Terms, Finishes, IsMetThere, IsMetWith, Loads, MayGet, Passes, Sweeps},
+  Swept.AreThere,
+};
 
 use crate::{Fault, Inputs, Outs};
 

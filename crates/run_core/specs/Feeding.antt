@@ -1,5 +1,8 @@
 -- What becomes of an input that is fed to an engine piece by piece.
-use Rattle.std.specs.Prelude.{◌≡◌, ℕ, ◌≤◌, ◌^◌, Bool, true, false, not, ◌||◌, List, [], ◌+◌, ◌++◌, length, ◌⊎◌, None, Result, Ok, Err, if◌then◌else◌}
+use Rattle.std.specs.Prelude.{
+  ◌≡◌, ℕ, ◌≤◌, ◌^◌, Bool, true, false, not, ◌||◌, List, [], ◌+◌, ◌++◌, length, ◌⊎◌, None, Result, Ok, Err,
+  if◌then◌else◌,
+}
 use Rattle.ports_core.specs.{
   Slot.{Slot, slot_at},
   Source.{Content, Source},

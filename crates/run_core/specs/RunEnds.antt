@@ -12,7 +12,12 @@ use Rattle.ports_core.specs.{
   Streams.{standard_error, streams_with},
   declared.fault.Fault.{Fault, TheVariants.Memory},
 }
-use Rattle.run_core.specs.{Feeding.{IsCall, Step, Stops}, Input.{Input, World, Finds}, Reading.{AreDone, AreUntouched, Leaves}, Task.{Task, made_by, after_part, header_text, are_missing, status_of}}
+use Rattle.run_core.specs.{
+  Feeding.{IsCall, Step, Stops},
+  Input.{Input, World, Finds},
+  Reading.{AreDone, AreUntouched, Leaves},
+  Task.{Task, made_by, after_part, header_text, are_missing, status_of},
+}
 
 -- a step after what was written before it
 abbrev pub step_after : Part → Step → Step

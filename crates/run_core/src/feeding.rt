@@ -9,7 +9,10 @@ ghost use Rattle.ports_core.specs.{
   Engine.{Clears, is_verdict},
   Inputs.{empty, CameFrom, KeepsOthers, OfContent},
 };
-ghost use Rattle.run_core.specs.{Feeding.{FedAs, IsReadTo, IsUnread, LeavesOf, ReadsFor, ToldEnd, Uses, is_stop}, inner.RunSteps.EndsSo};
+ghost use Rattle.run_core.specs.{
+  Feeding.{FedAs, IsReadTo, IsUnread, LeavesOf, ReadsFor, ToldEnd, Uses, is_stop},
+  inner.RunSteps.EndsSo,
+};
 
 use ports_core::{Fault, Guarded, Inputs, Outs, Stage};
 

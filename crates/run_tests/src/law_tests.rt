@@ -1,11 +1,22 @@
 //! Callers of `run_words`, as the program is one, that rest on the laws of `tools_core`: what each of them ensures follows by one law
 //! from what `run_words` ensures, and nothing is known here of what the tools do.
-ghost use Rattle.std.specs.Prelude.{◌≡◌, ◌+◌, ◌++◌, ◌∷◌, [], ℕ, List, None, Some, map, drop, codes, true, false, IfOk, IfSome};
+ghost use Rattle.std.specs.Prelude.{
+  ◌≡◌, ◌+◌, ◌++◌, ◌∷◌, [], ℕ, List, None, Some, map, drop, codes, true, false, IfOk, IfSome,
+};
 ghost use Rattle.ends_core.specs.Ends.{tail_of};
 ghost use Rattle.mem_core.specs.MemWatchState.{seen, shows};
-ghost use Rattle.seg_core.specs.{Line.joined, declared.{count.Sign.TheVariants.{Plain, Plus}, cut.{Cut.TheVariants.Parts, Limit.TheVariants.Bytes, Way.TheVariants.Cut}}};
+ghost use Rattle.seg_core.specs.{
+  Line.joined,
+  declared.{
+    count.Sign.TheVariants.{Plain, Plus},
+    cut.{Cut.TheVariants.Parts, Limit.TheVariants.Bytes, Way.TheVariants.Cut},
+  },
+};
 ghost use Rattle.ports_core.specs.{Slot.{Slot, slot_at, streams}, Source.{source_of, unshown}};
-ghost use Rattle.tools_core.specs.{Promises.{forgives_gone, AreCopies, Does, CountAlike, HasInput, IsBare, OnlyGrows, Ran, Run, SkipNothing, counted}, Tasks.{is_plus, names_of}};
+ghost use Rattle.tools_core.specs.{
+  Promises.{forgives_gone, AreCopies, Does, CountAlike, HasInput, IsBare, OnlyGrows, Ran, Run, SkipNothing, counted},
+  Tasks.{is_plus, names_of},
+};
 ghost use Rattle.words_core.specs.{
   CsplitWords.CsplitAsked,
   EndsWords.EndsAsked,

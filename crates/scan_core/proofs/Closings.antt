@@ -1,7 +1,17 @@
 -- Entering all that follows without a byte, by words that are closed and by hops.
-use Rattle.std.proofs.Common.{rules, ◌≡◌, ℕ, ◌+◌, ◌*◌, ◌/◌, ◌%◌, ◌^◌, ◌<◌, List, length, get_or, set, sym, ap, ◌∙◌, subst, arith, w64, ◌⊎◌, inl, inr, zero, suc, ◌≤◌, Bool, false, [], ◌∷◌, refl, ◌↔◌, true, IsTrue, ◌++◌, length-append, eqb, not, bit_and, bit_or, Result, Ok, Err, OnOk}
+use Rattle.std.proofs.Common.{
+  rules, ◌≡◌, ℕ, ◌+◌, ◌*◌, ◌/◌, ◌%◌, ◌^◌, ◌<◌, List, length, get_or, set, sym, ap, ◌∙◌, subst, arith, w64, ◌⊎◌, inl,
+  inr, zero, suc, ◌≤◌, Bool, false, [], ◌∷◌, refl, ◌↔◌, true, IsTrue, ◌++◌, length-append, eqb, not, bit_and, bit_or,
+  Result, Ok, Err, OnOk,
+}
 use Rattle.std.proofs.lemmas.{
-  Nat.{and_le_l, le_or_l, le_or_r, or_lt, Bits.{bit_at-trailing_zeros, bit_at_and, bit_at_or, bit_at-lt, bit_at-zero, same_from_bits_below}},
+  Nat.{
+    and_le_l,
+    le_or_l,
+    le_or_r,
+    or_lt,
+    Bits.{bit_at-trailing_zeros, bit_at_and, bit_at_or, bit_at-lt, bit_at-zero, same_from_bits_below},
+  },
   Bool.{cases_eq, eqb-false, not-true, ne_eqb, cases_lt},
   List.{get_or-set_same, length-set, set-get_or},
   Grind.common_steps,
@@ -21,7 +31,10 @@ use Rattle.scan_core.specs.{
 use Rattle.scan_core.proofs.{
   Countings.set_elsewhere,
   Enterings.{at_index, at_least, each_more, each_to, flows_of, led_by, parts_anywhere},
-  Insides.{adds_anywhere, adds_both, entered_one, either_bit, flows_join, fresh_bit, is_in_word, is_within, left_bit, right_bit, spreads_out, unset-set},
+  Insides.{
+    adds_anywhere, adds_both, entered_one, either_bit, flows_join, fresh_bit, is_in_word, is_within, left_bit,
+    right_bit, spreads_out, unset-set,
+  },
 }
 
 -- some of a word's numbers are those of a hop, or none

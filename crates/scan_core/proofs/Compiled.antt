@@ -1,11 +1,24 @@
 -- The code that is written is the pattern's.
 use Rattle.std.proofs.{
   lemmas.{Grind.common_steps, List.{reverse-append, reverse-reverse, at_drop_more, Elements.All-pop}},
-  Common.{rules, arith, ◌≡◌, ℕ, ◌≤◌, Option, Some, length, List, [], ◌∷◌, ◌++◌, reverse, None, sym, ap, ◌∙◌, subst, ◌⊎◌, inl, inr, zero, suc, ◌+◌, ◌-◌, ◌<◌, drop, get_or, refl, append_assoc, append-nil, All},
+  Common.{
+    rules, arith, ◌≡◌, ℕ, ◌≤◌, Option, Some, length, List, [], ◌∷◌, ◌++◌, reverse, None, sym, ap, ◌∙◌, subst, ◌⊎◌, inl,
+    inr, zero, suc, ◌+◌, ◌-◌, ◌<◌, drop, get_or, refl, append_assoc, append-nil, All,
+  },
 }
 use Rattle.scan_core.specs.{
-  declared.{compile.{Compiling.Compiling, Pending.{Pending, TheVariants.{Group, Repeated}}}, emit.Duplication.Duplication, node.Node.{Node, TheVariants.Back}},
-  inner.{Backwards.{IsBegun, Repeats, begun}, Compiling.{AreBegun, Pops, Waits, IsNow, FinishesBy, Finishes, PopsNone, Begins, Closes, Writes, Passes, PassesLeaf, TakesIn, Takes, TakesAll}},
+  declared.{
+    compile.{Compiling.Compiling, Pending.{Pending, TheVariants.{Group, Repeated}}},
+    emit.Duplication.Duplication,
+    node.Node.{Node, TheVariants.Back},
+  },
+  inner.{
+    Backwards.{IsBegun, Repeats, begun},
+    Compiling.{
+      AreBegun, Pops, Waits, IsNow, FinishesBy, Finishes, PopsNone, Begins, Closes, Writes, Passes, PassesLeaf, TakesIn,
+      Takes, TakesAll,
+    },
+  },
   Code.{code_of, code_of_item, IsOrdered, IsOrderedItem, copies, tail_of, up_to},
 }
 use Rattle.bre_core.specs.{

@@ -1,7 +1,17 @@
 -- The positions of a set of words are its bits that are positions.
 use Rattle.std.proofs.{
-  Common.{◌≡◌, ◌↔◌, ℕ, zero, suc, ◌+◌, ◌*◌, ◌/◌, ◌<◌, ◌≤◌, List, [], ◌∷◌, length, get_or, refl, sym, ap, subst, arith, rules, ◌⊎◌, inl, inr, ◌%◌, ◌^◌, set, ◌∙◌, ◌-◌, Bool, true, false, ◌++◌, length-append, eqb-true, eq-eqb, get_or-set_same, get_or-set_other, length-set, bit_and, bit_or, ◌==◌, count_ones},
-  lemmas.Nat.{div-mul-add, mod-mul-add, mul-add-lt, and_shr, Bits.{bit_at_and, bit_at_or, bit_at_lowest, bit_at-suc, bit_at-zero, bit_at_above, bit_at_cat_low, bit_at-lt}},
+  Common.{
+    ◌≡◌, ◌↔◌, ℕ, zero, suc, ◌+◌, ◌*◌, ◌/◌, ◌<◌, ◌≤◌, List, [], ◌∷◌, length, get_or, refl, sym, ap, subst, arith, rules,
+    ◌⊎◌, inl, inr, ◌%◌, ◌^◌, set, ◌∙◌, ◌-◌, Bool, true, false, ◌++◌, length-append, eqb-true, eq-eqb, get_or-set_same,
+    get_or-set_other, length-set, bit_and, bit_or, ◌==◌, count_ones,
+  },
+  lemmas.Nat.{
+    div-mul-add,
+    mod-mul-add,
+    mul-add-lt,
+    and_shr,
+    Bits.{bit_at_and, bit_at_or, bit_at_lowest, bit_at-suc, bit_at-zero, bit_at_above, bit_at_cat_low, bit_at-lt},
+  },
   lemmas.Bool.cases_lt,
   lemmas.Grind.common_steps,
 }

@@ -1,10 +1,17 @@
 -- An item that stands last, written out as often as a duplication asks for.
 use Rattle.std.proofs.{
-  Common.{rules, ◌≡◌, ℕ, zero, suc, ◌+◌, ◌≤◌, List, ◌++◌, length, reverse, refl, sym, ap, ◌∙◌, arith, append_assoc, append-nil, ◌-◌, ◌<◌, [], ◌∷◌, set, length-append},
+  Common.{
+    rules, ◌≡◌, ℕ, zero, suc, ◌+◌, ◌≤◌, List, ◌++◌, length, reverse, refl, sym, ap, ◌∙◌, arith, append_assoc,
+    append-nil, ◌-◌, ◌<◌, [], ◌∷◌, set, length-append,
+  },
   lemmas.{List.{reverse-append, length-reverse}, Grind.common_steps},
   Math.Seq.set-append_seam,
 }
-use Rattle.scan_core.specs.{declared.node.Node.{Node, TheVariants.{Choose, Back}}, Code.{copies, up_to, starred}, inner.Backwards.stretch}
+use Rattle.scan_core.specs.{
+  declared.node.Node.{Node, TheVariants.{Choose, Back}},
+  Code.{copies, up_to, starred},
+  inner.Backwards.stretch,
+}
 
 -- Stretches of nodes, and their copies.
 

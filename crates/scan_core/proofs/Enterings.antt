@@ -1,11 +1,17 @@
 -- The nodes at the numbers of a code, and what they lead to.
 use Rattle.std.proofs.{
-  Common.{rules, ◌≡◌, ◌⊎◌, inl, inr, ℕ, zero, suc, ◌+◌, ◌<◌, ◌≤◌, Bool, true, false, IsTrue, List, [], ◌∷◌, length, get_or, refl, sym, ◌∙◌, arith, ◌-◌, ◌++◌},
+  Common.{
+    rules, ◌≡◌, ◌⊎◌, inl, inr, ℕ, zero, suc, ◌+◌, ◌<◌, ◌≤◌, Bool, true, false, IsTrue, List, [], ◌∷◌, length, get_or,
+    refl, sym, ◌∙◌, arith, ◌-◌, ◌++◌,
+  },
   lemmas.{Bool.false≢true, Grind.common_steps},
 }
 use Rattle.bre_core.specs.{Match.Parts, ByteSet.has}
 use Rattle.scan_core.specs.{
-  declared.{node.Node.{Node, TheVariants.{Take, First, Last, Choose, Back}}, way.{Way.Way, When.TheVariants.{Never, AtFront, AtEnd, Always}}},
+  declared.{
+    node.Node.{Node, TheVariants.{Take, First, Last, Choose, Back}},
+    way.{Way.Way, When.TheVariants.{Never, AtFront, AtEnd, Always}},
+  },
   Code.{At, weight_of, weight},
   Sets.{weight_if, positions_among},
   inner.{Sets.{LeadsOn, Flows, IsCode, Passes}, Ways.IsWay, Each.AreEach},

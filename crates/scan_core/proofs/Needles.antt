@@ -1,13 +1,20 @@
 -- What each line with a match has, and where a text lacks it.
 use Rattle.std.proofs.{
-  Common.{rules, ◌≡◌, inl, inr, ℕ, zero, suc, ◌+◌, ◌-◌, ◌<◌, ◌≤◌, Bool, true, false, IsTrue, List, [], ◌∷◌, ◌++◌, length, slice_index, refl, sym, ap, ◌∙◌, arith, length-append},
+  Common.{
+    rules, ◌≡◌, inl, inr, ℕ, zero, suc, ◌+◌, ◌-◌, ◌<◌, ◌≤◌, Bool, true, false, IsTrue, List, [], ◌∷◌, ◌++◌, length,
+    slice_index, refl, sym, ap, ◌∙◌, arith, length-append,
+  },
   lemmas.{Bool.cases_eq, List.get_or_append_left, Grind.common_steps},
   Math.Seq.get_or-append_seam,
 }
 use Rattle.memchr.specs.Find.{Nowhere, Passes, OccursAt}
 use Rattle.bre_core.{specs.{ByteSet.has, Pattern.Pattern, Search.contains}, proofs.Searching.contains_tells}
 use Rattle.scan_core.specs.{
-  declared.{few_bytes.FewBytes.FewBytes, needle.Needle.{Needle, TheVariants.{Byte, Text}}, node.Node.{Node, TheVariants.{Take, First, Last, Choose, Back}}},
+  declared.{
+    few_bytes.FewBytes.FewBytes,
+    needle.Needle.{Needle, TheVariants.{Byte, Text}},
+    node.Node.{Node, TheVariants.{Take, First, Last, Choose, Back}},
+  },
   Clear.IsClear,
   Code.{At, Leads, Walks, code_of, IsOrdered},
   Counted.EndsIn,

@@ -1,12 +1,23 @@
 -- A table of few states as words.
 use Rattle.std.proofs.{
-  Common.{rules, ◌≡◌, ◌⊎◌, ◌↔◌, inl, inr, ℕ, zero, suc, ◌+◌, ◌*◌, ◌<◌, ◌≤◌, Bool, true, false, IsTrue, List, [], ◌∷◌, ◌++◌, length, slice_index, refl, sym, subst, arith, length-append, ◌-◌, get_or, ap, ◌∙◌, ◌/◌, ◌%◌, ◌^◌, ◌==◌},
-  lemmas.{Bool.{cases_eq, ne_eqb, cases_lt}, List.{get_or_push, get_or_append_left, get_or_default}, Nat.{pow-add, shr-shr, shr_high}},
+  Common.{
+    rules, ◌≡◌, ◌⊎◌, ◌↔◌, inl, inr, ℕ, zero, suc, ◌+◌, ◌*◌, ◌<◌, ◌≤◌, Bool, true, false, IsTrue, List, [], ◌∷◌, ◌++◌,
+    length, slice_index, refl, sym, subst, arith, length-append, ◌-◌, get_or, ap, ◌∙◌, ◌/◌, ◌%◌, ◌^◌, ◌==◌,
+  },
+  lemmas.{
+    Bool.{cases_eq, ne_eqb, cases_lt},
+    List.{get_or_push, get_or_append_left, get_or_default},
+    Nat.{pow-add, shr-shr, shr_high},
+  },
   Math.Nat.{mul-le-mul, mul-suc, pow-le-pow_right},
 }
 use Rattle.bre_core.specs.{ByteSet.has, Match.Parts}
 use Rattle.scan_core.specs.{
-  declared.{node.Node.{Node, TheVariants.{Take, First, Last, Choose, Back}}, table.{Table.Table, State.State}, shift_table.ShiftTable.ShiftTable},
+  declared.{
+    node.Node.{Node, TheVariants.{Take, First, Last, Choose, Back}},
+    table.{Table.Table, State.State},
+    shift_table.ShiftTable.ShiftTable,
+  },
   Sets.{positions_among, IsMarked},
   Counted.{positions_in_all, AreSteps, set_at, HasStepsBefore},
   Code.{Leads, Goes, Walks, Entered, weight},

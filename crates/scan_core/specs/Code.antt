@@ -1,6 +1,12 @@
 -- A pattern's code: a list of nodes, each at its number. The number after the last node is the pattern's end.
-use Rattle.std.specs.Prelude.{◌≡◌, ◌⊎◌, ℕ, zero, suc, ◌+◌, ◌-◌, ◌<◌, ◌≤◌, IsTrue, List, [], ◌∷◌, ◌++◌, length, slice_index, Option, Some, None}
-use Rattle.bre_core.specs.{ByteSet.has, Match.IsAtMost, Pattern.{Pattern, nothing, append, Item, set, front, end, group, repeat}}
+use Rattle.std.specs.Prelude.{
+  ◌≡◌, ◌⊎◌, ℕ, zero, suc, ◌+◌, ◌-◌, ◌<◌, ◌≤◌, IsTrue, List, [], ◌∷◌, ◌++◌, length, slice_index, Option, Some, None,
+}
+use Rattle.bre_core.specs.{
+  ByteSet.has,
+  Match.IsAtMost,
+  Pattern.{Pattern, nothing, append, Item, set, front, end, group, repeat},
+}
 use Rattle.scan_core.specs.declared.node.Node.{Node, TheVariants.{Take, First, Last, Choose, Back}}
 
 -- the node at a number

@@ -1,6 +1,10 @@
 -- A table of sets of a code's numbers: which set a byte leads to.
 use Rattle.std.specs.Prelude.{◌↔◌, ℕ, ◌+◌, ◌*◌, ◌≤◌, Bool, IsTrue, IsFalse, List, length}
-use Rattle.scan_core.specs.{declared.{node.Node.Node, walk.Outcome.Outcome}, Code.weight, Counted.{EndsIn, HasStepsBefore, IsStepCount}}
+use Rattle.scan_core.specs.{
+  declared.{node.Node.Node, walk.Outcome.Outcome},
+  Code.weight,
+  Counted.{EndsIn, HasStepsBefore, IsStepCount},
+}
 
 -- whether a line has a match
 abbrev pub IsFound : List Node → List ℕ → Bool → Type 0

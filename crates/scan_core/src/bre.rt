@@ -1,7 +1,11 @@
 //! Patterns that are ready for matching.
 
 ghost use Rattle.std.specs.Prelude.{◌≡◌, ◌<◌, ◌≤◌, ◌+◌, ◌*◌, ◌/◌, IfOk, IfErr, IfSome, IsErrOf, length};
-ghost use Rattle.bre_core.specs.{Pattern.{Pattern, Reads, positions_of, depth_of}, Refusal.{IsOfText, IsTooLarge}, declared.fault.BreFault.TheVariants.TooLarge};
+ghost use Rattle.bre_core.specs.{
+  Pattern.{Pattern, Reads, positions_of, depth_of},
+  Refusal.{IsOfText, IsTooLarge},
+  declared.fault.BreFault.TheVariants.TooLarge,
+};
 ghost use Rattle.scan_core.specs.{Clear.IsClear, Code.{code_of, IsOrdered}, Table.IsOutcome};
 
 use crate::build::build;
@@ -36,7 +40,10 @@ pub struct Bre {
 impl Model for Bre {
     ghost use Rattle.std.specs.Prelude.{◌≡◌, ◌≤◌, IfSome};
     ghost use Rattle.bre_core.specs.{Code.pattern_code, Pattern.{Pattern, positions_of}};
-    ghost use Rattle.scan_core.specs.{Code.{code_of, IsOrdered}, inner.{Table.IsTable, Shifts.IsShiftTable, Closures.AreClosures, Needles.IsNeedle, Words.IsMasks}};
+    ghost use Rattle.scan_core.specs.{
+      Code.{code_of, IsOrdered},
+      inner.{Table.IsTable, Shifts.IsShiftTable, Closures.AreClosures, Needles.IsNeedle, Words.IsMasks},
+    };
 
     ghost Value = { Pattern };
 

@@ -1,10 +1,20 @@
 //! Building a pattern's table ahead: set by set and byte by byte, as far as there is room.
 
-ghost use Rattle.std.specs.Prelude.{◌≡◌, ◌↔◌, ◌<◌, ◌≤◌, ◌+◌, ◌*◌, ◌/◌, ◌%◌, ℕ, List, Bool, IsTrue, IsFalse, IfOk, IfErr, IfSome, [], length, slice_index_or};
+ghost use Rattle.std.specs.Prelude.{
+  ◌≡◌, ◌↔◌, ◌<◌, ◌≤◌, ◌+◌, ◌*◌, ◌/◌, ◌%◌, ℕ, List, Bool, IsTrue, IsFalse, IfOk, IfErr, IfSome, [], length,
+  slice_index_or,
+};
 ghost use Rattle.bre_core.specs.{declared.fault.BreFault.TheVariants.Memory, ByteSet.has};
 ghost use Rattle.scan_core.specs.{
   declared.node.Node.TheVariants.Take,
-  inner.{Built.{AreAlike, IsBuilding, IsOpen, LeadsTo, Led}, Closures.AreClosures, Each.AreEach, Sets.IsCode, Table.{Next, entry, no_state, IsState, IsTable}, Words.{IsIn, IsMasks, flags_of, width}},
+  inner.{
+    Built.{AreAlike, IsBuilding, IsOpen, LeadsTo, Led},
+    Closures.AreClosures,
+    Each.AreEach,
+    Sets.IsCode,
+    Table.{Next, entry, no_state, IsState, IsTable},
+    Words.{IsIn, IsMasks, flags_of, width},
+  },
 };
 
 use crate::closing::spread;

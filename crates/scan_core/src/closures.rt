@@ -1,8 +1,16 @@
 //! What follows without a byte, ready to be looked up: within a word for eight numbers at once, and out of it by hops.
 
-ghost use Rattle.std.specs.{Prelude.{◌≡◌, ◌↔◌, ◌<◌, ◌+◌, ◌*◌, ◌^◌, ℕ, true, false, IsFalse, IsTrue, IfOk, IfErr, length}, Int.bit_at};
+ghost use Rattle.std.specs.{
+  Prelude.{◌≡◌, ◌↔◌, ◌<◌, ◌+◌, ◌*◌, ◌^◌, ℕ, true, false, IsFalse, IsTrue, IfOk, IfErr, length},
+  Int.bit_at,
+};
 ghost use Rattle.bre_core.specs.declared.fault.BreFault.TheVariants.{Memory};
-ghost use Rattle.scan_core.specs.inner.{Closures.{AreClosures, Closes, HasAnchors, IsInside, IsLeading, IsPlain}, Each.AreEach, Sets.{IsCode, Flows, LeadsOn}, Words.width};
+ghost use Rattle.scan_core.specs.inner.{
+  Closures.{AreClosures, Closes, HasAnchors, IsInside, IsLeading, IsPlain},
+  Each.AreEach,
+  Sets.{IsCode, Flows, LeadsOn},
+  Words.width,
+};
 
 use crate::hops::{Hops, hops_of, is_within};
 use crate::node::Node;

@@ -2,8 +2,14 @@
 //! before its item, and the code's nodes are written from the last to the first and turned round once.
 
 ghost use Rattle.std.specs.Prelude.{◌≡◌, ◌<◌, ◌≤◌, ◌+◌, ◌++◌, ◌∷◌, ◌-◌, ◌^◌, [], None, OnOk, IfOk, IfErr};
-ghost use Rattle.bre_core.specs.{Flat.IsBounded, declared.{fault.BreFault.TheVariants.Memory, token.Token.TheVariants.Repeat}};
-ghost use Rattle.scan_core.specs.{Code.{code_of, IsOrdered}, inner.Compiling.{Pops, AreBegun, Finishes, Begins, Writes, Passes, Takes, depth_in}};
+ghost use Rattle.bre_core.specs.{
+  Flat.IsBounded,
+  declared.{fault.BreFault.TheVariants.Memory, token.Token.TheVariants.Repeat},
+};
+ghost use Rattle.scan_core.specs.{
+  Code.{code_of, IsOrdered},
+  inner.Compiling.{Pops, AreBegun, Finishes, Begins, Writes, Passes, Takes, depth_in},
+};
 
 use crate::emit::{Duplication, keep, write_out};
 use crate::node::Node;

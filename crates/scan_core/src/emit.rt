@@ -2,7 +2,11 @@
 
 ghost use Rattle.std.specs.Prelude.{◌≡◌, ◌<◌, ◌≤◌, ◌+◌, ◌-◌, ◌++◌, ◌∷◌, List, [], length, reverse, OnOk, IfErr};
 ghost use Rattle.bre_core.specs.declared.fault.BreFault.TheVariants.{Memory};
-ghost use Rattle.scan_core.specs.{declared.node.Node.{Node, TheVariants.{Choose, Back}}, Code.{copies, starred, up_to}, inner.Backwards.{stretch, IsBegun, Repeats}};
+ghost use Rattle.scan_core.specs.{
+  declared.node.Node.{Node, TheVariants.{Choose, Back}},
+  Code.{copies, starred, up_to},
+  inner.Backwards.{stretch, IsBegun, Repeats},
+};
 
 use crate::node::Node;
 use bre_core::BreFault;

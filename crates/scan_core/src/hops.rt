@@ -1,9 +1,15 @@
 //! Hops: what leads out of a word and of what is in each set. Many numbers of a word may lead to the same one, which is
 //! then entered once for all of them.
 
-ghost use Rattle.std.specs.{Prelude.{◌≡◌, ◌↔◌, ◌<◌, ◌≤◌, ◌+◌, ◌*◌, ◌/◌, ℕ, false, IsTrue, OnOk, IfOk, IfErr, List, ◌++◌, length}, Int.bit_at};
+ghost use Rattle.std.specs.{
+  Prelude.{◌≡◌, ◌↔◌, ◌<◌, ◌≤◌, ◌+◌, ◌*◌, ◌/◌, ℕ, false, IsTrue, OnOk, IfOk, IfErr, List, ◌++◌, length},
+  Int.bit_at,
+};
 ghost use Rattle.bre_core.specs.declared.fault.BreFault.TheVariants.{Memory};
-ghost use Rattle.scan_core.specs.{declared.hops.Hop.Hop, inner.{Hops.{AreHops, AreParted, HopsTo, Meets}, Sets.{IsCode, Flows}, Words.{IsIn, width}}};
+ghost use Rattle.scan_core.specs.{
+  declared.hops.Hop.Hop,
+  inner.{Hops.{AreHops, AreParted, HopsTo, Meets}, Sets.{IsCode, Flows}, Words.{IsIn, width}},
+};
 
 use crate::node::Node;
 use crate::way::{is_open, way_of};

@@ -2,7 +2,10 @@
 
 ghost use Rattle.std.specs.Prelude.{◌≡◌, ◌↔◌, ◌<◌, ◌+◌, ℕ, IsTrue, IfOk, IfErr};
 ghost use Rattle.bre_core.specs.declared.fault.BreFault.TheVariants.{Memory};
-ghost use Rattle.scan_core.specs.{declared.masks.Kind.TheVariants.Counts, inner.{Sets.Passes, Words.{IsMask, IsMasks, IsOf, width}}};
+ghost use Rattle.scan_core.specs.{
+  declared.masks.Kind.TheVariants.Counts,
+  inner.{Sets.Passes, Words.{IsMask, IsMasks, IsOf, width}},
+};
 
 use crate::node::Node;
 use bre_core::BreFault;

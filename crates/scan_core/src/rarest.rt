@@ -2,7 +2,11 @@
 
 ghost use Rattle.std.specs.Prelude.{◌≡◌, ◌<◌, ◌≤◌, ◌+◌, ℕ, IfOk, IfErr, IfSome, length};
 ghost use Rattle.bre_core.specs.declared.fault.BreFault.TheVariants.{Memory};
-ghost use Rattle.scan_core.specs.{declared.node.Node.TheVariants.Choose, Code.At, inner.{Needles.{IsLiteral, IsNeedle, IsPassed, IsRarest, TakesOnly}, Sets.IsCode}};
+ghost use Rattle.scan_core.specs.{
+  declared.node.Node.TheVariants.Choose,
+  Code.At,
+  inner.{Needles.{IsLiteral, IsNeedle, IsPassed, IsRarest, TakesOnly}, Sets.IsCode},
+};
 
 use crate::few_bytes::{COMMON, FewBytes};
 use crate::needle::Needle;

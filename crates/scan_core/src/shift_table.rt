@@ -2,7 +2,10 @@
 
 ghost use Rattle.std.specs.Prelude.{◌≡◌, ◌<◌, ◌≤◌, ◌*◌, ◌%◌, IsTrue, IfOk, IfErr, IfSome, length};
 ghost use Rattle.bre_core.specs.declared.fault.BreFault.TheVariants.{Memory};
-ghost use Rattle.scan_core.specs.inner.{Shifts.{AreLight, IsComplete, IsOffset, IsShiftTable, IsWeight, IsWord}, Table.IsTable};
+ghost use Rattle.scan_core.specs.inner.{
+  Shifts.{AreLight, IsComplete, IsOffset, IsShiftTable, IsWeight, IsWord},
+  Table.IsTable,
+};
 
 use crate::node::Node;
 use crate::table::{State, Table, UNKNOWN};

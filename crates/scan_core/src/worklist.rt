@@ -2,7 +2,11 @@
 
 ghost use Rattle.std.specs.Prelude.{◌≡◌, ◌↔◌, ◌<◌, ◌+◌, ℕ, false, IfOk, IfErr, length};
 ghost use Rattle.bre_core.specs.declared.fault.BreFault.TheVariants.{Memory};
-ghost use Rattle.scan_core.specs.inner.{Closures.IsBegun, Sets.{IsCode, Flows, FlowsOn}, Words.{Grows, IsIn, SpreadsOut, width}};
+ghost use Rattle.scan_core.specs.inner.{
+  Closures.IsBegun,
+  Sets.{IsCode, Flows, FlowsOn},
+  Words.{Grows, IsIn, SpreadsOut, width},
+};
 
 use crate::node::Node;
 use crate::words::{clear, enter, has, lead};

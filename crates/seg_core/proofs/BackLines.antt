@@ -1,10 +1,15 @@
 -- Delimiters that are counted from the end of a text.
 use Rattle.std.proofs.{
   lemmas.{Grind.common_steps, List.{take_more, drop-drop}},
-  Common.{◌≡◌, ℕ, ◌+◌, ◌-◌, ◌<◌, ◌≤◌, Bool, true, false, eqb, List, [], ◌∷◌, length, take, drop, get_or, refl, arith, rules},
+  Common.{
+    ◌≡◌, ℕ, ◌+◌, ◌-◌, ◌<◌, ◌≤◌, Bool, true, false, eqb, List, [], ◌∷◌, length, take, drop, get_or, refl, arith, rules,
+  },
 }
 use mir.Val.{bool_byte}
-use Rattle.seg_core.{specs.Line.{delimiters, BeginsAt}, proofs.{Delimiters.delimiters-take-drop, LineCounts.ends_with-append}}
+use Rattle.seg_core.{
+  specs.Line.{delimiters, BeginsAt},
+  proofs.{Delimiters.delimiters-take-drop, LineCounts.ends_with-append},
+}
 
 -- what is added for a byte is its delimiters
 pub added : (delim byte n : ℕ) → n ≡ bool_byte (eqb byte delim) → n ≡ delimiters delim (byte ∷ [])

@@ -1,12 +1,24 @@
 -- A text in blocks.
 use Rattle.std.proofs.{
-  Common.{◌≡◌, ℕ, zero, suc, ◌+◌, ◌-◌, ◌^◌, ◌<◌, ◌≤◌, List, [], ◌∷◌, ◌++◌, length, take, drop, get_or, set, refl, sym, ap, ◌∙◌, arith, append-nil, append_assoc, length-append, length-drop, drop-drop, take_at, drop_at},
+  Common.{
+    ◌≡◌, ℕ, zero, suc, ◌+◌, ◌-◌, ◌^◌, ◌<◌, ◌≤◌, List, [], ◌∷◌, ◌++◌, length, take, drop, get_or, set, refl, sym, ap,
+    ◌∙◌, arith, append-nil, append_assoc, length-append, length-drop, drop-drop, take_at, drop_at,
+  },
   lemmas.{List.Elements.{All-set, All-take, All-drop}, Grind.common_steps},
   Math.Seq.{drop-append-add, take-append-add},
 }
 use Rattle.seg_core.{
-  specs.{Line.{delimiters, first_lines, but_last_lines}, Blocks.{BlockState, text_of, HasCount, HaveCounts, IsCounted}, inner.Blocks.{count_of, Gone}},
-  proofs.{Delimiters.{delimiters-append, delimiters-take-drop}, LineCounts.line_count-drop, LastLines.few_from_nothing, FirstLines.{first_lines-append, first_lines-short}},
+  specs.{
+    Line.{delimiters, first_lines, but_last_lines},
+    Blocks.{BlockState, text_of, HasCount, HaveCounts, IsCounted},
+    inner.Blocks.{count_of, Gone},
+  },
+  proofs.{
+    Delimiters.{delimiters-append, delimiters-take-drop},
+    LineCounts.line_count-drop,
+    LastLines.few_from_nothing,
+    FirstLines.{first_lines-append, first_lines-short},
+  },
 }
 
 pub text_of-append : (front back : List BlockState) → text_of (front ++ back) ≡ text_of front ++ text_of back

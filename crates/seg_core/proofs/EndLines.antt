@@ -1,8 +1,15 @@
 -- The last lines of a text, and of a text that goes on.
-use Rattle.std.proofs.{lemmas.{Grind.common_steps, List.{drop_all, drop-drop, drop-append-le}}, Common.{◌≡◌, ℕ, zero, suc, ◌<◌, ◌≤◌, List, [], ◌∷◌, ◌++◌, ap, arith}}
+use Rattle.std.proofs.{
+  lemmas.{Grind.common_steps, List.{drop_all, drop-drop, drop-append-le}},
+  Common.{◌≡◌, ℕ, zero, suc, ◌<◌, ◌≤◌, List, [], ◌∷◌, ◌++◌, ap, arith},
+}
 use Rattle.seg_core.{
   specs.{Line.{joined, lines_of, delimiters, line_count, after_lines}, inner.Lines.last_lines},
-  proofs.{FirstLines.{first_lines-full, length-first_lines-le, after_lines-is_drop, lines_of-after_lines}, LineCounts.{line_count-some, line_count-front, line_count_near}, Carried.line_count-last},
+  proofs.{
+    FirstLines.{first_lines-full, length-first_lines-le, after_lines-is_drop, lines_of-after_lines},
+    LineCounts.{line_count-some, line_count-front, line_count_near},
+    Carried.line_count-last,
+  },
 }
 
 -- once n lines are complete, what follows the text is added to what stands after them

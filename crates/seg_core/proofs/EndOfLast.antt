@@ -1,9 +1,16 @@
 -- Where the last delimiter of a text stands.
-use Rattle.std.proofs.Common.{◌≡◌, ℕ, zero, suc, ◌+◌, ◌<◌, eqb, true, [], ◌∷◌, List, length, drop, get_or, sym, ap, ◌∙◌, arith, eq-eqb}
+use Rattle.std.proofs.Common.{
+  ◌≡◌, ℕ, zero, suc, ◌+◌, ◌<◌, eqb, true, [], ◌∷◌, List, length, drop, get_or, sym, ap, ◌∙◌, arith, eq-eqb,
+}
 use Rattle.memchr.specs.Find.{Nowhere, Passes, is_byte}
 use Rattle.seg_core.{
   specs.Line.{HasNone, LastEndsAt, joined, delimiters},
-  proofs.{Delimiters.{delimiters-take-drop, delimiters-one_yes, delimiters_more}, NextLine.delimiters-none, LinesOf.joined-lines_of, FirstLines.{EndsAt_counted, EndsAt-rest}},
+  proofs.{
+    Delimiters.{delimiters-take-drop, delimiters-one_yes, delimiters_more},
+    NextLine.delimiters-none,
+    LinesOf.joined-lines_of,
+    FirstLines.{EndsAt_counted, EndsAt-rest},
+  },
 }
 
 HasNone-drop : (delim k : ℕ) (x : List ℕ) → Nowhere (Passes (is_byte delim) x) k (length x) → HasNone delim (drop k x)

@@ -1,11 +1,23 @@
 -- The first lines of a text, and of a text that goes on.
 use Rattle.std.proofs.{
-  Common.{rules, ◌≡◌, ℕ, zero, suc, ◌+◌, ◌-◌, ◌<◌, ◌≤◌, Bool, true, false, cond, eqb, inl, List, [], ◌∷◌, ◌++◌, length, take, drop, get_or, refl, sym, ap, ◌∙◌, arith},
-  lemmas.{List.{take_more, take-append-drop, take_at, drop_at, take_all, length-take-le, append-nil, append_assoc, length-append}, Grind.common_steps},
+  Common.{
+    rules, ◌≡◌, ℕ, zero, suc, ◌+◌, ◌-◌, ◌<◌, ◌≤◌, Bool, true, false, cond, eqb, inl, List, [], ◌∷◌, ◌++◌, length, take,
+    drop, get_or, refl, sym, ap, ◌∙◌, arith,
+  },
+  lemmas.{
+    List.{
+      take_more, take-append-drop, take_at, drop_at, take_all, length-take-le, append-nil, append_assoc, length-append,
+    },
+    Grind.common_steps,
+  },
 }
 use Rattle.seg_core.{
   specs.Line.{AreLines, joined, lines_of, line_count, delimiters, first_lines, after_lines, EndsAt},
-  proofs.{Delimiters.delimiters-take-le, LinesOf.{joined-lines_of, lines_of-joined, AreLines-lines_of}, LineCounts.{line_count_near, line_count-le-length}},
+  proofs.{
+    Delimiters.delimiters-take-le,
+    LinesOf.{joined-lines_of, lines_of-joined, AreLines-lines_of},
+    LineCounts.{line_count_near, line_count-le-length},
+  },
 }
 
 pub first_lines-nil : (delim n : ℕ) → first_lines delim n [] ≡ []

@@ -1,11 +1,18 @@
 -- The last lines of a text, and of a text that goes on.
 use Rattle.std.proofs.{
   lemmas.Grind.common_steps,
-  Common.{◌≡◌, ℕ, zero, suc, ◌+◌, ◌-◌, ◌<◌, ◌≤◌, true, List, [], ◌∷◌, ◌++◌, length, take, drop, refl, sym, ap, ◌∙◌, arith, take-append-drop, take-take, append_assoc, length-append, length-take-le},
+  Common.{
+    ◌≡◌, ℕ, zero, suc, ◌+◌, ◌-◌, ◌<◌, ◌≤◌, true, List, [], ◌∷◌, ◌++◌, length, take, drop, refl, sym, ap, ◌∙◌, arith,
+    take-append-drop, take-take, append_assoc, length-append, length-take-le,
+  },
 }
 use Rattle.seg_core.{
   specs.Line.{delimiters, ends_with, first_lines, line_count, but_last_lines, BeginsAt},
-  proofs.{Delimiters.{delimiters-append, delimiters-take-drop}, FirstLines.{first_lines-all, first_lines-full}, LineCounts.{line_count-closed, line_count-le-length, ends_with-append, ends_with-some}},
+  proofs.{
+    Delimiters.{delimiters-append, delimiters-take-drop},
+    FirstLines.{first_lines-all, first_lines-full},
+    LineCounts.{line_count-closed, line_count-le-length, ends_with-append, ends_with-some},
+  },
 }
 
 pub but_last_lines-few : (delim n : ℕ) (x : List ℕ) → line_count delim x ≤ n → but_last_lines delim n x ≡ []

@@ -1,11 +1,17 @@
 -- How many lines a text has.
 use Rattle.std.{
   proofs.lemmas.{Grind.common_steps, Bool.{eq-eqb, ne_eqb, false≢true}},
-  proofs.Common.{◌≡◌, ◌≢◌, ℕ, zero, suc, ◌+◌, ◌-◌, ◌<◌, ◌≤◌, Bool, true, false, not, cond, eqb, List, [], ◌∷◌, ◌++◌, length, take, drop, get_or, refl, sym, ap, ◌∙◌, arith, rules, take_all, length-append, length-take-le},
+  proofs.Common.{
+    ◌≡◌, ◌≢◌, ℕ, zero, suc, ◌+◌, ◌-◌, ◌<◌, ◌≤◌, Bool, true, false, not, cond, eqb, List, [], ◌∷◌, ◌++◌, length, take,
+    drop, get_or, refl, sym, ap, ◌∙◌, arith, rules, take_all, length-append, length-take-le,
+  },
   specs.List.onto_first,
 }
 use mir.Val.{bool_byte}
-use Rattle.seg_core.{specs.Line.{lines_of, delimiters, ends_with, line_count}, proofs.Delimiters.{delimiters-append, delimiters-one_yes, delimiters_more}}
+use Rattle.seg_core.{
+  specs.Line.{lines_of, delimiters, ends_with, line_count},
+  proofs.Delimiters.{delimiters-append, delimiters-one_yes, delimiters_more},
+}
 
 -- a byte before lines makes a line more, or none; at least one is there then
 cons_step : (is_delim : Bool) (byte : ℕ) (lines : List (List ℕ))

@@ -1,6 +1,12 @@
 -- `lines_of` is the one way to cut a text into lines.
 use Rattle.std.{
-  proofs.{lemmas.{Grind.common_steps, Bool.cases_eq}, Common.{rules, ◌≡◌, ◌≢◌, ℕ, ◌<◌, Bool, true, false, cond, eqb, List, [], ◌∷◌, ◌++◌, inl, inr, length, refl, sym, ap, ◌∙◌, arith, append-nil}},
+  proofs.{
+    lemmas.{Grind.common_steps, Bool.cases_eq},
+    Common.{
+      rules, ◌≡◌, ◌≢◌, ℕ, ◌<◌, Bool, true, false, cond, eqb, List, [], ◌∷◌, ◌++◌, inl, inr, length, refl, sym, ap, ◌∙◌,
+      arith, append-nil,
+    },
+  },
   specs.List.onto_first,
 }
 use Rattle.seg_core.specs.Line.{ends_with, joined, HasNone, IsComplete, AreLines, IsLines, lines_of}

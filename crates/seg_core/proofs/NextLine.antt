@@ -1,12 +1,23 @@
 -- The first line of a text and the rest, from where the first delimiter stands.
 use Rattle.std.proofs.{
-  lemmas.{Grind.common_steps, Bool.{eq-eqb, ne_eqb, eqb-true, false≢true}, List.{take_more, take-append-drop, take_all, drop_all, length-append}},
-  Common.{◌≡◌, ℕ, zero, suc, ◌+◌, ◌<◌, ◌≤◌, Bool, true, false, cond, List, [], ◌∷◌, ◌++◌, length, take, drop, get_or, refl, sym, ap, subst, ◌∙◌, arith},
+  lemmas.{
+    Grind.common_steps,
+    Bool.{eq-eqb, ne_eqb, eqb-true, false≢true},
+    List.{take_more, take-append-drop, take_all, drop_all, length-append},
+  },
+  Common.{
+    ◌≡◌, ℕ, zero, suc, ◌+◌, ◌<◌, ◌≤◌, Bool, true, false, cond, List, [], ◌∷◌, ◌++◌, length, take, drop, get_or, refl,
+    sym, ap, subst, ◌∙◌, arith,
+  },
 }
 use Rattle.memchr.specs.Find.{Nowhere, Passes, is_byte}
 use Rattle.seg_core.{
   specs.Line.{HasNone, lines_of, delimiters, ends_with},
-  proofs.{Delimiters.{delimiters-append, delimiters-one_yes}, LineCounts.ends_with-append, LinesOf.{lines_of-complete, lines_of-open}},
+  proofs.{
+    Delimiters.{delimiters-append, delimiters-one_yes},
+    LineCounts.ends_with-append,
+    LinesOf.{lines_of-complete, lines_of-open},
+  },
 }
 
 -- what `next_line` says of a text x, its first line and the rest

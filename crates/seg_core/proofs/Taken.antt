@@ -1,5 +1,8 @@
 -- Bytes that are moved out, stretch by stretch.
-use Rattle.std.proofs.{Common.{◌≡◌, ℕ, ◌+◌, ◌≤◌, List, ◌++◌, length, take, drop, sym, ap, ◌∙◌, take-add}, lemmas.List.{append_assoc, length-take-le, drop-drop, take_at, drop_at, take-append-le}}
+use Rattle.std.proofs.{
+  Common.{◌≡◌, ℕ, ◌+◌, ◌≤◌, List, ◌++◌, length, take, drop, sym, ap, ◌∙◌, take-add},
+  lemmas.List.{append_assoc, length-take-le, drop-drop, take_at, drop_at, take-append-le},
+}
 
 -- after the first `at` bytes of what was held, n more bytes of the stretch that follows them
 pub taken_more : (held front rest before : List ℕ) {out : List ℕ} (at n : ℕ) → at ≤ length held

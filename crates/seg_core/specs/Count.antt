@@ -1,10 +1,17 @@
 -- Counts, as options take them: an optional sign, digits, and a suffix that stands for a factor.
 use Rattle.std.specs.{
-  Prelude.{ℕ, Bool, ◌+◌, ◌-◌, ◌*◌, ◌^◌, ◌==◌, ◌&&◌, nat_lt, nat_le, List, [], ◌∷◌, Option, None, Some, Result, Ok, Err, if◌then◌else◌, length, drop, codes, bytes_eq},
+  Prelude.{
+    ℕ, Bool, ◌+◌, ◌-◌, ◌*◌, ◌^◌, ◌==◌, ◌&&◌, nat_lt, nat_le, List, [], ◌∷◌, Option, None, Some, Result, Ok, Err,
+    if◌then◌else◌, length, drop, codes, bytes_eq,
+  },
   List.{prefix_len, take_while, list_all},
   Char.is_ascii_digit,
 }
-use Rattle.seg_core.specs.declared.count.{Sign.{Sign, TheVariants.{Plain, Minus, Plus}}, Count.Count, CountFault.{CountFault, TheVariants.{NoDigits, Suffix, TooLarge}}}
+use Rattle.seg_core.specs.declared.count.{
+  Sign.{Sign, TheVariants.{Plain, Minus, Plus}},
+  Count.Count,
+  CountFault.{CountFault, TheVariants.{NoDigits, Suffix, TooLarge}},
+}
 
 -- the number that digits write in base ten, the highest first; 48 is the digit 0
 abbrev pub value_of : List ℕ → ℕ

@@ -1,6 +1,10 @@
 -- How an input is cut into files.
 use Rattle.std.specs.Prelude.{ℕ, ◌<◌}
-use Rattle.seg_core.specs.declared.cut.{Cut.{Cut, TheVariants.{Parts, Round}}, Limit.{Limit, TheVariants.{Lines, Bytes, LineBytes}}, Way.Way}
+use Rattle.seg_core.specs.declared.cut.{
+  Cut.{Cut, TheVariants.{Parts, Round}},
+  Limit.{Limit, TheVariants.{Lines, Bytes, LineBytes}},
+  Way.Way,
+}
 use Rattle.seg_core.specs.declared.cut.Way.TheVariants as way
 
 -- how many lines or bytes a part has at the most

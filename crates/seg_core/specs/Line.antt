@@ -1,7 +1,13 @@
 -- The lines of a text. A text is a list of bytes. A line ends with a delimiter: a byte that is chosen once for the
 -- text, and that the definitions have as their first argument. POSIX's lines are those that end with the newline, byte
 -- 10.
-use Rattle.std.specs.{Prelude.{◌≡◌, ◌≢◌, ℕ, ◌+◌, ◌-◌, ◌<◌, ◌≤◌, ◌==◌, Bool, true, false, List, [], ◌∷◌, ◌++◌, ◌⊎◌, if◌then◌else◌, length, take, drop}, List.onto_first}
+use Rattle.std.specs.{
+  Prelude.{
+    ◌≡◌, ◌≢◌, ℕ, ◌+◌, ◌-◌, ◌<◌, ◌≤◌, ◌==◌, Bool, true, false, List, [], ◌∷◌, ◌++◌, ◌⊎◌, if◌then◌else◌, length, take,
+    drop,
+  },
+  List.onto_first,
+}
 use Rattle.seg_core.specs.declared.line_reach.{Reach.{Reach, TheVariants.{Ends, Short}}, ReachBack.ReachBack}
 use Rattle.seg_core.specs.declared.line_reach.ReachBack.TheVariants as back
 

@@ -1,7 +1,10 @@
 //! The lines of a text: a line is a run of bytes that ends with a delimiter, a byte of the caller's
 //! choice, and the last line of a text may lack it. With the newline they are POSIX's lines
 //! (POSIX.1-2017, XBD 3.206).
-ghost use Rattle.std.specs.{Prelude.{◌≡◌, ℕ, ◌+◌, ◌<◌, ◌≤◌, false, List, [], ◌∷◌, ◌++◌, if◌then◌else◌, length, take}, Simd.Lanes.{Each1, sum_l}};
+ghost use Rattle.std.specs.{
+  Prelude.{◌≡◌, ℕ, ◌+◌, ◌<◌, ◌≤◌, false, List, [], ◌∷◌, ◌++◌, if◌then◌else◌, length, take},
+  Simd.Lanes.{Each1, sum_l},
+};
 ghost use Rattle.seg_core.specs.Line.{IsLines, Reaches, delimiters, ends_with, lines_of};
 
 use crate::line_iter::Lines;

@@ -1,7 +1,14 @@
 //! A queue of bytes in blocks: bytes are added at its end and dropped at its front, and none of
 //! them is moved.
-ghost use Rattle.std.specs.{Prelude.{◌≡◌, ℕ, ◌^◌, ◌≤◌, ◌<◌, List, [], ◌++◌, length, take, drop, IfOk, OnOk, OnErr}, VecDeque.{deque_len, deque_capacity}};
-ghost use Rattle.seg_core.specs.{Line.{delimiters, first_lines}, inner.Blocks.{Gone, count_of, first_of}, Blocks.{HaveCounts, text_of}};
+ghost use Rattle.std.specs.{
+  Prelude.{◌≡◌, ℕ, ◌^◌, ◌≤◌, ◌<◌, List, [], ◌++◌, length, take, drop, IfOk, OnOk, OnErr},
+  VecDeque.{deque_len, deque_capacity},
+};
+ghost use Rattle.seg_core.specs.{
+  Line.{delimiters, first_lines},
+  inner.Blocks.{Gone, count_of, first_of},
+  Blocks.{HaveCounts, text_of},
+};
 
 use crate::line::reach;
 use crate::line_back::reach_back;

@@ -1,10 +1,21 @@
 -- What all continuations agree on, of files.
 use Rattle.std.proofs.{
-  lemmas.{Grind.common_steps, Bool.{cases_lt, ne_eqb, Decides.nat_tests}, List.{append-nil, get_or_append_left, take_all, length-map, length-replicate}},
-  Common.{◌≡◌, ℕ, ◌+◌, ◌-◌, ◌<◌, ◌≤◌, zero, suc, List, [], ◌∷◌, ◌++◌, get_or, length, map, drop, replicate, Bool, true, false, cond, refl, sym, ◌∙◌, ap, arith, append_assoc, length-append, zero-add, rules},
+  lemmas.{
+    Grind.common_steps,
+    Bool.{cases_lt, ne_eqb, Decides.nat_tests},
+    List.{append-nil, get_or_append_left, take_all, length-map, length-replicate},
+  },
+  Common.{
+    ◌≡◌, ℕ, ◌+◌, ◌-◌, ◌<◌, ◌≤◌, zero, suc, List, [], ◌∷◌, ◌++◌, get_or, length, map, drop, replicate, Bool, true, false,
+    cond, refl, sym, ◌∙◌, ap, arith, append_assoc, length-append, zero-add, rules,
+  },
   Math.Seq.drop-append_seam,
 }
-use Rattle.seg_core.specs.{Line.{delimiters, joined}, declared.cut.{Cut.Cut, Limit.{Limit, TheVariants.{Lines, Bytes, LineBytes}}}, Cut.{most, IsPositive}}
+use Rattle.seg_core.specs.{
+  Line.{delimiters, joined},
+  declared.cut.{Cut.Cut, Limit.{Limit, TheVariants.{Lines, Bytes, LineBytes}}},
+  Cut.{most, IsPositive},
+}
 use Rattle.ports_core.specs.{
   Draft.{opening_line, told_of_files},
   Name.{Naming, has_name},
@@ -13,16 +24,29 @@ use Rattle.ports_core.specs.{
   Agreed.{CanCome, IsAgreed, file_bytes, output_at, outputs_of},
   declared.slot.State.{State, TheVariants.{Open, Closed}},
 }
-use Rattle.ports_core.proofs.{AgreedLemmas.{none_comes, copies_come, other, other_differs, other_comes, agreed_now, beginning_short, common}, ShareLemmas.one_on}
+use Rattle.ports_core.proofs.{
+  AgreedLemmas.{none_comes, copies_come, other, other_differs, other_comes, agreed_now, beginning_short, common},
+  ShareLemmas.one_on,
+}
 use Rattle.split_core.specs.{
   Parts.{whole_lines, after_first, cut_up, unless_empty, parts, settled_rest, waiting_rest},
   inner.CutLaws.named,
-  Split.{Filing, Plan, Share, share, are_named, output_by, settled_parts, settled_by, split_work, dealt_files, bytes_in},
+  Split.{
+    Filing, Plan, Share, share, are_named, output_by, settled_parts, settled_by, split_work, dealt_files, bytes_in,
+  },
   PartsState.parts_work,
   Round.{round_plan, round_work},
-  laws.{CutLaws.{short_some, full_from, whole_of_none, whole_some, rest_short}, ShareLaws.{cut_first, parts_on, settled_count}, WorkLaws.{parts_lawful, round_lawful}},
+  laws.{
+    CutLaws.{short_some, full_from, whole_of_none, whole_some, rest_short},
+    ShareLaws.{cut_first, parts_on, settled_count},
+    WorkLaws.{parts_lawful, round_lawful},
+  },
 }
-use Rattle.split_core.proofs.{FilesLemmas.named_before, SectionLemmas.{settled_list, settled_bytes, list_all}, CutLaws.{bytes_of_shares, lines_stay}}
+use Rattle.split_core.proofs.{
+  FilesLemmas.named_before,
+  SectionLemmas.{settled_list, settled_bytes, list_all},
+  CutLaws.{bytes_of_shares, lines_stay},
+}
 use Rattle.seg_core.specs.declared.cut.Cut.TheVariants as cut
 
 -- The bytes of files that have names

@@ -1,26 +1,48 @@
 -- What is settled of chunks is what all continuations agree on.
 use Rattle.std.proofs.{
-  Common.{◌≡◌, ◌≢◌, ℕ, ◌+◌, ◌-◌, ◌*◌, ◌/◌, ◌<◌, ◌≤◌, max, zero, suc, Bool, true, false, cond, List, [], ◌∷◌, ◌++◌, length, take, drop, map, get_or, replicate, Option, Some, None, inl, inr, refl, sym, ◌∙◌, ap, subst, arith},
-  lemmas.{Bool.{cases_lt, eq-eqb, ltb-false}, List.{append-nil, drop-append-le, length-append, length-replicate, map-append, take_all}, Nat.le-div},
+  Common.{
+    ◌≡◌, ◌≢◌, ℕ, ◌+◌, ◌-◌, ◌*◌, ◌/◌, ◌<◌, ◌≤◌, max, zero, suc, Bool, true, false, cond, List, [], ◌∷◌, ◌++◌, length,
+    take, drop, map, get_or, replicate, Option, Some, None, inl, inr, refl, sym, ◌∙◌, ap, subst, arith,
+  },
+  lemmas.{
+    Bool.{cases_lt, eq-eqb, ltb-false},
+    List.{append-nil, drop-append-le, length-append, length-replicate, map-append, take_all},
+    Nat.le-div,
+  },
   Math.Nat.one-mul,
 }
 use Rattle.std.specs.List.{filter, range_with_len}
-use Rattle.seg_core.{specs.{Line.joined, declared.{cut.Chunks.Chunks, unit.Unit.{Unit as Which, TheVariants.{Bytes, Lines}}}}, proofs.FirstLines.joined-append}
+use Rattle.seg_core.{
+  specs.{Line.joined, declared.{cut.Chunks.Chunks, unit.Unit.{Unit as Which, TheVariants.{Bytes, Lines}}}},
+  proofs.FirstLines.joined-append,
+}
 use Rattle.ports_core.{
-  specs.{Agreed.{file_bytes, output_at}, Draft.{part_of, told_of_files}, Part.{IsBeginning, Part}, Work.Work, declared.slot.State.TheVariants.{Open, Closed}},
+  specs.{
+    Agreed.{file_bytes, output_at},
+    Draft.{part_of, told_of_files},
+    Part.{IsBeginning, Part},
+    Work.Work,
+    declared.slot.State.TheVariants.{Open, Closed},
+  },
   proofs.AgreedLemmas.{common, copies_come, none_comes, other, other_comes, other_differs, beginning_short},
 }
 use Rattle.split_core.specs.{
   Parts.{CutUp, unless_empty},
   Place.beside_output,
   Split.{Filing, Share, are_named, has_bytes, manner_of, output_by, share},
-  Chunks.{before_chunk, begun_before, chunk_at, chunk_start, chunks_of, decided, ended, in_the_end, is_longer, open_from, pieces_in, size_by},
+  Chunks.{
+    before_chunk, begun_before, chunk_at, chunk_start, chunks_of, decided, ended, in_the_end, is_longer, open_from,
+    pieces_in, size_by,
+  },
   ChunkAgreed.{AgreeAt, CanFollow, HasNoMore},
   ChunkWork.{ChunksPlan, chunk_work, chunks_settled, chunks_whole, chunks_work, files_by, kept},
   inner.Chunks.HaveEnded,
   laws.ChunkWorkLaws.{chunk_lawful, chunks_lawful, first_kept, kept-append, length-kept},
   laws.BegunLaws.{begun_begins, begun_first, begun_first_place, begun_monotone, begun_on, begun_within, open_within},
-  laws.ChunkLaws.{all_joined, before_stays, chunks_are, cut_all, ended_is, full_stays, map_parts, passed_open, start_by_size, start_first, start_grows, start_past},
+  laws.ChunkLaws.{
+    all_joined, before_stays, chunks_are, cut_all, ended_is, full_stays, map_parts, passed_open, start_by_size,
+    start_first, start_grows, start_past,
+  },
 }
 use Rattle.split_core.proofs.{
   AgreedLemmas.{bytes_named, each_named, named_bytes},

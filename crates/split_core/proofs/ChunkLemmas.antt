@@ -5,21 +5,33 @@ use Rattle.std.proofs.lemmas.{
   List.{append-nil, drop_at, length-append, length-drop, length-take-le, take_all, take_at},
   List.FromFn.{get_or-map-range_with_len, length-map-range_with_len, map-range_with_len_more, take-map-range_with_len},
 }
-use Rattle.std.proofs.Common.{◌≡◌, ℕ, ◌+◌, ◌-◌, ◌/◌, ◌%◌, ◌<◌, ◌≤◌, zero, suc, nat_lt, Bool, true, false, cond, List, [], ◌∷◌, ◌++◌, length, take, drop, map, get_or, Option, Some, None, inl, inr, refl, sym, ◌∙◌, ap, arith}
+use Rattle.std.proofs.Common.{
+  ◌≡◌, ℕ, ◌+◌, ◌-◌, ◌/◌, ◌%◌, ◌<◌, ◌≤◌, zero, suc, nat_lt, Bool, true, false, cond, List, [], ◌∷◌, ◌++◌, length, take,
+  drop, map, get_or, Option, Some, None, inl, inr, refl, sym, ◌∙◌, ap, arith,
+}
 use Rattle.std.specs.List.{flat_map, range_with_len}
 use Rattle.seg_core.{
-  specs.{Line.{joined, lines_of, line_count, first_lines}, declared.{cut.{Chunks.Chunks, Cut.TheVariants.Round}, unit.Unit.TheVariants.{Bytes, Lines}}},
+  specs.{
+    Line.{joined, lines_of, line_count, first_lines},
+    declared.{cut.{Chunks.Chunks, Cut.TheVariants.Round}, unit.Unit.TheVariants.{Bytes, Lines}},
+  },
   proofs.{FirstLines.{joined-append, lines_of-first_lines, lines_of-after_lines}, LinesOf.joined-lines_of},
 }
 use Rattle.ports_core.specs.{Agreed.file_bytes, Draft.part_of, Part.only_out, declared.slot.State.TheVariants.Closed}
 use Rattle.split_core.specs.{
-  Chunks.{IsInChunk, IsInPiece, before_chunk, begun_before, chunk_at, chunk_start, chunks_in, chunks_of, ended, in_the_end, is_as_said, lines_before, pieces_in, size_by},
+  Chunks.{
+    IsInChunk, IsInPiece, before_chunk, begun_before, chunk_at, chunk_start, chunks_in, chunks_of, ended, in_the_end,
+    is_as_said, lines_before, pieces_in, size_by,
+  },
   ChunkWork.{chunk_work, files_by, way_work},
   Split.{Filing, are_named, manner_of, share},
   Parts.{dealt, round_robin, unless_empty},
   inner.Dealt.EachSome,
   laws.BegunLaws.{begun_long, lines_all, lines_more},
-  laws.ChunkLaws.{chunk_none, cut_all, ended_within, joined_chunks, start_first, start_grows, start_last, start_next, start_within, rest_none, take_within},
+  laws.ChunkLaws.{
+    chunk_none, cut_all, ended_within, joined_chunks, start_first, start_grows, start_last, start_next, start_within,
+    rest_none, take_within,
+  },
   laws.DealLaws.each_line,
 }
 use Rattle.split_core.proofs.{AgreedLemmas.{each_named, shared_bytes}, RoundLemmas.named_fewer}

@@ -1,14 +1,25 @@
 -- Which files of chunks there are once some bytes came in, and when the output of one chunk is complete.
 use Rattle.std.proofs.{
-  Common.{◌≡◌, ℕ, ◌+◌, ◌-◌, ◌*◌, ◌<◌, ◌≤◌, zero, suc, Bool, true, false, List, [], ◌∷◌, ◌++◌, length, take, drop, map, get_or, Option, Some, None, ◌⊎◌, inl, inr, refl, sym, ◌∙◌, ap, arith},
+  Common.{
+    ◌≡◌, ℕ, ◌+◌, ◌-◌, ◌*◌, ◌<◌, ◌≤◌, zero, suc, Bool, true, false, List, [], ◌∷◌, ◌++◌, length, take, drop, map, get_or,
+    Option, Some, None, ◌⊎◌, inl, inr, refl, sym, ◌∙◌, ap, arith,
+  },
   Math.Seq.{get_or-append_seam, take-append_seam},
   lemmas.Bool.{cases_lt, cond_both, eq-eqb, eqb-true, false≢true, leb-true, le-leb, ne_eqb},
-  lemmas.List.{append-nil, length-append, length-map, map-append, take-take, Elements.filter-append, FromFn.length-map-range_with_len},
+  lemmas.List.{
+    append-nil, length-append, length-map, map-append, take-take, Elements.filter-append,
+    FromFn.length-map-range_with_len,
+  },
 }
 use Rattle.std.specs.List.{filter}
 use Rattle.seg_core.specs.{Line.joined, declared.cut.Chunks.Chunks}
 use Rattle.ports_core.{
-  specs.{Agreed.file_bytes, Draft.{files_from, file_at, part_of}, Part.{File, Part}, declared.{slot.State.TheVariants.{Open, Closed}, verdict.Verdict.TheVariants.Changed}},
+  specs.{
+    Agreed.file_bytes,
+    Draft.{files_from, file_at, part_of},
+    Part.{File, Part},
+    declared.{slot.State.TheVariants.{Open, Closed}, verdict.Verdict.TheVariants.Changed},
+  },
   proofs.{AgreedLemmas.copies_come, ShareLemmas.{closed_files, one_on}},
 }
 use Rattle.split_core.specs.{
@@ -17,10 +28,16 @@ use Rattle.split_core.specs.{
   Chunks.{chunk_at, chunks_of, chunks_within, decided, ended, has_ended, in_the_end, is_longer, pieces_in},
   ChunkAgreed.{AreMade, CanFollow, TwoDiffer},
   ChunkWork.{ChunksPlan, chunk_work, chunks_settled, chunks_whole, chunks_work, files_by, kept},
-  laws.{ChunkLaws.{all_joined, chunks_are, ended_all, ended_is, has_ended_before, no_more, rest_none, start_grows}, ChunkWorkLaws.chunk_lawful},
+  laws.{
+    ChunkLaws.{all_joined, chunks_are, ended_all, ended_is, has_ended_before, no_more, rest_none, start_grows},
+    ChunkWorkLaws.chunk_lawful,
+  },
 }
 use Rattle.split_core.proofs.{
-  ChunkAgreedLemmas.{TailFiles, chunks_left, far_on, few_decided, fill, fills, none_files, said_filled, joined_files, none_kept, said_split, settled_files, whole_files},
+  ChunkAgreedLemmas.{
+    TailFiles, chunks_left, far_on, few_decided, fill, fills, none_files, said_filled, joined_files, none_kept,
+    said_split, settled_files, whole_files,
+  },
   ChunkLemmas.{bytes_filed, same_pieces},
   RoundLemmas.named_at,
 }

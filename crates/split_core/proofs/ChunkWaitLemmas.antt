@@ -1,6 +1,9 @@
 -- What waits of an input that is cut into chunks is what continuations put to different places.
 use Rattle.std.proofs.{
-  Common.{◌≡◌, ◌≢◌, ℕ, ◌+◌, ◌-◌, ◌*◌, ◌<◌, ◌≤◌, suc, Bool, true, false, List, [], ◌∷◌, ◌++◌, length, drop, replicate, Option, Some, None, refl, sym, ◌∙◌, ap, subst, arith},
+  Common.{
+    ◌≡◌, ◌≢◌, ℕ, ◌+◌, ◌-◌, ◌*◌, ◌<◌, ◌≤◌, suc, Bool, true, false, List, [], ◌∷◌, ◌++◌, length, drop, replicate, Option,
+    Some, None, refl, sym, ◌∙◌, ap, subst, arith,
+  },
   lemmas.{Bool.ltb-false, List.{append-nil, append_assoc, length-append, take_all, take-append-drop}},
 }
 use Rattle.seg_core.specs.{Line.joined, declared.cut.Chunks.Chunks}
@@ -17,7 +20,10 @@ use Rattle.split_core.specs.{
   Split.are_named,
   laws.{BegunLaws.begun_begins, ChunkLaws.{all_joined, begin_then_rest}, ChunkWorkLaws.chunks_lawful},
 }
-use Rattle.split_core.proofs.{ChunkAgreedLemmas.{IsTail, first_file, joined_files, none_files, settled_files, whole_files}, UndecidedLemmas.{last_open, spots_stay}}
+use Rattle.split_core.proofs.{
+  ChunkAgreedLemmas.{IsTail, first_file, joined_files, none_files, settled_files, whole_files},
+  UndecidedLemmas.{last_open, spots_stay},
+}
 
 -- what is decided and what waits are all that came in
 decided_all : (elide : Bool) (chunks : Chunks) (said : Option ℕ) (x : List ℕ) → 0 < chunks.count

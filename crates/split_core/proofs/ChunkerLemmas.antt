@@ -1,21 +1,49 @@
 -- Chunks of an input, as a stage.
 use Rattle.std.proofs.{
-  lemmas.{Bool.{cases_lt, eq-eqb, false≢true, le-leb, le-ltb, lt-ltb, ltb-true, Decides.eqb_tells}, List.{append-nil, drop_all, take_at, take-append-drop, length-append, length-drop, length-take}},
-  Common.{◌≡◌, ℕ, ◌+◌, ◌-◌, ◌<◌, ◌≤◌, min, Bool, true, false, eqb, nat_lt, List, [], ◌++◌, ◌⊎◌, length, take, drop, Option, Some, None, Ok, Err, inl, inr, refl, sym, ◌∙◌, ap, subst, arith, append_assoc},
+  lemmas.{
+    Bool.{cases_lt, eq-eqb, false≢true, le-leb, le-ltb, lt-ltb, ltb-true, Decides.eqb_tells},
+    List.{append-nil, drop_all, take_at, take-append-drop, length-append, length-drop, length-take},
+  },
+  Common.{
+    ◌≡◌, ℕ, ◌+◌, ◌-◌, ◌<◌, ◌≤◌, min, Bool, true, false, eqb, nat_lt, List, [], ◌++◌, ◌⊎◌, length, take, drop, Option,
+    Some, None, Ok, Err, inl, inr, refl, sym, ◌∙◌, ap, subst, arith, append_assoc,
+  },
 }
 use Rattle.ports_core.{
-  specs.{FileWriter.IsWrite, Part.Begins, Slot.Slot, Work.{IsLawful, IsNeeded, IsSpare, Work}, declared.{fault.Fault.{Fault, TheVariants.Verdict}, verdict.Verdict.TheVariants.Changed}},
+  specs.{
+    FileWriter.IsWrite,
+    Part.Begins,
+    Slot.Slot,
+    Work.{IsLawful, IsNeeded, IsSpare, Work},
+    declared.{fault.Fault.{Fault, TheVariants.Verdict}, verdict.Verdict.TheVariants.Changed},
+  },
   proofs.PartLemmas.part_begins_itself,
 }
 use Rattle.seg_core.specs.declared.cut.Chunks.{Chunks}
 use Rattle.split_core.specs.{
   Chunks.{chunks_of, chunks_within, ended, has_ended},
-  ChunkerState.{AimState, ChunkerState, Course, CutterState, Holds, HoldsBy, IsAimed, IsSaid, TargetState, can_cut, course, course_of, in_files, in_output, to_files, to_output, work_on, total},
-  inner.{Chunker.{Comes, EndsAs, IsLike, PassesAs, made}, Cutter.{Cuts, CutsAs, IsCut, part_so, said_work}, Seen.{is_each_on, is_past_at, is_past_on}, Sends.{Ends as TargetEnds, part_on, whole_on}},
+  ChunkerState.{
+    AimState, ChunkerState, Course, CutterState, Holds, HoldsBy, IsAimed, IsSaid, TargetState, can_cut, course,
+    course_of, in_files, in_output, to_files, to_output, work_on, total,
+  },
+  inner.{
+    Chunker.{Comes, EndsAs, IsLike, PassesAs, made},
+    Cutter.{Cuts, CutsAs, IsCut, part_so, said_work},
+    Seen.{is_each_on, is_past_at, is_past_on},
+    Sends.{Ends as TargetEnds, part_on, whole_on},
+  },
   Parts.CutUp,
-  laws.{ChunkLaws.{ended_after, has_ended_before, passed_full, start_within}, ChunkWorkLaws.longer_differs, WorkLaws.work_lawful},
+  laws.{
+    ChunkLaws.{ended_after, has_ended_before, passed_full, start_within},
+    ChunkWorkLaws.longer_differs,
+    WorkLaws.work_lawful,
+  },
 }
-use Rattle.split_core.proofs.{ChunkerWays.{ends_at, ends_changed, passes_at, passes_changed}, CutterLemmas.{cut_of, placed_at}, TargetLemmas.{brings_as, brings_wider}}
+use Rattle.split_core.proofs.{
+  ChunkerWays.{ends_at, ends_changed, passes_at, passes_changed},
+  CutterLemmas.{cut_of, placed_at},
+  TargetLemmas.{brings_as, brings_wider},
+}
 
 -- What is made
 

@@ -2,20 +2,45 @@
 use Rattle.std.proofs.{
   lemmas.Bool.{eq-eqb, eqb-true, eqb-false, ne_eqb, cases_eq, Decides.nat_tests},
   lemmas.Simd.trailing_mask_l,
-  lemmas.List.{get_or-drop, get_or-take, take_min, take_more, take-append-drop, take_all, take-take, drop-take, drop-drop, length-take-le, length-drop, length-replicate, append-nil, ext_get_or, take-append-le},
+  lemmas.List.{
+    get_or-drop, get_or-take, take_min, take_more, take-append-drop, take_all, take-take, drop-take, drop-drop,
+    length-take-le, length-drop, length-replicate, append-nil, ext_get_or, take-append-le,
+  },
   lemmas.List.FromFn.{length-map-range_with_len, get_or-map-range_with_len},
   lemmas.Grind.common_steps,
   lemmas.Result.on_ok_weaker,
-  Common.{◌≡◌, ◌≢◌, ℕ, ◌+◌, ◌-◌, ◌*◌, ◌/◌, ◌^◌, ◌<◌, ◌≤◌, zero, suc, min, Bool, true, false, not, cond, eqb, List, [], ◌∷◌, ◌++◌, length, take, drop, get_or, refl, sym, ◌∙◌, ap, subst, arith, length-append, replicate, ◌%◌, max, set, Result, OnOk, append_assoc, rules},
-  Math.{Nat.{div-div-eq-div-mul, div-one, zero-div, mod-add-mod, mod-eq_of_lt, mod-mod, mod_self, mod-le}, Seq.{take-add, take-append-add}, Dec.eqb-suc-suc},
+  Common.{
+    ◌≡◌, ◌≢◌, ℕ, ◌+◌, ◌-◌, ◌*◌, ◌/◌, ◌^◌, ◌<◌, ◌≤◌, zero, suc, min, Bool, true, false, not, cond, eqb, List, [], ◌∷◌,
+    ◌++◌, length, take, drop, get_or, refl, sym, ◌∙◌, ap, subst, arith, length-append, replicate, ◌%◌, max, set, Result,
+    OnOk, append_assoc, rules,
+  },
+  Math.{
+    Nat.{div-div-eq-div-mul, div-one, zero-div, mod-add-mod, mod-eq_of_lt, mod-mod, mod_self, mod-le},
+    Seq.{take-add, take-append-add},
+    Dec.eqb-suc-suc,
+  },
 }
 use Rattle.std.specs.{List.prefix_len, Int.Count.count_trailing_zeros}
 use Rattle.seg_core.{
   specs.Line.{HasNone, lines_of, delimiters, line_count},
-  proofs.{Delimiters.{delimiters-append, delimiters-one_yes}, LinesOf.{lines_of-complete, lines_of-open}, NextLine.delimiters-none},
+  proofs.{
+    Delimiters.{delimiters-append, delimiters-one_yes},
+    LinesOf.{lines_of-complete, lines_of-open},
+    NextLine.delimiters-none,
+  },
 }
-use Rattle.split_core.{specs.{inner.{Ahead.{IsFirstLine, Sees, delimiter_mask}, Dealt.{dealt_piece, Gathers}}, declared.complete_lines.Ahead.Ahead, Parts.dealt}, proofs.CutLaws.dealt_same}
-use Rattle.ports_core.{specs.Slot.changed_at, proofs.{SlotLemmas.{length-changed_at, set-changed}, CounterLemmas.no_length}}
+use Rattle.split_core.{
+  specs.{
+    inner.{Ahead.{IsFirstLine, Sees, delimiter_mask}, Dealt.{dealt_piece, Gathers}},
+    declared.complete_lines.Ahead.Ahead,
+    Parts.dealt,
+  },
+  proofs.CutLaws.dealt_same,
+}
+use Rattle.ports_core.{
+  specs.Slot.changed_at,
+  proofs.{SlotLemmas.{length-changed_at, set-changed}, CounterLemmas.no_length},
+}
 
 none_append : (delim : ℕ) (x y : List ℕ) → HasNone delim x → HasNone delim y → HasNone delim (x ++ y)
 none_append delim [] y first rest = rest

@@ -1,7 +1,13 @@
 -- Lemmas on what is passed over before the one chunk that is written.
 use Rattle.std.proofs.{
-  Common.{◌≡◌, ℕ, ◌+◌, ◌-◌, ◌<◌, ◌≤◌, nat_lt, zero, suc, Bool, true, false, List, [], length, replicate, Some, inl, inr, refl, sym, ◌∙◌, ap, subst, arith},
-  lemmas.{Bool.{lt-leb, lt-ltb, ltb-true, ne_eqb}, List.{append-nil, length-append, length-replicate, take_all, FromFn.length-map-range_with_len}},
+  Common.{
+    ◌≡◌, ℕ, ◌+◌, ◌-◌, ◌<◌, ◌≤◌, nat_lt, zero, suc, Bool, true, false, List, [], length, replicate, Some, inl, inr, refl,
+    sym, ◌∙◌, ap, subst, arith,
+  },
+  lemmas.{
+    Bool.{lt-leb, lt-ltb, ltb-true, ne_eqb},
+    List.{append-nil, length-append, length-replicate, take_all, FromFn.length-map-range_with_len},
+  },
 }
 use Rattle.ports_core.specs.{Engine.TookIn, Part.{only_out, nothing}, Work.Work}
 use Rattle.seg_core.specs.{Line.delimiters, declared.{cut.Chunks.Chunks, unit.Unit.TheVariants.{Bytes, Lines}}}
@@ -9,10 +15,23 @@ use Rattle.split_core.{
   specs.Alike.{AreAlike, as_if},
   specs.Chunks.{chunk_at, chunk_start, chunks_within, ended, is_within, open_from, passed},
   specs.ChunkWork.{chunk_work, piece_at},
-  specs.ChunkerState.{CanHave, ChunkerState, HasCut, Holds, HoldsBy, IsSaid, course, course_of, can_cut, in_output, to_output, work, work_on},
+  specs.ChunkerState.{
+    CanHave, ChunkerState, HasCut, Holds, HoldsBy, IsSaid, course, course_of, can_cut, in_output, to_output, work,
+    work_on,
+  },
   specs.inner.Chunker.{TakesFront, passed_to},
-  specs.laws.{BegunLaws.{begun_long, none_open}, ChunkLaws.{ended_only, passed_open, start_first, start_grows, start_within}},
-  proofs.{AlikeLemmas.{same_alike, took_as}, ChunkAlikeLemmas.{alike_before, goes_on}, ChunkerLemmas.is_said, FreshLemmas.settled_none, UnsaidLemmas.{past_pieces, start_some}, WantedLemmas.made_by},
+  specs.laws.{
+    BegunLaws.{begun_long, none_open},
+    ChunkLaws.{ended_only, passed_open, start_first, start_grows, start_within},
+  },
+  proofs.{
+    AlikeLemmas.{same_alike, took_as},
+    ChunkAlikeLemmas.{alike_before, goes_on},
+    ChunkerLemmas.is_said,
+    FreshLemmas.settled_none,
+    UnsaidLemmas.{past_pieces, start_some},
+    WantedLemmas.made_by,
+  },
 }
 use Rattle.split_core.specs.Ways as ways
 use Rattle.split_core.specs.declared.splitter.Splitter.TheVariants as way

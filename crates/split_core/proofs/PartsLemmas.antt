@@ -1,13 +1,19 @@
 -- What each call on parts leaves: a step of a piece, a piece that is taken in step by step, the end of the input, and what the stage owes.
 use Rattle.std.proofs.{
   lemmas.{Grind.common_steps, List.{append-nil, drop-take, take-append-drop, length-map, map-append}},
-  Common.{◌≡◌, ℕ, ◌+◌, ◌-◌, ◌<◌, ◌≤◌, suc, List, [], ◌∷◌, ◌++◌, ◌⊎◌, length, map, Bool, true, false, Option, Some, None, IfSome, IsTrue, Result, Ok, Err, OnOk, IfErr, IfOk, inl, inr, refl, sym, ◌∙◌, ap, subst, arith, length-append, take, drop, append_assoc, not, cond, rules},
+  Common.{
+    ◌≡◌, ℕ, ◌+◌, ◌-◌, ◌<◌, ◌≤◌, suc, List, [], ◌∷◌, ◌++◌, ◌⊎◌, length, map, Bool, true, false, Option, Some, None,
+    IfSome, IsTrue, Result, Ok, Err, OnOk, IfErr, IfOk, inl, inr, refl, sym, ◌∙◌, ap, subst, arith, length-append, take,
+    drop, append_assoc, not, cond, rules,
+  },
   Math.Seq.take-length,
 }
 use Rattle.ports_core.specs.{
   Draft.{Manner, Draft, share, Share, made_of, shares_of, draft_part, output_of, with_bytes, with_next},
   Engine.{CutsOff, EndsWith, EndsThere, IsMet, StandsAt, is_verdict},
-  FileWriter.{Leaves, Reaches, WriterState, Writes, At, Breaks, CanCount, CanTell, Goes, IsCurrent, IsWrite, is_file, manner_in},
+  FileWriter.{
+    Leaves, Reaches, WriterState, Writes, At, Breaks, CanCount, CanTell, Goes, IsCurrent, IsWrite, is_file, manner_in,
+  },
   Name.{Naming, has_name},
   Part.writes,
   Slot.{Slot, is_writable},
@@ -15,11 +21,18 @@ use Rattle.ports_core.specs.{
   inner.Shares.SharesBegin,
   declared.fault.Fault.{Fault, TheVariants.{Memory, Write, Open}},
   declared.verdict.Verdict.{Verdict, TheVariants.Suffixes},
-  declared.file_writer.{Current.{Current, TheVariants.{Skipped, Due, File, Unopened}}, Opening.TheVariants.{Never, Late}, Tells.{Tells, TheVariants.{Nothing, Sizes, Openings}}},
+  declared.file_writer.{
+    Current.{Current, TheVariants.{Skipped, Due, File, Unopened}},
+    Opening.TheVariants.{Never, Late},
+    Tells.{Tells, TheVariants.{Nothing, Sizes, Openings}},
+  },
   Work.Needs,
 }
 use Rattle.ports_core.proofs.{
-  FileWriterLemmas.{goes_still, in_any, keeps_files, leaves_again, leaves_still, reaches_again, reaches_as, reaches_still, stops_wider, where_short, where_well},
+  FileWriterLemmas.{
+    goes_still, in_any, keeps_files, leaves_again, leaves_still, reaches_again, reaches_as, reaches_still, stops_wider,
+    where_short, where_well,
+  },
   WriterSteps.{goes_again, goes_lacking, goes_more, goes_wider, stops_among},
   PartLemmas.{begins_itself, begins_trans, kept_trans, stopped_in_turn},
   ShareLemmas.{has_told, bytes_begin, made_begin, next_begins, shares_after, shares_wider, still_made},
@@ -28,13 +41,18 @@ use Rattle.seg_core.specs.{Cut.most, declared.cut.Limit.Limit}
 use Rattle.split_core.specs.{
   Parts.{cut_up, parts, settled_rest, unless_empty, waiting_rest},
   PartsState.{PartsState, IsReady, Lacks, Stands, filing_of, work},
-  Split.{Filing, TellsNoSizes, are_named, is_verbose, tells_by, draft_of, manner_of, output_by, settled_parts, split_means},
+  Split.{
+    Filing, TellsNoSizes, are_named, is_verbose, tells_by, draft_of, manner_of, output_by, settled_parts, split_means,
+  },
   declared.step.Step.{Step, TheVariants.{Goes as GoesOn, Ends, Begins, Waits}},
   inner.CutLaws.{cut_so, named},
   inner.Sharing.{CannotClose, always_named},
   inner.Step.{IsTurned, Leads},
   inner.Takes.{Extends, Finishes, LacksNames, Moves, Steps, Takes, Turns, numbers, settled_part, turns, whole_part},
-  laws.{CutLaws.{cut_none, cut_on, first_some, settled_some, settled_then_waiting}, ShareLaws.{are_named_more, named_short, part_begins, settled_count, settled_grow, shares_fewer}},
+  laws.{
+    CutLaws.{cut_none, cut_on, first_some, settled_some, settled_then_waiting},
+    ShareLaws.{are_named_more, named_short, part_begins, settled_count, settled_grow, shares_fewer},
+  },
 }
 use Rattle.split_core.proofs.{AgreedLemmas.one_of, CutLaws.cut_two}
 use Rattle.ports_core.specs.Engine as engine

@@ -6,10 +6,25 @@ use Rattle.std.proofs.{
 }
 use Rattle.seg_core.{proofs.Delimiters.delimiters-append, specs.Line.{delimiters, lines_of}}
 use Rattle.ports_core.{
-  specs.{Engine.{TakesIn, cut}, Part.gets_bytes, Slot.{Slot, is_writable}, Turn.fault_in, inner.Write.Wrote, declared.fault.Fault.{Fault, TheVariants.Memory}},
+  specs.{
+    Engine.{TakesIn, cut},
+    Part.gets_bytes,
+    Slot.{Slot, is_writable},
+    Turn.fault_in,
+    inner.Write.Wrote,
+    declared.fault.Fault.{Fault, TheVariants.Memory},
+  },
   proofs.{PartLemmas.{out_cut, out_more, stopped_here}, SlotSteps.{write_rose, written_writable}},
 }
-use Rattle.split_core.{specs.{inner.{Dealt.dealt_piece, Ways.{EndsAs, PassesAs}}, Parts.dealt, laws.{WorkLaws.lawful, DealLaws.dealt_append}, Turn.{Holds, TurnState, work}}, proofs.CutLaws.dealt_same}
+use Rattle.split_core.{
+  specs.{
+    inner.{Dealt.dealt_piece, Ways.{EndsAs, PassesAs}},
+    Parts.dealt,
+    laws.{WorkLaws.lawful, DealLaws.dealt_append},
+    Turn.{Holds, TurnState, work},
+  },
+  proofs.CutLaws.dealt_same,
+}
 use Rattle.ports_core.specs.inner.Write as short
 use Rattle.split_core.specs.Ways as ways
 use Rattle.split_core.specs.declared.splitter.Splitter.TheVariants as way

@@ -1,12 +1,30 @@
 -- Where the bytes of parts that follow one another go, and which of them continuations put into different files.
 use Rattle.std.proofs.{
-  Common.{take, ◌≡◌, ℕ, ◌+◌, ◌-◌, ◌<◌, zero, suc, List, [], ◌∷◌, ◌++◌, length, get_or, inl, inr, refl, sym, ◌∙◌, ap, subst, arith, length-append, ◌≢◌, ◌⊎◌, ◌≤◌, map, Bool, true, false, not, rules, zero-add, ◌%◌, drop, cond, eqb, mod-lt},
+  Common.{
+    take, ◌≡◌, ℕ, ◌+◌, ◌-◌, ◌<◌, zero, suc, List, [], ◌∷◌, ◌++◌, length, get_or, inl, inr, refl, sym, ◌∙◌, ap, subst,
+    arith, length-append, ◌≢◌, ◌⊎◌, ◌≤◌, map, Bool, true, false, not, rules, zero-add, ◌%◌, drop, cond, eqb, mod-lt,
+  },
   lemmas.Bool.{cond_both, cases_lt, false≢true, eq-eqb, Decides.nat_tests},
-  lemmas.List.{append-nil, drop_all, take-take, take-append-drop, get_or_past, length-take-le, FromFn.{get_or-map-range_with_len, length-map-range_with_len}},
+  lemmas.List.{
+    append-nil,
+    drop_all,
+    take-take,
+    take-append-drop,
+    get_or_past,
+    length-take-le,
+    FromFn.{get_or-map-range_with_len, length-map-range_with_len},
+  },
   lemmas.Grind.common_steps,
   Math.Seq.{drop-cons, get_or-append_seam},
 }
-use Rattle.seg_core.{specs.{Line.{joined, delimiters, lines_of}, declared.cut.{Limit.{Limit, TheVariants.{Lines, Bytes, LineBytes}}, Cut.Cut}, Cut.{most, IsPositive}}, proofs.FirstLines.joined-append}
+use Rattle.seg_core.{
+  specs.{
+    Line.{joined, delimiters, lines_of},
+    declared.cut.{Limit.{Limit, TheVariants.{Lines, Bytes, LineBytes}}, Cut.Cut},
+    Cut.{most, IsPositive},
+  },
+  proofs.FirstLines.joined-append,
+}
 use Rattle.ports_core.specs.{
   Name.{Naming, has_name},
   Draft.told_of_files,
@@ -16,7 +34,12 @@ use Rattle.ports_core.specs.{
   Slot.is_open,
   declared.slot.State.TheVariants.{Open, Closed},
 }
-use Rattle.ports_core.proofs.{AgreedLemmas.{spot_in, spot_past, none_comes, beginning_short, common, none_before, nothing_waits, AreFront, stretch_placed}, ShareLemmas.one_on}
+use Rattle.ports_core.proofs.{
+  AgreedLemmas.{
+    spot_in, spot_past, none_comes, beginning_short, common, none_before, nothing_waits, AreFront, stretch_placed,
+  },
+  ShareLemmas.one_on,
+}
 use Rattle.split_core.specs.{
   Parts.{parts, whole_lines, cut_up, unless_empty, settled_rest, waiting_rest, dealt},
   inner.{CutLaws.named, Dealt.share_of},
@@ -28,7 +51,10 @@ use Rattle.split_core.specs.{
 }
 use Rattle.split_core.proofs.{
   SectionLemmas.{joined_parts, settled_list},
-  AgreedLemmas.{named_bytes, came_in, settled_bytes_in, settled_in, shared_bytes, waiting_is, named_more, each_named, list_count, decides_lines, one_of, delimiters_some, plan_by},
+  AgreedLemmas.{
+    named_bytes, came_in, settled_bytes_in, settled_in, shared_bytes, waiting_is, named_more, each_named, list_count,
+    decides_lines, one_of, delimiters_some, plan_by,
+  },
   CutLaws.{open_of_none, cut_all, opened_by-most},
   RoundLemmas.{dealt_all, none_yet},
   FilesLemmas.named_before,

@@ -1,6 +1,9 @@
 -- Lemmas on when one chunk is complete, and on how many bytes are wanted until then.
 use Rattle.std.{
-  proofs.Common.{◌≡◌, ℕ, ◌+◌, ◌-◌, ◌≤◌, max, nat_lt, take, Bool, true, false, List, ◌++◌, length, Option, Some, None, inl, inr, refl, sym, ◌∙◌, ap, subst, arith},
+  proofs.Common.{
+    ◌≡◌, ℕ, ◌+◌, ◌-◌, ◌≤◌, max, nat_lt, take, Bool, true, false, List, ◌++◌, length, Option, Some, None, inl, inr, refl,
+    sym, ◌∙◌, ap, subst, arith,
+  },
   proofs.lemmas.{Bool.{false≢true, cases_lt, leb-true}, List.{append-nil, length-append, take_at}},
   specs.Option.is_some,
 }
@@ -15,7 +18,12 @@ use Rattle.split_core.specs.{
   inner.{Cutter.said_work, Seen.is_past_on},
   laws.{BegunLaws.open_within, ChunkLaws.{passed_full, passed_open}, WorkLaws.{lawful, work_lawful}},
 }
-use Rattle.split_core.proofs.{AlikeLemmas.complete_as, ChunkerLemmas.{cut_is, is_said, past_is}, ChunkerWays.{holds_can, unsaid_open, works_so}, RoundLemmas.open_after}
+use Rattle.split_core.proofs.{
+  AlikeLemmas.complete_as,
+  ChunkerLemmas.{cut_is, is_said, past_is},
+  ChunkerWays.{holds_can, unsaid_open, works_so},
+  RoundLemmas.open_after,
+}
 use Rattle.split_core.specs.Ways as ways
 use Rattle.split_core.specs.declared.splitter.Splitter.TheVariants as way
 

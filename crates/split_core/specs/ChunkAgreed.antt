@@ -1,8 +1,16 @@
 -- What all continuations of an input agree on that is cut into chunks. In the end each of them makes all files, so what
 -- they agree on is said of each output by itself.
-use Rattle.std.specs.Prelude.{◌≡◌, ◌≢◌, ◌⊎◌, ℕ, ◌-◌, ◌<◌, ◌≤◌, suc, nat_lt, true, List, [], ◌∷◌, ◌++◌, get_or, length, take, Option, if◌then◌else◌}
+use Rattle.std.specs.Prelude.{
+  ◌≡◌, ◌≢◌, ◌⊎◌, ℕ, ◌-◌, ◌<◌, ◌≤◌, suc, nat_lt, true, List, [], ◌∷◌, ◌++◌, get_or, length, take, Option, if◌then◌else◌,
+}
 use Rattle.seg_core.specs.{Line.joined, declared.cut.Chunks.Chunks}
-use Rattle.ports_core.specs.{Agreed.{CanCome, Spot, file_bytes, output_at, spots_from}, Part.{File, Part, IsBeginning, Begins}, Turn.AllClosed, Work.Work, declared.slot.State.TheVariants.Open}
+use Rattle.ports_core.specs.{
+  Agreed.{CanCome, Spot, file_bytes, output_at, spots_from},
+  Part.{File, Part, IsBeginning, Begins},
+  Turn.AllClosed,
+  Work.Work,
+  declared.slot.State.TheVariants.Open,
+}
 use Rattle.split_core.specs.{Chunks.{in_the_end, is_as_said, pieces_in}, ChunkWork.{ChunksPlan, chunks_whole}}
 
 -- what may still come after x: bytes with which it has the size that was said

@@ -1,6 +1,12 @@
 -- What `split` makes of an input that it cuts into chunks, or of which it writes what one file would have: GNU coreutils
 -- manual, split, `-n N`, `-n l/N`, `-n K/N`, `-n l/K/N` and `-n r/K/N`.
-use Rattle.std.specs.{Option.is_none, Prelude.{◌≡◌, ℕ, ◌||◌, max, Bool, true, false, List, [], ◌++◌, map, filter, get_or, IsTrue, Option, Some, None, if◌then◌else◌}}
+use Rattle.std.specs.{
+  Option.is_none,
+  Prelude.{
+    ◌≡◌, ℕ, ◌||◌, max, Bool, true, false, List, [], ◌++◌, map, filter, get_or, IsTrue, Option, Some, None,
+    if◌then◌else◌,
+  },
+}
 use Rattle.seg_core.specs.{Line.lines_of, declared.cut.{Chunks.Chunks, Way.Way}}
 use Rattle.ports_core.specs.{
   Draft.{Draft, draft_part, part_of, share},
@@ -9,7 +15,12 @@ use Rattle.ports_core.specs.{
   Part.{Part, only_out},
   Slot.{Slot, is_writable},
   Work.{Work, always_well, on_output},
-  declared.{fault.Fault.{Fault, TheVariants.Memory}, verdict.Verdict.TheVariants.Changed, file_writer.{Opening.TheVariants.Late, Tells.Tells}, slot.State.TheVariants.Closed},
+  declared.{
+    fault.Fault.{Fault, TheVariants.Memory},
+    verdict.Verdict.TheVariants.Changed,
+    file_writer.{Opening.TheVariants.Late, Tells.Tells},
+    slot.State.TheVariants.Closed,
+  },
 }
 use Rattle.split_core.specs.{
   Parts.{CutUp, dealt, unless_empty},

@@ -1,6 +1,13 @@
 -- What contracts see of chunks of an input.
-use Rattle.std.specs.Prelude.{◌≡◌, ℕ, ◌+◌, ◌≤◌, max, nat_lt, Bool, true, false, List, [], length, Option, Some, None, IsTrue}
-use Rattle.ports_core.specs.{FileWriter.{WriterState, Writes, OwnsFiles, IsReady as CanWrite}, Part.nothing, Slot.{Slot, is_writable}, Work.{Work, IsSpare, always_well}}
+use Rattle.std.specs.Prelude.{
+  ◌≡◌, ℕ, ◌+◌, ◌≤◌, max, nat_lt, Bool, true, false, List, [], length, Option, Some, None, IsTrue,
+}
+use Rattle.ports_core.specs.{
+  FileWriter.{WriterState, Writes, OwnsFiles, IsReady as CanWrite},
+  Part.nothing,
+  Slot.{Slot, is_writable},
+  Work.{Work, IsSpare, always_well},
+}
 use Rattle.seg_core.specs.declared.cut.Chunks.{Chunks}
 use Rattle.split_core.specs.{
   Parts.CutUp,

@@ -1,10 +1,16 @@
 -- How a text is cut into chunks, and which bytes or lines go with each: GNU coreutils manual, split, `-n N` and
 -- `-n l/N`.
 use Rattle.std.specs.{
-  Prelude.{ℕ, ◌+◌, ◌-◌, ◌*◌, ◌/◌, ◌%◌, ◌==◌, ◌<◌, ◌≤◌, nat_lt, nat_le, min, Bool, true, false, List, [], ◌∷◌, ◌++◌, length, take, drop, map, filter, Option, Some, None, if◌then◌else◌},
+  Prelude.{
+    ℕ, ◌+◌, ◌-◌, ◌*◌, ◌/◌, ◌%◌, ◌==◌, ◌<◌, ◌≤◌, nat_lt, nat_le, min, Bool, true, false, List, [], ◌∷◌, ◌++◌, length,
+    take, drop, map, filter, Option, Some, None, if◌then◌else◌,
+  },
   List.range_with_len,
 }
-use Rattle.seg_core.specs.{Line.{joined, lines_of, delimiters, first_lines}, declared.{cut.Chunks.Chunks, unit.Unit.{Unit, TheVariants.{Bytes, Lines}}}}
+use Rattle.seg_core.specs.{
+  Line.{joined, lines_of, delimiters, first_lines},
+  declared.{cut.Chunks.Chunks, unit.Unit.{Unit, TheVariants.{Bytes, Lines}}},
+}
 use Rattle.split_core.specs.Parts.{CutUp, uncut}
 
 -- A text is known by what of it came in so far (x), and by the size that it has once it has ended.

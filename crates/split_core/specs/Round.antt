@@ -1,8 +1,14 @@
 -- Lines dealt in turn, as a stage does it: GNU coreutils manual, split, `-n r/N`.
-use Rattle.std.specs.Prelude.{◌≡◌, ℕ, ◌+◌, ◌%◌, ◌<◌, ◌≤◌, Bool, true, false, List, length, min, slice_index_or, if◌then◌else◌}
+use Rattle.std.specs.Prelude.{
+  ◌≡◌, ℕ, ◌+◌, ◌%◌, ◌<◌, ◌≤◌, Bool, true, false, List, length, min, slice_index_or, if◌then◌else◌,
+}
 use Rattle.seg_core.specs.{Line.{delimiters, line_count}, declared.cut.Cut.TheVariants.Round}
 use Rattle.ports_core.specs.{FileWriter.CanTell, Slot.{Slot, is_closable}, Work.{Work, always_well}}
-use Rattle.split_core.specs.{Split.{Filing, Plan, TellsNoSizes, are_named, split_work}, FilesState.{FilesState, filing_in}, RoundState.RoundState}
+use Rattle.split_core.specs.{
+  Split.{Filing, Plan, TellsNoSizes, are_named, split_work},
+  FilesState.{FilesState, filing_in},
+  RoundState.RoundState,
+}
 
 abbrev pub round_plan : (delim count : ℕ) → Bool → Filing → Plan
 round_plan delim count elide filing = record { cut = Round count delim; elide = elide; filing = filing }

@@ -1,7 +1,10 @@
 -- The ways to cut an input, as one stage.
 use Rattle.std.specs.Prelude.{◌≡◌, ℕ, List, [], true}
 use Rattle.ports_core.specs.{Slot.Slot, Work.Work, Engine.Terms}
-use Rattle.split_core.specs.{declared.splitter.Splitter.{Splitter, TheVariants.{Parts, Round, Chunks, Turn}}, PartsState.{Stands, IsReady}}
+use Rattle.split_core.specs.{
+  declared.splitter.Splitter.{Splitter, TheVariants.{Parts, Round, Chunks, Turn}},
+  PartsState.{Stands, IsReady},
+}
 use Rattle.split_core.specs.PartsState as part
 use Rattle.split_core.specs.Round as round
 use Rattle.split_core.specs.Turn as turn

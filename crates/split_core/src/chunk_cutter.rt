@@ -1,7 +1,11 @@
 //! Cutting an input into chunks.
 ghost use Rattle.std.specs.Prelude.{◌≡◌, ◌+◌, ◌<◌, ◌^◌, ◌≤◌, ◌||◌, length, min, nat_lt, true};
 ghost use Rattle.ports_core.specs.Turn.{fault_in};
-ghost use Rattle.split_core.specs.{Chunks.chunk_start as start_of, ChunkerState.IsAimed, inner.Cutter.{CutsSo, EndsFull, EndsHeld, Settles, Steps, WritesTo, seen_cutter}};
+ghost use Rattle.split_core.specs.{
+  Chunks.chunk_start as start_of,
+  ChunkerState.IsAimed,
+  inner.Cutter.{CutsSo, EndsFull, EndsHeld, Settles, Steps, WritesTo, seen_cutter},
+};
 
 use crate::chunk_cut::{chunk_start, ends_within, next_cut};
 use crate::chunk_target::Target;

@@ -1,7 +1,18 @@
 //! Laws of chunks, with no code: each stands on the contract of a function whose body is empty.
-ghost use Rattle.std.specs.{Prelude.{◌≡◌, ◌<◌, ◌≤◌, ◌+◌, ◌-◌, ◌++◌, ◌/◌, ◌%◌, ℕ, List, [], Option, Some, drop, false, get_or, length, take, true}, List.{filter, flat_map, range_with_len}};
-ghost use Rattle.ports_core.specs.{Agreed.{ArePlaced, DifferOn, IsAgreed, file_bytes}, Draft.opening_line, Part.{only_out, openings_for}, declared.verdict.Verdict.TheVariants.Changed};
-ghost use Rattle.seg_core.specs.{Line.{first_lines, joined, line_count, lines_of}, declared.{cut.{Chunks.Chunks, Cut.TheVariants.Round}, unit.Unit.TheVariants.{Bytes, Lines}}};
+ghost use Rattle.std.specs.{
+  Prelude.{◌≡◌, ◌<◌, ◌≤◌, ◌+◌, ◌-◌, ◌++◌, ◌/◌, ◌%◌, ℕ, List, [], Option, Some, drop, false, get_or, length, take, true},
+  List.{filter, flat_map, range_with_len},
+};
+ghost use Rattle.ports_core.specs.{
+  Agreed.{ArePlaced, DifferOn, IsAgreed, file_bytes},
+  Draft.opening_line,
+  Part.{only_out, openings_for},
+  declared.verdict.Verdict.TheVariants.Changed,
+};
+ghost use Rattle.seg_core.specs.{
+  Line.{first_lines, joined, line_count, lines_of},
+  declared.{cut.{Chunks.Chunks, Cut.TheVariants.Round}, unit.Unit.TheVariants.{Bytes, Lines}},
+};
 ghost use Rattle.split_core.specs.{
   Chunks.{IsInChunk, IsInPiece, chunk_start, chunks_in, is_as_said, is_longer},
   ChunkAgreed.{AgreeAt, AreMade, CanFollow, TwoDiffer, chunk_spots, one_chunk_spots},

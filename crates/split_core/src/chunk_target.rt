@@ -1,9 +1,17 @@
 //! Where chunks go: each to a file of its own, or one of them to standard output.
 ghost use Rattle.std.specs.Prelude.{◌≡◌, ◌+◌, ◌<◌, ◌^◌, [], if◌then◌else◌, IsTrue, IfErr};
-ghost use Rattle.ports_core.specs.{FileWriter.{IsReady, IsWrite, seen_writer}, Slot.is_writable, Turn.fault_in, inner.Write.Wrote};
+ghost use Rattle.ports_core.specs.{
+  FileWriter.{IsReady, IsWrite, seen_writer},
+  Slot.is_writable,
+  Turn.fault_in,
+  inner.Write.Wrote,
+};
 ghost use Rattle.split_core.specs.{
   ChunkerState.{IsAimed, course_of, first_on},
-  inner.{Seen.{new_files, new_output, is_each_on, is_past_on, seen_target}, Sends.{Changes, Ends, Files, empties_by, ends_by, with_full, with_rest}},
+  inner.{
+    Seen.{new_files, new_output, is_each_on, is_past_on, seen_target},
+    Sends.{Changes, Ends, Files, empties_by, ends_by, with_full, with_rest},
+  },
 };
 
 use crate::files::write_bytes;

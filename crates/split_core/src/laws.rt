@@ -1,5 +1,7 @@
 //! Laws of the definitions, with no code: each stands on the contract of a function that does nothing.
-ghost use Rattle.std.specs.Prelude.{◌≡◌, ◌<◌, ◌≤◌, ◌+◌, ◌*◌, ◌++◌, ℕ, List, [], true, get_or, length, map, take, drop, All, false};
+ghost use Rattle.std.specs.Prelude.{
+  ◌≡◌, ◌<◌, ◌≤◌, ◌+◌, ◌*◌, ◌++◌, ℕ, List, [], true, get_or, length, map, take, drop, All, false,
+};
 ghost use Rattle.ports_core.specs.{
   Agreed.{ArePlaced, IsAgreed, IsUndecided},
   Draft.opening_line,
@@ -8,7 +10,11 @@ ghost use Rattle.ports_core.specs.{
   Work.Judges,
   declared.{slot.State.TheVariants.Closed, verdict.Verdict.TheVariants.Suffixes},
 };
-ghost use Rattle.seg_core.specs.{Line.{delimiters, joined, line_count, lines_of}, declared.cut.Limit.TheVariants.{Bytes, LineBytes, Lines}, Cut.{most, IsPositive}};
+ghost use Rattle.seg_core.specs.{
+  Line.{delimiters, joined, line_count, lines_of},
+  declared.cut.Limit.TheVariants.{Bytes, LineBytes, Lines},
+  Cut.{most, IsPositive},
+};
 ghost use Rattle.split_core.specs.{
   Parts.{cut_up, dealt, parts, round_robin, settled_rest, waiting_rest},
   Place.{beside_output, split_spots},

@@ -4,7 +4,11 @@
 ghost use Rattle.std.specs.Prelude.{◌≡◌, ◌+◌, ◌-◌, ◌++◌, ◌<◌, [], length, IfOk, IfErr, OnOk};
 ghost use Rattle.ports_core.specs.{FileWriter.new_writer, Turn.fault_in, declared.file_writer.Keeps.TheVariants.Open};
 ghost use Rattle.seg_core.specs.Cut.{most};
-ghost use Rattle.split_core.specs.{PartsState.{IsReady, Stands, parts_work, work}, Split.{TellsNoSizes, is_verbose}, inner.Takes.{Extends, Finishes, Steps, Takes, Turns}};
+ghost use Rattle.split_core.specs.{
+  PartsState.{IsReady, Stands, parts_work, work},
+  Split.{TellsNoSizes, is_verbose},
+  inner.Takes.{Extends, Finishes, Steps, Takes, Turns},
+};
 
 use crate::Limit;
 use crate::files::put_waiting;

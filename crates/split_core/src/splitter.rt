@@ -1,6 +1,12 @@
 //! The stage of `split`, for all ways to cut.
 ghost use Rattle.std.specs.Prelude.{◌≡◌, ◌^◌, ◌<◌, ◌≤◌, [], List, ℕ, length, IfOk, IfErr, IfSome, OnOk};
-ghost use Rattle.ports_core.specs.{Guard.HoldsIn, Part.{OutputsAt, StoppedBetween, nothing}, Slot.Slot, Engine.MayGet, Work.IsSpare};
+ghost use Rattle.ports_core.specs.{
+  Guard.HoldsIn,
+  Part.{OutputsAt, StoppedBetween, nothing},
+  Slot.Slot,
+  Engine.MayGet,
+  Work.IsSpare,
+};
 ghost use Rattle.split_core.specs.{
   Split.{TellsNoSizes, is_verbose},
   ChunkWork.{CanGive, CannotBegin, HasAllNames, work_by},

@@ -1,7 +1,15 @@
 -- Lemmas on copying: what the outputs have after a piece and at the end, and what is said of those that broke.
 use Rattle.std.{
-  proofs.lemmas.{Grind.common_steps, Bool.{cond_both, false≢true, Decides.nat_tests}, List.{append-nil, length-map, Folds.concat-append}},
-  proofs.Common.{◌≡◌, ℕ, ◌+◌, ◌<◌, zero, suc, List, [], ◌∷◌, ◌++◌, length, map, take, codes, get_or, set, Bor, Bool, true, false, if◌then◌else◌, refl, sym, ◌∙◌, ap, arith, append_assoc, ◌≤◌, Option, Some, None, inl, inr, length-append, append-nil},
+  proofs.lemmas.{
+    Grind.common_steps,
+    Bool.{cond_both, false≢true, Decides.nat_tests},
+    List.{append-nil, length-map, Folds.concat-append},
+  },
+  proofs.Common.{
+    ◌≡◌, ℕ, ◌+◌, ◌<◌, zero, suc, List, [], ◌∷◌, ◌++◌, length, map, take, codes, get_or, set, Bor, Bool, true, false,
+    if◌then◌else◌, refl, sym, ◌∙◌, ap, arith, append_assoc, ◌≤◌, Option, Some, None, inl, inr, length-append,
+    append-nil,
+  },
   proofs.Math.ListN.get_or-map,
   specs.List.concat,
 }
@@ -9,14 +17,26 @@ use Rattle.ports_core.specs.{
   Slot.{Slot, no_slot, slot_at, is_open, changed_at, opened, adds, breaks, told_of},
   Text.{Message, message_of},
   Message.{SaysOn, SaysAll},
-  declared.{calling.Calling.Calling, reason.Reason.Reason, fault.Fault.Fault, on_broken.OnBroken.OnBroken, slot.Mode.Mode},
+  declared.{
+    calling.Calling.Calling, reason.Reason.Reason, fault.Fault.Fault, on_broken.OnBroken.OnBroken, slot.Mode.Mode,
+  },
   Streams.{standard_output, standard_error},
 }
 use Rattle.ports_core.proofs.{MessageLemmas.{all_said_state, says_more, says_after}, Runs.adds_both}
 use Rattle.tee_core.specs.{
-  Run.{Break, EachFile, no_file, one_file, output_names, OutputLeft, output_whole, output_cut, fault_in, is_done, lost_for, said_in, said_before, FileLeft, file_whole, file_unopened, file_cut, file_unclosed, said_of_input, standing_before, standing_of, standings_before, tee_called, tells_in, stands_as},
-  inner.Steps.{HasStreams, SaysTo, said_since, standings_of, tells, Copies, FileHas, has_all, has_none, has_begun, IsTeeOf, HasCopied, output_slot},
-  Outputs.{ChangesEach, Gets, gets_all, breaks_off, gets_none, IsFile, IsOutput, IsReady, IsUsable, Closes, is_closed, fails_to_close, was_broken},
+  Run.{
+    Break, EachFile, no_file, one_file, output_names, OutputLeft, output_whole, output_cut, fault_in, is_done, lost_for,
+    said_in, said_before, FileLeft, file_whole, file_unopened, file_cut, file_unclosed, said_of_input, standing_before,
+    standing_of, standings_before, tee_called, tells_in, stands_as,
+  },
+  inner.Steps.{
+    HasStreams, SaysTo, said_since, standings_of, tells, Copies, FileHas, has_all, has_none, has_begun, IsTeeOf,
+    HasCopied, output_slot,
+  },
+  Outputs.{
+    ChangesEach, Gets, gets_all, breaks_off, gets_none, IsFile, IsOutput, IsReady, IsUsable, Closes, is_closed,
+    fails_to_close, was_broken,
+  },
   TeeState.TeeState,
   declared.standing.Standing.{Standing, TheVariants.{Sound, Broken, Gone}},
 }

@@ -1,7 +1,14 @@
 -- Lemmas on a run's start: files that are opened one after another, and the messages for those that could not be.
 use Rattle.std.{
-  proofs.lemmas.{Bool.{false≢true, Decides.nat_tests}, Grind.common_steps, List.{append-nil, get_or-append-add, get_or_append_left, length-map}},
-  proofs.Common.{◌≡◌, ℕ, ◌+◌, ◌-◌, ◌^◌, ◌<◌, ◌≤◌, zero, suc, List, [], ◌∷◌, ◌++◌, length, map, take, drop, get_or, Bor, true, inl, inr, refl, sym, ◌∙◌, ap, arith, append_assoc, length-append, replicate, Bool, false, Option, Some, None},
+  proofs.lemmas.{
+    Bool.{false≢true, Decides.nat_tests},
+    Grind.common_steps,
+    List.{append-nil, get_or-append-add, get_or_append_left, length-map},
+  },
+  proofs.Common.{
+    ◌≡◌, ℕ, ◌+◌, ◌-◌, ◌^◌, ◌<◌, ◌≤◌, zero, suc, List, [], ◌∷◌, ◌++◌, length, map, take, drop, get_or, Bor, true, inl,
+    inr, refl, sym, ◌∙◌, ap, arith, append_assoc, length-append, replicate, Bool, false, Option, Some, None,
+  },
   specs.List.list_any,
 }
 use Rattle.ports_core.{
@@ -12,13 +19,21 @@ use Rattle.ports_core.{
 }
 use Rattle.tee_core.specs.{
   Opening.{OpensAs, is_opened, is_unopened, OpensEach, no_more, one_more, Opens, OpensSome},
-  inner.{Opening.OpensOne, Steps.{Copies, FileHas, has_all, has_none, HasStreams, IsTeeOf, SaysTo, standings_of, said_since}},
+  inner.{
+    Opening.OpensOne,
+    Steps.{Copies, FileHas, has_all, has_none, HasStreams, IsTeeOf, SaysTo, standings_of, said_since},
+  },
   Outputs.{IsOutput, IsReady, IsUsable},
   TeeState.TeeState,
-  Run.{Break, EachFile, no_file, one_file, output_whole, ends_run, fault_in, is_done, output_names, standing_of, standings_before, stands_as},
+  Run.{
+    Break, EachFile, no_file, one_file, output_whole, ends_run, fault_in, is_done, output_names, standing_of,
+    standings_before, stands_as,
+  },
   declared.standing.Standing.{Standing, TheVariants.Sound},
 }
-use Rattle.tee_core.proofs.CopyLemmas.{AllMark, Marked, all_marked, break_now, marked_none, marked_now, none_marked, said_marked, stand_now, stand_so}
+use Rattle.tee_core.proofs.CopyLemmas.{
+  AllMark, Marked, all_marked, break_now, marked_none, marked_now, none_marked, said_marked, stand_now, stand_so,
+}
 use Rattle.ports_core.specs.declared.fault.Fault.TheVariants as fault
 
 -- one file

@@ -1,11 +1,19 @@
 -- Lemmas on opening a tool's engine.
 use Rattle.std.proofs.{
   lemmas.{Grind.common_steps, List.length-replicate, Bool.false≢true},
-  Common.{◌≡◌, ℕ, ◌-◌, ◌<◌, ◌≤◌, ◌^◌, zero, suc, Bool, true, false, IsTrue, if◌then◌else◌, List, [], length, Result, Ok, Err, IfOk, IfErr, IsErr, OnOk, refl, sym, ◌∙◌, ap, arith, Option, Some, None, option_map, replicate, inl, inr},
+  Common.{
+    ◌≡◌, ℕ, ◌-◌, ◌<◌, ◌≤◌, ◌^◌, zero, suc, Bool, true, false, IsTrue, if◌then◌else◌, List, [], length, Result, Ok, Err,
+    IfOk, IfErr, IsErr, OnOk, refl, sym, ◌∙◌, ap, arith, Option, Some, None, option_map, replicate, inl, inr,
+  },
 }
 use Rattle.ports_core.specs.{
   Slot.{Slot, is_writable},
-  declared.{calling.Calling.TheVariants.Cutters, fault.Fault.{Fault, TheVariants.{Memory, Write, Open, Verdict}}, verdict.Verdict.TheVariants.Suffixes, file_writer.Tells.Tells},
+  declared.{
+    calling.Calling.TheVariants.Cutters,
+    fault.Fault.{Fault, TheVariants.{Memory, Write, Open, Verdict}},
+    verdict.Verdict.TheVariants.Suffixes,
+    file_writer.Tells.Tells,
+  },
   Part.{OutputsAt, StoppedBetween, nothing, only_out},
   Work.{Work, Needs},
   Guard.{GuardState, HoldsIn},
@@ -15,12 +23,25 @@ use Rattle.ports_core.specs.{
   Swept.Swept,
   FileWriter.Breaks,
 }
-use Rattle.ports_core.proofs.{PartLemmas.{nothing_out, nothing_begins_part, stopped_here}, SlotSteps.{none_past, swept_none}, LoadLemmas.looked_none}
+use Rattle.ports_core.proofs.{
+  PartLemmas.{nothing_out, nothing_begins_part, stopped_here},
+  SlotSteps.{none_past, swept_none},
+  LoadLemmas.looked_none,
+}
 use Rattle.csplit_core.specs.{Output.manner_of, Csplit.csplit_work}
-use Rattle.seg_core.specs.declared.{cut.{Way.Way, Chunks.Chunks}, unit.Unit.{Unit as Counted, TheVariants.{Lines, Bytes}}}
+use Rattle.seg_core.specs.declared.{
+  cut.{Way.Way, Chunks.Chunks},
+  unit.Unit.{Unit as Counted, TheVariants.{Lines, Bytes}},
+}
 use Rattle.split_core.specs.{ChunkWork.{CannotBegin, way_work, work_by}, Split.{Filing, is_verbose, tells_by}}
 use Rattle.ends_core.{
-  specs.{Ends.{after_of, head_of, tail_of}, Head.head_work, Tail.tail_work, Shown.{head_in, head_shown, place_of, tail_in, tail_shown}, declared.ends.Ends.Ends},
+  specs.{
+    Ends.{after_of, head_of, tail_of},
+    Head.head_work,
+    Tail.tail_work,
+    Shown.{head_in, head_shown, place_of, tail_in, tail_shown},
+    declared.ends.Ends.Ends,
+  },
   proofs.KeptLemmas.first_of-nil,
 }
 use Rattle.run_core.specs.{Feeding.{Stops, call_of}, RunSteps.{IsShown, OnlyLooked, Opens, OpensShort}}

@@ -1,6 +1,9 @@
 -- Over the inputs that any run found there is a run that no fault stops.
 use Rattle.std.{
-  proofs.Common.{◌≡◌, ℕ, ◌+◌, ◌≤◌, ◌<◌, ◌^◌, suc, zero, Bool, true, false, ◌||◌, cond, List, [], ◌∷◌, ◌++◌, length, map, Option, Some, None, inl, inr, ◌⊎◌, refl, sym, ◌∙◌, ap, subst, arith, lit<, append_assoc, length-append},
+  proofs.Common.{
+    ◌≡◌, ℕ, ◌+◌, ◌≤◌, ◌<◌, ◌^◌, suc, zero, Bool, true, false, ◌||◌, cond, List, [], ◌∷◌, ◌++◌, length, map, Option,
+    Some, None, inl, inr, ◌⊎◌, refl, sym, ◌∙◌, ap, subst, arith, lit<, append_assoc, length-append,
+  },
   proofs.Math.Seq.get_or-append_seam,
   proofs.lemmas.{Bool.{cases_Bool, cases_lt, false≢true}, List.{length-map, Elements.All-map}},
   specs.List.concat,
@@ -14,17 +17,39 @@ use Rattle.ports_core.specs.{
   Streams.{standard_error, standard_output, streams_with},
   Swept.{Cleared, Swept},
   Work.{IsNeeded, Work},
-  declared.{fault.Fault.{Fault, TheVariants.Read}, slot.Mode.Mode, calling.{Calling.Calling, Speaker.Speaker}, reason.Reason.TheVariants.Other},
+  declared.{
+    fault.Fault.{Fault, TheVariants.Read},
+    slot.Mode.Mode,
+    calling.{Calling.Calling, Speaker.Speaker},
+    reason.Reason.TheVariants.Other,
+  },
   Text.{Message, line_of},
 }
 use Rattle.run_core.{
   proofs.FeedingLemmas.needed_within,
-  specs.{Input.{World, shown_of, input_of, inputs_at, inputs_from, is_dash, standard_input}, Reading.{AreDone, IsLeft}, RunEnds.{EndsAs, as_defined}, Task.{Task, made_by, status_of}},
+  specs.{
+    Input.{World, shown_of, input_of, inputs_at, inputs_from, is_dash, standard_input},
+    Reading.{AreDone, IsLeft},
+    RunEnds.{EndsAs, as_defined},
+    Task.{Task, made_by, status_of},
+  },
 }
-use Rattle.tee_core.{proofs.EndLemmas.{sound_goes_on, sound_status}, specs.Run.{Break, FilesLeft, tee_called, IsRead, LeavesOf, are_sound, said_of_input}}
-use Rattle.words_core.specs.{TeeWords.TeeAsked, Words.HasOperands, declared.settings.Settings.{Settings, TheVariants.{Head, Tail, Split, Csplit, Tee, About}}}
+use Rattle.tee_core.{
+  proofs.EndLemmas.{sound_goes_on, sound_status},
+  specs.Run.{Break, FilesLeft, tee_called, IsRead, LeavesOf, are_sound, said_of_input},
+}
+use Rattle.words_core.specs.{
+  TeeWords.TeeAsked,
+  Words.HasOperands,
+  declared.settings.Settings.{Settings, TheVariants.{Head, Tail, Split, Csplit, Tee, About}},
+}
 use Rattle.tools_core.{
-  specs.{About.text_whole, Outcome.DoesAsked, Promises.{Completes, FindAlike, HasLong, IsUnstopped, Ran, Run, Unstopped}, Tasks.{csplit_task, head_task, names_of, split_task, tail_task}},
+  specs.{
+    About.text_whole,
+    Outcome.DoesAsked,
+    Promises.{Completes, FindAlike, HasLong, IsUnstopped, Ran, Run, Unstopped},
+    Tasks.{csplit_task, head_task, names_of, split_task, tail_task},
+  },
   proofs.{SameLemmas.all_alike, LeftLemmas.{gone, met_by, outputs_of, quiet_outputs, slot_of}},
 }
 use Rattle.ports_core.specs.Swept as swept_so

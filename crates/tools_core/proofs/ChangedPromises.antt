@@ -1,16 +1,40 @@
 -- What `split` leaves of an input that gives fewer or more bytes than it showed before.
-use Rattle.std.proofs.Common.{◌≡◌, ℕ, ◌<◌, true, false, List, [], ◌∷◌, length, map, drop, Option, Some, None, is_some, refl, sym, ◌∙◌, ap, subst, append-nil}
-use Rattle.ports_core.specs.{Part.Part, Slot.{Slot, slot_at}, Source.Content, Work.Work, declared.{calling.Calling.TheVariants.Cutters, verdict.Verdict.{Verdict, TheVariants.Changed}}}
+use Rattle.std.proofs.Common.{
+  ◌≡◌, ℕ, ◌<◌, true, false, List, [], ◌∷◌, length, map, drop, Option, Some, None, is_some, refl, sym, ◌∙◌, ap, subst,
+  append-nil,
+}
+use Rattle.ports_core.specs.{
+  Part.Part,
+  Slot.{Slot, slot_at},
+  Source.Content,
+  Work.Work,
+  declared.{calling.Calling.TheVariants.Cutters, verdict.Verdict.{Verdict, TheVariants.Changed}},
+}
 use Rattle.seg_core.specs.{Line.joined as joined_texts, declared.cut.{Chunks.Chunks, Way.Way}}
 use Rattle.split_core.{
   specs.{ChunkWork.{ChunksPlan, HasAllNames, chunk_work, chunks_work, way_work}, Chunks.has_ended},
   proofs.{ChunkAgreedLemmas.whole_files, ChunkMadeLemmas.{changed_all, changed_alone, changed_told}},
 }
-use Rattle.run_core.specs.{Input.{Input, inputs_at}, Task.{Outcome, Task, joined, made_by, no_outcome, of_content, verdict_messages}}
-use Rattle.words_core.specs.{SplitWords.{CanSplit, IsInLimits, SplitAsked}, declared.settings.Settings.TheVariants.Split}
+use Rattle.run_core.specs.{
+  Input.{Input, inputs_at},
+  Task.{Outcome, Task, joined, made_by, no_outcome, of_content, verdict_messages},
+}
+use Rattle.words_core.specs.{
+  SplitWords.{CanSplit, IsInLimits, SplitAsked},
+  declared.settings.Settings.TheVariants.Split,
+}
 use Rattle.tools_core.{
-  specs.{Outcome.names_at, Promises.{Completes, GivesOther, IsChunkAsShown, IsCutAsShown, Run, TellsMet, contents_of, removes_files}, Tasks.{filing_of, naming_of, names_of, speaker_of, split_task}},
-  proofs.{BeginLemmas.all_have_names, LeftLemmas.{Fits, IsLeft, LeftBy, completes_left, left_says}, RunLemmas.can_run, SplitPromises.bytes_written},
+  specs.{
+    Outcome.names_at,
+    Promises.{Completes, GivesOther, IsChunkAsShown, IsCutAsShown, Run, TellsMet, contents_of, removes_files},
+    Tasks.{filing_of, naming_of, names_of, speaker_of, split_task},
+  },
+  proofs.{
+    BeginLemmas.all_have_names,
+    LeftLemmas.{Fits, IsLeft, LeftBy, completes_left, left_says},
+    RunLemmas.can_run,
+    SplitPromises.bytes_written,
+  },
 }
 use Rattle.seg_core.specs.declared.cut.Way.TheVariants as way
 

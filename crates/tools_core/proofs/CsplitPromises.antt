@@ -1,12 +1,22 @@
 -- What `csplit` leaves of its input.
 use Rattle.std.{
-  proofs.lemmas.{Grind.common_steps, Bool.{cond_both, false≢true, lt-ltb}, List.{append-nil, length-map, map-append, Elements.{All-append, All-cons, All-map, All-nil}}},
-  proofs.Common.{◌≡◌, ℕ, ◌+◌, drop, Bool, true, false, eqb, List, [], ◌∷◌, Option, Some, None, refl, ◌∙◌, ◌-◌, ◌<◌, ◌≤◌, ◌++◌, length, map, sym, ap, subst, arith, cond},
+  proofs.lemmas.{
+    Grind.common_steps,
+    Bool.{cond_both, false≢true, lt-ltb},
+    List.{append-nil, length-map, map-append, Elements.{All-append, All-cons, All-map, All-nil}},
+  },
+  proofs.Common.{
+    ◌≡◌, ℕ, ◌+◌, drop, Bool, true, false, eqb, List, [], ◌∷◌, Option, Some, None, refl, ◌∙◌, ◌-◌, ◌<◌, ◌≤◌, ◌++◌,
+    length, map, sym, ap, subst, arith, cond,
+  },
   specs.List.flat_map,
 }
 use Rattle.operand_core.specs.{
   declared.operand.{Operand.Operand, Target.{Target, TheVariants.{Number, Search}}, Times.{Times, TheVariants.Count}},
-  Reading.{Aim, line, match, Spelled, Aimed, aims, fails, Words, AreRead, Asks, IsTarget, aim_of, failed, least_after, no_more, times_by, with_operand, words_from, words_of},
+  Reading.{
+    Aim, line, match, Spelled, Aimed, aims, fails, Words, AreRead, Asks, IsTarget, aim_of, failed, least_after, no_more,
+    times_by, with_operand, words_from, words_of,
+  },
   Word.{Spelling, number, search, spelling, closed_at, repeated, numbered},
   Style.Style,
 }
@@ -15,22 +25,39 @@ use Rattle.csplit_core.specs.{
   Csplit.verdict_of,
   Input.{all_lines, marked, newline},
   Output.{file_in, manner_of, naming_of, shares_in, state_in},
-  Plan.{State, start, line_after, operands_after, step_of, Step, Ending, below, Runs, is_used_up, misses, is_above, is_below, cuts},
+  Plan.{
+    State, start, line_after, operands_after, step_of, Step, Ending, below, Runs, is_used_up, misses, is_above,
+    is_below, cuts,
+  },
   Planned.plan,
   Section.{Section, section_of, bytes_of, is_final, is_last_kept, lines_between, lines_in, whole_sections},
   laws.{PlanLaws.plan_runs, SectionLaws.{are_within, bytes-append}},
 }
 use Rattle.csplit_core.proofs.WholeLemmas.{ends_after_all, none_lost_at_end, between_rest, rest_is_all}
 use Rattle.tools_core.{
-  specs.{Promises.{SkipNothing, skips, Run, Does, HasInput, AreNumbered, AreSections, IsSound, contents_of, files_of, in_turn, last_section, left_out, text_at}, Tasks.csplit_task},
-  proofs.{SplitPromises.{formatted_in_order, AreNamed, bytes_written, named_step}, LeftLemmas.{each_made, each_section, slot_of}, PromiseLemmas.{did_one, one_made}},
+  specs.{
+    Promises.{
+      SkipNothing, skips, Run, Does, HasInput, AreNumbered, AreSections, IsSound, contents_of, files_of, in_turn,
+      last_section, left_out, text_at,
+    },
+    Tasks.csplit_task,
+  },
+  proofs.{
+    SplitPromises.{formatted_in_order, AreNamed, bytes_written, named_step},
+    LeftLemmas.{each_made, each_section, slot_of},
+    PromiseLemmas.{did_one, one_made},
+  },
 }
 use Rattle.seg_core.{specs.Line.{joined, lines_of}, proofs.{FirstLines.joined-append, LinesOf.joined-lines_of}}
 use Rattle.ports_core.specs.{
   Name.name_at,
   Part.File,
   Slot.Slot,
-  declared.{slot.Mode.TheVariants.Fresh, file_writer.Opening.TheVariants.{Never, Late, AtOnce}, calling.Calling.TheVariants.Cutters},
+  declared.{
+    slot.Mode.TheVariants.Fresh,
+    file_writer.Opening.TheVariants.{Never, Late, AtOnce},
+    calling.Calling.TheVariants.Cutters,
+  },
   Draft.{Share, share, file_at, files_from, made_of},
 }
 use Rattle.ports_core.proofs.OrderLemmas.{no_two}

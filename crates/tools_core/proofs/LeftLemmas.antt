@@ -1,8 +1,16 @@
 -- What is true of the outcome of any inputs: which messages it has, and that its files are live; and what a run leaves that no fault
 -- stopped: just what its inputs make, but for files that were to be removed.
 use Rattle.std.proofs.{
-  lemmas.{Grind.common_steps, Bool.{and_parts, false≢true, not-false, or_cases, or_left, or_parts, or_right, cases_Bool}, List.Elements.{All-append, All-cons, All-head, All-map, All-nil, All-tail}},
-  Common.{◌≡◌, ℕ, ◌+◌, ◌<◌, zero, suc, Bool, true, false, ◌&&◌, cond, is_some, List, [], ◌∷◌, ◌++◌, length, map, Option, Some, None, inl, inr, ◌⊎◌, refl, sym, ◌∙◌, ap, arith, append_assoc, append-nil, not, subst, All, rules, ◌≤◌, ◌^◌, is_none, Ok, codes, length-append, option_map},
+  lemmas.{
+    Grind.common_steps,
+    Bool.{and_parts, false≢true, not-false, or_cases, or_left, or_parts, or_right, cases_Bool},
+    List.Elements.{All-append, All-cons, All-head, All-map, All-nil, All-tail},
+  },
+  Common.{
+    ◌≡◌, ℕ, ◌+◌, ◌<◌, zero, suc, Bool, true, false, ◌&&◌, cond, is_some, List, [], ◌∷◌, ◌++◌, length, map, Option, Some,
+    None, inl, inr, ◌⊎◌, refl, sym, ◌∙◌, ap, arith, append_assoc, append-nil, not, subst, All, rules, ◌≤◌, ◌^◌, is_none,
+    Ok, codes, length-append, option_map,
+  },
 }
 use Rattle.ports_core.specs.{
   Slot.{Slot, adds, has_file, slot_at, closes, opened, removes},
@@ -23,7 +31,10 @@ use Rattle.ports_core.specs.{
   Message.SaysAll,
   Swept.{Cleared, Swept},
 }
-use Rattle.seg_core.specs.declared.{cut.{Cut.{Cut, TheVariants.{Parts, Round}}, Way.Way, Limit.Limit}, unit.Unit.Unit as Counted}
+use Rattle.seg_core.specs.declared.{
+  cut.{Cut.{Cut, TheVariants.{Parts, Round}}, Way.Way, Limit.Limit},
+  unit.Unit.Unit as Counted,
+}
 use Rattle.split_core.specs.{
   ChunkWork.{ChunksPlan, chunks_work, draft_by, way_work},
   Chunks.decided,
@@ -33,12 +44,18 @@ use Rattle.split_core.specs.{
 use Rattle.ends_core.specs.Shown.{head_in, tail_in}
 use Rattle.tools_core.{
   proofs.SameLemmas.{all_made_alike, head_knows, tail_knows, way_knows},
-  specs.Promises.{AllAlike, AreAlike, GivesBytes, are_same, give_same, SaysLines, Completes, FindAlike, IsCopied, IsFound, IsGone, IsTask, IsUnstopped, LeaveAlike, Ran, Run, TellsMet, Unstopped, broken_off, failing, judged, missing, removes_files},
+  specs.Promises.{
+    AllAlike, AreAlike, GivesBytes, are_same, give_same, SaysLines, Completes, FindAlike, IsCopied, IsFound, IsGone,
+    IsTask, IsUnstopped, LeaveAlike, Ran, Run, TellsMet, Unstopped, broken_off, failing, judged, missing, removes_files,
+  },
   specs.About.{TellsText, no_text, text_cut, text_whole},
   specs.Outcome.{DoesAsked, RefusesOperands},
   specs.Tasks.{csplit_task, filing_of, head_task, is_minus, is_plus, names_of, speaker_of, split_task, tail_task, by},
 }
-use Rattle.operand_core.{specs.{Style.Style, declared.operand.Operand.Operand, Reading.Asks}, proofs.ReadingLemmas.asks_once}
+use Rattle.operand_core.{
+  specs.{Style.Style, declared.operand.Operand.Operand, Reading.Asks},
+  proofs.ReadingLemmas.asks_once,
+}
 use Rattle.csplit_core.specs.{
   Csplit.csplit_work,
   Output.{file_in, manner_of, shares_in, state_in},
@@ -50,14 +67,22 @@ use Rattle.run_core.specs.{
   Feeding.{IsCall, Step, closes as ends_call, feeds, is_enough, opens},
   Input.{Input, inputs_at, standard_input},
   RunEnds.{RunStep, calling as call_step, heading, unheaded, unopened, EndsAs, as_defined},
-  Task.{Outcome, Task, after_part, header_text, is_missing, joined, of_content, of_input, of_inputs, verdict_messages, made_by, status_of},
+  Task.{
+    Outcome, Task, after_part, header_text, is_missing, joined, of_content, of_input, of_inputs, verdict_messages,
+    made_by, status_of,
+  },
 }
 use Rattle.run_core.proofs.StopLemmas.{beside_error, swept_error}
 use Rattle.tee_core.{
   specs.Run.{Break, IsRead, are_sound, tee_called, messages_of, said_of_input},
   proofs.EndLemmas.{nothing_before, nothing_in, sound_first, sound_goes_on, sound_status, whole_files, whole_output},
 }
-use Rattle.words_core.specs.{TeeWords.TeeAsked, Words.settings_of, declared.settings.Settings.{Settings, TheVariants.{Head, Tail, Split, Csplit, Tee, About}}, Help.text_about}
+use Rattle.words_core.specs.{
+  TeeWords.TeeAsked,
+  Words.settings_of,
+  declared.settings.Settings.{Settings, TheVariants.{Head, Tail, Split, Csplit, Tee, About}},
+  Help.text_about,
+}
 use Rattle.ports_core.specs.Draft as made
 use Rattle.ports_core.specs.declared.fault.Fault.TheVariants as fault_is
 use Rattle.seg_core.specs.declared.cut.Way.TheVariants as way

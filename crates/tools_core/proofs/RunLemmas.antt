@@ -1,7 +1,10 @@
 -- How a run ends, by its words.
 use Rattle.std.{
   specs.Option.unwrap_or,
-  proofs.Common.{◌≡◌, ℕ, List, [], ◌∷◌, Option, Some, None, option_map, Result, Ok, Err, refl, sym, ◌∙◌, ap, subst, Bool, true, false, length, map, Bor, inl, inr, codes, arith, max},
+  proofs.Common.{
+    ◌≡◌, ℕ, List, [], ◌∷◌, Option, Some, None, option_map, Result, Ok, Err, refl, sym, ◌∙◌, ap, subst, Bool, true,
+    false, length, map, Bor, inl, inr, codes, arith, max,
+  },
   proofs.lemmas.Bool.false≢true,
 }
 use Rattle.ports_core.specs.{
@@ -18,7 +21,11 @@ use Rattle.ports_core.specs.{
   Streams.standard_error,
 }
 use Rattle.words_core.specs.{
-  declared.{settings.{Settings.{Settings, TheVariants.{Head, Tail, Split, Csplit, Tee, About}}, Topic.Topic, Headers.Headers}, tail_words.TailSettings.TailSettings, value.Followed.Followed},
+  declared.{
+    settings.{Settings.{Settings, TheVariants.{Head, Tail, Split, Csplit, Tee, About}}, Topic.Topic, Headers.Headers},
+    tail_words.TailSettings.TailSettings,
+    value.Followed.Followed,
+  },
   CsplitWords.{HasBadOperand, csplit_asked, CsplitAsked},
   EndsWords.{ends_asked, EndsAsked},
   SplitWords.split_asked,
@@ -28,7 +35,10 @@ use Rattle.words_core.specs.{
   Spelling.{given_by, IsRefused},
   Value.then_check,
   Table.{ToolRow, row_named, tools},
-  Words.{about_or, topic_in, work_for, program_asked, settings_for, settings_of, tool_settings, topic_named, CanRun, HasBadOperands, looks},
+  Words.{
+    about_or, topic_in, work_for, program_asked, settings_for, settings_of, tool_settings, topic_named, CanRun,
+    HasBadOperands, looks,
+  },
 }
 use Rattle.words_core.proofs.LimitLemmas.{read-can}
 use Rattle.follow_core.{proofs.LookedLemmas.{ends_by, most_made}, specs.Ending.{no_room as no_room_yet, shows_by}}
@@ -39,7 +49,10 @@ use Rattle.tools_core.specs.{
   Following.{FollowingEnds, FollowingEndsAt, FollowsTail, is_name},
   Program.{ProgramEnds, ProgramEndsAt, looks_at},
 }
-use Rattle.run_core.{specs.{Input.{Finds, standard_input}, RunEnds.{no_room, RunsOver}, RunSteps.world_of}, proofs.InputLemmas.none_touched}
+use Rattle.run_core.{
+  specs.{Input.{Finds, standard_input}, RunEnds.{no_room, RunsOver}, RunSteps.world_of},
+  proofs.InputLemmas.none_touched,
+}
 use Rattle.seg_core.specs.declared.{count.Count.Count, unit.Unit.Unit as Counted}
 use Rattle.tee_core.specs.Run.{AreSound, IsAsFound, all_copied, forgives, EndsAs as TeeCopies}
 use Rattle.operand_core.specs.Reading.{no_memory}

@@ -2,11 +2,18 @@
 use Rattle.std.proofs.{
   lemmas.Grind.common_steps,
   lemmas.Bool.{cases_lt, cond_both, false≢true, lt-ltb, ltb-false, ltb-true},
-  lemmas.List.{get_or_append_left, length-map, length-take, length-take-le, length-drop, get_or-take, get_or_past, take-append-drop, take-append-le, take_all},
+  lemmas.List.{
+    get_or_append_left, length-map, length-take, length-take-le, length-drop, get_or-take, get_or_past,
+    take-append-drop, take-append-le, take_all,
+  },
   lemmas.List.FromFn.{get_or-map-range_with_len, length-map-range_with_len},
   lemmas.List.Elements.{All-cons, All-map, All-nil},
   lemmas.Nat.mod_below,
-  Common.{◌≡◌, ℕ, ◌+◌, ◌-◌, ◌/◌, ◌%◌, ◌^◌, ◌<◌, ◌≤◌, zero, suc, List, [], ◌∷◌, ◌++◌, length, inl, inr, refl, sym, ◌∙◌, ap, arith, append_assoc, length-append, Less, nat_cmp, append-nil, div-add-mod', rules, ◌*◌, min, Bool, true, false, IsTrue, not, cond, map, take, drop, subst, filter, get_or, Some, None, All, suc-mul},
+  Common.{
+    ◌≡◌, ℕ, ◌+◌, ◌-◌, ◌/◌, ◌%◌, ◌^◌, ◌<◌, ◌≤◌, zero, suc, List, [], ◌∷◌, ◌++◌, length, inl, inr, refl, sym, ◌∙◌, ap,
+    arith, append_assoc, length-append, Less, nat_cmp, append-nil, div-add-mod', rules, ◌*◌, min, Bool, true, false,
+    IsTrue, not, cond, map, take, drop, subst, filter, get_or, Some, None, All, suc-mul,
+  },
   Math.Seq.{take-append_seam, drop-append_seam, take-append-add},
 }
 use Rattle.std.specs.{Cmp.Lexicographic.slice_cmp, List.{flat_map, range_with_len}, Prelude.{Option, nat_lt}}
@@ -23,9 +30,18 @@ use Rattle.ports_core.specs.{
 }
 use Rattle.ports_core.proofs.OrderLemmas.{in_order}
 use Rattle.tools_core.{
-  specs.Promises.{AreChunks, AreEven, AreInOrder, KeepLines, Splits, makes_files, text_at, Run, Does, HasInput, AreListed, ArePieces, AreLinePieces, AreUncut, AreDealt, EndsLine, IsFilled, IsSound, contents_of, files_of, lines_telling, output_of},
+  specs.Promises.{
+    AreChunks, AreEven, AreInOrder, KeepLines, Splits, makes_files, text_at, Run, Does, HasInput, AreListed, ArePieces,
+    AreLinePieces, AreUncut, AreDealt, EndsLine, IsFilled, IsSound, contents_of, files_of, lines_telling, output_of,
+  },
   specs.Tasks.{filing_of, naming_of, split_task},
-  proofs.{SameLemmas.way_knows, BeginLemmas.all_have_names, RunLemmas.can_run, LeftLemmas.{named_each, slot_of, slots_of}, PromiseLemmas.{DidOne, IsMade, did_one, one_made}},
+  proofs.{
+    SameLemmas.way_knows,
+    BeginLemmas.all_have_names,
+    RunLemmas.can_run,
+    LeftLemmas.{named_each, slot_of, slots_of},
+    PromiseLemmas.{DidOne, IsMade, did_one, one_made},
+  },
 }
 use Rattle.seg_core.specs.{
   Line.{joined, lines_of, line_count, delimiters, ends_with, first_lines, after_lines},
@@ -35,14 +51,22 @@ use Rattle.seg_core.proofs.{
   Delimiters.{delimiters-append, delimiters-le-length},
   LastLines.first_lines-whole,
   LinesOf.joined-lines_of,
-  FirstLines.{delimiters-first_lines, first_lines-append, first_lines-full, first_lines-more, first_lines-short, length-first_lines-le, lines_of-first_lines, lines_of-after_lines},
+  FirstLines.{
+    delimiters-first_lines, first_lines-append, first_lines-full, first_lines-more, first_lines-short,
+    length-first_lines-le, lines_of-first_lines, lines_of-after_lines,
+  },
   LineCounts.{line_count-open, line_count_near},
 }
 use Rattle.run_core.specs.Task.{after_part}
 use Rattle.split_core.specs.{
   Chunks.{chunks_in, chunks_of, in_the_end, size_by},
   ChunkWork.{files_by, kept, piece_at, way_work},
-  laws.{ChunkLaws.{map_same, rest_none}, CutLaws.{whole_of_lines, whole_of_none}, DealLaws.share_none, ChunkWorkLaws.length-kept},
+  laws.{
+    ChunkLaws.{map_same, rest_none},
+    CutLaws.{whole_of_lines, whole_of_none},
+    DealLaws.share_none,
+    ChunkWorkLaws.length-kept,
+  },
   Parts.{parts, round_robin, whole_lines},
   Sections.AreLineByteParts,
   inner.{CutLaws.named, Sharing.file_at, Dealt.share_of},
@@ -53,10 +77,16 @@ use Rattle.split_core.proofs.{
   CutLaws.{first_then_after, bytes_of_shares},
   AgreedLemmas.{bytes_named, each_named},
   RoundLemmas.{joined_files, named_fewer, named_at},
-  SectionLemmas.{line_at, all_dealt, first_files, joined_parts, part_lines, part_bytes, lines_count, bytes_count, line_bytes_are_parts, line_bytes_once, line_bytes_within},
+  SectionLemmas.{
+    line_at, all_dealt, first_files, joined_parts, part_lines, part_bytes, lines_count, bytes_count,
+    line_bytes_are_parts, line_bytes_once, line_bytes_within,
+  },
   ChunkAgreedLemmas.joined-kept,
 }
-use Rattle.words_core.specs.{declared.settings.Settings.TheVariants.Split, SplitWords.{SplitAsked, AreNamed as HasNumbers, CanSplit, IsInLimits}}
+use Rattle.words_core.specs.{
+  declared.settings.Settings.TheVariants.Split,
+  SplitWords.{SplitAsked, AreNamed as HasNumbers, CanSplit, IsInLimits},
+}
 use Rattle.seg_core.specs.declared.cut.Way.TheVariants as way
 use Rattle.seg_core.specs.declared.cut.Limit.TheVariants as limit
 use Rattle.split_core.specs.Sections as piece

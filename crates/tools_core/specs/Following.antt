@@ -1,11 +1,18 @@
 -- What a run of `tail` leaves that follows its files, by its words: POSIX.1-2017, XCU tail, `-f`; names that are
 -- followed are GNU's.
 use Rattle.std.specs.Prelude.{◌≡◌, ℕ, max, Bool, true, false, List, [], Option, Some, None, Result, Ok, Err, ◌⊎◌}
-use Rattle.ports_core.specs.{Slot.{Slot, streams}, declared.{calling.Calling.Calling, fault.{Fault.{Fault, TheVariants.Usage}, UsageKind.TheVariants.BadFollow}}}
+use Rattle.ports_core.specs.{
+  Slot.{Slot, streams},
+  declared.{calling.Calling.Calling, fault.{Fault.{Fault, TheVariants.Usage}, UsageKind.TheVariants.BadFollow}},
+}
 use Rattle.watch_core.specs.{Snapshot.{Snapshot, waiting}, Watched.Watched}
 use Rattle.follow_core.specs.{declared.start.Start.Start, Ending.{FollowEndsBy, shows_by}, Look.ways_of}
 use Rattle.words_core.specs.{
-  declared.{settings.Settings.{Settings, TheVariants.Tail}, tail_words.TailSettings.TailSettings, value.Followed.{Followed, TheVariants.{Descriptor, Name}}},
+  declared.{
+    settings.Settings.{Settings, TheVariants.Tail},
+    tail_words.TailSettings.TailSettings,
+    value.Followed.{Followed, TheVariants.{Descriptor, Name}},
+  },
   EndsWords.EndsAsked,
   Words.{HasOperands, settings_of},
 }

@@ -1,11 +1,18 @@
 -- What a whole run does, by its words.
-use Rattle.std.specs.{Option.unwrap_or, Prelude.{◌≡◌, ℕ, Bool, true, List, [], ◌∷◌, Result, Ok, Err, ◌⊎◌, slice_index_or}}
+use Rattle.std.specs.{
+  Option.unwrap_or,
+  Prelude.{◌≡◌, ℕ, Bool, true, List, [], ◌∷◌, Result, Ok, Err, ◌⊎◌, slice_index_or},
+}
 use Rattle.ports_core.specs.{
   Slot.Slot,
   Source.{Content, Source, source_at},
   Text.message_of,
   Message.Says,
-  declared.{calling.{Calling.{Calling, TheVariants.Cutters}, Speaker.Speaker}, tool.Tool.Tool, fault.Fault.{Fault, TheVariants.Usage}},
+  declared.{
+    calling.{Calling.{Calling, TheVariants.Cutters}, Speaker.Speaker},
+    tool.Tool.Tool,
+    fault.Fault.{Fault, TheVariants.Usage},
+  },
   Inputs.CameFrom,
   Streams.{standard_error, streams_with},
 }

@@ -1,6 +1,10 @@
 -- How a run of the program ends: it follows files, or it runs a tool over its inputs.
 use Rattle.std.specs.Prelude.{◌≡◌, ℕ, Bool, false, List, [], Option, Some, None, Result, Ok, Err, ◌⊎◌, if◌then◌else◌}
-use Rattle.ports_core.specs.{Slot.Slot, Source.{Content, Source}, declared.{calling.Calling.Calling, fault.Fault.{Fault, TheVariants.Memory}}}
+use Rattle.ports_core.specs.{
+  Slot.Slot,
+  Source.{Content, Source},
+  declared.{calling.Calling.Calling, fault.Fault.{Fault, TheVariants.Memory}},
+}
 use Rattle.run_core.specs.{RunEnds.RunsOver, RunSteps.world_of}
 use Rattle.watch_core.specs.{DirWatchState.any_files, Snapshot.Snapshot, Watched.Watched}
 use Rattle.words_core.specs.{declared.settings.Settings.Settings, Words.{follows, looks, settings_of}}

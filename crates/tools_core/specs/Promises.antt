@@ -1,13 +1,19 @@
 -- What people rest on, in a manual's words: what a run leaves, over inputs and outputs that tell their bytes, as those
 -- in memory do.
 use Rattle.std.specs.{
-  Prelude.{◌≡◌, ℕ, ◌+◌, ◌^◌, ◌/◌, ◌%◌, ◌<◌, ◌≤◌, ◌==◌, suc, nat_lt, Bool, true, false, not, List, [], ◌∷◌, ◌++◌, length, map, take, drop, All, slice_index_or, ◌⊎◌, Option, Some, None, Ok, if◌then◌else◌},
+  Prelude.{
+    ◌≡◌, ℕ, ◌+◌, ◌^◌, ◌/◌, ◌%◌, ◌<◌, ◌≤◌, ◌==◌, suc, nat_lt, Bool, true, false, not, List, [], ◌∷◌, ◌++◌, length, map,
+    take, drop, All, slice_index_or, ◌⊎◌, Option, Some, None, Ok, if◌then◌else◌,
+  },
   List.{concat, flat_map},
   declared.cmp.Ordering.TheVariants.Less,
   Ordering.nat_cmp,
   Cmp.Lexicographic.slice_cmp,
 }
-use Rattle.seg_core.specs.{Line.{delimiters, ends_with, first_lines, joined, line_count, lines_of}, declared.{count.Sign.Sign, unit.Unit.TheVariants.Lines, cut.{Way.Way, Chunks.Chunks}}}
+use Rattle.seg_core.specs.{
+  Line.{delimiters, ends_with, first_lines, joined, line_count, lines_of},
+  declared.{count.Sign.Sign, unit.Unit.TheVariants.Lines, cut.{Way.Way, Chunks.Chunks}},
+}
 use Rattle.ports_core.specs.{
   Draft.opening_line,
   Inputs.largest_piece,
@@ -34,7 +40,12 @@ use Rattle.csplit_core.specs.{
   Planned.{Plan, plan},
   Section.{lines_between, section_of, whole_end, whole_sections},
 }
-use Rattle.run_core.specs.{Feeding.is_enough, Input.{Input, World, inputs_at, is_dash}, RunEnds.{EndsAs, RunsOver, as_defined, no_room, stopped}, Task.Task}
+use Rattle.run_core.specs.{
+  Feeding.is_enough,
+  Input.{Input, World, inputs_at, is_dash},
+  RunEnds.{EndsAs, RunsOver, as_defined, no_room, stopped},
+  Task.Task,
+}
 use Rattle.tee_core.specs.{
   Run.{AreSound, EndsAs as TeeCopies, are_sound, copied, ends_run, forgives, is_quiet, no_room as no_memory, stands_as},
   declared.standing.Standing.{Standing, TheVariants.Sound},

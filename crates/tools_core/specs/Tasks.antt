@@ -1,10 +1,19 @@
 -- What each tool does with its inputs, where words ask for it: POSIX.1-2017, XCU head, tail, split and csplit; several
 -- files for tail, headers and their options, bytes, and all but the last are GNU's, and so is what split does where an
 -- input breaks off.
-use Rattle.std.specs.{Option.unwrap_or, Prelude.{ℕ, ◌&&◌, nat_lt, is_none, Bool, true, false, not, List, [], ◌∷◌, length, slice_index_or, codes, Option, option_map}}
+use Rattle.std.specs.{
+  Option.unwrap_or,
+  Prelude.{
+    ℕ, ◌&&◌, nat_lt, is_none, Bool, true, false, not, List, [], ◌∷◌, length, slice_index_or, codes, Option, option_map,
+  },
+}
 use Rattle.ports_core.specs.{
   Name.{Naming, numbering_of},
-  declared.{verdict.Verdict.{Verdict, TheVariants.{Changed, NoMatch, Range}}, calling.{Calling.Calling, Speaker.Speaker}, tool.Tool.Tool},
+  declared.{
+    verdict.Verdict.{Verdict, TheVariants.{Changed, NoMatch, Range}},
+    calling.{Calling.Calling, Speaker.Speaker},
+    tool.Tool.Tool,
+  },
   Work.Needs,
 }
 use Rattle.seg_core.specs.declared.count.Sign.{Sign, TheVariants.{Minus, Plus}}
@@ -14,7 +23,10 @@ use Rattle.csplit_core.specs.Csplit.{csplit_work}
 use Rattle.operand_core.specs.declared.operand.Operand.{Operand}
 use Rattle.run_core.specs.Task.{Task}
 use Rattle.words_core.specs.{
-  declared.settings.{Headers.{Headers, TheVariants.{ForSeveral, Never, Always}}, Settings.{Settings, TheVariants.{Head, Tail, Split, Csplit, Tee, About}}},
+  declared.settings.{
+    Headers.{Headers, TheVariants.{ForSeveral, Never, Always}},
+    Settings.{Settings, TheVariants.{Head, Tail, Split, Csplit, Tee, About}},
+  },
   CsplitWords.CsplitAsked,
   EndsWords.EndsAsked,
   SplitWords.SplitAsked,

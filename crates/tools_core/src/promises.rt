@@ -1,20 +1,37 @@
 //! What people rest on, as laws of runs, with no code: each stands on the contract of a function whose body is empty. They
 //! speak of runs over inputs and outputs that tell their bytes, as those in memory do, and of what `run` and `run_follow` ensure of
 //! each; where nothing else is said, of runs whose status is 0. Of which runs of the program they speak, says `program_makes_these_runs`.
-ghost use Rattle.std.specs.{Prelude.{◌≡◌, ◌<◌, ◌^◌, ◌⊎◌, ◌+◌, ◌*◌, ◌++◌, ◌∷◌, [], ℕ, List, Ok, true, false, length, map, if◌then◌else◌}, List.{flat_map, range_with_len}};
+ghost use Rattle.std.specs.{
+  Prelude.{◌≡◌, ◌<◌, ◌^◌, ◌⊎◌, ◌+◌, ◌*◌, ◌++◌, ◌∷◌, [], ℕ, List, Ok, true, false, length, map, if◌then◌else◌},
+  List.{flat_map, range_with_len},
+};
 ghost use Rattle.ends_core.specs.Ends.{tail_of};
 ghost use Rattle.follow_core.specs.{Run.{AreKept, name_text}, Version.entries_of};
 ghost use Rattle.ports_core.specs.{Slot.slot_at, Source.source_of};
 ghost use Rattle.seg_core.specs.{
   Line.{joined, line_count, lines_of},
-  declared.{count.Sign.TheVariants.{Minus, Plain, Plus}, cut.{Cut.TheVariants.{Parts, Round}, Limit.TheVariants.{Bytes, LineBytes, Lines}, Way.TheVariants.Cut, Chunks.Chunks}},
+  declared.{
+    count.Sign.TheVariants.{Minus, Plain, Plus},
+    cut.{
+      Cut.TheVariants.{Parts, Round},
+      Limit.TheVariants.{Bytes, LineBytes, Lines},
+      Way.TheVariants.Cut,
+      Chunks.Chunks,
+    },
+  },
 };
 ghost use Rattle.run_core.specs.Input.{Input};
 ghost use Rattle.split_core.specs.Chunks.{chunks_in};
 ghost use Rattle.operand_core.specs.{Reading.Asks, declared.operand.Operand.Operand};
 ghost use Rattle.tools_core.specs.{
   Following.is_name,
-  Promises.{AreChunks, AreCopies, AreDealt, AreEven, AreLinePieces, AreListed, AreNumbered, ArePieces, AreSections, AreUncut, BeginInChunks, BeginsEach, Completes, CountAlike, Does, AsksToFollow, EndsWithBreak, FindAlike, Follows, GivesOther, HasInput, HasLong, IsBare, IsChunkAsShown, IsCutAsShown, IsHead, IsOfProgram, IsSilent, IsStopped, IsTail, KeepLines, SaysWhy, LeaveAlike, OnlyGrows, Ran, Run, SkipNothing, Splits, WhyBroken, contents_of, files_of, lines_telling, makes_files, output_of, showing, text_at},
+  Promises.{
+    AreChunks, AreCopies, AreDealt, AreEven, AreLinePieces, AreListed, AreNumbered, ArePieces, AreSections, AreUncut,
+    BeginInChunks, BeginsEach, Completes, CountAlike, Does, AsksToFollow, EndsWithBreak, FindAlike, Follows, GivesOther,
+    HasInput, HasLong, IsBare, IsChunkAsShown, IsCutAsShown, IsHead, IsOfProgram, IsSilent, IsStopped, IsTail,
+    KeepLines, SaysWhy, LeaveAlike, OnlyGrows, Ran, Run, SkipNothing, Splits, WhyBroken, contents_of, files_of,
+    lines_telling, makes_files, output_of, showing, text_at,
+  },
   Tasks.is_plus,
 };
 ghost use Rattle.words_core.specs.{

@@ -2,7 +2,10 @@
 ghost use Rattle.std.specs.Prelude.{◌≡◌, ◌≤◌, [], false, length, map};
 ghost use Rattle.ports_core.specs.{Slot.streams, Source.{source_at, IsFresh}, Inputs.{AsksAtMost, largest_piece}};
 ghost use Rattle.run_core.specs.{Input.has_dash, Reading.count_after, RunEnds.RunsOver, RunSteps.world_of};
-ghost use Rattle.tools_core.specs.{Outcome.{DoesAsked, RefusesFor, RunEnds, names_read, refuser, speaker, word_of}, Tasks.{by, names_of}};
+ghost use Rattle.tools_core.specs.{
+  Outcome.{DoesAsked, RefusesFor, RunEnds, names_read, refuser, speaker, word_of},
+  Tasks.{by, names_of},
+};
 ghost use Rattle.words_core.specs.Words.{CanRun};
 
 use crate::about::tell_about;

@@ -1,8 +1,15 @@
 -- A watch over real files, where one of its names changes.
-use Rattle.std.proofs.{Common.{◌≡◌, ℕ, zero, suc, refl, replicate, Bool, true, false, IsTrue, List, ap, subst, get_or, set, is_some}, lemmas.Bool.false≢true}
+use Rattle.std.proofs.{
+  Common.{◌≡◌, ℕ, zero, suc, refl, replicate, Bool, true, false, IsTrue, List, ap, subst, get_or, set, is_some},
+  lemmas.Bool.false≢true,
+}
 use Rattle.ports_core.specs.Slot.{changed_at}
 use Rattle.watch_core.{
-  specs.{DirWatchState.{files_by, DirWatchState, seen}, Snapshot.{Snapshot, Finding, Found, latest, opens_as}, Watched.{Watched, Reopens, watched_at, is_watchable, opens}},
+  specs.{
+    DirWatchState.{files_by, DirWatchState, seen},
+    Snapshot.{Snapshot, Finding, Found, latest, opens_as},
+    Watched.{Watched, Reopens, watched_at, is_watchable, opens},
+  },
   proofs.NameLemmas.{name_changes, names_within},
 }
 

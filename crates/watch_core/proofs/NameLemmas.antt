@@ -1,10 +1,17 @@
 -- The names that are watched, where one of them changes.
 use Rattle.std.proofs.{
-  Common.{◌≡◌, ℕ, ◌<◌, zero, suc, Bool, true, false, ◌&&◌, IsTrue, List, [], ◌∷◌, ◌++◌, length, refl, sym, ◌∙◌, ap, subst, arith, get_or, set, is_some, Option},
+  Common.{
+    ◌≡◌, ℕ, ◌<◌, zero, suc, Bool, true, false, ◌&&◌, IsTrue, List, [], ◌∷◌, ◌++◌, length, refl, sym, ◌∙◌, ap, subst,
+    arith, get_or, set, is_some, Option,
+  },
   lemmas.Bool.false≢true,
 }
 use Rattle.ports_core.{specs.{Slot.changed_at, declared.reason.Reason.Reason}, proofs.SlotLemmas.set-changed}
-use Rattle.watch_core.specs.{Snapshot.{Snapshot, latest}, Watched.{Watched, watched_at, is_watchable, is_readable, breaks}, declared.watch.Broken.Broken}
+use Rattle.watch_core.specs.{
+  Snapshot.{Snapshot, latest},
+  Watched.{Watched, watched_at, is_watchable, is_readable, breaks},
+  declared.watch.Broken.Broken,
+}
 
 pub watchable_within : (names : List Watched) (place : ℕ) → IsTrue (is_watchable names place) → place < length names
 watchable_within [] place can = absurd (false≢true can)

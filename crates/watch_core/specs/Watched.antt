@@ -1,6 +1,12 @@
 -- The names that are watched: which file of each is open, and by which call it broke and why.
-use Rattle.std.specs.Prelude.{is_none, is_some, ◌≡◌, ℕ, Bool, true, ◌&&◌, List, [], Option, Some, None, length, drop, option_map, slice_index_or}
-use Rattle.ports_core.specs.{declared.reason.Reason.{Reason, TheVariants.Other}, Slot.changed_at, Source.{Gave, unshown}}
+use Rattle.std.specs.Prelude.{
+  is_none, is_some, ◌≡◌, ℕ, Bool, true, ◌&&◌, List, [], Option, Some, None, length, drop, option_map, slice_index_or,
+}
+use Rattle.ports_core.specs.{
+  declared.reason.Reason.{Reason, TheVariants.Other},
+  Slot.changed_at,
+  Source.{Gave, unshown},
+}
 use Rattle.watch_core.specs.{Snapshot.{Snapshot, Found, opens_as}, declared.watch.{Broken.Broken, Seen.Seen}}
 use Rattle.watch_core.specs.declared.watch.Broken.TheVariants as broken
 

@@ -1,8 +1,23 @@
 -- Lemmas on what words mean by both ways to call the program.
-use Rattle.std.proofs.{Common.{◌≡◌, refl, ap, ◌∙◌, ℕ, ◌==◌, ◌&&◌, ◌||◌, not, Bool, true, false, if◌then◌else◌, List, [], ◌∷◌, Option, Some, None, Result, Ok, Err, option_map}, Math.Bool.and-false}
-use Rattle.ports_core.specs.declared.{calling.Calling.TheVariants.{Cutters, OwnName}, fault.Fault.Fault, on_broken.OnBroken.{OnBroken, TheVariants.Signal}}
+use Rattle.std.proofs.{
+  Common.{
+    ◌≡◌, refl, ap, ◌∙◌, ℕ, ◌==◌, ◌&&◌, ◌||◌, not, Bool, true, false, if◌then◌else◌, List, [], ◌∷◌, Option, Some, None,
+    Result, Ok, Err, option_map,
+  },
+  Math.Bool.and-false,
+}
+use Rattle.ports_core.specs.declared.{
+  calling.Calling.TheVariants.{Cutters, OwnName},
+  fault.Fault.Fault,
+  on_broken.OnBroken.{OnBroken, TheVariants.Signal},
+}
 use Rattle.words_core.specs.{
-  declared.{choice.{Choice.Choice, Kind.Kind}, spelled.Chosen.Chosen, spelling.State.TheVariants.First, table.Letters.{Letters, TheVariants.{Never, OfHead}}},
+  declared.{
+    choice.{Choice.Choice, Kind.Kind},
+    spelled.Chosen.Chosen,
+    spelling.State.TheVariants.First,
+    table.Letters.{Letters, TheVariants.{Never, OfHead}},
+  },
   Given.{Given, asked_by, one_operand, texts_of},
   Laws.{has, say_nothing, says_on_broken},
   Lettered.is_start,

@@ -1,5 +1,8 @@
 -- Lemmas on what options and operands ask of `csplit`.
-use Rattle.std.proofs.{lemmas.Grind.common_steps, Common.{◌≡◌, ◌-◌, ◌≤◌, arith, get_or, take, drop, length, map, List, Result, Ok, IfOk, IfErr, ◌⊎◌}}
+use Rattle.std.proofs.{
+  lemmas.Grind.common_steps,
+  Common.{◌≡◌, ◌-◌, ◌≤◌, arith, get_or, take, drop, length, map, List, Result, Ok, IfOk, IfErr, ◌⊎◌},
+}
 use Rattle.operand_core.specs.Style.{Style}
 use Rattle.ports_core.specs.declared.fault.Fault.{Fault, TheVariants.Memory}
 use Rattle.words_core.specs.{

@@ -2,13 +2,26 @@
 use Rattle.std.proofs.{
   lemmas.{Grind.common_steps, Bool.{and_parts, lt-ltb, Decides.nat_tests}, List.Elements.recursion_from_All},
   Math.Seq.{drop-append_seam, take-append_seam},
-  Common.{◌≡◌, ◌⊎◌, inl, inr, refl, ℕ, ◌≤◌, ◌==◌, Bool, true, false, if◌then◌else◌, arith, List, [], ◌∷◌, ◌++◌, ◌*◌, length, Some, None, Result, Ok, Err, sym, ap, ◌∙◌, rules},
+  Common.{
+    ◌≡◌, ◌⊎◌, inl, inr, refl, ℕ, ◌≤◌, ◌==◌, Bool, true, false, if◌then◌else◌, arith, List, [], ◌∷◌, ◌++◌, ◌*◌, length,
+    Some, None, Result, Ok, Err, sym, ap, ◌∙◌, rules,
+  },
 }
 use Rattle.std.specs.{Char.is_ascii_digit, List.{AllByRecursion, list_all, prefix_len}, Prelude.{nat_lt, bytes_eq, ⊤}}
-use Rattle.seg_core.specs.{declared.{count.{Count.Count, Sign.Sign}, unit.Unit.{Unit as Measured, TheVariants.Lines}}, Count.{after_digits, is_number, leading_digits, sized}}
-use Rattle.ports_core.specs.declared.fault.{Fault.{Fault, TheVariants.Usage}, UsageKind.{UsageKind, TheVariants.UnknownOption}}
+use Rattle.seg_core.specs.{
+  declared.{count.{Count.Count, Sign.Sign}, unit.Unit.{Unit as Measured, TheVariants.Lines}},
+  Count.{after_digits, is_number, leading_digits, sized},
+}
+use Rattle.ports_core.specs.declared.fault.{
+  Fault.{Fault, TheVariants.Usage},
+  UsageKind.{UsageKind, TheVariants.UnknownOption},
+}
 use Rattle.words_core.specs.{
-  declared.{table.{Letters.TheVariants.{OfHead, OfTail}, Takes.Takes}, spelling.State.State, choice.Choice.{Choice, TheVariants.Amount}},
+  declared.{
+    table.{Letters.TheVariants.{OfHead, OfTail}, Takes.Takes},
+    spelling.State.State,
+    choice.Choice.{Choice, TheVariants.Amount},
+  },
   Laws.{HasLetters, IsSwitch, how_many, of_lines, of_unit},
   Given.{Given, joined, nothing, one_option},
   Lettered.{counted_with, is_lettered, unit_of, switched, switches, without_digits, times, unit_in, with_letters},

@@ -1,25 +1,49 @@
 -- Whatever words spell, sizes, counts of files and widths are within their limits, and files that lines are dealt to have names.
 use Rattle.std.{
   proofs.lemmas.{Grind.common_steps, Bool.cond_both},
-  proofs.Common.{◌≡◌, ℕ, zero, suc, ◌+◌, ◌-◌, ◌^◌, ◌≤◌, false, arith, List, [], ◌∷◌, ◌++◌, Option, Some, None, Result, Ok, Err, IfOk, inl, inr, ◌⊎◌, rules},
+  proofs.Common.{
+    ◌≡◌, ℕ, zero, suc, ◌+◌, ◌-◌, ◌^◌, ◌≤◌, false, arith, List, [], ◌∷◌, ◌++◌, Option, Some, None, Result, Ok, Err, IfOk,
+    inl, inr, ◌⊎◌, rules,
+  },
   specs.Prelude.{⊤, IfSome, filter, ◌==◌},
 }
 use Rattle.ports_core.{
-  specs.{declared.{calling.Calling.Calling, fault.Fault.Fault, alphabet.Alphabet.{Alphabet, TheVariants.{Letters, Digits, Hex, Capitals, Octal}}, tool.Tool.Tool}, Name.name_count},
+  specs.{
+    declared.{
+      calling.Calling.Calling,
+      fault.Fault.Fault,
+      alphabet.Alphabet.{Alphabet, TheVariants.{Letters, Digits, Hex, Capitals, Octal}},
+      tool.Tool.Tool,
+    },
+    Name.name_count,
+  },
   proofs.CounterLemmas.power_positive,
 }
 use Rattle.seg_core.specs.declared.cut.Way.{Way}
 use Rattle.words_core.specs.{
-  declared.{choice.Choice.Choice, spelling.State.{State, TheVariants.Awaiting}, settings.{Settings.Settings, Topic.Topic}, spelled.Chosen.Chosen, split_words.Suffix.Suffix},
+  declared.{
+    choice.Choice.Choice,
+    spelling.State.{State, TheVariants.Awaiting},
+    settings.{Settings.Settings, Topic.Topic},
+    spelled.Chosen.Chosen,
+    split_words.Suffix.Suffix,
+  },
   Table.{OptionRow, ToolRow, row_named, tools},
   Value.then_check,
   Given.{asked_by, Given, GivenOperand},
   Spelling.{Meaning, meaning_of, given_before, onward, spelled, start_of, given_by},
-  SplitWords.{SplitAsked, AreNamed, CanSplit, IsInLimits, IsWidth, is_way, only_way, way_of, split_by, no_options, suffix_for, files_in, split_asked, separator_in, for_all, first_number, free, least_width, wide_enough},
+  SplitWords.{
+    SplitAsked, AreNamed, CanSplit, IsInLimits, IsWidth, is_way, only_way, way_of, split_by, no_options, suffix_for,
+    files_in, split_asked, separator_in, for_all, first_number, free, least_width, wide_enough,
+  },
   Laws.{AreAmong, none, passed, taken},
   Words.{CanRun, about_or, settings_for, topic_in, work_for},
 }
-use Rattle.words_core.proofs.{MeaningLemmas.{AreSafe, AreSound, GivesItself, IsSound, anything, meaning-gives, sound-append}, SpellingLemmas.either, WidthLemmas.{least_within, least_writes}}
+use Rattle.words_core.proofs.{
+  MeaningLemmas.{AreSafe, AreSound, GivesItself, IsSound, anything, meaning-gives, sound-append},
+  SpellingLemmas.either,
+  WidthLemmas.{least_within, least_writes},
+}
 use Rattle.ports_core.specs.declared.tool.Tool.TheVariants as tool
 use Rattle.seg_core.specs.declared.cut.Cut.TheVariants as cut
 use Rattle.seg_core.specs.declared.cut.Way.TheVariants as way

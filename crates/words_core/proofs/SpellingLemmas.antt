@@ -1,7 +1,18 @@
 -- Lemmas on what words spell, word after word.
-use Rattle.std.proofs.{lemmas.Grind.common_steps, Common.{◌≡◌, ℕ, ◌+◌, Bool, true, false, if◌then◌else◌, arith, List, [], ◌∷◌, ◌++◌, Result, Ok, Err}}
-use Rattle.ports_core.specs.declared.fault.{Fault.{Fault, TheVariants.Usage}, UsageKind.{UsageKind, TheVariants.MissingValue}}
-use Rattle.words_core.specs.{declared.spelling.State.State, Table.OptionRow, Given.Given, Spelling.{Meaning, given_before, onward, meaning_of, spelled}}
+use Rattle.std.proofs.{
+  lemmas.Grind.common_steps,
+  Common.{◌≡◌, ℕ, ◌+◌, Bool, true, false, if◌then◌else◌, arith, List, [], ◌∷◌, ◌++◌, Result, Ok, Err},
+}
+use Rattle.ports_core.specs.declared.fault.{
+  Fault.{Fault, TheVariants.Usage},
+  UsageKind.{UsageKind, TheVariants.MissingValue},
+}
+use Rattle.words_core.specs.{
+  declared.spelling.State.State,
+  Table.OptionRow,
+  Given.Given,
+  Spelling.{Meaning, given_before, onward, meaning_of, spelled},
+}
 
 -- what is so of both is so of either
 pub either : {A : Type 0} (P : A → Type 0) (test : Bool) (one other : A) → P one → P other

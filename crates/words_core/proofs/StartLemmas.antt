@@ -1,12 +1,18 @@
 -- Lemmas on a first word of `tail` that is a hyphen or a `+`, digits and letters.
 use Rattle.std.proofs.{
   lemmas.Bool.{and_parts, Decides.nat_tests},
-  Common.{◌≡◌, refl, ℕ, ◌-◌, ◌*◌, ◌^◌, ◌≤◌, ◌<◌, ◌==◌, true, false, arith, append-nil, List, [], ◌∷◌, ◌++◌, length, Ok, Err, subst},
+  Common.{
+    ◌≡◌, refl, ℕ, ◌-◌, ◌*◌, ◌^◌, ◌≤◌, ◌<◌, ◌==◌, true, false, arith, append-nil, List, [], ◌∷◌, ◌++◌, length, Ok, Err,
+    subst,
+  },
   Math.Bool.{and-false, or-true},
 }
 use Rattle.std.specs.{Char.is_ascii_digit, List.{list_all, prefix_len}, Prelude.nat_lt}
 use Rattle.seg_core.specs.{
-  declared.{count.{CountFault.TheVariants.TooLarge, Sign.{Sign, TheVariants.{Plain, Plus}}}, unit.Unit.TheVariants.Lines},
+  declared.{
+    count.{CountFault.TheVariants.TooLarge, Sign.{Sign, TheVariants.{Plain, Plus}}},
+    unit.Unit.TheVariants.Lines,
+  },
   Count.{count_of, factor_of, is_number, sized, value_of},
 }
 use Rattle.ports_core.specs.declared.calling.Calling.{Calling, TheVariants.OwnName}

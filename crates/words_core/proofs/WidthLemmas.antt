@@ -1,5 +1,8 @@
 -- The least width that writes as many numbers.
-use Rattle.std.proofs.{Common.{◌≡◌, ℕ, ◌+◌, ◌-◌, ◌<◌, ◌≤◌, zero, suc, false, arith, refl, ◌∙◌, ap}, lemmas.Bool.{cond_both, leb-true}}
+use Rattle.std.proofs.{
+  Common.{◌≡◌, ℕ, ◌+◌, ◌-◌, ◌<◌, ◌≤◌, zero, suc, false, arith, refl, ◌∙◌, ap},
+  lemmas.Bool.{cond_both, leb-true},
+}
 use Rattle.ports_core.specs.{declared.alphabet.Alphabet.Alphabet, Name.name_count}
 use Rattle.words_core.specs.SplitWords.{least_from, names_all}
 

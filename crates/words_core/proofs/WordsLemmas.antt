@@ -1,7 +1,16 @@
 -- Lemmas on what all words ask for, the first of which names the tool.
-use Rattle.std.proofs.{lemmas.Grind.common_steps, Common.{◌≡◌, ℕ, ◌-◌, ◌≤◌, Bor, get_or, take, drop, length, map, List, Some, Result, Ok, IfOk, IfErr, arith}}
+use Rattle.std.proofs.{
+  lemmas.Grind.common_steps,
+  Common.{◌≡◌, ℕ, ◌-◌, ◌≤◌, Bor, get_or, take, drop, length, map, List, Some, Result, Ok, IfOk, IfErr, arith},
+}
 use Rattle.ports_core.specs.declared.{calling.Calling.Calling, fault.Fault.Fault}
-use Rattle.words_core.specs.{declared.settings.Settings.Settings, Given.Given, Spelling.{IsRefused, given_by}, Table.{ToolRow, row_named, tools}, Words.{HasBadOperands, settings_for, settings_of}}
+use Rattle.words_core.specs.{
+  declared.settings.Settings.Settings,
+  Given.Given,
+  Spelling.{IsRefused, given_by},
+  Table.{ToolRow, row_named, tools},
+  Words.{HasBadOperands, settings_for, settings_of},
+}
 
 -- the words as texts, and those after the first
 abbrev pub texts : List (Bor (List ℕ)) → List (List ℕ)

@@ -1,8 +1,16 @@
 -- What the value of `-n` of `split` says: GNU coreutils manual, split, CHUNKS.
-use Rattle.std.specs.Prelude.{ℕ, ◌-◌, ◌==◌, ◌&&◌, nat_lt, List, [], ◌∷◌, length, Option, Some, None, Result, Ok, Err, if◌then◌else◌}
-use Rattle.seg_core.specs.{Count.{after_digits, digits_of, leading_digits}, declared.cut.{Cut.TheVariants.Round, Way.Way}}
+use Rattle.std.specs.Prelude.{
+  ℕ, ◌-◌, ◌==◌, ◌&&◌, nat_lt, List, [], ◌∷◌, length, Option, Some, None, Result, Ok, Err, if◌then◌else◌,
+}
+use Rattle.seg_core.specs.{
+  Count.{after_digits, digits_of, leading_digits},
+  declared.cut.{Cut.TheVariants.Round, Way.Way},
+}
 use Rattle.ports_core.specs.declared.fault.UsageKind.{UsageKind, TheVariants.BadNumber}
-use Rattle.words_core.specs.{declared.division.{Dealing.{Dealing, TheVariants.{Bytes, Lines, Turns}}, Division.Division}, Number.{not_zero, then_check, up_to}}
+use Rattle.words_core.specs.{
+  declared.division.{Dealing.{Dealing, TheVariants.{Bytes, Lines, Turns}}, Division.Division},
+  Number.{not_zero, then_check, up_to},
+}
 use Rattle.seg_core.specs.declared.cut.Way.TheVariants as way
 use Rattle.seg_core.specs.declared.unit.Unit.TheVariants as unit
 

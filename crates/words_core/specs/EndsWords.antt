@@ -1,7 +1,13 @@
 -- What options and operands ask of `head` or `tail`.
 use Rattle.std.specs.Prelude.{ℕ, List, [], ◌∷◌, codes}
-use Rattle.seg_core.specs.declared.{count.{Sign.TheVariants.Plain, Count.Count}, unit.Unit.{Unit as Counted, TheVariants.Lines}}
-use Rattle.words_core.specs.{declared.{choice.Choice.Choice, spelled.Chosen.Chosen, settings.Headers.{Headers, TheVariants.ForSeveral}}, Given.{asked_by, Given, GivenOperand, texts_of}}
+use Rattle.seg_core.specs.declared.{
+  count.{Sign.TheVariants.Plain, Count.Count},
+  unit.Unit.{Unit as Counted, TheVariants.Lines},
+}
+use Rattle.words_core.specs.{
+  declared.{choice.Choice.Choice, spelled.Chosen.Chosen, settings.Headers.{Headers, TheVariants.ForSeveral}},
+  Given.{asked_by, Given, GivenOperand, texts_of},
+}
 use Rattle.words_core.specs.declared.choice.Choice.TheVariants as choice
 
 -- what words ask of `head` or `tail`

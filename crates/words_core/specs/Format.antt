@@ -1,8 +1,18 @@
 -- The format of names that `csplit -b` takes: a text with one conversion of C's `printf`, which says how a number is
 -- written (GNU coreutils manual, csplit; C standard and POSIX, `fprintf`). Before and after it stand texts, where two `%` are one.
-use Rattle.std.specs.{Prelude.{ℕ, ◌-◌, ◌==◌, ◌&&◌, ◌||◌, Bool, not, nat_le, List, [], ◌∷◌, length, take, drop, Option, Some, None, if◌then◌else◌}, List.{list_any, prefix_len}, Option.unwrap_or}
+use Rattle.std.specs.{
+  Prelude.{
+    ℕ, ◌-◌, ◌==◌, ◌&&◌, ◌||◌, Bool, not, nat_le, List, [], ◌∷◌, length, take, drop, Option, Some, None, if◌then◌else◌,
+  },
+  List.{list_any, prefix_len},
+  Option.unwrap_or,
+}
 use Rattle.seg_core.specs.Count.{after_digits, leading_digits, value_of}
-use Rattle.ports_core.specs.declared.form.{Base.{Base, TheVariants.{Decimal, Octal, Hex, Capitals}}, Filling.{Filling, TheVariants.{Zeros, BlanksBefore, BlanksAfter}}, Form.Form}
+use Rattle.ports_core.specs.declared.form.{
+  Base.{Base, TheVariants.{Decimal, Octal, Hex, Capitals}},
+  Filling.{Filling, TheVariants.{Zeros, BlanksBefore, BlanksAfter}},
+  Form.Form,
+}
 use Rattle.words_core.specs.declared.format.Format.{Format as Written}
 
 -- a text, a number in a form, and a text

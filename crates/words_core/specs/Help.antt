@@ -2,7 +2,10 @@
 -- column 33 on what it does.
 use Rattle.std.specs.Prelude.{ℕ, List, [], ◌∷◌, ◌++◌, codes, drop, length, Option, Some, None}
 use Rattle.ports_core.specs.{Text.tool_name, declared.tool.Tool.{Tool, TheVariants.Cutters}}
-use Rattle.words_core.specs.{declared.{settings.Topic.{Topic, TheVariants.{Help, Version}}, table.Takes.Takes}, Table.{OptionRow, ToolRow, program_table, row_named, tools}}
+use Rattle.words_core.specs.{
+  declared.{settings.Topic.{Topic, TheVariants.{Help, Version}}, table.Takes.Takes},
+  Table.{OptionRow, ToolRow, program_table, row_named, tools},
+}
 use Rattle.words_core.specs.declared.table.Takes.TheVariants as takes
 
 -- what is typed, filled with blanks up to the column of what it does

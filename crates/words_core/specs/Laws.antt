@@ -1,11 +1,25 @@
 -- The words of the laws: which options ask for what, and the operands among words.
 use Rattle.std.specs.{
-  Prelude.{◌≡◌, ◌≢◌, ℕ, ◌+◌, ◌<◌, ◌==◌, not, ◌&&◌, Bool, true, false, List, [], ◌∷◌, ◌++◌, All, length, codes, if◌then◌else◌, Option, Some, None, Result, Ok, Err, ◌⊎◌},
+  Prelude.{
+    ◌≡◌, ◌≢◌, ℕ, ◌+◌, ◌<◌, ◌==◌, not, ◌&&◌, Bool, true, false, List, [], ◌∷◌, ◌++◌, All, length, codes, if◌then◌else◌,
+    Option, Some, None, Result, Ok, Err, ◌⊎◌,
+  },
   Char.is_ascii_digit,
   List.{Contains, list_all, list_any},
 }
-use Rattle.seg_core.specs.{Count.value_of, declared.{count.{Count.Count, Sign.{Sign, TheVariants.{Plain, Plus}}}, unit.Unit.{Unit as Measured, TheVariants.Lines}}}
-use Rattle.ports_core.specs.declared.{calling.Calling.{Calling, TheVariants.{Cutters, OwnName}}, fault.{Fault.Fault, UsageKind.UsageKind}, tool.Tool.Tool, on_broken.OnBroken.OnBroken}
+use Rattle.seg_core.specs.{
+  Count.value_of,
+  declared.{
+    count.{Count.Count, Sign.{Sign, TheVariants.{Plain, Plus}}},
+    unit.Unit.{Unit as Measured, TheVariants.Lines},
+  },
+}
+use Rattle.ports_core.specs.declared.{
+  calling.Calling.{Calling, TheVariants.{Cutters, OwnName}},
+  fault.{Fault.Fault, UsageKind.UsageKind},
+  tool.Tool.Tool,
+  on_broken.OnBroken.OnBroken,
+}
 use Rattle.operand_core.specs.Style.{Style}
 use Rattle.words_core.specs.{
   declared.choice.{Choice.Choice, Kind.Kind},

@@ -1,13 +1,22 @@
 -- A first word of a hyphen, digits and letters, as `-5c` of `head` and `-20f` of `tail`, and one of a `+`, as `+5` of
 -- `tail`: GNU's, from before POSIX. What follows the hyphen or the `+` is the text. 45 is a hyphen.
 use Rattle.std.specs.{
-  Prelude.{ℕ, ◌*◌, ◌^◌, ◌==◌, ◌&&◌, ◌||◌, nat_lt, Bool, true, false, List, [], ◌∷◌, length, filter, codes, is_some, Option, Some, None, Result, Ok, Err, if◌then◌else◌},
+  Prelude.{
+    ℕ, ◌*◌, ◌^◌, ◌==◌, ◌&&◌, ◌||◌, nat_lt, Bool, true, false, List, [], ◌∷◌, length, filter, codes, is_some, Option,
+    Some, None, Result, Ok, Err, if◌then◌else◌,
+  },
   Option.unwrap_or,
 }
-use Rattle.seg_core.specs.{Count.{after_digits, is_number, leading_digits, sized, value_of}, declared.{count.{Count.Count, Sign.Sign}, unit.Unit.{Unit as Measured, TheVariants.{Bytes, Lines}}}}
+use Rattle.seg_core.specs.{
+  Count.{after_digits, is_number, leading_digits, sized, value_of},
+  declared.{count.{Count.Count, Sign.Sign}, unit.Unit.{Unit as Measured, TheVariants.{Bytes, Lines}}},
+}
 use Rattle.ports_core.specs.declared.{calling.Calling.{Calling, TheVariants.OwnName}, fault.UsageKind.UsageKind}
 use Rattle.words_core.specs.{
-  declared.{choice.Choice.TheVariants.Amount, table.{Letters.{Letters, TheVariants.{Never, OfHead, OfTail}}, Takes.Takes}},
+  declared.{
+    choice.Choice.TheVariants.Amount,
+    table.{Letters.{Letters, TheVariants.{Never, OfHead, OfTail}}, Takes.Takes},
+  },
   Table.{OptionRow, is_among, option_named},
   Value.counted,
   Given.{Given, bare, joined, nothing, one_option},

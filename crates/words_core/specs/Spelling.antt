@@ -1,11 +1,20 @@
 -- What the words after a tool's name spell: options with their values, and operands. What a word means depends on what
 -- the words before it left. 43 is a `+`, 45 a hyphen, 61 `=`.
 use Rattle.std.specs.{
-  Prelude.{◌≡◌, ℕ, ◌+◌, ◌==◌, ◌&&◌, nat_lt, Bool, List, [], ◌∷◌, length, ◌⊎◌, Option, Some, None, Result, Ok, Err, if◌then◌else◌},
+  Prelude.{
+    ◌≡◌, ℕ, ◌+◌, ◌==◌, ◌&&◌, nat_lt, Bool, List, [], ◌∷◌, length, ◌⊎◌, Option, Some, None, Result, Ok, Err,
+    if◌then◌else◌,
+  },
   List.{before_first, after_first, position_or_len},
 }
 use Rattle.seg_core.specs.{Count.is_number, declared.count.Sign.TheVariants.{Plain, Plus}}
-use Rattle.ports_core.specs.declared.{calling.Calling.Calling, fault.{Fault.{Fault, TheVariants.{Usage, Memory}}, UsageKind.{UsageKind, TheVariants.{UnknownOption, MissingValue, UnexpectedValue}}}}
+use Rattle.ports_core.specs.declared.{
+  calling.Calling.Calling,
+  fault.{
+    Fault.{Fault, TheVariants.{Usage, Memory}},
+    UsageKind.{UsageKind, TheVariants.{UnknownOption, MissingValue, UnexpectedValue}},
+  },
+}
 use Rattle.words_core.specs.{
   declared.choice.{Choice.{Choice, TheVariants.About}, Kind.Kind},
   declared.settings.Topic.Topic,

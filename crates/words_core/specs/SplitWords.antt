@@ -1,14 +1,32 @@
 -- What options and operands ask of `split`, or what is wrong with them.
 use Rattle.std.specs.{
-  Prelude.{ℕ, zero, suc, ◌+◌, ◌==◌, ◌≤◌, ◌<◌, nat_le, Bool, true, false, List, [], ◌∷◌, filter, codes, is_some, Option, Some, None, Result, Ok, Err, if◌then◌else◌},
+  Prelude.{
+    ℕ, zero, suc, ◌+◌, ◌==◌, ◌≤◌, ◌<◌, nat_le, Bool, true, false, List, [], ◌∷◌, filter, codes, is_some, Option, Some,
+    None, Result, Ok, Err, if◌then◌else◌,
+  },
   Option.unwrap_or,
 }
 use Rattle.ports_core.specs.{
   Name.name_count,
-  declared.{alphabet.Alphabet.{Alphabet, TheVariants.Letters}, fault.{Fault.{Fault, TheVariants.Usage}, UsageKind.TheVariants.{TwoWays, SuffixTooShort, ExtraOperand}}},
+  declared.{
+    alphabet.Alphabet.{Alphabet, TheVariants.Letters},
+    fault.{Fault.{Fault, TheVariants.Usage}, UsageKind.TheVariants.{TwoWays, SuffixTooShort, ExtraOperand}},
+  },
 }
-use Rattle.seg_core.specs.{Cut.most, declared.cut.{Cut.TheVariants.{Parts, Round}, Limit.TheVariants.{Lines, Bytes, LineBytes}, Way.{Way, TheVariants.{Cut, Chunk, Chunks, Turn}}}}
-use Rattle.words_core.specs.{declared.{choice.Choice.Choice, split_words.Suffix.Suffix, spelled.Chosen.Chosen}, Division.way_of_division, Value.then_check, Given.{asked_by, Given, GivenOperand}}
+use Rattle.seg_core.specs.{
+  Cut.most,
+  declared.cut.{
+    Cut.TheVariants.{Parts, Round},
+    Limit.TheVariants.{Lines, Bytes, LineBytes},
+    Way.{Way, TheVariants.{Cut, Chunk, Chunks, Turn}},
+  },
+}
+use Rattle.words_core.specs.{
+  declared.{choice.Choice.Choice, split_words.Suffix.Suffix, spelled.Chosen.Chosen},
+  Division.way_of_division,
+  Value.then_check,
+  Given.{asked_by, Given, GivenOperand},
+}
 use Rattle.words_core.specs.declared.choice.Choice.TheVariants as choice
 
 -- what words ask of `split`

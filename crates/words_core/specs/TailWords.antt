@@ -1,5 +1,10 @@
 -- What options and operands ask of `tail`, or what is wrong with them.
-use Rattle.std.specs.{Prelude.{ℕ, ◌-◌, ◌^◌, Bool, true, false, List, [], ◌∷◌, codes, Option, Some, None, Result, Ok, Err, if◌then◌else◌, bytes_eq}, List.list_any}
+use Rattle.std.specs.{
+  Prelude.{
+    ℕ, ◌-◌, ◌^◌, Bool, true, false, List, [], ◌∷◌, codes, Option, Some, None, Result, Ok, Err, if◌then◌else◌, bytes_eq,
+  },
+  List.list_any,
+}
 use Rattle.ports_core.specs.declared.fault.{Fault.{Fault, TheVariants.Usage}, UsageKind.TheVariants.BadFollow}
 use Rattle.words_core.specs.{
   declared.choice.Choice.{Choice, TheVariants.{Follow, FollowNames, Retry, Looks, Pause, Process}},

@@ -1,9 +1,20 @@
 -- What a list of words asks for, by how the program was called. The first word is the tool's name, and words are counted
 -- from there, from 0.
-use Rattle.std.specs.Prelude.{ℕ, ◌-◌, ◌^◌, Bool, true, false, List, [], ◌∷◌, Option, Some, None, option_map, Result, Ok, Err}
-use Rattle.ports_core.specs.declared.{calling.Calling.Calling, tool.Tool.Tool, fault.{Fault.{Fault, TheVariants.Usage}, UsageKind.TheVariants.{MissingTool, UnknownTool}}}
+use Rattle.std.specs.Prelude.{
+  ℕ, ◌-◌, ◌^◌, Bool, true, false, List, [], ◌∷◌, Option, Some, None, option_map, Result, Ok, Err,
+}
+use Rattle.ports_core.specs.declared.{
+  calling.Calling.Calling,
+  tool.Tool.Tool,
+  fault.{Fault.{Fault, TheVariants.Usage}, UsageKind.TheVariants.{MissingTool, UnknownTool}},
+}
 use Rattle.words_core.specs.{
-  declared.{settings.{Settings.{Settings, TheVariants.{Head, Tail, Split, Csplit, Tee, About}}, Topic.Topic}, choice.Choice.Choice, spelled.Chosen.Chosen, table.Takes.{Takes, TheVariants.Last}},
+  declared.{
+    settings.{Settings.{Settings, TheVariants.{Head, Tail, Split, Csplit, Tee, About}}, Topic.Topic},
+    choice.Choice.Choice,
+    spelled.Chosen.Chosen,
+    table.Takes.{Takes, TheVariants.Last},
+  },
   Table.{ToolRow, option_named, program_table, row_named, tools},
   Given.Given,
   Spelling.given_by,

@@ -1,6 +1,10 @@
 //! The words that the program was started with. The system gives them as bytes.
 ghost use Rattle.std.specs.Prelude.{◌≡◌, ℕ, List, [], ◌∷◌, ◌++◌, None, map, string_bytes, IfOk, IsUtf8};
-ghost use Rattle.words_core.specs.{Words.tool_named, Called.IsCalled, inner.Called.{called_by, last_part, words_called}};
+ghost use Rattle.words_core.specs.{
+  Words.tool_named,
+  Called.IsCalled,
+  inner.Called.{called_by, last_part, words_called},
+};
 
 use crate::words::find_tool;
 use ports_core::{Calling, Tool};

@@ -1,7 +1,10 @@
 //! What `csplit` is to do, with the operands that its words spell.
 ghost use Rattle.std.specs.Prelude.{◌≡◌, ◌⊎◌, [], map, slice_index_or, IfOk, IfErr};
 ghost use Rattle.operand_core.specs.Reading.{Asks};
-ghost use Rattle.words_core.specs.{CsplitWords.{HasBadOperand, HasRead, asked_with, operand_fault, pattern_kind}, Given.operand_seen};
+ghost use Rattle.words_core.specs.{
+  CsplitWords.{HasBadOperand, HasRead, asked_with, operand_fault, pattern_kind},
+  Given.operand_seen,
+};
 
 use crate::spelled::{Operand, places_of, texts_of};
 use operand_core::{OperandFault, OperandFaultKind, Operands, Style, read_operands};

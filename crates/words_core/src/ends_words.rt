@@ -1,7 +1,11 @@
 //! What `head` and `tail` are asked for: POSIX.1-2017, XCU head and tail; `-q`, `-v`, `-z` and several files for `tail`
 //! are GNU's.
 ghost use Rattle.std.specs.Prelude.{◌≡◌, map, IfOk, IfErr};
-ghost use Rattle.words_core.specs.{Choice.seen, EndsWords.{EndsAsked, ends_by, ends_asked, names_asked, ten_lines}, Given.operand_seen};
+ghost use Rattle.words_core.specs.{
+  Choice.seen,
+  EndsWords.{EndsAsked, ends_by, ends_asked, names_asked, ten_lines},
+  Given.operand_seen,
+};
 
 use crate::choice::Choice;
 use crate::settings::Headers;

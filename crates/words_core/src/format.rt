@@ -1,9 +1,15 @@
 //! The format of names that `csplit -b` takes: a text with one conversion of C's `printf`, which says how a number is
 //! written (GNU coreutils manual, csplit; C standard and POSIX, `fprintf`).
-ghost use Rattle.std.specs.{Prelude.{◌≡◌, ◌++◌, ◌<◌, ◌-◌, ◌^◌, length, min, option_map, string_bytes, IfNone, IfOk, IfSome, Some}, List.prefix_len};
+ghost use Rattle.std.specs.{
+  Prelude.{◌≡◌, ◌++◌, ◌<◌, ◌-◌, ◌^◌, length, min, option_map, string_bytes, IfNone, IfOk, IfSome, Some},
+  List.prefix_len,
+};
 ghost use Rattle.words_core.specs.{
   inner.Format.{AfterLetter, without_percent},
-  Format.{after_precision, base_of, conversion_in, filling_by, form_of, format_in, format_seen, go_with, is_flag, plain_text, precision_in, with_letter, with_width, after_text},
+  Format.{
+    after_precision, base_of, conversion_in, filling_by, form_of, format_in, format_seen, go_with, is_flag, plain_text,
+    precision_in, with_letter, with_width, after_text,
+  },
 };
 
 use crate::spelling::first_letter;

@@ -1,17 +1,34 @@
 //! Laws of what words spell and ask for, with no code: each stands on the contract of a function whose body is empty.
 ghost use Rattle.std.specs.{
-  Prelude.{◌≡◌, ◌≢◌, ◌↔◌, ◌+◌, ◌-◌, ◌*◌, ◌^◌, ◌≤◌, ◌<◌, ◌++◌, ℕ, List, [], ◌∷◌, All, Some, None, Ok, Err, IsOk, true, false, length, filter, codes, if◌then◌else◌},
+  Prelude.{
+    ◌≡◌, ◌≢◌, ◌↔◌, ◌+◌, ◌-◌, ◌*◌, ◌^◌, ◌≤◌, ◌<◌, ◌++◌, ℕ, List, [], ◌∷◌, All, Some, None, Ok, Err, IsOk, true, false,
+    length, filter, codes, if◌then◌else◌,
+  },
   List.Contains,
 };
-ghost use Rattle.ports_core.specs.declared.fault.UsageKind.{UsageKind, TheVariants.{AmbiguousOption, BadFollow, MissingValue, NumberTooLarge, SuffixTooShort, TwoWays, UnknownOption}};
+ghost use Rattle.ports_core.specs.declared.fault.UsageKind.{
+  UsageKind,
+  TheVariants.{AmbiguousOption, BadFollow, MissingValue, NumberTooLarge, SuffixTooShort, TwoWays, UnknownOption},
+};
 ghost use Rattle.words_core.specs.{
-  declared.{spelling.State.TheVariants.Reading, format.Format.Format as Written, table.Letters.TheVariants.{OfHead, OfTail}},
+  declared.{
+    spelling.State.TheVariants.Reading,
+    format.Format.Format as Written,
+    table.Letters.TheVariants.{OfHead, OfTail},
+  },
   Given.{Given, asked_by, GivenOperand, bare, joined, one_operand, one_option},
   Division.{division_in, way_of_division},
   Choice.choice_in,
   CsplitWords.{chosen_by, decimal_form, style_of},
   Format.{Format, format_in},
-  Laws.{AreAlike, AreAmong, AreNames, CsplitAsks, EndsAsk, FollowAsks, Gives, HasLetters, IsLetter, IsLong, IsNumberWithLetters, IsSwitch, IsTold, LastDecides, LeaveTheRest, MeanTheSame, NumberAsks, OnBrokenAsks, SplitAsks, StartAsks, TeeAsks, amount_of, appends, as_operands, as_wide, begin_with_start, counts, counts_looks, counts_pause, drops_sizes, elides_files, ends_with_zero, following, fresh_file, gives_ending, gives_format, has, heads, how_many, is_plain, keeps_files, kind_of, leave_open, leaves_lines_out, names_prefix, names_process, plain_style, retries, says_followed, says_on_broken, separates, spells, tells_of_files, ten_of_input, thousands, widens},
+  Laws.{
+    AreAlike, AreAmong, AreNames, CsplitAsks, EndsAsk, FollowAsks, Gives, HasLetters, IsLetter, IsLong,
+    IsNumberWithLetters, IsSwitch, IsTold, LastDecides, LeaveTheRest, MeanTheSame, NumberAsks, OnBrokenAsks, SplitAsks,
+    StartAsks, TeeAsks, amount_of, appends, as_operands, as_wide, begin_with_start, counts, counts_looks, counts_pause,
+    drops_sizes, elides_files, ends_with_zero, following, fresh_file, gives_ending, gives_format, has, heads, how_many,
+    is_plain, keeps_files, kind_of, leave_open, leaves_lines_out, names_prefix, names_process, plain_style, retries,
+    says_followed, says_on_broken, separates, spells, tells_of_files, ten_of_input, thousands, widens,
+  },
   EndsWords.{ends_of, ten_lines},
   Lettered.{is_lettered, is_start, with_letters},
   SplitWords.{SplitAsked, is_way, least_width, split_asked, split_of, way_in, way_of, separator_in},
@@ -22,7 +39,10 @@ ghost use Rattle.words_core.specs.{
   Value.{byte_in, counted, ending_in, hex_in, pause_in, size_in, then_check, up_to},
   Words.{settings_for, settings_of, tool_named},
 };
-ghost use Rattle.seg_core.specs.{declared.unit.Unit.Unit as Measured, Count.{count_of, digits_of, is_number, sized, value_of}};
+ghost use Rattle.seg_core.specs.{
+  declared.unit.Unit.Unit as Measured,
+  Count.{count_of, digits_of, is_number, sized, value_of},
+};
 
 use crate::choice::{Choice, Kind};
 use crate::division::Division;

@@ -1,6 +1,9 @@
 //! What words spell: options with their values, and operands.
 ghost use Rattle.std.specs.Prelude.{◌≡◌, [], map, IfOk, IfErr};
-ghost use Rattle.words_core.specs.{Given.{Given, joined, one_operand, one_option, operand_seen, option_seen, places_of, texts_of}, Choice.seen};
+ghost use Rattle.words_core.specs.{
+  Given.{Given, joined, one_operand, one_option, operand_seen, option_seen, places_of, texts_of},
+  Choice.seen,
+};
 
 use crate::choice::Choice;
 use ports_core::Fault;

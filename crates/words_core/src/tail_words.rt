@@ -1,7 +1,12 @@
 //! What `tail` is asked for (POSIX.1-2017, XCU tail); `-F`, `--follow`, `--retry`, `-s` and `--pid` are
 //! GNU's, `--looks` is of these tools.
 ghost use Rattle.std.specs.Prelude.{◌≡◌, map};
-ghost use Rattle.words_core.specs.{Given.{operand_seen, texts_of}, Spelling.Reads, TailWords.{by_descriptor, by_name, followed_in, has_hyphen, retry_by, tail_asked, tail_by, unfollowed}, Choice.seen};
+ghost use Rattle.words_core.specs.{
+  Given.{operand_seen, texts_of},
+  Spelling.Reads,
+  TailWords.{by_descriptor, by_name, followed_in, has_hyphen, retry_by, tail_asked, tail_by, unfollowed},
+  Choice.seen,
+};
 
 use crate::choice::Choice;
 use crate::ends_words::{EndsSettings, names_of, ten_lines};

@@ -1,8 +1,15 @@
 //! What the value of an option says (POSIX.1-2017, XBD 12.1; XCU head, tail and split; the suffixes of counts are
 //! GNU's).
-ghost use Rattle.std.specs.{Prelude.{◌≡◌, ◌≤◌, ◌+◌, ◌-◌, ◌*◌, ◌^◌, ℕ, Ok, Err, true, IfOk, IfErr, min, option_map}, Char.is_ascii_digit, List.list_all};
+ghost use Rattle.std.specs.{
+  Prelude.{◌≡◌, ◌≤◌, ◌+◌, ◌-◌, ◌*◌, ◌^◌, ℕ, Ok, Err, true, IfOk, IfErr, min, option_map},
+  Char.is_ascii_digit,
+  List.list_all,
+};
 ghost use Rattle.seg_core.specs.Count.{count_of, digits_of};
-ghost use Rattle.words_core.specs.Value.{byte_in, counted, ending_in, followed_in, fraction_in, fraction_of, hex_in, is_zero, milliseconds, not_zero, number_fault, on_broken_in, process_in, pause_in, size_in, up_to};
+ghost use Rattle.words_core.specs.Value.{
+  byte_in, counted, ending_in, followed_in, fraction_in, fraction_of, hex_in, is_zero, milliseconds, not_zero,
+  number_fault, on_broken_in, process_in, pause_in, size_in, up_to,
+};
 
 use ports_core::{OnBroken, UsageKind};
 use seg_core::count::{Count, CountFault, read_count};

@@ -1,7 +1,11 @@
 -- How positions are counted while tokens are read: up to a cap, one concatenation inside another.
 use Rattle.std.specs.Prelude.{◌≡◌, ℕ, ◌+◌, ◌<◌, ◌≤◌, min, List, [], ◌∷◌, ◌++◌, length}
 use Rattle.bre_core.specs.{
-  declared.{fault.BreFault.{BreFault, TheVariants.{CloseGroup, TooLarge, Memory}}, token.Token.{Token, TheVariants.{Set, Front, End, Open, Close, Repeat}}, counting.{Count.Count, Group.Group}},
+  declared.{
+    fault.BreFault.{BreFault, TheVariants.{CloseGroup, TooLarge, Memory}},
+    token.Token.{Token, TheVariants.{Set, Front, End, Open, Close, Repeat}},
+    counting.{Count.Count, Group.Group},
+  },
   Pattern.repeated,
 }
 

@@ -1,10 +1,16 @@
 -- What private calls say of where a run stands, of the cutter of lines, and of the stage that takes in bytes.
-use Rattle.std.specs.Prelude.{◌≡◌, ℕ, ◌<◌, ◌≤◌, Bool, false, List, ◌∷◌, length, drop, ◌⊎◌, ◌+◌, true, [], ◌++◌, take, get_or, Option, Some, None, IfNone, IfSome, IfOk, Result, Ok, Err, ◌≢◌, OnOk, IsTrue, if◌then◌else◌}
+use Rattle.std.specs.Prelude.{
+  ◌≡◌, ℕ, ◌<◌, ◌≤◌, Bool, false, List, ◌∷◌, length, drop, ◌⊎◌, ◌+◌, true, [], ◌++◌, take, get_or, Option, Some, None,
+  IfNone, IfSome, IfOk, Result, Ok, Err, ◌≢◌, OnOk, IsTrue, if◌then◌else◌,
+}
 use Rattle.csplit_core.specs.{
   Operand.{Operand, Line, is_match},
   Plan.{State, CutsAt, search_line, line_after, state_after},
   Measure.Moves,
-  declared.{progress.{Progress.Progress, Turn.{Turn, TheVariants.{UsedUp, Missed, Above, Below, Cuts}}}, line_cutter.{Cut.Cut, LineCutter.LineCutter, Passed.Passed}},
+  declared.{
+    progress.{Progress.Progress, Turn.{Turn, TheVariants.{UsedUp, Missed, Above, Below, Cuts}}},
+    line_cutter.{Cut.Cut, LineCutter.LineCutter, Passed.Passed},
+  },
   Progress.{state_of, WillMove, EndsHere, AimsAt},
   Csplit.{settled_of, whole_of, verdict_of},
   Input.{newline, without_newline, marked, all_lines, open_line},
@@ -12,7 +18,10 @@ use Rattle.csplit_core.specs.{
   Planned.plan,
   inner.PlanLaws.needed,
   Section.is_final,
-  Cutter.{CutterState, AimHolds, seen, suppress_in, state_in, kept_by, IsFit, IsSound, load, draft_by, IsAt, EndsNow, IsLive, Stands},
+  Cutter.{
+    CutterState, AimHolds, seen, suppress_in, state_in, kept_by, IsFit, IsSound, load, draft_by, IsAt, EndsNow, IsLive,
+    Stands,
+  },
   CsplitState.{CsplitState, terms, whole_lines},
 }
 use Rattle.bre_core.specs.{Pattern.Pattern, Search.contains}
@@ -21,9 +30,15 @@ use Rattle.ports_core.specs.{
   Part.{Part, Begins, nothing},
   Slot.{Slot, is_writable},
   Swept.{Removes, HasNoFiles},
-  declared.{fault.Fault.{Fault, TheVariants.Memory}, verdict.Verdict.Verdict, file_writer.{Keeps.TheVariants.All, Tells.{Tells, TheVariants.{Nothing, Sizes}}}},
+  declared.{
+    fault.Fault.{Fault, TheVariants.Memory},
+    verdict.Verdict.Verdict,
+    file_writer.{Keeps.TheVariants.All, Tells.{Tells, TheVariants.{Nothing, Sizes}}},
+  },
   Draft.draft_part,
-  FileWriter.{WriterState, OwnsFiles, IsManner, IsReady, Breaks, manner_in, size_of, Leaves, Reaches, new_writer, paused},
+  FileWriter.{
+    WriterState, OwnsFiles, IsManner, IsReady, Breaks, manner_in, size_of, Leaves, Reaches, new_writer, paused,
+  },
   Turn.fault_in,
   Engine.Sweeps,
 }

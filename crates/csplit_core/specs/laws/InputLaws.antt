@@ -1,6 +1,12 @@
 -- The laws of what `csplit` makes of an input.
-use Rattle.std.proofs.{Common.{◌≡◌, ℕ, ◌+◌, ◌≤◌, List, ◌++◌, map, take, drop, sym, ◌∙◌, ap, subst, arith}, lemmas.{List.{map-append, take-append-drop}, Bool.false≢true}}
-use Rattle.seg_core.{specs.Line.{lines_of, delimiters}, proofs.{Delimiters.delimiters-append, FirstLines.{first_lines-full, lines_of-first_lines}}}
+use Rattle.std.proofs.{
+  Common.{◌≡◌, ℕ, ◌+◌, ◌≤◌, List, ◌++◌, map, take, drop, sym, ◌∙◌, ap, subst, arith},
+  lemmas.{List.{map-append, take-append-drop}, Bool.false≢true},
+}
+use Rattle.seg_core.{
+  specs.Line.{lines_of, delimiters},
+  proofs.{Delimiters.delimiters-append, FirstLines.{first_lines-full, lines_of-first_lines}},
+}
 use Rattle.ports_core.specs.{Part.Begins, Work.IsLawful}
 use Rattle.csplit_core.specs.{
   Operand.{Operand, Line},

@@ -1,11 +1,22 @@
 -- Laws that traits cite: what stands at the ends of an input, and of an input that goes on.
 use Rattle.std.proofs.{
-  lemmas.{Grind.common_steps, List.{append-nil, take_all, drop-drop, drop-append-le, take-append-drop, append_cancel_left, append_cancel_right}, Bool.cases_lt},
-  Common.{◌≡◌, ℕ, ◌+◌, ◌-◌, ◌<◌, ◌≤◌, zero, suc, List, [], ◌∷◌, ◌++◌, length, take, drop, refl, sym, ◌∙◌, ap, arith, append_assoc, length-append, length-drop, inl, inr},
+  lemmas.{
+    Grind.common_steps,
+    List.{append-nil, take_all, drop-drop, drop-append-le, take-append-drop, append_cancel_left, append_cancel_right},
+    Bool.cases_lt,
+  },
+  Common.{
+    ◌≡◌, ℕ, ◌+◌, ◌-◌, ◌<◌, ◌≤◌, zero, suc, List, [], ◌∷◌, ◌++◌, length, take, drop, refl, sym, ◌∙◌, ap, arith,
+    append_assoc, length-append, length-drop, inl, inr,
+  },
 }
 use Rattle.seg_core.{
   specs.{Line.line_count, declared.unit.Unit.{Unit as Counted, TheVariants.{Lines, Bytes}}},
-  proofs.{Delimiters.delimiters-append, FirstLines.{first_lines-append, first_lines-short, first_lines_then_rest}, EndLines.last_lines-append},
+  proofs.{
+    Delimiters.delimiters-append,
+    FirstLines.{first_lines-append, first_lines-short, first_lines_then_rest},
+    EndLines.last_lines-append,
+  },
 }
 use Rattle.ends_core.specs.Ends.{measure, first_of, after_of, last_of, but_last_of}
 

@@ -1,13 +1,23 @@
 -- The laws of the work of `head` and of `tail`.
 use Rattle.std.proofs.{
   lemmas.{Grind.common_steps, Bool.{false≢true, leb-true, le-leb, le-ltb, lt-ltb}},
-  Common.{◌≡◌, ℕ, ◌-◌, ◌<◌, ◌≤◌, ◌&&◌, zero, suc, not, List, ◌++◌, length, Bool, true, false, Option, Some, None, cond, nat_le, refl, sym, ◌∙◌, ap, arith, rules},
+  Common.{
+    ◌≡◌, ℕ, ◌-◌, ◌<◌, ◌≤◌, ◌&&◌, zero, suc, not, List, ◌++◌, length, Bool, true, false, Option, Some, None, cond,
+    nat_le, refl, sym, ◌∙◌, ap, arith, rules,
+  },
 }
 use Rattle.ports_core.{
-  specs.{Part.{nothing, only_out, Begins}, Work.{IsComplete, IsLawful, always_well}, declared.verdict.Verdict.{Verdict, TheVariants.Changed}},
+  specs.{
+    Part.{nothing, only_out, Begins},
+    Work.{IsComplete, IsLawful, always_well},
+    declared.verdict.Verdict.{Verdict, TheVariants.Changed},
+  },
   proofs.PartLemmas.{out_begins, part_begins_itself},
 }
-use Rattle.seg_core.{proofs.Delimiters.delimiters-le-length, specs.declared.unit.Unit.{Unit as Counted, TheVariants.{Lines, Bytes}}}
+use Rattle.seg_core.{
+  proofs.Delimiters.delimiters-le-length,
+  specs.declared.unit.Unit.{Unit as Counted, TheVariants.{Lines, Bytes}},
+}
 use Rattle.ends_core.specs.{
   declared.ends.Ends.{Ends, TheVariants.{First, ButLast, FromNth, Last}},
   Ends.{measure, first_of, after_of, last_of, but_last_of, head_of, tail_of},

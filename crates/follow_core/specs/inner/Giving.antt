@@ -1,10 +1,16 @@
 -- What a look gives for one name, call by call: bytes on standard output, under headers, and lines on standard error;
 -- and what one call on a name owes, and what is due of it.
-use Rattle.std.specs.Prelude.{◌≡◌, ◌<◌, ◌-◌, Bool, true, false, ℕ, List, Option, Some, None, Result, Ok, Err, ◌⊎◌, nat_lt, [], ◌∷◌, ◌++◌, drop, length, if◌then◌else◌, IfOk, is_some}
+use Rattle.std.specs.Prelude.{
+  ◌≡◌, ◌<◌, ◌-◌, Bool, true, false, ℕ, List, Option, Some, None, Result, Ok, Err, ◌⊎◌, nat_lt, [], ◌∷◌, ◌++◌, drop,
+  length, if◌then◌else◌, IfOk, is_some,
+}
 use Rattle.ports_core.specs.{declared.{reason.Reason.Reason, fault.Fault.Fault}, Slot.{Slot, changed_at, slot_at}}
 use Rattle.watch_core.specs.{Snapshot.Snapshot, Watched.{NameBreaks, Watched, open_contents, opens, watched_at}}
 use Rattle.follow_core.specs.{
-  declared.{notice.Notice.{Notice, TheVariants.{Truncated, Replaced, Inaccessible, Appeared}}, visitor.Stop.{Stop, TheVariants.{Broke, Over}}},
+  declared.{
+    notice.Notice.{Notice, TheVariants.{Truncated, Replaced, Inaccessible, Appeared}},
+    visitor.Stop.{Stop, TheVariants.{Broke, Over}},
+  },
   Event.{Begins, Event, all_but, bytes_in, events_later, gives, lines_in, notes},
   Followed.{last_with, text_with},
   Gain.last_from,

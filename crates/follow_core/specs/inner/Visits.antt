@@ -1,7 +1,15 @@
 -- What a look leaves at one name, at one name after another and at all names, and what all looks of a run do.
-use Rattle.std.specs.Prelude.{Bool, true, false, ◌||◌, List, [], ◌∷◌, ◌≡◌, ℕ, ◌++◌, Option, Some, None, length, Result, Ok, Err, ◌<◌, take, ◌≤◌, IfErr, IfOk, OnOk, ◌+◌, map, is_some}
+use Rattle.std.specs.Prelude.{
+  Bool, true, false, ◌||◌, List, [], ◌∷◌, ◌≡◌, ℕ, ◌++◌, Option, Some, None, length, Result, Ok, Err, ◌<◌, take, ◌≤◌,
+  IfErr, IfOk, OnOk, ◌+◌, map, is_some,
+}
 use Rattle.follow_core.specs.{
-  declared.{name.Standing.{Standing, TheVariants.{New, Followed, Left}}, visitor.Stop.{Stop, TheVariants.{Broke, Over}}, start.Start.Start, follow.Stage.TheVariants.{Fresh, Looking, Over}},
+  declared.{
+    name.Standing.{Standing, TheVariants.{New, Followed, Left}},
+    visitor.Stop.{Stop, TheVariants.{Broke, Over}},
+    start.Start.Start,
+    follow.Stage.TheVariants.{Fresh, Looking, Over},
+  },
   Standing.{NameState, NoneGoesOn, AllStand, CanVisit, Stands, StandsAmong, texts},
   Telling.tail_by,
   Share.{BeginsShare, Share, share_by, share_of, shares_at_look_from},
@@ -14,7 +22,12 @@ use Rattle.follow_core.specs.{
   Sharing.{AllShared, AllShort, CanPrint, HasError},
   Ending.Made,
 }
-use Rattle.ports_core.specs.{Slot.{Slot, changed_at}, Message.SaysOn, Text.message_of, declared.{calling.Calling.Calling, reason.Reason.Reason, fault.Fault.Fault}}
+use Rattle.ports_core.specs.{
+  Slot.{Slot, changed_at},
+  Message.SaysOn,
+  Text.message_of,
+  declared.{calling.Calling.Calling, reason.Reason.Reason, fault.Fault.Fault},
+}
 use Rattle.watch_core.specs.{Snapshot.Snapshot, Watched.{Watched, opens, watched_at, added}}
 
 -- a further look can give something of it

@@ -1,7 +1,11 @@
 -- What private calls say: what reading one target returns.
 use Rattle.std.specs.Prelude.{◌≡◌, Result, Ok, Err}
 use Rattle.bre_core.specs.declared.fault.BreFault.{BreFault}
-use Rattle.operand_core.specs.{Operand.Target, Reading.{Aim, Aimed, aims, fails, IsTarget, HasRefused}, declared.operand_fault.OperandFaultKind.OperandFaultKind}
+use Rattle.operand_core.specs.{
+  Operand.Target,
+  Reading.{Aim, Aimed, aims, fails, IsTarget, HasRefused},
+  declared.operand_fault.OperandFaultKind.OperandFaultKind,
+}
 use Rattle.operand_core.specs.declared.operand_fault.OperandFaultKind.TheVariants as kind
 
 pub data IsAimed (aimed : Aimed) : Result Target OperandFaultKind → Type 0 where

@@ -1,6 +1,9 @@
 -- What contracts see of a word that was read.
 use Rattle.std.specs.Prelude.{Result, Ok, Err}
-use Rattle.operand_core.specs.{declared.{operand_fault.OperandFaultKind.OperandFaultKind, word.Word.Word}, Word.{Spelling, number, search, again, wrong}}
+use Rattle.operand_core.specs.{
+  declared.{operand_fault.OperandFaultKind.OperandFaultKind, word.Word.Word},
+  Word.{Spelling, number, search, again, wrong},
+}
 use Rattle.operand_core.specs.declared.word.Word.TheVariants as word
 
 abbrev pub seen : Word → Spelling

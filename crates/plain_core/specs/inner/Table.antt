@@ -1,6 +1,10 @@
 -- Tables of stretches of a line, as the truth values of `contains` are found with.
 use Rattle.std.specs.Prelude.{◌≡◌, ℕ, suc, ◌+◌, ◌≤◌, Bool, false, ◌==◌, ◌&&◌, nat_le, List, [], slice_index_or, Option}
-use Rattle.bre_core.specs.{declared.token.Token.{Token, TheVariants.{Set, Front, End}}, Pattern.{set, front, end}, Search.{any_below, is_at_most, matches_item}}
+use Rattle.bre_core.specs.{
+  declared.token.Token.{Token, TheVariants.{Set, Front, End}},
+  Pattern.{set, front, end},
+  Search.{any_below, is_at_most, matches_item},
+}
 
 -- whether a stretch leads from one place to another
 abbrev pub at : List (List Bool) → ℕ → ℕ → Bool

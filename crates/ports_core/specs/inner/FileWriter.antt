@@ -1,12 +1,19 @@
 -- What private calls say of the writer of files.
-use Rattle.std.specs.Prelude.{◌≡◌, ℕ, ◌+◌, ◌<◌, ◌≤◌, ◌^◌, Bool, decimal, List, [], ◌∷◌, ◌++◌, length, Option, None, IfNone, IfSome, IsTrue, Result, Ok, Err}
+use Rattle.std.specs.Prelude.{
+  ◌≡◌, ℕ, ◌+◌, ◌<◌, ◌≤◌, ◌^◌, Bool, decimal, List, [], ◌∷◌, ◌++◌, length, Option, None, IfNone, IfSome, IsTrue, Result,
+  Ok, Err,
+}
 use Rattle.ports_core.specs.{
   FileWriter.WriterState,
   Names.{next_name, has_next, told_next, with_one_drawn, OpensNone},
   Slot.{Slot, opened},
   inner.Write.Wrote,
   declared.fault.Fault.Fault,
-  declared.file_writer.{Current.TheVariants.{File, Unopened}, Keeps.{Keeps, TheVariants.{Open, All}}, Tells.{Tells, TheVariants.{Nothing, Sizes, Openings}}},
+  declared.file_writer.{
+    Current.TheVariants.{File, Unopened},
+    Keeps.{Keeps, TheVariants.{Open, All}},
+    Tells.{Tells, TheVariants.{Nothing, Sizes, Openings}},
+  },
   declared.slot.Mode.TheVariants.Fresh,
 }
 

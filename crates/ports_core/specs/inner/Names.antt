@@ -1,6 +1,10 @@
 -- What private calls say: what standard output was told of a file before that is opened.
 use Rattle.std.specs.Prelude.{◌≡◌, ℕ, Bool, List, ◌⊎◌, Option, Some, None}
-use Rattle.ports_core.specs.{Slot.{Slot, told_of, with_written}, inner.Write.WritesShort, declared.fault.Fault.{Fault, TheVariants.Memory}}
+use Rattle.ports_core.specs.{
+  Slot.{Slot, told_of, with_written},
+  inner.Write.WritesShort,
+  declared.fault.Fault.{Fault, TheVariants.Memory},
+}
 
 -- it got this line; or there was no memory for it, or standard output broke in it
 abbrev pub TellsOpening : Bool → List ℕ → List Slot → List Slot → Option Fault → Type 0

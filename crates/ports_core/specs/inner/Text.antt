@@ -1,6 +1,9 @@
 -- What private calls say: the texts that the tools print beside their output.
 use Rattle.std.specs.Prelude.{ℕ, Bool, List, ◌++◌, codes, decimal, Option, Some, None, if◌then◌else◌}
-use Rattle.ports_core.specs.{declared.fault.UsageKind.{UsageKind, TheVariants.{BadOperand, BadPattern, PatternTooLarge}}, Text.{in_quotes, in_parentheses}}
+use Rattle.ports_core.specs.{
+  declared.fault.UsageKind.{UsageKind, TheVariants.{BadOperand, BadPattern, PatternTooLarge}},
+  Text.{in_quotes, in_parentheses},
+}
 
 -- the number of a rule, and where in a pattern it is broken
 abbrev pub rule_at : ℕ → Option ℕ → List ℕ

@@ -1,6 +1,10 @@
 -- What private calls say: what writes leave in the slots.
 use Rattle.std.specs.Prelude.{◌≡◌, ℕ, Bool, List, Option, Some, None}
-use Rattle.ports_core.specs.{Slot.{Slot, told_of, with_written}, declared.fault.Fault.{Fault, TheVariants.Write}, Write.BrokeAfter}
+use Rattle.ports_core.specs.{
+  Slot.{Slot, told_of, with_written},
+  declared.fault.Fault.{Fault, TheVariants.Write},
+  Write.BrokeAfter,
+}
 
 -- the slot broke among these bytes, and the fault says so
 pub data WritesShort (told : Bool) (slot : ℕ) (bytes : List ℕ) (old new : List Slot) : Fault → Type 0 where

@@ -1,6 +1,9 @@
 -- Writing a pattern's code from its last token to its first, and from its last node to its first.
 use Rattle.std.specs.Prelude.{◌≡◌, ℕ, ◌<◌, ◌≤◌, List, ◌∷◌, ◌++◌, length, take, drop, reverse, Option, Some, None}
-use Rattle.scan_core.specs.{declared.{node.Node.{Node, TheVariants.Back}, emit.Duplication.Duplication}, Code.{copies, tail_of}}
+use Rattle.scan_core.specs.{
+  declared.{node.Node.{Node, TheVariants.Back}, emit.Duplication.Duplication},
+  Code.{copies, tail_of},
+}
 
 -- the `size` nodes from a place on
 abbrev pub stretch : ℕ → ℕ → List Node → List Node

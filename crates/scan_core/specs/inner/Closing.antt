@@ -1,6 +1,9 @@
 -- What private calls say: all that follows without a byte is entered, by words that are closed and by hops.
 use Rattle.std.specs.{Prelude.{◌≡◌, ◌⊎◌, ℕ, ◌+◌, ◌*◌, ◌/◌, ◌<◌, ◌≤◌, false, List}, Int.bit_at}
-use Rattle.scan_core.specs.{declared.{closures.Closures.Closures, hops.{Hop.Hop, Hops.Hops}, node.Node.Node}, inner.{Hops.{HopsTo, PartsTo, end_of}, Sets.Flows, Words.{Adds, IsIn, unset}}}
+use Rattle.scan_core.specs.{
+  declared.{closures.Closures.Closures, hops.{Hop.Hop, Hops.Hops}, node.Node.Node},
+  inner.{Hops.{HopsTo, PartsTo, end_of}, Sets.Flows, Words.{Adds, IsIn, unset}},
+}
 
 -- each step from a set leads to it, or a hop leads there
 abbrev pub IsApart : List Node → Hops → List ℕ → Type 0

@@ -1,6 +1,12 @@
 -- What numbers lead to without a byte, ready to be looked up.
-use Rattle.std.specs.{Prelude.{◌≡◌, ◌⊎◌, ◌↔◌, ℕ, ◌+◌, ◌*◌, ◌/◌, ◌%◌, ◌^◌, ◌<◌, Bool, true, false, List, length}, Int.bit_at}
-use Rattle.scan_core.specs.{declared.{closures.Closures.Closures, node.Node.Node}, inner.{Each.AreEach, Hops.AreParted, Sets.{Flows, FlowsOn}, Words.{IsIn, width}}}
+use Rattle.std.specs.{
+  Prelude.{◌≡◌, ◌⊎◌, ◌↔◌, ℕ, ◌+◌, ◌*◌, ◌/◌, ◌%◌, ◌^◌, ◌<◌, Bool, true, false, List, length},
+  Int.bit_at,
+}
+use Rattle.scan_core.specs.{
+  declared.{closures.Closures.Closures, node.Node.Node},
+  inner.{Each.AreEach, Hops.AreParted, Sets.{Flows, FlowsOn}, Words.{IsIn, width}},
+}
 
 -- all that number 0 leads to, at a line's front or elsewhere
 pub record IsBegun (code : List Node) (at_first : Bool) (words : List ℕ) : Type 0 where

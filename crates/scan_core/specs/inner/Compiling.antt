@@ -2,7 +2,11 @@
 use Rattle.std.specs.Prelude.{◌≡◌, ℕ, zero, suc, List, [], ◌∷◌, ◌++◌, length, reverse, Option, Some, None, All}
 use Rattle.bre_core.specs.declared.token.Token.{Token, TheVariants.{Set, Front, End, Open, Close, Repeat}}
 use Rattle.scan_core.specs.{
-  declared.{compile.{Compiling.Compiling, Pending.{Pending, TheVariants.{Group, Repeated}}}, emit.Duplication.Duplication, node.Node.{Node, TheVariants.{Take, First, Last, Back}}},
+  declared.{
+    compile.{Compiling.Compiling, Pending.{Pending, TheVariants.{Group, Repeated}}},
+    emit.Duplication.Duplication,
+    node.Node.{Node, TheVariants.{Take, First, Last, Back}},
+  },
   inner.Backwards.{IsBegun, Repeats},
 }
 

@@ -1,6 +1,9 @@
 -- Hops: numbers of a word that lead to the same one beyond it.
 use Rattle.std.specs.{Prelude.{◌≡◌, ◌⊎◌, ◌↔◌, ℕ, ◌+◌, ◌*◌, ◌/◌, ◌<◌, false, List, length, slice_index_or}, Int.bit_at}
-use Rattle.scan_core.specs.{declared.{hops.{Hop.Hop, Hops.Hops}, node.Node.Node}, inner.{Each.AreEach, Sets.Flows, Words.{IsIn, width}}}
+use Rattle.scan_core.specs.{
+  declared.{hops.{Hop.Hop, Hops.Hops}, node.Node.Node},
+  inner.{Each.AreEach, Sets.Flows, Words.{IsIn, width}},
+}
 
 abbrev pub no_hop : Hop
 no_hop = record { at = 0; from = 0; word = 0; bit = 0 }

@@ -1,7 +1,10 @@
 -- What private calls say: where the nodes of a code lead.
 use Rattle.std.specs.Prelude.{◌≡◌, ◌⊎◌, ℕ, ◌+◌, ◌≤◌, Bool, IsTrue, List, length}
 use Rattle.bre_core.specs.{ByteSet.has, Match.Parts}
-use Rattle.scan_core.specs.{declared.node.Node.{Node, TheVariants.{Take, First, Last, Choose, Back}}, Code.{At, Goes, Entered}}
+use Rattle.scan_core.specs.{
+  declared.node.Node.{Node, TheVariants.{Take, First, Last, Choose, Back}},
+  Code.{At, Goes, Entered},
+}
 
 -- a node leads to another at one place of a line: at its first or at its last, or neither
 abbrev pub LeadsOn : Node → Bool → Bool → ℕ → ℕ → Type 0

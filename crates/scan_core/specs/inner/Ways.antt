@@ -1,6 +1,9 @@
 -- Where the numbers of a code lead without a byte.
 use Rattle.std.specs.Prelude.{◌≡◌, ◌⊎◌, ◌↔◌, ℕ, ◌≤◌, Bool, IsTrue, List, length}
-use Rattle.scan_core.specs.{declared.{node.Node.Node, way.{Way.Way, When.{When, TheVariants.{Never, AtFront, AtEnd, Always}}}}, inner.Sets.Flows}
+use Rattle.scan_core.specs.{
+  declared.{node.Node.Node, way.{Way.Way, When.{When, TheVariants.{Never, AtFront, AtEnd, Always}}}},
+  inner.Sets.Flows,
+}
 
 -- a way is open at one place of a line: at its first or at its last, or neither
 abbrev pub Opens : When → Bool → Bool → Type 0

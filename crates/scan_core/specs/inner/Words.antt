@@ -1,6 +1,16 @@
 -- Sets of a code's numbers as words, 64 numbers in each.
-use Rattle.std.specs.{Prelude.{◌≡◌, ◌⊎◌, ◌↔◌, ℕ, zero, suc, ◌+◌, ◌-◌, ◌*◌, ◌/◌, ◌%◌, ◌^◌, ◌<◌, ◌≤◌, ◌==◌, Bool, List, [], ◌∷◌, ◌++◌, length, slice_index_or}, Int.bit_at}
-use Rattle.scan_core.specs.{declared.{masks.{Kind.{Kind, TheVariants.{Takes, Counts}}, Masks.Masks}, node.Node.Node}, Code.weight_of, inner.{Each.AreEach, Sets.{FlowsOn, Passes}}}
+use Rattle.std.specs.{
+  Prelude.{
+    ◌≡◌, ◌⊎◌, ◌↔◌, ℕ, zero, suc, ◌+◌, ◌-◌, ◌*◌, ◌/◌, ◌%◌, ◌^◌, ◌<◌, ◌≤◌, ◌==◌, Bool, List, [], ◌∷◌, ◌++◌, length,
+    slice_index_or,
+  },
+  Int.bit_at,
+}
+use Rattle.scan_core.specs.{
+  declared.{masks.{Kind.{Kind, TheVariants.{Takes, Counts}}, Masks.Masks}, node.Node.Node},
+  Code.weight_of,
+  inner.{Each.AreEach, Sets.{FlowsOn, Passes}},
+}
 
 unfoldable pub IsIn : List ℕ → ℕ → Type 0
 IsIn words number = bit_at (slice_index_or words (number / 64) 0) (number % 64) ≡ 1

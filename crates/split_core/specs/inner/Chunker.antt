@@ -1,7 +1,13 @@
 -- What private calls say: chunks of an input, as a stage.
 use Rattle.std.specs.Prelude.{◌≡◌, ℕ, Bool, true, List, length, Option, Result}
 use Rattle.ports_core.specs.{Engine.TookIn, Part.Part, Slot.Slot, Work.Work, declared.fault.Fault.Fault}
-use Rattle.split_core.specs.{Alike.as_if, ChunkerState.{ChunkerState, Holds, can_cut, course, work_on}, Ways.terms, declared.splitter.Splitter.TheVariants.Chunks, inner.Sends.Brings}
+use Rattle.split_core.specs.{
+  Alike.as_if,
+  ChunkerState.{ChunkerState, Holds, can_cut, course, work_on},
+  Ways.terms,
+  declared.splitter.Splitter.TheVariants.Chunks,
+  inner.Sends.Brings,
+}
 use Rattle.split_core.specs.inner.Ways as ways
 
 -- what it makes of its input

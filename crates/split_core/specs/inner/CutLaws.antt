@@ -1,7 +1,10 @@
 -- What private calls say: parts that follow one another, and what files get of them.
 use Rattle.std.specs.Prelude.{◌≡◌, ℕ, List, [], ◌∷◌, true, false, map}
 use Rattle.seg_core.specs.declared.cut.Limit.{Limit}
-use Rattle.split_core.specs.{Parts.{is_full, first_part, after_first, CutUp, parts}, Split.{Filing, Share, manner_of, share}}
+use Rattle.split_core.specs.{
+  Parts.{is_full, first_part, after_first, CutUp, parts},
+  Split.{Filing, Share, manner_of, share},
+}
 use Rattle.ports_core.specs.{declared.slot.State.TheVariants.Closed, Draft.files_from, Part.File}
 
 -- the parts of a text, one after another

@@ -1,7 +1,14 @@
 -- What private calls say: where chunks go.
 use Rattle.std.specs.Prelude.{ℕ, Bool, true, false, nat_lt}
-use Rattle.ports_core.specs.{FileWriter.{new_writer, seen_writer}, Name.Naming, declared.file_writer.{Keeps.TheVariants.Open, Tells.Tells}}
-use Rattle.split_core.specs.{ChunkerState.{AimState, TargetState, to_files, to_output}, declared.chunk_target.{Aim.{Aim, TheVariants.{Files, Output}}, Target.Target}}
+use Rattle.ports_core.specs.{
+  FileWriter.{new_writer, seen_writer},
+  Name.Naming,
+  declared.file_writer.{Keeps.TheVariants.Open, Tells.Tells},
+}
+use Rattle.split_core.specs.{
+  ChunkerState.{AimState, TargetState, to_files, to_output},
+  declared.chunk_target.{Aim.{Aim, TheVariants.{Files, Output}}, Target.Target},
+}
 
 abbrev pub seen_aim : Aim → AimState
 seen_aim (Files writer elide) = to_files (seen_writer writer) elide

@@ -1,5 +1,7 @@
 -- What private calls say: what goes to the files of chunks, or to standard output where one of them goes there.
-use Rattle.std.specs.Prelude.{◌≡◌, ℕ, Bool, true, false, List, [], ◌∷◌, ◌++◌, length, map, zero, suc, Option, IfNone, IfSome, IsTrue}
+use Rattle.std.specs.Prelude.{
+  ◌≡◌, ℕ, Bool, true, false, List, [], ◌∷◌, ◌++◌, length, map, zero, suc, Option, IfNone, IfSome, IsTrue,
+}
 use Rattle.ports_core.specs.{
   Draft.{Draft, Manner, draft_part, made_of, part_of, share, with_next},
   FileWriter.{KeepsOrBreaks, Leaves, Reaches, Writes, WriterState},
@@ -7,7 +9,12 @@ use Rattle.ports_core.specs.{
   Slot.{Slot, is_writable},
   Turn.IsThere,
   Name.has_name,
-  declared.{fault.Fault.{Fault, TheVariants.{Verdict, Write}}, verdict.Verdict.TheVariants.Suffixes, file_writer.Opening.TheVariants.{Late, AtOnce}, slot.State.TheVariants.Closed},
+  declared.{
+    fault.Fault.{Fault, TheVariants.{Verdict, Write}},
+    verdict.Verdict.TheVariants.Suffixes,
+    file_writer.Opening.TheVariants.{Late, AtOnce},
+    slot.State.TheVariants.Closed,
+  },
 }
 use Rattle.split_core.specs.{
   ChunkWork.{draft_by, files_by, piece_at},

@@ -1,5 +1,11 @@
 -- What private calls say: how files in order get more bytes, and how more of them are opened.
-use Rattle.std.specs.{Prelude.{◌≡◌, ℕ, ◌+◌, ◌-◌, ◌<◌, ◌≤◌, max, Bool, true, List, [], ◌∷◌, ◌++◌, ◌⊎◌, length, map, Result, Ok, Err, OnOk, IfErr, nat_lt, ◌==◌, if◌then◌else◌}, List.range_with_len}
+use Rattle.std.specs.{
+  Prelude.{
+    ◌≡◌, ℕ, ◌+◌, ◌-◌, ◌<◌, ◌≤◌, max, Bool, true, List, [], ◌∷◌, ◌++◌, ◌⊎◌, length, map, Result, Ok, Err, OnOk, IfErr,
+    nat_lt, ◌==◌, if◌then◌else◌,
+  },
+  List.range_with_len,
+}
 use Rattle.ports_core.specs.{
   Names.with_one_drawn,
   Slot.{Slot, KeepsBroken, Rose},
@@ -8,7 +14,12 @@ use Rattle.ports_core.specs.{
   Draft.Manner,
   FileWriter.{Breaks, CanTell},
 }
-use Rattle.split_core.specs.{Split.{Filing, Share, is_verbose, manner_of, output_by, share}, Sharing.CannotOpen, FilesState.{FilesState, filing_in}, Round.{AreReady, OwnsFiles}}
+use Rattle.split_core.specs.{
+  Split.{Filing, Share, is_verbose, manner_of, output_by, share},
+  Sharing.CannotOpen,
+  FilesState.{FilesState, filing_in},
+  Round.{AreReady, OwnsFiles},
+}
 use Rattle.ports_core.specs.declared.slot.State.TheVariants as state
 use Rattle.ports_core.specs.Draft as draft
 

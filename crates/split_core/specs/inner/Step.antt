@@ -1,7 +1,11 @@
 -- What the next bytes of a piece do to the part that was begun, and to what is left after the full parts.
 use Rattle.std.specs.Prelude.{◌≡◌, ℕ, ◌+◌, ◌-◌, ◌<◌, ◌≤◌, Bool, true, false, List, [], ◌++◌, length, take, drop}
 use Rattle.seg_core.specs.{declared.cut.Limit.Limit, Cut.most}
-use Rattle.split_core.specs.{declared.step.Step.{Step, TheVariants.{Goes, Ends, Begins, Waits}}, Parts.{is_full, first_part, settled_rest, waiting_rest}, PartsState.Lacks}
+use Rattle.split_core.specs.{
+  declared.step.Step.{Step, TheVariants.{Goes, Ends, Begins, Waits}},
+  Parts.{is_full, first_part, settled_rest, waiting_rest},
+  PartsState.Lacks,
+}
 
 -- what waits fits into a part
 pub record Fits (limit : Limit) (left : ℕ) (has_line : Bool) (waiting : List ℕ) : Type 0 where

@@ -1,14 +1,24 @@
 -- What calls on parts that follow one another do.
-use Rattle.std.specs.Prelude.{◌≡◌, ℕ, ◌-◌, ◌≤◌, ◌<◌, Bool, false, List, [], ◌++◌, length, take, Option, Some, None, IfNone, IfSome, Result, Ok, Err}
+use Rattle.std.specs.Prelude.{
+  ◌≡◌, ℕ, ◌-◌, ◌≤◌, ◌<◌, Bool, false, List, [], ◌++◌, length, take, Option, Some, None, IfNone, IfSome, Result, Ok, Err,
+}
 use Rattle.ports_core.specs.{
   Draft.{Draft, draft_part, part_of, with_bytes, with_next},
   FileWriter.{Goes, Leaves, Reaches, At, IsWrite},
   Part.{Part, OutputsAt},
   Slot.Slot,
-  declared.{fault.Fault.{Fault, TheVariants.Verdict}, verdict.Verdict.TheVariants.Suffixes, file_writer.Opening.TheVariants.Late},
+  declared.{
+    fault.Fault.{Fault, TheVariants.Verdict},
+    verdict.Verdict.TheVariants.Suffixes,
+    file_writer.Opening.TheVariants.Late,
+  },
 }
 use Rattle.seg_core.specs.Cut.{most}
-use Rattle.split_core.specs.{Split.{are_named, draft_of, manner_of, output_by, settled_parts}, inner.CutLaws.whole_parts, PartsState.{PartsState, Stands, filing_of}}
+use Rattle.split_core.specs.{
+  Split.{are_named, draft_of, manner_of, output_by, settled_parts},
+  inner.CutLaws.whole_parts,
+  PartsState.{PartsState, Stands, filing_of},
+}
 
 -- what is written once x came in, and in the end
 abbrev pub settled_part : PartsState → List ℕ → Part

@@ -1,7 +1,10 @@
 -- What private calls say: the ways to cut, as one stage.
 use Rattle.std.specs.Prelude.{ℕ, Bool, List, length, Result}
 use Rattle.ports_core.specs.{Slot.Slot, declared.fault.Fault.Fault}
-use Rattle.split_core.specs.{Ways.terms, declared.splitter.Splitter.{Splitter, TheVariants.{Parts, Round, Chunks, Turn}}}
+use Rattle.split_core.specs.{
+  Ways.terms,
+  declared.splitter.Splitter.{Splitter, TheVariants.{Parts, Round, Chunks, Turn}},
+}
 use Rattle.ports_core.specs.Engine as engine
 
 -- what a call leaves that takes in a piece, and one at the end

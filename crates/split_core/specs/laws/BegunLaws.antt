@@ -1,18 +1,34 @@
 -- Laws that traits cite: what of a text that goes on begins before a place.
 use Rattle.std.{
-  proofs.lemmas.{Grind.common_steps, Bool.{cases_lt, lt-ltb, ltb-true, ltb-false}, List.{append-nil, take_all, length-append, take-append-le, take-append-drop, take-take}},
-  proofs.Common.{◌≡◌, ℕ, ◌+◌, ◌-◌, ◌<◌, ◌≤◌, max, zero, suc, Bool, true, false, cond, eqb, nat_lt, List, [], ◌∷◌, ◌++◌, ◌⊎◌, length, take, drop, inl, inr, refl, sym, ◌∙◌, ap, subst, arith},
+  proofs.lemmas.{
+    Grind.common_steps,
+    Bool.{cases_lt, lt-ltb, ltb-true, ltb-false},
+    List.{append-nil, take_all, length-append, take-append-le, take-append-drop, take-take},
+  },
+  proofs.Common.{
+    ◌≡◌, ℕ, ◌+◌, ◌-◌, ◌<◌, ◌≤◌, max, zero, suc, Bool, true, false, cond, eqb, nat_lt, List, [], ◌∷◌, ◌++◌, ◌⊎◌, length,
+    take, drop, inl, inr, refl, sym, ◌∙◌, ap, subst, arith,
+  },
   proofs.Math.Seq.take-append-add,
   specs.List.onto_first,
 }
 use Rattle.seg_core.{
   specs.{Line.{joined, lines_of, delimiters, first_lines}, declared.unit.Unit.{Unit, TheVariants.{Bytes, Lines}}},
   proofs.Delimiters.{delimiters-append, delimiters-le-length},
-  proofs.FirstLines.{first_lines-append, first_lines-cons, delimiters-first_lines, length-first_lines-le, joined-append},
+  proofs.FirstLines.{
+    first_lines-append, first_lines-cons, delimiters-first_lines, length-first_lines-le, joined-append,
+  },
   proofs.LinesOf.joined-lines_of,
 }
-use Rattle.ports_core.{specs.Part.IsBeginning, proofs.{PartLemmas.{begins_itself, begins_more}, AgreedLemmas.beginning_short}}
-use Rattle.split_core.specs.{Chunks.{lines_before, begun_before, open_from}, inner.Dealt.EachSome, laws.{DealLaws.each_line, ShareLaws.first_lines_begin}}
+use Rattle.ports_core.{
+  specs.Part.IsBeginning,
+  proofs.{PartLemmas.{begins_itself, begins_more}, AgreedLemmas.beginning_short},
+}
+use Rattle.split_core.specs.{
+  Chunks.{lines_before, begun_before, open_from},
+  inner.Dealt.EachSome,
+  laws.{DealLaws.each_line, ShareLaws.first_lines_begin},
+}
 
 -- What of a text begins before a place
 

@@ -1,14 +1,27 @@
 -- Laws that traits cite: laws of parts that follow one another: what a text that goes on is cut into.
 use Rattle.std.proofs.{
-  lemmas.{Grind.common_steps, Bool.{ltb-true, Decides.nat_tests}, List.{append-nil, take-append-le, drop-append-le, length-take, length-take-le}},
-  Common.{◌≡◌, ℕ, ◌+◌, ◌<◌, ◌≤◌, zero, suc, List, [], ◌++◌, length, take, Bool, true, false, cond, nat_lt, refl, sym, subst, arith, length-append, length-drop, rules},
+  lemmas.{
+    Grind.common_steps,
+    Bool.{ltb-true, Decides.nat_tests},
+    List.{append-nil, take-append-le, drop-append-le, length-take, length-take-le},
+  },
+  Common.{
+    ◌≡◌, ℕ, ◌+◌, ◌<◌, ◌≤◌, zero, suc, List, [], ◌++◌, length, take, Bool, true, false, cond, nat_lt, refl, sym, subst,
+    arith, length-append, length-drop, rules,
+  },
 }
 use Rattle.seg_core.{
   specs.{Line.{delimiters, first_lines}, declared.cut.Limit.{Limit, TheVariants.{Lines, Bytes, LineBytes}}, Cut.most},
-  proofs.{Delimiters.{delimiters-append, delimiters-le-length}, FirstLines.{first_lines-full, first_lines_then_rest, length-first_lines-le, delimiters-first_lines}},
+  proofs.{
+    Delimiters.{delimiters-append, delimiters-le-length},
+    FirstLines.{first_lines-full, first_lines_then_rest, length-first_lines-le, delimiters-first_lines},
+  },
 }
 use Rattle.split_core.specs.{
-  Parts.{whole_lines, open_line, measure, is_full, first_part, after_first, uncut, part_before, cut_within, cut_up, settled_rest, waiting_rest},
+  Parts.{
+    whole_lines, open_line, measure, is_full, first_part, after_first, uncut, part_before, cut_within, cut_up,
+    settled_rest, waiting_rest,
+  },
   inner.CutLaws.{Cuts, stops, goes, cut_so},
 }
 

@@ -1,12 +1,24 @@
 -- Laws that traits cite: how the lines of a text that goes on are dealt, and which files have a line.
 use Rattle.std.proofs.{
-  lemmas.{Grind.common_steps, Bool.{cases_eq, cases_lt, eq-eqb, Decides.nat_tests}, List.{append-nil, FromFn.{filter_of_map_range_with_len_more, map-range_with_len_more}}},
-  Common.{◌≡◌, ℕ, ◌+◌, ◌%◌, ◌<◌, ◌≤◌, zero, suc, min, Bool, true, false, cond, eqb, List, [], ◌∷◌, ◌++◌, length, map, inl, inr, refl, sym, ◌∙◌, ap, arith, length-append, rules},
+  lemmas.{
+    Grind.common_steps,
+    Bool.{cases_eq, cases_lt, eq-eqb, Decides.nat_tests},
+    List.{append-nil, FromFn.{filter_of_map_range_with_len_more, map-range_with_len_more}},
+  },
+  Common.{
+    ◌≡◌, ℕ, ◌+◌, ◌%◌, ◌<◌, ◌≤◌, zero, suc, min, Bool, true, false, cond, eqb, List, [], ◌∷◌, ◌++◌, length, map, inl,
+    inr, refl, sym, ◌∙◌, ap, arith, length-append, rules,
+  },
   Math.Nat.{mod-eq_of_lt, zero-add},
 }
 use Rattle.std.specs.List.{filter, range_with_len, onto_first}
 use Rattle.seg_core.{specs.Line.{lines_of, delimiters, line_count}, proofs.EndLines.line_count-grows}
-use Rattle.split_core.specs.{Parts.dealt, Split.{has_bytes, dealt_files}, Round.opened_by, inner.Dealt.{EachSome, share_of}}
+use Rattle.split_core.specs.{
+  Parts.dealt,
+  Split.{has_bytes, dealt_files},
+  Round.opened_by,
+  inner.Dealt.{EachSome, share_of},
+}
 
 pub dealt_first : (ends : Bool) (n file place byte : ℕ) (lines : List (List ℕ))
     → dealt n file place (cond ends ((byte ∷ []) ∷ lines) (onto_first byte lines))

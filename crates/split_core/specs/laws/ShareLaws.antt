@@ -1,11 +1,21 @@
 -- Laws that traits cite: laws of what files get: what is written once more came in, and in the end.
 use Rattle.std.proofs.{
   lemmas.{Grind.common_steps, List.{map-append, length-map, take-take}},
-  Common.{◌≡◌, ℕ, ◌+◌, ◌-◌, ◌<◌, ◌≤◌, zero, suc, List, [], ◌∷◌, ◌++◌, length, map, take, drop, Bool, true, false, ◌⊎◌, inl, inr, refl, sym, ◌∙◌, ap, subst, arith, append_assoc, rules},
+  Common.{
+    ◌≡◌, ℕ, ◌+◌, ◌-◌, ◌<◌, ◌≤◌, zero, suc, List, [], ◌∷◌, ◌++◌, length, map, take, drop, Bool, true, false, ◌⊎◌, inl,
+    inr, refl, sym, ◌∙◌, ap, subst, arith, append_assoc, rules,
+  },
 }
 use Rattle.seg_core.{
-  specs.{Line.{joined, lines_of, delimiters, first_lines}, declared.cut.Limit.{Limit, TheVariants.{Lines, Bytes, LineBytes}}, Cut.most},
-  proofs.{Delimiters.delimiters-append, FirstLines.{first_lines-append, first_lines-full, first_lines-short, first_lines_then_rest, lines_of-first_lines}},
+  specs.{
+    Line.{joined, lines_of, delimiters, first_lines},
+    declared.cut.Limit.{Limit, TheVariants.{Lines, Bytes, LineBytes}},
+    Cut.most,
+  },
+  proofs.{
+    Delimiters.delimiters-append,
+    FirstLines.{first_lines-append, first_lines-full, first_lines-short, first_lines_then_rest, lines_of-first_lines},
+  },
 }
 use Rattle.ports_core.specs.{
   Name.{Naming, has_name},
@@ -14,12 +24,18 @@ use Rattle.ports_core.specs.{
   inner.Shares.SharesBegin,
   declared.{file_writer.Opening.TheVariants.Late, slot.State.TheVariants.{Open, Closed}},
 }
-use Rattle.ports_core.proofs.{ShareLemmas.{files_begin, files_stop, made_begin, openings_begin, shares_after}, PartLemmas.{begins_itself, begins_more}}
+use Rattle.ports_core.proofs.{
+  ShareLemmas.{files_begin, files_stop, made_begin, openings_begin, shares_after},
+  PartLemmas.{begins_itself, begins_more},
+}
 use Rattle.split_core.specs.{
   Parts.{whole_lines, measure, is_full, first_part, after_first, cut_up, unless_empty, parts, settled_rest},
   Split.{Filing, Share, share, manner_of, are_named, output_by, settled_parts},
   inner.{Sharing.file_at, CutLaws.{goes, cut_so, whole_parts, named}},
-  laws.CutLaws.{short_some, full_some, whole_of_lines, whole_of_none, settled_then_waiting, settled_some, cut_on, cut_none, cut_once, cuts_up, rest_short},
+  laws.CutLaws.{
+    short_some, full_some, whole_of_lines, whole_of_none, settled_then_waiting, settled_some, cut_on, cut_none,
+    cut_once, cuts_up, rest_short,
+  },
 }
 
 -- the files of shares that begin others begin the files of those

@@ -1,11 +1,20 @@
 -- Laws that traits cite: those of the work of `split`, in each way to cut.
 use Rattle.std.{
   proofs.lemmas.{Grind.common_steps, Bool.{false≢true, ltb-true, not-true}, List.{append-nil, length-map}},
-  proofs.Common.{◌≡◌, ℕ, ◌+◌, ◌≤◌, zero, suc, List, [], ◌∷◌, ◌++◌, map, Bool, true, false, cond, refl, Option, arith, length, sym, ◌∙◌, ap, rules},
+  proofs.Common.{
+    ◌≡◌, ℕ, ◌+◌, ◌≤◌, zero, suc, List, [], ◌∷◌, ◌++◌, map, Bool, true, false, cond, refl, Option, arith, length, sym,
+    ◌∙◌, ap, rules,
+  },
   specs.List.range_with_len,
 }
 use Rattle.ports_core.{
-  specs.{Name.has_name, Part.{File, IsBeginning, FilesBegin, Begins, nothing}, Work.{IsLawful, IsComplete, Work}, declared.slot.State.{State, TheVariants.{Open, Closed}}, Draft.part_of},
+  specs.{
+    Name.has_name,
+    Part.{File, IsBeginning, FilesBegin, Begins, nothing},
+    Work.{IsLawful, IsComplete, Work},
+    declared.slot.State.{State, TheVariants.{Open, Closed}},
+    Draft.part_of,
+  },
   proofs.PartLemmas.{begins_itself, part_begins_itself},
 }
 use Rattle.split_core.specs.{
@@ -13,7 +22,9 @@ use Rattle.split_core.specs.{
   Split.{Filing, share, manner_of, dealt_files, are_named, settled_parts},
   Round.{round_plan, round_work, opened_by},
   laws.DealLaws.{dealt_append, dealt_files_are, opened_by-grows},
-  laws.ShareLaws.{part_begins, told_begins, settled_grow, settled_end, files_settled, files_whole, parts_grow, are_named_more},
+  laws.ShareLaws.{
+    part_begins, told_begins, settled_grow, settled_end, files_settled, files_whole, parts_grow, are_named_more,
+  },
   laws.ChunkWorkLaws.{chunk_lawful, chunks_lawful, turn_lawful},
   Parts.{cut_up, parts},
   PartsState.{filing_of, parts_work},

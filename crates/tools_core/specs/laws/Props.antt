@@ -1,6 +1,9 @@
 -- What `split` can be asked is a fact with one proof.
 use Rattle.std.specs.Coded.{×_prop, le_prop}
-use Rattle.seg_core.specs.declared.cut.{Cut.TheVariants.{Parts, Round}, Way.{Way, TheVariants.{Cut, Chunk, Chunks, Turn}}}
+use Rattle.seg_core.specs.declared.cut.{
+  Cut.TheVariants.{Parts, Round},
+  Way.{Way, TheVariants.{Cut, Chunk, Chunks, Turn}},
+}
 use Rattle.words_core.specs.SplitWords.{SplitAsked, CanSplit, IsInLimits}
 
 limits_prop : (way : Way) → IsProp (IsInLimits way)

@@ -1,6 +1,9 @@
 -- Which tool a program's own name calls, and with which words its words begin then.
 use Rattle.std.specs.Prelude.{ℕ, ◌==◌, ◌||◌, Bool, false, List, [], ◌∷◌, Option, Some, None, if◌then◌else◌}
-use Rattle.ports_core.specs.{Text.tool_name, declared.{calling.Calling.{Calling, TheVariants.{Cutters, OwnName}}, tool.Tool.Tool}}
+use Rattle.ports_core.specs.{
+  Text.tool_name,
+  declared.{calling.Calling.{Calling, TheVariants.{Cutters, OwnName}}, tool.Tool.Tool},
+}
 
 -- whether a `/` is among these bytes
 abbrev pub has_slash : List ℕ → Bool

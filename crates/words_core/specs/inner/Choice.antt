@@ -2,7 +2,11 @@
 -- for, with texts of which only the bytes count.
 use Rattle.std.specs.Prelude.{Result, Ok, Err, option_map}
 use Rattle.ports_core.specs.declared.fault.UsageKind.{UsageKind}
-use Rattle.words_core.specs.{Choice.{seen, text, written}, Format.format_seen, declared.{choice.Choice.Choice, csplit_words.CsplitOptions.CsplitOptions}}
+use Rattle.words_core.specs.{
+  Choice.{seen, text, written},
+  Format.format_seen,
+  declared.{choice.Choice.Choice, csplit_words.CsplitOptions.CsplitOptions},
+}
 
 abbrev pub seen_in : Result Choice UsageKind → Result Choice UsageKind
 seen_in (Ok choice) = Ok (seen choice)

@@ -1,4 +1,7 @@
-use Rattle.std.proofs.{Common.{◌≡◌, ℕ, List, ◌++◌, length, Bool, true, false, ◌⊎◌, inl, inr, refl, sym, ◌∙◌, ap, subst}, lemmas.Bool.false≢true}
+use Rattle.std.proofs.{
+  Common.{◌≡◌, ℕ, List, ◌++◌, length, Bool, true, false, ◌⊎◌, inl, inr, refl, sym, ◌∙◌, ap, subst},
+  lemmas.Bool.false≢true,
+}
 use Rattle.ports_core.specs.{
   Slot.Slot,
   Work.{Means, on_output},
@@ -6,7 +9,10 @@ use Rattle.ports_core.specs.{
   Guard.{GuardState, HoldsIn, IsRefusedWith},
   declared.{fault.Fault.{Fault, TheVariants.{Memory, Write, Open, TooLong}}, verdict.Verdict.Verdict},
 }
-use Rattle.ends_core.{specs.{declared.ends.Ends.Ends, Stage.{Holds, count_of, delim_of, terms, keeps, may_lack, stretch_of, unit_of}}, proofs.EndsLemmas.{none_settled, on_means}}
+use Rattle.ends_core.{
+  specs.{declared.ends.Ends.Ends, Stage.{Holds, count_of, delim_of, terms, keeps, may_lack, stretch_of, unit_of}},
+  proofs.EndsLemmas.{none_settled, on_means},
+}
 use Rattle.ports_core.specs.declared.fault.Fault.TheVariants as fault_is
 use Rattle.ends_core.proofs.laws.full_windows_lack_nothing.Goals as goal
 

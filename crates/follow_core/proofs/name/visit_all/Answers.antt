@@ -1,6 +1,15 @@
-use Rattle.std.proofs.{Common.{◌≡◌, ◌<◌, ◌≤◌, ◌+◌, length, refl, sym, ◌∙◌, subst, arith}, lemmas.List.{length-set, get_or_default}}
+use Rattle.std.proofs.{
+  Common.{◌≡◌, ◌<◌, ◌≤◌, ◌+◌, length, refl, sym, ◌∙◌, subst, arith},
+  lemmas.List.{length-set, get_or_default},
+}
 use Rattle.watch_core.specs.Watched.{opens}
-use Rattle.follow_core.{proofs.{CallGivesLemmas.keeps_others, FollowLemmas.{next_ready, same_length, texts_set, visited_more, visited_none, visited_short}}, specs.Standing.no_state}
+use Rattle.follow_core.{
+  proofs.{
+    CallGivesLemmas.keeps_others,
+    FollowLemmas.{next_ready, same_length, texts_set, visited_more, visited_none, visited_short},
+  },
+  specs.Standing.no_state,
+}
 use Rattle.follow_core.proofs.name.visit_all.Goals as goal
 
 pub loop-place-init : goal.loop-place-init

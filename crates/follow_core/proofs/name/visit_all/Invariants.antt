@@ -1,5 +1,11 @@
 use Rattle.std.proofs.Common.{◌≡◌, ◌+◌, ◌-◌, ◌<◌, ◌≤◌, ℕ, List, length}
-use Rattle.follow_core.specs.{inner.Visits.{StandFrom, VisitedTo}, Sharing.CanPrint, Look.{Look, ways_of}, FollowState.AllReady, Standing.texts}
+use Rattle.follow_core.specs.{
+  inner.Visits.{StandFrom, VisitedTo},
+  Sharing.CanPrint,
+  Look.{Look, ways_of},
+  FollowState.AllReady,
+  Standing.texts,
+}
 use Rattle.watch_core.specs.{Snapshot.latest, Watched.watched_at}
 use Rattle.follow_core.proofs.name.visit_all.Given as goal
 

@@ -1,6 +1,9 @@
 use Rattle.ports_core.{proofs.Runs.as_status, specs.declared.reason.Reason.TheVariants.Other}
 use Rattle.std.proofs.Common.{Bor, arith, ℕ, List, map, ◌∙◌, ap, sym, if◌then◌else◌}
-use Rattle.follow_core.{specs.{Ending.{stopped, looked, no_room, shows_by}, Look.ways_of}, proofs.LookedLemmas.{ends_by, most_made, open_holds, watched_are}}
+use Rattle.follow_core.{
+  specs.{Ending.{stopped, looked, no_room, shows_by}, Look.ways_of},
+  proofs.LookedLemmas.{ends_by, most_made, open_holds, watched_are},
+}
 use Rattle.follow_core.proofs.run.follow_files.Goals as goal
 
 pub returns-in-Ok-make_looks : goal.returns-in-Ok-make_looks

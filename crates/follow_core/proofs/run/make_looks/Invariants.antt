@@ -1,5 +1,8 @@
 use Rattle.std.proofs.Common.{◌≡◌, ◌≤◌, ◌+◌, ◌-◌, ℕ, Bool, true, List, [], length}
-use Rattle.follow_core.{specs.{Ending.until_over, Sharing.HasError, FollowState.{CanLook, Holds}, Look.Ways}, proofs.LookedLemmas.Progress}
+use Rattle.follow_core.{
+  specs.{Ending.until_over, Sharing.HasError, FollowState.{CanLook, Holds}, Look.Ways},
+  proofs.LookedLemmas.Progress,
+}
 use Rattle.ports_core.specs.{Slot.Slot, declared.calling.Calling.Calling}
 use Rattle.follow_core.proofs.run.make_looks.Given as goal
 

@@ -1,5 +1,9 @@
 use Rattle.std.proofs.Common.{◌∙◌, ◌+◌, ◌-◌, ap, length, take, drop, subst}
-use Rattle.watch_core.specs.{Snapshot.latest, Watched.{open_contents, watched_at, GaveFrom, breaks}, declared.watch.Broken.TheVariants.Read}
+use Rattle.watch_core.specs.{
+  Snapshot.latest,
+  Watched.{open_contents, watched_at, GaveFrom, breaks},
+  declared.watch.Broken.TheVariants.Read,
+}
 use Rattle.ports_core.specs.Slot.{changed_at}
 use Rattle.follow_core.proofs.StartLemmas.{contents_same, fill_ends, fill_more}
 use Rattle.follow_core.proofs.start.read_block.Goals as goal

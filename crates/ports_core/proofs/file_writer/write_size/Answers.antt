@@ -1,5 +1,8 @@
 use Rattle.std.proofs.{Common.{◌∙◌, ap, subst, arith}, lemmas.Grind.common_steps}
-use Rattle.ports_core.{specs.{Slot.{told_of, with_written}, Write.BrokeAfter, inner.Write.{broke, Wrote}}, proofs.{HandedOn.of_write, FileWriterLemmas.{stop_is, line_is}}}
+use Rattle.ports_core.{
+  specs.{Slot.{told_of, with_written}, Write.BrokeAfter, inner.Write.{broke, Wrote}},
+  proofs.{HandedOn.of_write, FileWriterLemmas.{stop_is, line_is}},
+}
 use Rattle.ports_core.proofs.file_writer.write_size.Goals as goal
 
 pub returns : goal.returns

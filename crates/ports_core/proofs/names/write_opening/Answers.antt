@@ -1,5 +1,8 @@
 use Rattle.std.proofs.Common.{inr, ◌∙◌, subst}
-use Rattle.ports_core.{specs.{Write.BrokeAfter, inner.{Names.TellsOpening, Write.broke}}, proofs.{HandedOn.of_write, FileWriterLemmas.stop_is}}
+use Rattle.ports_core.{
+  specs.{Write.BrokeAfter, inner.{Names.TellsOpening, Write.broke}},
+  proofs.{HandedOn.of_write, FileWriterLemmas.stop_is},
+}
 use Rattle.ports_core.proofs.names.write_opening.Goals as goal
 
 pub returns-in_err-write_whole : goal.returns-in_err-write_whole

@@ -1,5 +1,8 @@
 use Rattle.std.proofs.Common.{◌≡◌, ◌≤◌, ◌-◌, ◌^◌, ℕ, List, length, true, IsTrue}
-use Rattle.ports_core.{specs.{Source.{source_at, is_readable}, Work.{IsNeeded, IsSpare}, Inputs.KeepsOthers}, proofs.InputsLemmas.HasRead}
+use Rattle.ports_core.{
+  specs.{Source.{source_at, is_readable}, Work.{IsNeeded, IsSpare}, Inputs.KeepsOthers},
+  proofs.InputsLemmas.HasRead,
+}
 use Rattle.run_core.proofs.FeedingLemmas.{Feeds, HasTaken}
 use Rattle.run_core.proofs.feeding.feed_input.Given as goal
 

@@ -1,6 +1,12 @@
 use Rattle.std.proofs.{Common.{not, refl, ◌∙◌, ap, sym}, lemmas.Bool.false≢true}
 use Rattle.ports_core.proofs.HandedOn.{handed_on}
-use Rattle.run_core.{proofs.{InputLemmas.{looked_can, looked_unread, of_looked, unread_source, still_within, left_of}, FeedingLemmas.fed_so}, specs.Feeding.{opens, stopped}}
+use Rattle.run_core.{
+  proofs.{
+    InputLemmas.{looked_can, looked_unread, of_looked, unread_source, still_within, left_of},
+    FeedingLemmas.fed_so,
+  },
+  specs.Feeding.{opens, stopped},
+}
 use Rattle.run_core.proofs.inputs.feed_source.Goals as goal
 
 pub returns-in_err-engine-clause-fed : goal.returns-in_err-engine-clause-fed

@@ -1,4 +1,7 @@
-use Rattle.run_core.{specs.inner.RunSteps.not_begun, proofs.InputLemmas.{fresh_counts, ran_into, ran_through, stop_open, none_touched}}
+use Rattle.run_core.{
+  specs.inner.RunSteps.not_begun,
+  proofs.InputLemmas.{fresh_counts, ran_into, ran_through, stop_open, none_touched},
+}
 use Rattle.std.proofs.Common.{◌∙◌, map, refl, ap, length}
 use Rattle.ports_core.proofs.{InputsLemmas.fresh_asks, Runs.as_status}
 use Rattle.run_core.proofs.inputs.run_inputs.Goals as goal

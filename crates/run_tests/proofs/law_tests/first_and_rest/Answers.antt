@@ -1,7 +1,16 @@
 -- What these words ask for is what the table and the words' own definitions give, so that it is enough to compute it.
 use Rattle.std.proofs.Common.{◌≡◌, ◌^◌, ◌-◌, [], ◌∷◌, None, Ok, codes, refl}
-use Rattle.seg_core.specs.{Count.{count_of, factor_of}, declared.{count.Sign.TheVariants.{Plain, Plus}, unit.Unit.TheVariants.Lines}}
-use Rattle.words_core.specs.{EndsWords.EndsAsked, Spelling.foremost, Table.tools, Words.settings_of, declared.settings.{Headers.TheVariants.ForSeveral, Settings.TheVariants.{Head, Tail}}}
+use Rattle.seg_core.specs.{
+  Count.{count_of, factor_of},
+  declared.{count.Sign.TheVariants.{Plain, Plus}, unit.Unit.TheVariants.Lines},
+}
+use Rattle.words_core.specs.{
+  EndsWords.EndsAsked,
+  Spelling.foremost,
+  Table.tools,
+  Words.settings_of,
+  declared.settings.{Headers.TheVariants.ForSeveral, Settings.TheVariants.{Head, Tail}},
+}
 use Rattle.tools_core.specs.Promises.{counted}
 use Rattle.ports_core.specs.declared.calling.Calling.TheVariants.{Cutters}
 use Rattle.run_tests.proofs.law_tests.first_and_rest.Goals as goal

@@ -1,9 +1,21 @@
 use Rattle.std.proofs.Common.{◌≡◌, ℕ, ◌+◌, ◌++◌, true, List, [], ◌∷◌, length, Option, Some, None, Ok, subst}
 use Rattle.ends_core.specs.Ends.{tail_of}
-use Rattle.ports_core.specs.{Slot.{Slot, slot_at}, Source.{Content, Source, source_of, unshown}, declared.calling.Calling.TheVariants.Cutters}
+use Rattle.ports_core.specs.{
+  Slot.{Slot, slot_at},
+  Source.{Content, Source, source_of, unshown},
+  declared.calling.Calling.TheVariants.Cutters,
+}
 use Rattle.watch_core.specs.{Snapshot.Snapshot, Watched.Watched}
-use Rattle.words_core.specs.{EndsWords.EndsAsked, Words.settings_of, declared.{settings.Settings.TheVariants.Tail, value.Followed.Followed}}
-use Rattle.tools_core.specs.{Program.ProgramEnds, Promises.{AsksToFollow, Follows, IsBare, IsOfProgram, OnlyGrows, Run, showing}, Tasks.is_plus}
+use Rattle.words_core.specs.{
+  EndsWords.EndsAsked,
+  Words.settings_of,
+  declared.{settings.Settings.TheVariants.Tail, value.Followed.Followed},
+}
+use Rattle.tools_core.specs.{
+  Program.ProgramEnds,
+  Promises.{AsksToFollow, Follows, IsBare, IsOfProgram, OnlyGrows, Run, showing},
+  Tasks.is_plus,
+}
 use Rattle.run_tests.proofs.law_tests.grown.Goals as goal
 
 -- both laws, of one run

@@ -1,9 +1,20 @@
 -- A run of these words is one in the sense of the laws.
-use Rattle.std.proofs.Common.{◌≡◌, ℕ, true, false, List, [], ◌∷◌, Option, None, Result, Ok, codes, inl, refl, ◌∙◌, ap, subst}
-use Rattle.ports_core.specs.{Slot.Slot, Source.{Content, Source, source_of, unshown}, declared.{fault.Fault.Fault, calling.Calling.TheVariants.Cutters}}
+use Rattle.std.proofs.Common.{
+  ◌≡◌, ℕ, true, false, List, [], ◌∷◌, Option, None, Result, Ok, codes, inl, refl, ◌∙◌, ap, subst,
+}
+use Rattle.ports_core.specs.{
+  Slot.Slot,
+  Source.{Content, Source, source_of, unshown},
+  declared.{fault.Fault.Fault, calling.Calling.TheVariants.Cutters},
+}
 use Rattle.watch_core.specs.{Snapshot.Snapshot, Watched.Watched}
 use Rattle.words_core.specs.{declared.settings.Settings.Settings, Words.{follows, settings_of}}
-use Rattle.tools_core.specs.{Outcome.names_at, Program.ProgramEnds, Promises.{HasInput, IsOfProgram, Ran, Run}, Tasks.names_of}
+use Rattle.tools_core.specs.{
+  Outcome.names_at,
+  Program.ProgramEnds,
+  Promises.{HasInput, IsOfProgram, Ran, Run},
+  Tasks.names_of,
+}
 use Rattle.run_tests.proofs.law_tests.ran.Goals as goal
 
 -- the law, of one run

@@ -1,5 +1,8 @@
 use Rattle.std.proofs.Common.{◌≡◌, ℕ, true, Result, Ok, Err, inl, inr, sym, refl, ◌∙◌, ap, arith, IfOk}
-use Rattle.ports_core.specs.{Slot.slot_at, declared.{calling.Calling.{Calling, TheVariants.{Cutters, OwnName}}, fault.Fault.Fault}}
+use Rattle.ports_core.specs.{
+  Slot.slot_at,
+  declared.{calling.Calling.{Calling, TheVariants.{Cutters, OwnName}}, fault.Fault.Fault},
+}
 use Rattle.words_core.specs.declared.settings.Settings.TheVariants.{Head}
 use Rattle.run_tests.proofs.law_tests.status_of.Goals as goal
 

@@ -1,7 +1,10 @@
 use Rattle.std.proofs.{Common.{◌≡◌, ◌*◌, length, refl, subst, arith}, lemmas.Grind.common_steps}
 use Rattle.scan_core.{
   specs.inner.{Each.AreEach, Table.{IsState, no_state}},
-  proofs.{Searchings.{building_more, table_is}, build.build.Goals.{else-loop-place-test, then-loop-place-test+then-place-len}},
+  proofs.{
+    Searchings.{building_more, table_is},
+    build.build.Goals.{else-loop-place-test, then-loop-place-test+then-place-len},
+  },
 }
 use Rattle.scan_core.proofs.build.build.Goals as goal
 

@@ -1,5 +1,11 @@
 use Rattle.std.proofs.{Common.{rules, ◌<◌, ◌^◌, get_or, refl, sym, ap, ◌∙◌, arith, bit_and}, lemmas.List.get_or_default}
-use Rattle.scan_core.{specs.inner.Words.width, proofs.{Closings.{apart_skip, apart_more, apart_ends}, closing.close_words.Goals.{then-word-index-ne0, else-word-index-ne0}}}
+use Rattle.scan_core.{
+  specs.inner.Words.width,
+  proofs.{
+    Closings.{apart_skip, apart_more, apart_ends},
+    closing.close_words.Goals.{then-word-index-ne0, else-word-index-ne0},
+  },
+}
 use Rattle.scan_core.proofs.closing.close_words.Goals as goal
 
 pub loop-at-preserved : goal.loop-at-preserved

@@ -1,5 +1,8 @@
 use Rattle.std.proofs.Common.{rules, ◌<◌, ◌^◌, eqb, not, get_or, refl, ◌∙◌, arith, bit_and}
-use Rattle.scan_core.{specs.inner.Hops.no_hop, proofs.Closings.{landing_more, landing_ends, led_is, not_zero, is_not_zero}}
+use Rattle.scan_core.{
+  specs.inner.Hops.no_hop,
+  proofs.Closings.{landing_more, landing_ends, led_is, not_zero, is_not_zero},
+}
 use Rattle.scan_core.proofs.closing.land.Goals as goal
 
 pub loop-place-preserved : goal.loop-place-preserved

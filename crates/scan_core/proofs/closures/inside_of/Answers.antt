@@ -1,4 +1,7 @@
-use Rattle.std.{proofs.{Common.{◌<◌, ◌^◌, arith, rules, w64, bit_and}, lemmas.Nat.{and_le_l, Bits.bit_at-trailing_zeros}}, specs.Int.bit_not}
+use Rattle.std.{
+  proofs.{Common.{◌<◌, ◌^◌, arith, rules, w64, bit_and}, lemmas.Nat.{and_le_l, Bits.bit_at-trailing_zeros}},
+  specs.Int.bit_not,
+}
 use Rattle.scan_core.proofs.Insides.{inside_ends, inside_more, inside_smaller}
 use Rattle.scan_core.proofs.closures.inside_of.Goals as goal
 

@@ -1,7 +1,10 @@
 use Rattle.std.proofs.{Common.{◌<◌, ◌+◌, length, sym, ◌∙◌, subst, arith}, lemmas.List.get_or_default}
 use Rattle.scan_core.{
   specs.inner.Hops.{IsHop, no_hop},
-  proofs.{Closings.{Parting, part_onward, part_landing, parting_ends}, hops.hops_of.Goals.{then-is_within+in_ok-push, else-is_within+in_ok-push-2}},
+  proofs.{
+    Closings.{Parting, part_onward, part_landing, parting_ends},
+    hops.hops_of.Goals.{then-is_within+in_ok-push, else-is_within+in_ok-push-2},
+  },
 }
 use Rattle.scan_core.proofs.hops.hops_of.Goals as goal
 

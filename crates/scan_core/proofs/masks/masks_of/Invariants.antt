@@ -1,5 +1,8 @@
 use Rattle.std.proofs.Common.{◌/◌, ◌%◌}
-use Rattle.scan_core.specs.{declared.masks.Kind.TheVariants.{Takes, Counts}, inner.{Each.AreEach, Words.{IsMask, width}}}
+use Rattle.scan_core.specs.{
+  declared.masks.Kind.TheVariants.{Takes, Counts},
+  inner.{Each.AreEach, Words.{IsMask, width}},
+}
 use Rattle.scan_core.proofs.masks.masks_of.Given as goal
 
 abbrev pub invariant-loop-place : goal.invariant-loop-place

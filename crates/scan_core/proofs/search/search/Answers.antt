@@ -1,5 +1,8 @@
 use Rattle.std.proofs.Common.{rules, ◌≡◌, ◌<◌, length, refl, sym, ◌∙◌, arith, eqb-true}
-use Rattle.scan_core.proofs.{Shiftings.{inner, final}, Searchings.{entered_here, front_is, search_more, search_found, search_ends, search_fits}}
+use Rattle.scan_core.proofs.{
+  Shiftings.{inner, final},
+  Searchings.{entered_here, front_is, search_more, search_found, search_ends, search_fits},
+}
 use Rattle.scan_core.proofs.search.search.Goals as goal
 
 pub overflow_add-steps : goal.overflow_add-steps

@@ -1,5 +1,8 @@
 use Rattle.std.proofs.Common.{refl, subst, arith, IfSome}
-use Rattle.scan_core.{specs.inner.Table.IsTable, proofs.{Enterings.{each_more, each_to}, Shiftings.{shifted_is, states_are_light}}}
+use Rattle.scan_core.{
+  specs.inner.Table.IsTable,
+  proofs.{Enterings.{each_more, each_to}, Shiftings.{shifted_is, states_are_light}},
+}
 use Rattle.scan_core.proofs.shift_table.shifts_of.Goals as goal
 
 pub weight_of-requires : goal.weight_of-requires

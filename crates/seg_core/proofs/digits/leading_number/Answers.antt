@@ -1,4 +1,7 @@
-use Rattle.std.{proofs.{lemmas.{Grind.common_steps, List.Sums.prefix_len_is}, Common.{◌<◌, arith, sym, length}}, specs.Char.is_ascii_digit}
+use Rattle.std.{
+  proofs.{lemmas.{Grind.common_steps, List.Sums.prefix_len_is}, Common.{◌<◌, arith, sym, length}},
+  specs.Char.is_ascii_digit,
+}
 use Rattle.seg_core.proofs.Value.{value_of_more, held_step}
 use Rattle.seg_core.proofs.digits.leading_number.Goals as goal
 

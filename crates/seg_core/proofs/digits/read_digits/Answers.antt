@@ -1,5 +1,8 @@
 use Rattle.std.proofs.Common.{sym, inl, inr}
-use Rattle.seg_core.proofs.{Counts.{digits_of-none, digits_of-ok, digits_of-too_large}, digits.read_digits.Goals.{then-end-eq0-via-then-end-eq0, then-end-eq0-via-else-end-eq0+then-end-text}}
+use Rattle.seg_core.proofs.{
+  Counts.{digits_of-none, digits_of-ok, digits_of-too_large},
+  digits.read_digits.Goals.{then-end-eq0-via-then-end-eq0, then-end-eq0-via-else-end-eq0+then-end-text},
+}
 use Rattle.seg_core.proofs.digits.read_digits.Goals as goal
 
 pub returns-then-end-eq0 : goal.returns-then-end-eq0

@@ -1,5 +1,11 @@
-use Rattle.std.proofs.{Common.{◌∙◌, length, sym, ap, arith, rules}, lemmas.{List.{take_rest, length-drop}, Simd.sum-zip2}}
-use Rattle.seg_core.{specs.{declared.line.TheConstants.STEP, Line.delimiters}, proofs.{Delimiters.{delimiters-take-drop, delimiters-le-length}, Lanes.{more_fit, more_few}}}
+use Rattle.std.proofs.{
+  Common.{◌∙◌, length, sym, ap, arith, rules},
+  lemmas.{List.{take_rest, length-drop}, Simd.sum-zip2},
+}
+use Rattle.seg_core.{
+  specs.{declared.line.TheConstants.STEP, Line.delimiters},
+  proofs.{Delimiters.{delimiters-take-drop, delimiters-le-length}, Lanes.{more_fit, more_few}},
+}
 use Rattle.seg_core.proofs.line.count_in_run.Goals as goal
 
 pub overflow_add-lanes : goal.overflow_add-lanes

@@ -1,5 +1,8 @@
 use Rattle.std.proofs.Common.{arith, ◌∙◌}
-use Rattle.seg_core.proofs.{Delimiters.{count_yes, count_no}, line.count_one_by_one.Goals.{then-byte-delim, else-byte-delim}}
+use Rattle.seg_core.proofs.{
+  Delimiters.{count_yes, count_no},
+  line.count_one_by_one.Goals.{then-byte-delim, else-byte-delim},
+}
 use Rattle.seg_core.proofs.line.count_one_by_one.Goals as goal
 
 pub loop-byte-preserved : goal.loop-byte-preserved

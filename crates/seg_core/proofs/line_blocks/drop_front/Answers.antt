@@ -1,5 +1,11 @@
 use Rattle.std.proofs.Common.{◌+◌, ◌∙◌, ap, arith}
-use Rattle.seg_core.{specs.Blocks.text_of, proofs.{Delimiters.{delimiters-le-length, delimiters-take-le}, BlockLemmas.{all_counted, rest_goes, rest_counted, rest_have_counts}}}
+use Rattle.seg_core.{
+  specs.Blocks.text_of,
+  proofs.{
+    Delimiters.{delimiters-le-length, delimiters-take-le},
+    BlockLemmas.{all_counted, rest_goes, rest_counted, rest_have_counts},
+  },
+}
 use Rattle.seg_core.proofs.line_blocks.drop_front.Goals as goal
 
 pub drop_whole-left-requires : goal.drop_whole-left-requires

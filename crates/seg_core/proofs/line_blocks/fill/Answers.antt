@@ -1,4 +1,7 @@
-use Rattle.std.proofs.{lemmas.{Grind.common_steps, Result.on_ok_weaker}, Common.{◌≡◌, ◌+◌, ◌-◌, ℕ, length, refl, arith, deque_len}}
+use Rattle.std.proofs.{
+  lemmas.{Grind.common_steps, Result.on_ok_weaker},
+  Common.{◌≡◌, ◌+◌, ◌-◌, ℕ, length, refl, arith, deque_len},
+}
 use Rattle.seg_core.proofs.BlockLemmas.{grown_counts, text_set}
 use Rattle.seg_core.proofs.line_blocks.fill.Goals as goal
 

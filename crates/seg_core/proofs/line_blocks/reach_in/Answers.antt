@@ -1,7 +1,14 @@
-use Rattle.std.proofs.{lemmas.Grind.common_steps, Common.{◌≡◌, ◌+◌, ◌<◌, ◌≤◌, ◌++◌, ℕ, List, drop, length, arith, length-append}}
+use Rattle.std.proofs.{
+  lemmas.Grind.common_steps,
+  Common.{◌≡◌, ◌+◌, ◌<◌, ◌≤◌, ◌++◌, ℕ, List, drop, length, arith, length-append},
+}
 use Rattle.seg_core.{
   specs.{Line.{delimiters, first_lines}, Blocks.text_of},
-  proofs.{Delimiters.delimiters-append, FirstLines.{first_lines-full, length-first_lines-le}, BlockLemmas.{counted_at, text_from, lines_pass}},
+  proofs.{
+    Delimiters.delimiters-append,
+    FirstLines.{first_lines-full, length-first_lines-le},
+    BlockLemmas.{counted_at, text_from, lines_pass},
+  },
 }
 use Rattle.seg_core.proofs.line_blocks.reach_in.Goals as goal
 

@@ -2,7 +2,12 @@ use Rattle.std.proofs.Common.{refl}
 use Rattle.ports_core.proofs.AgreedLemmas.{agreed_now, common}
 use Rattle.split_core.{
   specs.{ChunkWork.turn_work, laws.ChunkWorkLaws.turn_lawful},
-  proofs.{ChunkAgreedLemmas.{chunk_agreed, chunks_agreed, files_agreed}, ChunkMadeLemmas.chunks_made, ChunkWaitLemmas.{chunks_placed, chunks_wait}, OneChunkLemmas.{chunk_placed, chunk_waits}},
+  proofs.{
+    ChunkAgreedLemmas.{chunk_agreed, chunks_agreed, files_agreed},
+    ChunkMadeLemmas.chunks_made,
+    ChunkWaitLemmas.{chunks_placed, chunks_wait},
+    OneChunkLemmas.{chunk_placed, chunk_waits},
+  },
 }
 use Rattle.split_core.proofs.chunk_laws.chunks_agree.Goals as goal
 

@@ -1,5 +1,8 @@
 use Rattle.std.proofs.{Common.arith, lemmas.Grind.common_steps}
-use Rattle.split_core.{specs.laws.{CutLaws.settled_then_waiting, ShareLaws.{parts_on, settled_on}}, proofs.SectionLemmas.{joined_parts, settled_all, waiting_few}}
+use Rattle.split_core.{
+  specs.laws.{CutLaws.settled_then_waiting, ShareLaws.{parts_on, settled_on}},
+  proofs.SectionLemmas.{joined_parts, settled_all, waiting_few},
+}
 use Rattle.split_core.proofs.laws.parts_go_on.Goals as goal
 
 pub returns : goal.returns

@@ -1,5 +1,12 @@
 use Rattle.std.proofs.{Common.arith, lemmas.{Grind.common_steps, List.length-map}}
-use Rattle.tee_core.{specs.Run.said_of_input, proofs.{CopyLemmas.{copies_said, copies_streams}, EndLemmas.ends_copied, StartLemmas.{length-names, opened_streams, starts}}}
+use Rattle.tee_core.{
+  specs.Run.said_of_input,
+  proofs.{
+    CopyLemmas.{copies_said, copies_streams},
+    EndLemmas.ends_copied,
+    StartLemmas.{length-names, opened_streams, starts},
+  },
+}
 use Rattle.tee_core.proofs.run.copy_all.Goals as goal
 
 pub tell_broken-requires-clause-streams : goal.tell_broken-requires-clause-streams

@@ -1,5 +1,8 @@
 use Rattle.std.{proofs.Common.{◌≡◌, ◌≤◌, ◌<◌, ◌-◌, ◌^◌, ℕ, List, [], length, map, true, IsTrue}, specs.List.concat}
-use Rattle.ports_core.{specs.{Source.{source_at, is_readable}, declared.slot.Mode.Mode, Inputs.KeepsOthers}, proofs.InputsLemmas.HasRead}
+use Rattle.ports_core.{
+  specs.{Source.{source_at, is_readable}, declared.slot.Mode.Mode, Inputs.KeepsOthers},
+  proofs.InputsLemmas.HasRead,
+}
 use Rattle.tee_core.{specs.{Run.GaveLast, inner.Steps.Copies}, proofs.EndLemmas.AreSized}
 use Rattle.tee_core.proofs.run.copy_pieces.Given as goal
 

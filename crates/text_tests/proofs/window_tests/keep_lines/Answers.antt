@@ -1,5 +1,11 @@
-use Rattle.std.proofs.{Common.{◌≡◌, ◌+◌, ◌-◌, ◌≤◌, ◌++◌, ◌∙◌, [], List, ℕ, ap, sym, subst, length, arith}, lemmas.{Result.on_ok_weaker, List.drop_all}}
-use Rattle.seg_core.{specs.{Line.but_last_lines, Window.Window}, proofs.Carried.{left_after, left_alone, fits_after, fits_alone, over-le-length}}
+use Rattle.std.proofs.{
+  Common.{◌≡◌, ◌+◌, ◌-◌, ◌≤◌, ◌++◌, ◌∙◌, [], List, ℕ, ap, sym, subst, length, arith},
+  lemmas.{Result.on_ok_weaker, List.drop_all},
+}
+use Rattle.seg_core.{
+  specs.{Line.but_last_lines, Window.Window},
+  proofs.Carried.{left_after, left_alone, fits_after, fits_alone, over-le-length},
+}
 use Rattle.text_tests.proofs.window_tests.keep_lines.Goals as goal
 
 pub put-requires : goal.put-requires

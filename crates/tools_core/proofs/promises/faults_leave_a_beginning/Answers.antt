@@ -1,4 +1,8 @@
-use Rattle.tools_core.proofs.{BesidePromises.one_completes, PromiseLemmas.begins_each, StoppedPromises.{is_broken, says_why}}
+use Rattle.tools_core.proofs.{
+  BesidePromises.one_completes,
+  PromiseLemmas.begins_each,
+  StoppedPromises.{is_broken, says_why},
+}
 use Rattle.tools_core.proofs.promises.faults_leave_a_beginning.Goals as goal
 
 pub returns : goal.returns

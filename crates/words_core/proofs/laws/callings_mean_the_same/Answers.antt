@@ -2,7 +2,11 @@ use Rattle.std.proofs.Common.{ap, refl}
 use Rattle.ports_core.specs.declared.calling.Calling.TheVariants.{Cutters}
 use Rattle.seg_core.specs.declared.unit.Unit.TheVariants.{Lines}
 use Rattle.words_core.specs.{
-  declared.{choice.Kind.TheVariants.{Amount, LinesEach}, spelling.State.TheVariants.Reading, table.Letters.TheVariants.{Never, OfHead, OfTail}},
+  declared.{
+    choice.Kind.TheVariants.{Amount, LinesEach},
+    spelling.State.TheVariants.Reading,
+    table.Letters.TheVariants.{Never, OfHead, OfTail},
+  },
   Spelling.spelled,
   Table.{head_table, row_named, split_table, tail_table, tee_table, tools},
   Value.then_check,

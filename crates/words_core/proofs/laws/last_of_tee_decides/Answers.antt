@@ -1,5 +1,8 @@
 use Rattle.ports_core.specs.declared.calling.Calling.TheVariants.{Cutters, OwnName}
-use Rattle.words_core.{specs.{Laws.says_on_broken, TeeWords.{fresh, tee_by}}, proofs.ChoiceLemmas.{last_decides, tee-sets}}
+use Rattle.words_core.{
+  specs.{Laws.says_on_broken, TeeWords.{fresh, tee_by}},
+  proofs.ChoiceLemmas.{last_decides, tee-sets},
+}
 use Rattle.words_core.proofs.laws.last_of_tee_decides.Goals as goal
 
 pub returns : goal.returns

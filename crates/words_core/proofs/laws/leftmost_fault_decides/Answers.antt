@@ -1,7 +1,15 @@
-use Rattle.std.proofs.{lemmas.Grind.common_steps, Common.{◌≡◌, ◌≤◌, ℕ, ◌+◌, arith, List, [], ◌∷◌, ◌++◌, length, Result, Ok, Err, refl, rules}}
+use Rattle.std.proofs.{
+  lemmas.Grind.common_steps,
+  Common.{◌≡◌, ◌≤◌, ℕ, ◌+◌, arith, List, [], ◌∷◌, ◌++◌, length, Result, Ok, Err, refl, rules},
+}
 use Rattle.ports_core.specs.declared.fault.{Fault.{Fault, TheVariants.Usage}, UsageKind.UsageKind}
 use Rattle.words_core.{
-  specs.{declared.spelling.State.{State, TheVariants.Awaiting}, Table.OptionRow, Given.Given, Spelling.{Meaning, ended, given_before, meaning_of, onward, spelled}},
+  specs.{
+    declared.spelling.State.{State, TheVariants.Awaiting},
+    Table.OptionRow,
+    Given.Given,
+    Spelling.{Meaning, ended, given_before, meaning_of, onward, spelled},
+  },
   proofs.{MeaningLemmas.{Awaits, GivesItself, meaning-gives}, SpellingLemmas.{of_more, told_whatever_follows}},
 }
 use Rattle.words_core.proofs.laws.leftmost_fault_decides.Goals as goal

@@ -1,5 +1,15 @@
-use Rattle.std.{proofs.{Common.{◌≡◌, sym, ap, ◌∙◌, rules, ℕ, ◌+◌, List, [], ◌∷◌, All, Some}, lemmas.List.Elements.{All-contains, All-from_recursion, All-weaker}}, specs.List.AllByRecursion}
-use Rattle.words_core.specs.{Laws.AreAlike, Spelling.{mixed, onward, spelled}, Table.{OptionRow, ToolRow, option_named, tools}}
+use Rattle.std.{
+  proofs.{
+    Common.{◌≡◌, sym, ap, ◌∙◌, rules, ℕ, ◌+◌, List, [], ◌∷◌, All, Some},
+    lemmas.List.Elements.{All-contains, All-from_recursion, All-weaker},
+  },
+  specs.List.AllByRecursion,
+}
+use Rattle.words_core.specs.{
+  Laws.AreAlike,
+  Spelling.{mixed, onward, spelled},
+  Table.{OptionRow, ToolRow, option_named, tools},
+}
 use Rattle.words_core.proofs.laws.names_mean_the_same.Goals as goal
 
 -- what is so of each row of each table

@@ -1,7 +1,17 @@
-use Rattle.std.proofs.{Common.{◌≡◌, ℕ, ◌+◌, ◌⊎◌, List, [], ◌∷◌, ◌++◌, length, Result, Ok, Err, inl, inr, refl, sym, ap, ◌∙◌, arith, append_assoc}, lemmas.Grind.common_steps}
+use Rattle.std.proofs.{
+  Common.{
+    ◌≡◌, ℕ, ◌+◌, ◌⊎◌, List, [], ◌∷◌, ◌++◌, length, Result, Ok, Err, inl, inr, refl, sym, ap, ◌∙◌, arith, append_assoc,
+  },
+  lemmas.Grind.common_steps,
+}
 use Rattle.ports_core.specs.declared.fault.Fault.{Fault}
 use Rattle.words_core.specs.{
-  declared.{spelling.State.{State, TheVariants.{Reading, Ended}}, choice.Choice.TheVariants.About, settings.Topic.Topic, table.Takes.TheVariants.Last},
+  declared.{
+    spelling.State.{State, TheVariants.{Reading, Ended}},
+    choice.Choice.TheVariants.About,
+    settings.Topic.Topic,
+    table.Takes.TheVariants.Last,
+  },
   Table.{OptionRow, csplit_table, head_table, program_table, split_table, tail_table, tee_table, tools},
   Given.{Given, joined, nothing, one_option},
   Laws.{IsLong, LeaveTheRest},

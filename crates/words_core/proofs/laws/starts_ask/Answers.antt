@@ -2,7 +2,10 @@ use Rattle.std.proofs.Common.{append_assoc, refl, arith, ◌*◌, [], ◌∷◌}
 use Rattle.seg_core.specs.{declared.count.Sign.TheVariants.{Plain, Plus}, Count.value_of}
 use Rattle.words_core.{
   specs.{Spelling.foremost, Table.{tail_table, tools}},
-  proofs.{CallingLemmas.plus_is_name, StartLemmas.{digits_count, digits_start, letters_last, letters_start, sized_large, sized_so}},
+  proofs.{
+    CallingLemmas.plus_is_name,
+    StartLemmas.{digits_count, digits_start, letters_last, letters_start, sized_large, sized_so},
+  },
 }
 use Rattle.words_core.proofs.laws.starts_ask.Goals as goal
 

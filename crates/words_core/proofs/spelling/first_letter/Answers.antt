@@ -1,4 +1,10 @@
-use Rattle.std.{proofs.{Common.{◌≡◌, ℕ, ◌<◌, ◌≤◌, List, length, get_or, true, sym, ◌∙◌, arith}, lemmas.{Bool.Decides.nat_tests, Str.IsCharBoundary-after_ascii}}, specs.Char.is_ascii}
+use Rattle.std.{
+  proofs.{
+    Common.{◌≡◌, ℕ, ◌<◌, ◌≤◌, List, length, get_or, true, sym, ◌∙◌, arith},
+    lemmas.{Bool.Decides.nat_tests, Str.IsCharBoundary-after_ascii},
+  },
+  specs.Char.is_ascii,
+}
 use Rattle.words_core.proofs.spelling.first_letter.Goals as goal
 
 pub range_from-requires : goal.range_from-requires

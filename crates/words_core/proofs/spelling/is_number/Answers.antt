@@ -1,4 +1,10 @@
-use Rattle.std.{proofs.{Common.{rules, tests, arith}, lemmas.{Bool.Decides.nat_tests, Iterator.{YieldsList-from_slice, Search.all_from_yields_List}}}, specs.Char.is_ascii_digit}
+use Rattle.std.{
+  proofs.{
+    Common.{rules, tests, arith},
+    lemmas.{Bool.Decides.nat_tests, Iterator.{YieldsList-from_slice, Search.all_from_yields_List}},
+  },
+  specs.Char.is_ascii_digit,
+}
 use Rattle.words_core.proofs.spelling.is_number.Goals as goal
 
 pub returns-then-not-is_empty : goal.returns-then-not-is_empty

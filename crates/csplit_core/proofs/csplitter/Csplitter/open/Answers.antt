@@ -1,7 +1,10 @@
 use Rattle.std.proofs.Common.{◌≡◌, List, [], length, refl, ap, arith}
 use Rattle.seg_core.specs.Line.{delimiters}
 use Rattle.ports_core.{specs.{Part.{OutputsAt, StoppedBetween, nothing}, Slot.Slot}, proofs.HandedOn.fault_is}
-use Rattle.csplit_core.{specs.{Output.sizes_wanted, Csplit.settled_by, Input.newline}, proofs.StageLemmas.{begins_at, cannot_begin}}
+use Rattle.csplit_core.{
+  specs.{Output.sizes_wanted, Csplit.settled_by, Input.newline},
+  proofs.StageLemmas.{begins_at, cannot_begin},
+}
 use Rattle.csplit_core.proofs.csplitter.Csplitter.open.Goals as goal
 
 pub returns-clause-holds : goal.returns-clause-holds

@@ -1,7 +1,10 @@
 use Rattle.ports_core.proofs.HandedOn.{handed_on}
 use Rattle.std.proofs.{Common.{◌∙◌, arith, sym}, lemmas.Grind.common_steps}
 use Rattle.seg_core.proofs.LineCounts.{ends_with-some}
-use Rattle.csplit_core.{specs.Input.newline, proofs.{LineLemmas.{first_line, others_whole}, StageLemmas.{lacks_at, line_at, lines_alone, lines_stop, lines_after}}}
+use Rattle.csplit_core.{
+  specs.Input.newline,
+  proofs.{LineLemmas.{first_line, others_whole}, StageLemmas.{lacks_at, line_at, lines_alone, lines_stop, lines_after}},
+}
 use Rattle.csplit_core.proofs.csplitter.Csplitter.take_lines.Goals as goal
 
 pub returns-then-is_empty-clause-rest : goal.returns-then-is_empty-clause-rest

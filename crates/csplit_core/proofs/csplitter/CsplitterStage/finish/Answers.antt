@@ -1,6 +1,9 @@
 use Rattle.std.proofs.Common.{ap, subst}
 use Rattle.ports_core.proofs.HandedOn.{handed_on}
-use Rattle.csplit_core.{specs.{CsplitState.CsplitState, Cutter.seen, inner.Cutter.{Judges, ended_well, ended_short}}, proofs.StageLemmas.{closed_on, closed_short, judged_by}}
+use Rattle.csplit_core.{
+  specs.{CsplitState.CsplitState, Cutter.seen, inner.Cutter.{Judges, ended_well, ended_short}},
+  proofs.StageLemmas.{closed_on, closed_short, judged_by},
+}
 use Rattle.csplit_core.proofs.csplitter.CsplitterStage.finish.Goals as goal
 
 pub returns-in_err-take_last-clause-closes : goal.returns-in_err-take_last-clause-closes

@@ -1,6 +1,9 @@
 use Rattle.std.proofs.{Common.{arith, refl}, lemmas.Grind.common_steps}
 use Rattle.ports_core.proofs.HandedOn.{handed_on}
-use Rattle.csplit_core.proofs.{LineLemmas.{piece_ends, rest_all}, StageLemmas.{none_passes, past_passes, some_passes, some_stopped}}
+use Rattle.csplit_core.proofs.{
+  LineLemmas.{piece_ends, rest_all},
+  StageLemmas.{none_passes, past_passes, some_passes, some_stopped},
+}
 use Rattle.csplit_core.proofs.csplitter.CsplitterStage.pass.Goals as goal
 
 pub returns-then-is_past-clause-passes : goal.returns-then-is_past-clause-passes

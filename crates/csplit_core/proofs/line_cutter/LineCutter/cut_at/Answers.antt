@@ -1,7 +1,10 @@
 use Rattle.std.proofs.Common.{◌∙◌, ap, arith, refl}
 use Rattle.seg_core.specs.Line.{first_lines, after_lines}
 use Rattle.ports_core.proofs.HandedOn.{fault_is}
-use Rattle.csplit_core.{specs.{Cutter.kept_next, Input.newline, Output.{Style, opening_of}}, proofs.CutterLemmas.{cut_put_stopped, cut_pass_stopped, cut_next_stopped, cut_done}}
+use Rattle.csplit_core.{
+  specs.{Cutter.kept_next, Input.newline, Output.{Style, opening_of}},
+  proofs.CutterLemmas.{cut_put_stopped, cut_pass_stopped, cut_next_stopped, cut_done},
+}
 use Rattle.csplit_core.proofs.line_cutter.LineCutter.cut_at.Goals as goal
 
 pub returns-in_err-put-clause-err : goal.returns-in_err-put-clause-err

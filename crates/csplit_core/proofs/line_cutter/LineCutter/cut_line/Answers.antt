@@ -1,6 +1,12 @@
 use Rattle.ports_core.{proofs.{HandedOn.handed_on, WriterSteps.goes_lacking}, specs.FileWriter.size_of}
 use Rattle.std.proofs.{Common.{◌+◌, length, ap, refl, sym, ◌∙◌, arith}, lemmas.Grind.common_steps}
-use Rattle.csplit_core.{specs.Cutter.CutterState, proofs.{CutterLemmas.cut_put_stopped, TakeLemmas.{cut_drained, spread_held, spread_fit, spread_ready, waiting_count, waiting_size}}}
+use Rattle.csplit_core.{
+  specs.Cutter.CutterState,
+  proofs.{
+    CutterLemmas.cut_put_stopped,
+    TakeLemmas.{cut_drained, spread_held, spread_fit, spread_ready, waiting_count, waiting_size},
+  },
+}
 use Rattle.csplit_core.proofs.line_cutter.LineCutter.cut_line.Goals as goal
 
 pub returns-in_err-waiting : goal.returns-in_err-waiting

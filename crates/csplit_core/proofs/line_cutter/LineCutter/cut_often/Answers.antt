@@ -1,6 +1,9 @@
 use Rattle.std.proofs.Common.{◌∙◌, ap, arith, rules}
 use Rattle.ports_core.{proofs.HandedOn.fault_is, specs.FileWriter.size_of}
-use Rattle.csplit_core.{specs.Cutter.{CutterState, seen}, proofs.TakeLemmas.{spread_more, spread_stopped, spread_fit, spread_ready, spread_fewer}}
+use Rattle.csplit_core.{
+  specs.Cutter.{CutterState, seen},
+  proofs.TakeLemmas.{spread_more, spread_stopped, spread_fit, spread_ready, spread_fewer},
+}
 use Rattle.csplit_core.proofs.line_cutter.LineCutter.cut_often.Goals as goal
 
 pub returns-in_err-left-clause-err : goal.returns-in_err-left-clause-err

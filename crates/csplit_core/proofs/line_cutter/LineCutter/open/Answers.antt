@@ -1,6 +1,9 @@
 use Rattle.std.proofs.Common.{◌∙◌, ap}
 use Rattle.ports_core.proofs.HandedOn.{handed_on}
-use Rattle.csplit_core.{specs.Output.{Style, opening_of}, proofs.StageLemmas.{first_ready, opened_at, opened_not, opened_lacks}}
+use Rattle.csplit_core.{
+  specs.Output.{Style, opening_of},
+  proofs.StageLemmas.{first_ready, opened_at, opened_not, opened_lacks},
+}
 use Rattle.csplit_core.proofs.line_cutter.LineCutter.open.Goals as goal
 
 pub returns-in_err-matcher : goal.returns-in_err-matcher

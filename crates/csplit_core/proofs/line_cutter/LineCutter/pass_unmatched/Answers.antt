@@ -1,5 +1,11 @@
 use Rattle.std.proofs.{Common.{refl, ap, arith}, lemmas.Grind.common_steps}
-use Rattle.csplit_core.{specs.Cutter.CutterState, proofs.{LineLemmas.rest_all, TryLemmas.{few_counted, all_left, one_more_at, more_clear, left_whole, all_passed_at, next_found, stops_unfound}}}
+use Rattle.csplit_core.{
+  specs.Cutter.CutterState,
+  proofs.{
+    LineLemmas.rest_all,
+    TryLemmas.{few_counted, all_left, one_more_at, more_clear, left_whole, all_passed_at, next_found, stops_unfound},
+  },
+}
 use Rattle.csplit_core.proofs.line_cutter.LineCutter.pass_unmatched.Goals as goal
 
 pub loop-end-init : goal.loop-end-init

@@ -1,6 +1,9 @@
 use Rattle.std.proofs.{Common.{Err, Ok, arith, subst, sym}, lemmas.Grind.common_steps}
 use Rattle.ports_core.{proofs.HandedOn.handed_on, specs.FileWriter.IsReady}
-use Rattle.csplit_core.{specs.Cutter.CutterState, proofs.TakeLemmas.{none_there, stretch_cut, stretch_first, stretch_on, stretch_past, took_past}}
+use Rattle.csplit_core.{
+  specs.Cutter.CutterState,
+  proofs.TakeLemmas.{none_there, stretch_cut, stretch_first, stretch_on, stretch_past, took_past},
+}
 use Rattle.csplit_core.proofs.line_cutter.LineCutter.stretch.Goals as goal
 
 pub returns-then-is_past : goal.returns-then-is_past

@@ -1,5 +1,8 @@
 use Rattle.std.proofs.{Common.arith, lemmas.{Bool.Decides.nat_tests, List.drop_all}}
-use Rattle.csplit_core.{specs.{Plan.{used_up, is_used_up}, Progress.state_of}, proofs.TryLemmas.{left_is, falls_number, falls_search, misses_search}}
+use Rattle.csplit_core.{
+  specs.{Plan.{used_up, is_used_up}, Progress.state_of},
+  proofs.TryLemmas.{left_is, falls_number, falls_search, misses_search},
+}
 use Rattle.csplit_core.proofs.progress.Progress.turn.Goals as goal
 
 pub returns-in_default-clause-says : goal.returns-in_default-clause-says

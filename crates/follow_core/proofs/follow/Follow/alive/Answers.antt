@@ -1,5 +1,8 @@
 use Rattle.std.proofs.Common.{◌∙◌, ap, sym}
-use Rattle.follow_core.{specs.{FollowState.FollowState, inner.Visits.any_goes_on}, proofs.LookedLemmas.{alive_is, none_going}}
+use Rattle.follow_core.{
+  specs.{FollowState.FollowState, inner.Visits.any_goes_on},
+  proofs.LookedLemmas.{alive_is, none_going},
+}
 use Rattle.follow_core.proofs.follow.Follow.alive.Goals as goal
 
 pub returns-clause-alive : goal.returns-clause-alive

@@ -1,6 +1,9 @@
 use Rattle.std.proofs.Common.{◌≡◌, ◌∙◌, ◌<◌, ◌++◌, List, ap, length, map, subst, sym}
 use Rattle.watch_core.specs.Watched.{added}
-use Rattle.follow_core.{specs.{declared.follow.Stage.TheVariants.Looking, FollowState.FollowState, Standing.{NameState, texts}}, proofs.LookedLemmas.added_begins}
+use Rattle.follow_core.{
+  specs.{declared.follow.Stage.TheVariants.Looking, FollowState.FollowState, Standing.{NameState, texts}},
+  proofs.LookedLemmas.added_begins,
+}
 use Rattle.follow_core.proofs.follow.Follow.begin.Goals as goal
 
 pub returns-in_ok-first-in-Fresh-clause-begins : goal.returns-in_ok-first-in-Fresh-clause-begins

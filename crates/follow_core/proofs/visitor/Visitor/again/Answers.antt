@@ -1,6 +1,9 @@
 use Rattle.std.proofs.Common.{ap}
 use Rattle.watch_core.specs.Snapshot.{latest}
-use Rattle.follow_core.proofs.{CatchLemmas.{caught_looks, led_looks, stopped_looks}, LookGivesLemmas.{gave_fails, gave_through, later_gave}}
+use Rattle.follow_core.proofs.{
+  CatchLemmas.{caught_looks, led_looks, stopped_looks},
+  LookGivesLemmas.{gave_fails, gave_through, later_gave},
+}
 use Rattle.follow_core.proofs.visitor.Visitor.again.Goals as goal
 
 pub returns-in-Err-clause-visits : goal.returns-in-Err-clause-visits

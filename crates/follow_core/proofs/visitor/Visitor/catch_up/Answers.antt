@@ -1,6 +1,9 @@
 use Rattle.std.proofs.{Common.{◌∙◌, ap, sym, arith, length, true}, lemmas.Grind.common_steps}
 use Rattle.watch_core.specs.{Snapshot.latest, Watched.watched_at}
-use Rattle.follow_core.proofs.{CallGivesLemmas.{contents_open, ends_can, is_held, long_at}, CatchLemmas.{adds_copied, adds_none, adds_unmeasured, adds_untold}}
+use Rattle.follow_core.proofs.{
+  CallGivesLemmas.{contents_open, ends_can, is_held, long_at},
+  CatchLemmas.{adds_copied, adds_none, adds_unmeasured, adds_untold},
+}
 use Rattle.follow_core.proofs.visitor.Visitor.catch_up.Goals as goal
 
 pub returns-in_default-clause-adds : goal.returns-in_default-clause-adds

@@ -1,9 +1,19 @@
-use Rattle.std.proofs.{lemmas.Grind.common_steps, Common.{◌≡◌, ◌∙◌, ap, refl, sym, false, None, Some, [], if◌then◌else◌, arith}}
+use Rattle.std.proofs.{
+  lemmas.Grind.common_steps,
+  Common.{◌≡◌, ◌∙◌, ap, refl, sym, false, None, Some, [], if◌then◌else◌, arith},
+}
 use Rattle.watch_core.specs.Snapshot.{latest}
 use Rattle.follow_core.{
-  specs.{declared.{name.Standing.TheVariants.{Followed, Left}, visitor.Stop.TheVariants.Over}, Event.begins_none, Look.sound, inner.Giving.{Noted, Nothing}},
+  specs.{
+    declared.{name.Standing.TheVariants.{Followed, Left}, visitor.Stop.TheVariants.Over},
+    Event.begins_none,
+    Look.sound,
+    inner.Giving.{Noted, Nothing},
+  },
   proofs.CallGivesLemmas.{ends_can, follows_from, follows_stop, header_only, long_at, stops_early, opened_there},
-  proofs.LookGivesLemmas.{first_gave, first_long, first_missing, first_started, first_unopened, gave_fails, gave_through},
+  proofs.LookGivesLemmas.{
+    first_gave, first_long, first_missing, first_started, first_unopened, gave_fails, gave_through,
+  },
 }
 use Rattle.follow_core.proofs.visitor.Visitor.first.Goals as goal
 

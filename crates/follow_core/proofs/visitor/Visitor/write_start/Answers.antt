@@ -1,6 +1,12 @@
 use Rattle.std.proofs.{Common.{◌≡◌, ◌∙◌, ap, sym, arith}, lemmas.{Grind.common_steps, Result.IfOk-weaker}}
 use Rattle.watch_core.specs.{Snapshot.latest, Watched.watched_at}
-use Rattle.follow_core.{specs.inner.Giving.stop_in, proofs.{CallGivesLemmas.{breaks_at, ends_can, is_held, long_at, starts_copied, starts_unmeasured, starts_unsought}, StartLemmas.contents_same}}
+use Rattle.follow_core.{
+  specs.inner.Giving.stop_in,
+  proofs.{
+    CallGivesLemmas.{breaks_at, ends_can, is_held, long_at, starts_copied, starts_unmeasured, starts_unsought},
+    StartLemmas.contents_same,
+  },
+}
 use Rattle.follow_core.proofs.visitor.Visitor.write_start.Goals as goal
 
 pub returns-in-Err-clause-starts : goal.returns-in-Err-clause-starts

@@ -1,6 +1,9 @@
 use Rattle.std.proofs.Common.{◌≡◌, List, Some, None, refl, subst, length, arith, map}
 use Rattle.ports_core.{specs.Source.no_room, proofs.HandedOn.fault_is}
-use Rattle.mem_core.{specs.{MemInState.{Laid, laid_at, breaks_in}, declared.mem_in.Break.Break}, proofs.MemInLemmas.{opened_nothing, opened_file, kept_all}}
+use Rattle.mem_core.{
+  specs.{MemInState.{Laid, laid_at, breaks_in}, declared.mem_in.Break.Break},
+  proofs.MemInLemmas.{opened_nothing, opened_file, kept_all},
+}
 use Rattle.mem_core.proofs.mem_in.MemInInputs.open.Goals as goal
 
 pub returns-then-keep-clause-err : goal.returns-then-keep-clause-err

@@ -1,4 +1,7 @@
-use Rattle.std.proofs.{Common.{◌≡◌, ap, ◌∙◌, ◌+◌, ◌≤◌, take-take, length, drop, take, arith, length-drop, true, option_map}, lemmas.List.drop-take}
+use Rattle.std.proofs.{
+  Common.{◌≡◌, ap, ◌∙◌, ◌+◌, ◌≤◌, take-take, length, drop, take, arith, length-drop, true, option_map},
+  lemmas.List.drop-take,
+}
 use Rattle.ports_core.specs.Source.{cut}
 use Rattle.mem_core.proofs.MemInLemmas.{cut_within}
 use Rattle.mem_core.proofs.mem_in.MemSource.break_at.Goals as goal

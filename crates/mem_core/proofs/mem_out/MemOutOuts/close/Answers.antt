@@ -1,5 +1,8 @@
 use Rattle.std.proofs.Common.{[], arith, refl, ◌∙◌, sym}
-use Rattle.ports_core.{specs.Slot.{Slot, closes, breaks}, proofs.SlotLemmas.{kept_changes, changed_at-again, writable_kept}}
+use Rattle.ports_core.{
+  specs.Slot.{Slot, closes, breaks},
+  proofs.SlotLemmas.{kept_changes, changed_at-again, writable_kept},
+}
 use Rattle.mem_core.proofs.mem_out.MemOutOuts.close.Goals as goal
 
 pub returns-then-fails-clause-err : goal.returns-then-fails-clause-err

@@ -1,5 +1,8 @@
 use Rattle.std.proofs.{Common.{[], arith, inr, refl}, lemmas.Grind.common_steps}
-use Rattle.ports_core.{specs.declared.reason.Reason.TheVariants.Other, proofs.SlotLemmas.{opens_in_vain, opens_unkept, no_number_left}}
+use Rattle.ports_core.{
+  specs.declared.reason.Reason.TheVariants.Other,
+  proofs.SlotLemmas.{opens_in_vain, opens_unkept, no_number_left},
+}
 use Rattle.mem_core.proofs.mem_out.MemOutOuts.open.Goals as goal
 
 pub returns-in_default-clause-err : goal.returns-in_default-clause-err

@@ -1,7 +1,13 @@
 use Rattle.std.proofs.{Common.{refl, ap, sym, ◌∙◌, arith}, lemmas.Grind.common_steps}
-use Rattle.mem_core.{specs.MemWatchState.{MemWatchState, shown, world_at}, proofs.MemWatchLemmas.{may_break, reopens_now}}
+use Rattle.mem_core.{
+  specs.MemWatchState.{MemWatchState, shown, world_at},
+  proofs.MemWatchLemmas.{may_break, reopens_now},
+}
 use Rattle.ports_core.specs.Slot.{changed_at}
-use Rattle.watch_core.{specs.{declared.watch.Broken.TheVariants.Open, Watched.{breaks, Watched}}, proofs.NameLemmas.{name_there, names_within}}
+use Rattle.watch_core.{
+  specs.{declared.watch.Broken.TheVariants.Open, Watched.{breaks, Watched}},
+  proofs.NameLemmas.{name_there, names_within},
+}
 use Rattle.mem_core.proofs.mem_watch.MemWatchWatch.reopen.Goals as goal
 
 pub index-requires : goal.index-requires

@@ -1,5 +1,8 @@
 use Rattle.std.proofs.Common.{refl}
-use Rattle.ports_core.{proofs.{HandedOn.of_write, FileWriterLemmas.stop_is}, specs.inner.{Write.broke, FileWriter.Appends}}
+use Rattle.ports_core.{
+  proofs.{HandedOn.of_write, FileWriterLemmas.stop_is},
+  specs.inner.{Write.broke, FileWriter.Appends},
+}
 use Rattle.ports_core.proofs.file_writer.FileWriter.append.Goals as goal
 
 pub returns-in_err-write_whole : goal.returns-in_err-write_whole

@@ -1,4 +1,7 @@
-use Rattle.ports_core.{proofs.{HandedOn.handed_on, FileBegunLemmas.{begin_made, begin_none, begin_unmade}}, specs.declared.file_writer.Current.TheVariants.{Skipped, Due}}
+use Rattle.ports_core.{
+  proofs.{HandedOn.handed_on, FileBegunLemmas.{begin_made, begin_none, begin_unmade}},
+  specs.declared.file_writer.Current.TheVariants.{Skipped, Due},
+}
 use Rattle.std.proofs.Common.{refl}
 use Rattle.ports_core.proofs.file_writer.FileWriter.begin.Goals as goal
 

@@ -1,5 +1,8 @@
 use Rattle.std.proofs.Common.{refl}
-use Rattle.ports_core.proofs.{HandedOn.handed_on, FileBegunLemmas.{close_not, due_made, end_none, end_told, skipped_made, tells_write}}
+use Rattle.ports_core.proofs.{
+  HandedOn.handed_on,
+  FileBegunLemmas.{close_not, due_made, end_none, end_told, skipped_made, tells_write},
+}
 use Rattle.ports_core.proofs.file_writer.FileWriter.end.Goals as goal
 
 pub returns-in-Skipped-clause-goes : goal.returns-in-Skipped-clause-goes

@@ -1,4 +1,8 @@
-use Rattle.ports_core.proofs.{HandedOn.handed_on, FileWriterLemmas.{put_file, put_nothing, put_skipped}, FileBegunLemmas.{first_bytes, goes_made, goes_unmade}}
+use Rattle.ports_core.proofs.{
+  HandedOn.handed_on,
+  FileWriterLemmas.{put_file, put_nothing, put_skipped},
+  FileBegunLemmas.{first_bytes, goes_made, goes_unmade},
+}
 use Rattle.std.proofs.{Common.arith, lemmas.Grind.common_steps}
 use Rattle.ports_core.proofs.file_writer.FileWriter.put.Goals as goal
 

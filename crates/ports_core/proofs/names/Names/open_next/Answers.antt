@@ -1,5 +1,11 @@
-use Rattle.std.proofs.{Common.{refl, subst, sym, ◌∙◌, arith}, lemmas.{Grind.common_steps, Result.{IfErr-weaker, IfOk-weaker}}}
-use Rattle.ports_core.{proofs.{HandedOn.fault_is, OpenLemmas.{opens_none, told_so, untold}, SlotLemmas.length-changed_at}, specs.Names.{OpensNone, no_memory, no_name}}
+use Rattle.std.proofs.{
+  Common.{refl, subst, sym, ◌∙◌, arith},
+  lemmas.{Grind.common_steps, Result.{IfErr-weaker, IfOk-weaker}},
+}
+use Rattle.ports_core.{
+  proofs.{HandedOn.fault_is, OpenLemmas.{opens_none, told_so, untold}, SlotLemmas.length-changed_at},
+  specs.Names.{OpensNone, no_memory, no_name},
+}
 use Rattle.ports_core.proofs.names.Names.open_next.Goals as goal
 
 pub returns-in_err-name-clause-err : goal.returns-in_err-name-clause-err

@@ -1,4 +1,7 @@
-use Rattle.std.proofs.{Common.{◌≡◌, [], ◌∷◌, ◌++◌, length, sym, ap, ◌∙◌, arith}, lemmas.{Bool.false≢true, List.with_items_is}}
+use Rattle.std.proofs.{
+  Common.{◌≡◌, [], ◌∷◌, ◌++◌, length, sym, ap, ◌∙◌, arith},
+  lemmas.{Bool.false≢true, List.with_items_is},
+}
 use Rattle.scan_core.{specs.inner.Words.{IsIn, flags_of, width}, proofs.Searchings.front_built}
 use Rattle.scan_core.proofs.build.Building.begin.Goals as goal
 

@@ -1,5 +1,14 @@
-use Rattle.std.{proofs.{Common.{◌≡◌, ◌/◌, [], refl, ap, ◌∙◌, length, arith}, lemmas.{List.{get_or_default, with_items_is}, Result.IfOk-weaker}}, specs.Vec.with_items}
-use Rattle.scan_core.{specs.{Counted.set_at, declared.build.Building.Building, inner.{Built.Led, Words.flags_of}}, proofs.Searchings.{twin_entry, led_on, set_size}}
+use Rattle.std.{
+  proofs.{
+    Common.{◌≡◌, ◌/◌, [], refl, ap, ◌∙◌, length, arith},
+    lemmas.{List.{get_or_default, with_items_is}, Result.IfOk-weaker},
+  },
+  specs.Vec.with_items,
+}
+use Rattle.scan_core.{
+  specs.{Counted.set_at, declared.build.Building.Building, inner.{Built.Led, Words.flags_of}},
+  proofs.Searchings.{twin_entry, led_on, set_size},
+}
 use Rattle.scan_core.proofs.build.Building.entry_of.Goals as goal
 
 pub returns-then-twin-byte-clause-ok : goal.returns-then-twin-byte-clause-ok

@@ -1,5 +1,9 @@
 use Rattle.std.proofs.{lemmas.Grind.common_steps, Common.{arith, length-append}}
-use Rattle.seg_core.proofs.{Delimiters.delimiters-le-length, LineCounts.line_count-le-length, LastLines.{but_last_lines-zero, over_begins, over_short}}
+use Rattle.seg_core.proofs.{
+  Delimiters.delimiters-le-length,
+  LineCounts.line_count-le-length,
+  LastLines.{but_last_lines-zero, over_begins, over_short},
+}
 use Rattle.seg_core.proofs.line_window.LineWindow.count_over.Goals as goal
 
 pub returns-then-self-eq0-clause-bytes : goal.returns-then-self-eq0-clause-bytes

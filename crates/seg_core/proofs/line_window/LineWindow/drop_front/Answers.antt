@@ -1,5 +1,8 @@
 use Rattle.std.proofs.Common.{◌≤◌, subst, sym, length, arith}
-use Rattle.seg_core.{specs.{Window.Window, Blocks.text_of}, proofs.{Delimiters.delimiters-take-le, BlockLemmas.counted_drop}}
+use Rattle.seg_core.{
+  specs.{Window.Window, Blocks.text_of},
+  proofs.{Delimiters.delimiters-take-le, BlockLemmas.counted_drop},
+}
 use Rattle.seg_core.proofs.line_window.LineWindow.drop_front.Goals as goal
 
 pub overflow_sub-self : goal.overflow_sub-self

@@ -1,5 +1,8 @@
 use Rattle.ports_core.proofs.HandedOn.{result_is}
-use Rattle.std.proofs.{Common.{ap, arith, inl, inr, length, refl, sym}, lemmas.{Bool.eqb-true, List.{length-append, length-take, take_rest}}}
+use Rattle.std.proofs.{
+  Common.{ap, arith, inl, inr, length, refl, sym},
+  lemmas.{Bool.eqb-true, List.{length-append, length-take, take_rest}},
+}
 use Rattle.split_core.{specs.inner.Cutter.CutsSo, proofs.CutterLemmas.{away_more, away_none, away_so, away_stops}}
 use Rattle.split_core.proofs.chunk_cutter.ChunkCutter.cut.Goals as goal
 

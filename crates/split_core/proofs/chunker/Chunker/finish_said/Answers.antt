@@ -2,7 +2,12 @@ use Rattle.ports_core.proofs.HandedOn.{result_is}
 use Rattle.std.proofs.Common.{◌∙◌, arith, inl, inr, refl, sym}
 use Rattle.split_core.{
   specs.inner.{Chunker.EndsAs, Seen.seen_target},
-  proofs.{ChunkerLemmas.{past_same, said_changed, said_ends, said_stops}, chunker.Chunker.finish_said.Goals.{else-self-size-via-then-self-size+else-not-is_past, else-self-size-via-else-self-size}},
+  proofs.{
+    ChunkerLemmas.{past_same, said_changed, said_ends, said_stops},
+    chunker.Chunker.finish_said.Goals.{
+      else-self-size-via-then-self-size+else-not-is_past, else-self-size-via-else-self-size,
+    },
+  },
 }
 use Rattle.split_core.proofs.chunker.Chunker.finish_said.Goals as goal
 

@@ -1,6 +1,9 @@
 use Rattle.std.proofs.Common.{IfSome, subst, sym}
 use Rattle.ports_core.{specs.Engine.TookIn, proofs.LoadLemmas.{loads_none, loads_still, passes_by, passes_so}}
-use Rattle.split_core.{specs.{Alike.as_if, Ways.terms, inner.Chunker.{TakesFront, passed_to}}, proofs.AlikeLemmas.holds_itself}
+use Rattle.split_core.{
+  specs.{Alike.as_if, Ways.terms, inner.Chunker.{TakesFront, passed_to}},
+  proofs.AlikeLemmas.holds_itself,
+}
 use Rattle.split_core.specs.declared.splitter.Splitter.TheVariants as way
 use Rattle.split_core.proofs.chunker.Chunker.load.Goals as goal
 

@@ -1,5 +1,8 @@
 use Rattle.std.proofs.Common.{◌∙◌, ◌-◌, max, ap, sym}
-use Rattle.split_core.{specs.{ChunkerState.{ChunkerState, course, course_of}, inner.Seen.seen_aim}, proofs.WantedLemmas.{few_of_chunk, few_of_files, few_unsaid}}
+use Rattle.split_core.{
+  specs.{ChunkerState.{ChunkerState, course, course_of}, inner.Seen.seen_aim},
+  proofs.WantedLemmas.{few_of_chunk, few_of_files, few_unsaid},
+}
 use Rattle.split_core.proofs.chunker.Chunker.most_wanted.Goals as goal
 
 pub returns-in-Some-Output-clause-few : goal.returns-in-Some-Output-clause-few

@@ -2,7 +2,10 @@ use Rattle.ports_core.proofs.HandedOn.{result_is}
 use Rattle.std.proofs.Common.{arith, inl, inr, refl, sym}
 use Rattle.split_core.{
   specs.inner.Chunker.PassesAs,
-  proofs.{ChunkerLemmas.{changed_more, passes_not, passes_said}, chunker.Chunker.pass_said.Goals.{else-past-gt0-via-then-past-gt0+else-is_each, else-past-gt0-via-else-past-gt0}},
+  proofs.{
+    ChunkerLemmas.{changed_more, passes_not, passes_said},
+    chunker.Chunker.pass_said.Goals.{else-past-gt0-via-then-past-gt0+else-is_each, else-past-gt0-via-else-past-gt0},
+  },
 }
 use Rattle.split_core.proofs.chunker.Chunker.pass_said.Goals as goal
 

@@ -1,7 +1,10 @@
 use Rattle.std.proofs.Common.{List, ℕ, ◌++◌, length, sym, ap, ◌∙◌, subst, arith, take_all}
 use Rattle.ports_core.specs.Slot.{changed_at}
 use Rattle.seg_core.specs.Line.{LinesLeft}
-use Rattle.split_core.{specs.inner.Dealt.{DealState, Gathers}, proofs.DealLemmas.{by_delimiter, line_goes_on, line_goes_round, first_taken, ends_here, ends_open}}
+use Rattle.split_core.{
+  specs.inner.Dealt.{DealState, Gathers},
+  proofs.DealLemmas.{by_delimiter, line_goes_on, line_goes_round, first_taken, ends_here, ends_open},
+}
 use Rattle.split_core.proofs.deal.Deal.gather.Goals as goal
 
 pub lines-preserved-then-next-count : goal.lines-preserved-then-next-count

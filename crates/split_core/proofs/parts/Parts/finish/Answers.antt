@@ -1,6 +1,9 @@
 use Rattle.ports_core.{proofs.HandedOn.handed_on, specs.{FileWriter.is_file, Turn.fault_in}}
 use Rattle.std.proofs.Common.{refl, ap, sym, ◌∙◌}
-use Rattle.split_core.{specs.PartsState.PartsState, proofs.PartsLemmas.{finishes_none, held_ends, held_stops, some_broke}}
+use Rattle.split_core.{
+  specs.PartsState.PartsState,
+  proofs.PartsLemmas.{finishes_none, held_ends, held_stops, some_broke},
+}
 use Rattle.split_core.proofs.parts.Parts.finish.Goals as goal
 
 pub returns-then-not-is_open : goal.returns-then-not-is_open

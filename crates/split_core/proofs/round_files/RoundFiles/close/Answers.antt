@@ -1,6 +1,9 @@
 use Rattle.std.proofs.Common.{◌≡◌, ◌<◌, ◌∙◌, ap, length, arith}
 use Rattle.ports_core.{specs.Slot.{changed_at, closes}, proofs.HandedOn.result_is}
-use Rattle.split_core.{specs.{FilesState.FilesState, inner.Sharing.ClosesAll}, proofs.FilesLemmas.{not_closed, one_closed, output_is}}
+use Rattle.split_core.{
+  specs.{FilesState.FilesState, inner.Sharing.ClosesAll},
+  proofs.FilesLemmas.{not_closed, one_closed, output_is},
+}
 use Rattle.split_core.proofs.round_files.RoundFiles.close.Goals as goal
 
 pub returns-in_err-close : goal.returns-in_err-close

@@ -1,5 +1,8 @@
 use Rattle.std.proofs.Common.{◌+◌, [], refl, arith, ap, Ok}
-use Rattle.split_core.{specs.{Split.Filing, inner.Sharing.Opens}, proofs.FilesLemmas.{adds_then, adds_wider, cannot_later}}
+use Rattle.split_core.{
+  specs.{Split.Filing, inner.Sharing.Opens},
+  proofs.FilesLemmas.{adds_then, adds_wider, cannot_later},
+}
 use Rattle.ports_core.proofs.HandedOn.{result_is}
 use Rattle.split_core.proofs.round_files.RoundFiles.open_first.Goals as goal
 

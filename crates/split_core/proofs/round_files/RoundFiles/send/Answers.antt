@@ -1,6 +1,9 @@
 use Rattle.std.proofs.Common.{ap}
 use Rattle.ports_core.proofs.HandedOn.{result_is}
-use Rattle.split_core.{specs.{FilesState.FilesState, inner.Sharing.Adds}, proofs.FilesLemmas.{sent, sent_within, sent_unreached, output_is}}
+use Rattle.split_core.{
+  specs.{FilesState.FilesState, inner.Sharing.Adds},
+  proofs.FilesLemmas.{sent, sent_within, sent_unreached, output_is},
+}
 use Rattle.split_core.proofs.round_files.RoundFiles.send.Goals as goal
 
 pub returns-in_err-reach : goal.returns-in_err-reach

@@ -1,4 +1,7 @@
-use Rattle.std.proofs.{lemmas.{Grind.common_steps, List.get_or_past}, Common.{◌≡◌, ◌<◌, ℕ, List, [], Ok, length, get_or, arith}}
+use Rattle.std.proofs.{
+  lemmas.{Grind.common_steps, List.get_or_past},
+  Common.{◌≡◌, ◌<◌, ℕ, List, [], Ok, length, get_or, arith},
+}
 use Rattle.ports_core.proofs.HandedOn.{result_is}
 use Rattle.split_core.{specs.inner.Sharing.Adds, proofs.FilesLemmas.{sent_all, sent_next, sent_stops}}
 use Rattle.split_core.proofs.round_files.RoundFiles.write.Goals as goal

@@ -1,6 +1,12 @@
 use Rattle.std.proofs.Common.{◌∙◌, ap, length, refl}
-use Rattle.ports_core.{specs.{Part.nothing, declared.fault.Fault.TheVariants.Memory}, proofs.{HandedOn.fault_is, PartLemmas.{nothing_begins_part, stopped_here}}}
-use Rattle.split_core.{specs.{FilesState.filing_in, Split.is_verbose, Round.{round_plan, round_work}}, proofs.RoundLemmas.{at_start, does_all, opens_all, starts_with}}
+use Rattle.ports_core.{
+  specs.{Part.nothing, declared.fault.Fault.TheVariants.Memory},
+  proofs.{HandedOn.fault_is, PartLemmas.{nothing_begins_part, stopped_here}},
+}
+use Rattle.split_core.{
+  specs.{FilesState.filing_in, Split.is_verbose, Round.{round_plan, round_work}},
+  proofs.RoundLemmas.{at_start, does_all, opens_all, starts_with},
+}
 use Rattle.split_core.proofs.round_splitter.RoundSplitter.open.Goals as goal
 
 pub returns-in_err-deal-clause-cut : goal.returns-in_err-deal-clause-cut

@@ -1,6 +1,9 @@
 use Rattle.std.proofs.{Common.{◌∙◌, Err, [], length}, lemmas.List.get_or_past}
 use Rattle.ports_core.{proofs.HandedOn.result_is, specs.declared.fault.Fault.TheVariants.Memory}
-use Rattle.split_core.{specs.inner.Ways.PassesAs, proofs.{FilesLemmas.no_room, PartsLemmas.on_ok, RoundLemmas.{first_gathered, passes_at}}}
+use Rattle.split_core.{
+  specs.inner.Ways.PassesAs,
+  proofs.{FilesLemmas.no_room, PartsLemmas.on_ok, RoundLemmas.{first_gathered, passes_at}},
+}
 use Rattle.split_core.proofs.round_splitter.RoundSplitter.pass.Goals as goal
 
 pub returns-in_err-reached : goal.returns-in_err-reached

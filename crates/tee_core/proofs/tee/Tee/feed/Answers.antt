@@ -1,5 +1,8 @@
 use Rattle.std.proofs.{Common.{◌<◌, ◌≤◌, sym, subst, arith, rules}, lemmas.Grind.common_steps}
-use Rattle.tee_core.{specs.TeeState.TeeState, proofs.ChangeLemmas.{newly_none, all_get_more, all_still_usable, fed, sound_gets}}
+use Rattle.tee_core.{
+  specs.TeeState.TeeState,
+  proofs.ChangeLemmas.{newly_none, all_get_more, all_still_usable, fed, sound_gets},
+}
 use Rattle.tee_core.proofs.tee.Tee.feed.Goals as goal
 
 pub returns-then-self-clause-broke : goal.returns-then-self-clause-broke

@@ -1,7 +1,10 @@
 use Rattle.std.proofs.{Common.{Ok, None, Some, true, false, refl, sym, ◌∙◌, ap, subst}, lemmas.Bool.false≢true}
 use Rattle.run_core.{specs.RunSteps.IsShown, proofs.InputLemmas.shows_something}
 use Rattle.words_core.specs.EndsWords.{EndsAsked}
-use Rattle.tools_core.{specs.Tasks.is_minus, proofs.AdapterLemmas.{head_by, head_waits, head_begins, head_shown_begins, no_memory_for, opened_still}}
+use Rattle.tools_core.{
+  specs.Tasks.is_minus,
+  proofs.AdapterLemmas.{head_by, head_waits, head_begins, head_shown_begins, no_memory_for, opened_still},
+}
 use Rattle.tools_core.proofs.ends.HeadAdapterAdapter.open.Goals as goal
 
 pub returns-then-not-is_minus-clause-opens : goal.returns-then-not-is_minus-clause-opens

@@ -1,7 +1,10 @@
 use Rattle.std.proofs.{Common.{Ok, None, Some, true, false, refl, sym, ◌∙◌, ap, subst}, lemmas.Bool.false≢true}
 use Rattle.run_core.{specs.RunSteps.IsShown, proofs.InputLemmas.shows_something}
 use Rattle.words_core.specs.EndsWords.{EndsAsked}
-use Rattle.tools_core.{specs.Tasks.is_plus, proofs.AdapterLemmas.{tail_by, tail_waits, tail_starts, tail_shown_begins, no_memory_for, opened_still}}
+use Rattle.tools_core.{
+  specs.Tasks.is_plus,
+  proofs.AdapterLemmas.{tail_by, tail_waits, tail_starts, tail_shown_begins, no_memory_for, opened_still},
+}
 use Rattle.tools_core.proofs.ends.TailAdapterAdapter.open.Goals as goal
 
 pub returns-then-is_plus-clause-opens : goal.returns-then-is_plus-clause-opens

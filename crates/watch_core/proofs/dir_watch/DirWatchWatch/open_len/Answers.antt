@@ -1,5 +1,8 @@
 use Rattle.std.proofs.Common.{rules, refl}
-use Rattle.watch_core.{specs.{declared.watch.Broken.TheVariants.Len, Watched.breaks}, proofs.{DirWatchLemmas.{finds_any, may_break, one_changes}, NameLemmas.readable_watchable}}
+use Rattle.watch_core.{
+  specs.{declared.watch.Broken.TheVariants.Len, Watched.breaks},
+  proofs.{DirWatchLemmas.{finds_any, may_break, one_changes}, NameLemmas.readable_watchable},
+}
 use Rattle.watch_core.proofs.dir_watch.DirWatchWatch.open_len.Goals as goal
 
 pub returns-in_default-clause-err : goal.returns-in_default-clause-err

@@ -1,5 +1,8 @@
 use Rattle.std.proofs.Common.{refl}
-use Rattle.watch_core.{specs.{declared.watch.Broken.TheVariants.Open, Watched.breaks}, proofs.DirWatchLemmas.{finds_any, may_break, one_changes, opened_some}}
+use Rattle.watch_core.{
+  specs.{declared.watch.Broken.TheVariants.Open, Watched.breaks},
+  proofs.DirWatchLemmas.{finds_any, may_break, one_changes, opened_some},
+}
 use Rattle.watch_core.proofs.dir_watch.DirWatchWatch.reopen.Goals as goal
 
 pub returns-in_default-clause-err : goal.returns-in_default-clause-err
