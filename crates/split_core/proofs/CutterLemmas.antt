@@ -40,7 +40,7 @@ use Rattle.split_core.specs.{
   },
   Parts.CutUp,
   Split.manner_of,
-  inner.Cutter.{Cuts, CutsAs, EndsFull, IsCut, IsCutOff, IsOpen, WritesTo, cut_to, part_so, said_work},
+  inner.Cutter.{Cuts, CutsAs, EndsFull, IsCut, IsCutOff, IsOpen, Steps, WritesTo, cut_to, part_so, said_work},
   inner.Chunks.{GoesOn as Goes, HaveEnded},
   inner.Seen.{is_past_at, is_past_on},
   inner.Sends.{Brings, Changes, GoesOn, HasName, Sends, with_full, with_fulls, with_rest, part_on},
@@ -48,7 +48,7 @@ use Rattle.split_core.specs.{
     begun_begins, begun_first, begun_long, begun_stays, begun_within, open_append, open_within, begun_none,
   },
   laws.ChunkLaws.{
-    ended_grows, ended_is, ended_only, ends_here, goes_on, passed_full, passed_open, piece_all, start_grows, start_past,
+    ended_grows, ended_is, ended_only, ends_here, goes_on, passed_full, passed_open, piece_all, start_grows, start_past, start_within,
   },
   laws.ChunkWorkLaws.{chunks_go_on, piece_on, shares_on},
   laws.ShareLaws.part_begins,
@@ -298,6 +298,17 @@ ends_so {told} {cutter} {now} {size} whole so_far last = record {
     | inr past ↦ omega (arith, past, so_far.low x so)
   ]
 
+-- none does before the end of the chunk that was begun
+pub ends_short : {told : Bool} {cutter : CutterState} {size : ℕ} {slots : List Slot} → IsAimed cutter.target.aim slots
+    → 0 < cutter.chunks.count
+    → cutter.at < chunk_start cutter.chunks.count size (min (cutter.target.place + 1) cutter.chunks.count)
+    → EndsFull told cutter size slots slots cutter None
+ends_short {told} {cutter} {size} {slots} ready some short = by cutter.is_within refl where
+  by : (within : Bool) → cutter.is_within ≡ within → EndsFull told cutter size slots slots cutter None
+  by true is = ends_open ready is (omega (arith, short, start_within cutter.chunks.count size (min (cutter.target.place + 1) cutter.chunks.count) some (omega arith)))
+  by false is = ends_so (λ within. absurd (false≢true (sym is ∙ within))) (ends_none ready)
+      (λ less. subst (λ place. cutter.at < chunk_start cutter.chunks.count size place) (omega (arith, less)) short)
+
 -- A text goes on, all of it with the chunk that was begun
 
 more_empty : (more : ℕ) → ◌≡◌ {A = List (List ℕ)} (replicate more [] ++ [] ∷ []) ([] ∷ replicate more [])
@@ -543,6 +554,25 @@ cutting {n = n} text writes = record {
   at = omega (arith, writes.at, length-take n text, writes.count.1);
   within = rw writes.count.2 writes.within;
 }
+
+-- what was written of a text goes with the chunk that was begun, and what is full has ended
+pub steps_so : {told : Bool} {cutter mid next : CutterState} {size n : ℕ} (text : List ℕ) {old wet new : List Slot}
+    → WritesTo told cutter (end_so cutter size) text old wet mid (Ok n) → EndsFull told mid size wet new next None
+    → Steps told cutter size text old new next (Ok n)
+steps_so {n = n} text writes ends = let is = writes.count.2 in (
+  writes.count.0,
+  writes.count.1,
+  omega (arith, ends.at, writes.at),
+  cuts_on text None is (cutting text writes) (rw (← is) at writes.sends) ends,
+  λ going x within has. needed_in text n going writes.count.0 writes.count.1 is within has,
+)
+
+-- nothing is full before that chunk's end
+pub steps_short : {told : Bool} {cutter next : CutterState} {size n : ℕ} (text : List ℕ) {old new : List Slot}
+    → 0 < cutter.chunks.count → WritesTo told cutter (end_so cutter size) text old new next (Ok n)
+    → next.at < end_so cutter size → Steps told cutter size text old new next (Ok n)
+steps_short {size = size} text some writes short = steps_so text writes
+    (ends_short writes.sends.brings.ready (rw writes.chunks some) (rw (writes.chunks, writes.place) short))
 
 -- Stretch after stretch
 
