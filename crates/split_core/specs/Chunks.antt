@@ -8,7 +8,7 @@ use Rattle.std.specs.{
   List.range_with_len,
 }
 use Rattle.seg_core.specs.{
-  Line.{joined, lines_of, delimiters, first_lines},
+  Line.{joined, delimiters, first_lines},
   declared.{cut.Chunks.Chunks, unit.Unit.{Unit, TheVariants.{Bytes, Lines}}},
 }
 use Rattle.split_core.specs.Parts.{CutUp, uncut}
@@ -19,15 +19,12 @@ use Rattle.split_core.specs.Parts.{CutUp, uncut}
 abbrev pub chunk_start : ℕ → ℕ → ℕ → ℕ
 chunk_start n size place = place * (size / n) + min place (size % n)
 
--- of lines that stand one after another, those that begin before a place
-abbrev pub lines_before : ℕ → List (List ℕ) → List (List ℕ)
-lines_before place [] = []
-lines_before place (line ∷ lines) = if nat_lt 0 place then line ∷ lines_before (place - length line) lines else []
-
--- what of a text stands before a place, or its lines that begin before it
+-- what of a text stands before a place, or its lines that begin before it: all before its last byte there, and from
+-- that on to the end of a line
 abbrev pub begun_before : Unit → ℕ → ℕ → List ℕ → List ℕ
 begun_before Bytes delim place x = take place x
-begun_before Lines delim place x = joined (lines_before place (lines_of delim x))
+begun_before Lines delim zero x = []
+begun_before Lines delim (suc place) x = take place x ++ first_lines delim 1 (drop place x)
 
 -- and so of the place where a chunk begins
 abbrev pub before_chunk : Chunks → ℕ → ℕ → List ℕ → List ℕ

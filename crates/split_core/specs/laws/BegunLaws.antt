@@ -3,7 +3,7 @@ use Rattle.std.{
   proofs.lemmas.{
     Grind.common_steps,
     Bool.{cases_lt, lt-ltb, ltb-true, ltb-false},
-    List.{append-nil, take_all, length-append, take-append-le, take-append-drop, take-take},
+    List.{append-nil, take_all, length-append, length-drop, take-append-le, take-append-drop, take-take},
   },
   proofs.Common.{
     ◌≡◌, ℕ, ◌+◌, ◌-◌, ◌<◌, ◌≤◌, max, zero, suc, Bool, true, false, cond, eqb, nat_lt, List, [], ◌∷◌, ◌++◌, ◌⊎◌, length,
@@ -16,40 +16,31 @@ use Rattle.seg_core.{
   specs.{Line.{joined, lines_of, delimiters, first_lines}, declared.unit.Unit.{Unit, TheVariants.{Bytes, Lines}}},
   proofs.Delimiters.{delimiters-append, delimiters-le-length},
   proofs.FirstLines.{
-    first_lines-append, first_lines-cons, delimiters-first_lines, length-first_lines-le, joined-append,
+    first_lines-all, first_lines-append, first_lines-cons, first_lines_then_rest, delimiters-first_lines,
+    length-first_lines-le,
   },
-  proofs.LinesOf.joined-lines_of,
+  proofs.LineCounts.line_count-le-length,
 }
 use Rattle.ports_core.{
   specs.Part.IsBeginning,
   proofs.{PartLemmas.{begins_itself, begins_more}, AgreedLemmas.beginning_short},
 }
 use Rattle.split_core.specs.{
-  Chunks.{lines_before, begun_before, open_from},
-  inner.Dealt.EachSome,
-  laws.{DealLaws.each_line, ShareLaws.first_lines_begin},
+  Chunks.{begun_before, open_from},
+  laws.ShareLaws.first_lines_begin,
 }
 
 -- What of a text begins before a place
 
-pub begun_none : (delim : ℕ) (lines : List (List ℕ)) → joined (lines_before 0 lines) ≡ []
-begun_none delim [] = refl
-begun_none delim (line ∷ lines) = refl
-
-first_step : (ends : Bool) (byte place : ℕ) (lines : List (List ℕ)) → EachSome lines → 0 < place
-    → joined (lines_before place (cond ends ((byte ∷ []) ∷ lines) (onto_first byte lines)))
-    ≡ byte ∷ cond ends (joined (lines_before (place - 1) lines)) (joined (lines_before (max (place - 1) 1) lines))
-first_step true byte place lines each some = grind (arith, common_steps)
-first_step false byte place [] each some = grind (arith, common_steps)
-first_step false byte place (line ∷ lines) each some =
-    let e : place - (length line + 1) ≡ max (place - 1) 1 - length line = omega (arith, each.0) in
-    grind (arith, common_steps)
-
 pub begun_first : (delim byte place : ℕ) (x : List ℕ) → 0 < place
     → begun_before Lines delim place (byte ∷ x) ≡ byte ∷ cond (eqb byte delim) (begun_before Lines delim (place - 1) x)
     (begun_before Lines delim (max (place - 1) 1) x)
-begun_first delim byte place x some =
-    first_step (eqb byte delim) byte place (lines_of delim x) (each_line delim x) some
+begun_first delim byte (suc zero) x some = first_lines-cons delim byte 0 x
+begun_first delim byte (suc (suc place)) x some = ap (λ more. byte ∷ more) (same (eqb byte delim)) where
+  same : (ends : Bool) → begun_before Lines delim (suc place) x
+      ≡ cond ends (begun_before Lines delim (suc place) x) (begun_before Lines delim (max (suc place) 1) x)
+  same true = refl
+  same false = ap (λ at. begun_before Lines delim at x) (omega arith)
 
 -- From where on it may still get bytes
 
@@ -102,13 +93,13 @@ stays_step delim byte place x y again within some false is = elim (cases_lt 0 (o
 begun_stays_lines : (delim place : ℕ) (x y : List ℕ) → place ≤ open_from Lines delim x
     → begun_before Lines delim place (x ++ y) ≡ begun_before Lines delim place x
 begun_stays_lines delim place [] y within = let e : place ≡ 0 = omega arith in
-    rw e (begun_none delim (lines_of delim y))
+    rw e refl
 begun_stays_lines delim place (byte ∷ x) y within = elim (cases_lt 0 place) [
   | inl some ↦ begun_first delim byte place (x ++ y) some
       ∙ ap (λ more. byte ∷ more) (stays_step delim byte place x y (λ at. begun_stays_lines delim at x y) within some
       (eqb byte delim) refl) ∙ sym (begun_first delim byte place x some)
   | inr none ↦ (let e : place ≡ 0 = omega (arith, none) in
-      rw e (begun_none delim (lines_of delim (byte ∷ (x ++ y))) ∙ sym (begun_none delim (lines_of delim (byte ∷ x)))))
+      rw e refl)
 ]
 
 -- what begins before a place stays, where the text can get no more before it
@@ -158,11 +149,13 @@ begun_on Lines delim place x y past = begun_on_lines delim place x y past
 pub begun_of_none : (unit : Unit) (delim place : ℕ) → begun_before unit delim place [] ≡ []
 begun_of_none Bytes delim zero = refl
 begun_of_none Bytes delim (suc place) = refl
-begun_of_none Lines delim place = refl
+begun_of_none Lines delim zero = refl
+begun_of_none Lines delim (suc zero) = refl
+begun_of_none Lines delim (suc (suc place)) = refl
 
 pub begun_first_place : (unit : Unit) (delim : ℕ) (x : List ℕ) → begun_before unit delim 0 x ≡ []
 begun_first_place Bytes delim x = refl
-begun_first_place Lines delim x = begun_none delim (lines_of delim x)
+begun_first_place Lines delim x = refl
 
 -- a text that can get more before a place stands before it
 pub begun_all : (unit : Unit) (delim place : ℕ) (x : List ℕ) → open_from unit delim x < place
@@ -171,34 +164,35 @@ begun_all unit delim place x past =
     ap (begun_before unit delim place) (sym (append-nil x)) ∙ begun_on unit delim place x [] past
     ∙ ap (λ more. x ++ more) (begun_of_none unit delim (max (place - length x) 1)) ∙ append-nil x
 
-pub lines_all : (lines : List (List ℕ)) (place : ℕ) → EachSome lines → length (joined lines) ≤ place
-    → lines_before place lines ≡ lines
-lines_all [] place each long = refl
-lines_all (line ∷ lines) place each long =
-    let l = length-append line (joined lines) in
-    rw (lt-ltb 0 place (omega (arith, each.0, l, long))) (ap (λ rest. line ∷ rest)
-    (lines_all lines (place - length line) each.1 (omega (arith, long, l))))
-
 -- so does one that ends before it
 pub begun_long : (unit : Unit) (delim place : ℕ) (x : List ℕ) → length x ≤ place → begun_before unit delim place x ≡ x
 begun_long Bytes delim place x long = take_all place x long
-begun_long Lines delim place x long = ap joined (lines_all (lines_of delim x) place (each_line delim x)
-    (omega (arith, ap length (joined-lines_of delim x)))) ∙ joined-lines_of delim x
+begun_long Lines delim zero [] long = refl
+begun_long Lines delim zero (byte ∷ x) long = absurd (omega (arith, long))
+begun_long Lines delim (suc place) x long =
+    ap (λ rest. take place x ++ rest) (first_lines-all delim 1
+    (omega (arith, line_count-le-length delim (drop place x), length-drop place x, long)))
+    ∙ take-append-drop place x
 
--- the lines that begin before a later place are those, and further ones
-pub lines_more : (place other : ℕ) (lines : List (List ℕ)) → place ≤ other
-    → (more : List (List ℕ)) × (lines_before other lines ≡ lines_before place lines ++ more)
-lines_more place other [] within = ([], refl)
-lines_more place other (line ∷ lines) within =
-    by (cases_lt 0 place) (lines_more (place - length line) (other - length line) lines (omega (arith, within))) where
-      by : (0 < place) ⊎ (place ≤ 0) → (more : List (List ℕ))
-          × (lines_before (other - length line) lines ≡ lines_before (place - length line) lines ++ more)
-          → (more : List (List ℕ)) × (lines_before other (line ∷ lines) ≡ lines_before place (line ∷ lines) ++ more)
-      by (inl some) (more, is) =
-          let here : nat_lt 0 place ≡ true = lt-ltb _ _ some in
-          let there : nat_lt 0 other ≡ true = lt-ltb _ _ (omega (arith, some, within)) in
-          rw (here, there) (more, ap (λ rest. line ∷ rest) is)
-      by (inr none) more = let e : place ≡ 0 = omega (arith, none) in rw e (lines_before other (line ∷ lines), refl)
+-- the lines that begin before a place are the first ones of those that begin before a later one
+pub begun_lines : (delim place other : ℕ) (x : List ℕ) → place ≤ other → (n : ℕ) × (0 < place → 0 < n)
+    × (begun_before Lines delim place x ≡ first_lines delim n (begun_before Lines delim other x))
+begun_lines delim zero other x within = (0, (λ none. absurd (omega (arith, none))), refl)
+begun_lines delim (suc place) other [] within = (1, (λ some. omega arith), rw (begun_of_none Lines delim (suc place), begun_of_none Lines delim other) refl)
+begun_lines delim (suc place) other (byte ∷ x) within = by (eqb byte delim) refl
+    (begun_lines delim place (other - 1) x (omega (arith, within)))
+    (begun_lines delim (max place 1) (max (other - 1) 1) x (omega (arith, within))) where
+  Early : ℕ → ℕ → Type 0
+  Early at to = (n : ℕ) × (0 < at → 0 < n) × (begun_before Lines delim at x ≡ first_lines delim n (begun_before Lines delim to x))
+
+  by : (ends : Bool) → eqb byte delim ≡ ends → Early place (other - 1) → Early (max place 1) (max (other - 1) 1)
+      → (n : ℕ) × (0 < suc place → 0 < n)
+      × (begun_before Lines delim (suc place) (byte ∷ x) ≡ first_lines delim n (begun_before Lines delim other (byte ∷ x)))
+  by true is (n, some, here) later = (suc n, (λ has. omega arith), begun_first delim byte (suc place) x (omega arith)
+      ∙ rw (is, begun_first delim byte other x (omega (arith, within)), is, first_lines-cons delim byte n (begun_before Lines delim (other - 1) x), is) (ap (λ more. byte ∷ more) here))
+  by false is here (zero, some, later) = absurd (omega (arith, some (omega arith)))
+  by false is here (suc n, some, later) = (suc n, (λ has. omega arith), begun_first delim byte (suc place) x (omega arith)
+      ∙ rw (is, begun_first delim byte other x (omega (arith, within)), is, first_lines-cons delim byte n (begun_before Lines delim (max (other - 1) 1) x), is) (ap (λ more. byte ∷ more) later))
 
 -- of a text, what begins before a place begins what begins before a later one
 pub begun_monotone : (unit : Unit) (delim : ℕ) {place other : ℕ} (x : List ℕ) → place ≤ other
@@ -208,11 +202,11 @@ begun_monotone Bytes delim {place} {other} x within = (
   sym (take-append-drop place (take other x))
       ∙ ap (λ front. front ++ drop place (take other x)) (take-take place other x within),
 )
-begun_monotone Lines delim {place} {other} x within = by (lines_more place other (lines_of delim x) within) where
-  by : (more : List (List ℕ))
-      × (lines_before other (lines_of delim x) ≡ lines_before place (lines_of delim x) ++ more)
-      → IsBeginning (begun_before Lines delim place x) (begun_before Lines delim other x)
-  by (more, is) = (joined more, ap joined is ∙ joined-append (lines_before place (lines_of delim x)) more)
+begun_monotone Lines delim {place} {other} x within =
+    let (n, some, is) = begun_lines delim place other x within in
+    let whole = begun_before Lines delim other x in
+    (joined (drop n (lines_of delim whole)), sym (first_lines_then_rest delim n whole)
+    ∙ ap (λ front. front ++ joined (drop n (lines_of delim whole))) (sym is))
 
 pub begun_begins : (unit : Unit) (delim place : ℕ) (x : List ℕ) → IsBeginning (begun_before unit delim place x) x
 begun_begins unit delim place x =
