@@ -111,7 +111,8 @@ pub begins_early : (unit : Unit) (delim place : ℕ) (x y : List ℕ) → begun_
     → 0 < length y → open_from unit delim x < place
 begins_early unit delim place x y all some = elim (cases_lt (open_from unit delim x) place) [
   | inl before ↦ before
-  | inr past ↦ absurd (omega (arith, some, length-append x y, ap length all, ap length (begun_stays unit delim place x y past), begun_within unit delim place x))
+  | inr past ↦ (let same = sym all ∙ begun_stays unit delim place x y past in
+      absurd (omega (arith, some, length-append x y, ap length same, begun_within unit delim place x)))
 ]
 
 open_of_whole : (delim : ℕ) (x : List ℕ)
@@ -126,7 +127,8 @@ open_early Bytes delim place x all within = absurd (omega (arith, ltb-true _ _ w
 open_early Lines delim place x all within = let first = first_lines delim (delimiters delim x) x in
     let rest = drop (length first) x in
     let both : first ++ rest ≡ x = ap (λ front. front ++ rest) (first_lines-is_take delim (delimiters delim x) x) ∙ take-append-drop (length first) x in
-    let early = begins_early Lines delim place first rest (ap (begun_before Lines delim place) both ∙ all ∙ sym both) (omega (arith, ltb-true _ _ within, ap length both, length-append first rest)) in
+    let early = begins_early Lines delim place first rest (rw both all)
+    (omega (arith, ltb-true _ _ within, ap length both, length-append first rest)) in
     omega (arith, early, open_of_whole delim x)
 
 pub no_line : (unit : Unit) (delim : ℕ) (x : List ℕ) → is_within unit delim x ≡ false
@@ -175,7 +177,10 @@ ends_open {told} {cutter} {size} {slots} ready within short = record {
   at = refl;
   within = refl;
   sends = sends_as (λ x. x) None (λ x so. so) (λ x so. refl) (λ x so.
-      let e : ended cutter.chunks size x.0 - cutter.target.place ≡ 0 = omega (arith, still_ended cutter.chunks size cutter.target.place x.0 (omega (arith, short, so.at)) (so.begun (sym so.within ∙ within) (omega (arith, short, so.at))) (sym so.within ∙ within) so.from) in
+      let less : length x.0 < size = omega (arith, short, so.at) in
+      let line = sym so.within ∙ within in
+      let is = still_ended cutter.chunks size cutter.target.place x.0 less (so.begun line less) line so.from in
+      let e : ended cutter.chunks size x.0 - cutter.target.place ≡ 0 = omega (arith, is) in
       ap (λ n. with_fulls n x.1) (sym e)) (sends_none ready (λ x so. so.carries));
 }
 
@@ -239,7 +244,7 @@ module _ {told : Bool} {cutter now : CutterState} {size : ℕ} {old slots : List
     | inl before ↦ omega (arith, before)
     | inr past ↦ (let e : ended cutter.chunks size x.0 ≡ now.target.place = omega (arith, past, so_far.low x so) in
         let next = (ended_is cutter.chunks size x.0).next (omega (arith, e, less, ap (λ (chunks : Chunks). chunks.count) so_far.chunks)) in
-        absurd (omega (arith, next, ends, passed_at cutter size whole x so, so_far.at, ap (λ (chunks : Chunks). chunk_start chunks.count size (now.target.place + 1)) so_far.chunks, ap (λ p. chunk_start cutter.chunks.count size (p + 1)) e)))
+        absurd (omega (arith, rw e at next, rw so_far.chunks at ends, passed_at cutter size whole x so, so_far.at)))
   ]
 
   pub next_sends : {next : TargetState} {new : List Slot} (fault : Option Fault)
@@ -360,6 +365,9 @@ pub some_of : (on : Course) (count : ℕ) → can_cut on count ≡ true → 0 < 
 some_of (in_files filing elide) count can = ltb-true _ _ can
 some_of (in_output chunk) count can = omega (arith, ltb-true _ _ can)
 
+pub some_in : {cutter : CutterState} {x : List ℕ} {cut : CutUp} → HasCut cutter x cut → 0 < cutter.chunks.count
+some_in {cutter} has = some_of (course cutter) cutter.chunks.count has.can
+
 pub placed_at : {cutter : CutterState} {size : ℕ} {x : List ℕ} → IsCut cutter size x
     → ended cutter.chunks size x ≡ cutter.target.place
 placed_at {cutter} {size} {x} is = sym (length-map-range_with_len (chunk_at cutter.chunks size x) 0 (ended cutter.chunks size x)) ∙ is.cut.carries.placed
@@ -368,7 +376,7 @@ pub place_of : {cutter : CutterState} {size : ℕ} {x : List ℕ} (y : List ℕ)
     → length (x ++ y) ≤ size → Place cutter size x
 place_of {cutter} {size} {x} y is some within = let chunks = cutter.chunks in
     let short : length x < size = omega (arith, some, within, length-append x y) in
-    let count : 0 < chunks.count = some_of (course cutter) chunks.count is.cut.can in
+    let count : 0 < chunks.count = some_in is.cut in
     let here : HaveEnded chunks size x cutter.target.place = subst (HaveEnded chunks size x) (placed_at is) (ended_is chunks size x) in
     let less : cutter.target.place < chunks.count = elim (cases_lt cutter.target.place chunks.count) [
       | inl before ↦ before
@@ -479,21 +487,27 @@ cuts_on {told} {cutter} {mid} {next} {size} text {y} {old} {new = new} fault is 
     }
 
 -- a fault came as it was written
-fulls_follow : (on : Course) (cut : CutUp) (n : ℕ) → Begins (part_on on cut) (part_on on (with_fulls n cut))
-fulls_follow on cut n = let e : 0 + n ≡ n = omega arith in rw e at (fulls_begin on cut 0 n)
+fulls_follow : (on : Course) (low : CutUp) {high : CutUp} (n : ℕ) → with_fulls n low ≡ high
+    → Begins (part_on on low) (part_on on high)
+fulls_follow on low n is = let e : 0 + n ≡ n = omega arith in rw (e, is) at (fulls_begin on low 0 n)
 
 pub cuts_not : {told : Bool} {cutter next : CutterState} {size : ℕ} (text : List ℕ) {y : List ℕ} {old new : List Slot}
     {why : Fault} → y ≡ cut_to cutter (end_so cutter size) text → 0 < length text → next.chunks ≡ cutter.chunks
     → next.at ≡ cutter.at → Changes told cutter.target (with_rest y) old new next.target (Some why)
     → Cuts told cutter size y old new next (Some why)
-cuts_not {cutter = cutter} {size = size} text {y} {why = why} is some chunks at stopped =
-    let place : (x : List ℕ) → IsCut cutter size x × (length (x ++ y) ≤ size) → Place cutter size x = λ x so. place_of y so.0 (rw is (begun_some cutter.chunks.unit cutter.chunks.delim _ text (omega arith) some)) so.1 in record {
-      chunks = chunks;
-      bound = omega (arith, at);
-      brings = brings_wider (λ x so. rw (grown cutter.chunks size x y (place x so).some so.1 (rw is (all_before text so.0 (place x so)))) at (fulls_follow (course cutter) (with_rest y (chunks_within cutter.chunks size x)) (ended cutter.chunks size (x ++ y) - ended cutter.chunks size x)))
-          (brings_as {Also = λ x. IsCut cutter size x × (length (x ++ y) ≤ size)} (λ x. x) (Some why) (λ x so. (so.0, place x so)) (λ x so. refl) (λ x so. refl) (changes_cut y (Some why) stopped).brings);
-      stands = tt;
-    }
+cuts_not {cutter = cutter} {size = size} text {y} {why = why} is some chunks at stopped = record {
+  chunks = chunks;
+  bound = omega (arith, at);
+  brings = brings_wider (λ x so. let here = place x so in
+      fulls_follow (course cutter) _ (ended cutter.chunks size (x ++ y) - ended cutter.chunks size x)
+      (grown cutter.chunks size x y here.some so.1 (rw is (all_before text so.0 here))))
+      (brings_as (λ x. x) (Some why) (λ x so. (so.0, place x so)) (λ x so. refl) (λ x so. refl)
+      (changes_cut y (Some why) stopped).brings);
+  stands = tt;
+} where
+  place : (x : List ℕ) → IsCut cutter size x × (length (x ++ y) ≤ size) → Place cutter size x
+  place x (has, within) =
+      place_of y has (rw is (begun_some cutter.chunks.unit cutter.chunks.delim _ text (omega arith) some)) within
 
 -- on the way to all of a text
 pub cuts_all : {told : Bool} {cutter next : CutterState} {size : ℕ} (text : List ℕ) {y : List ℕ}
@@ -504,8 +518,11 @@ cuts_all {cutter = cutter} {size = size} text {y} {why = why} is cuts =
     let all : (x : List ℕ) → (x ++ y) ++ rest ≡ x ++ text = λ x. append_assoc x y rest ∙ ap (λ more. x ++ more) (sym both) in record {
       chunks = cuts.chunks;
       bound = omega (arith, cuts.bound, ap length both, length-append y rest);
-      brings = brings_wider (λ x so. rw (all x) at (so_grows (course cutter) cutter.chunks size (x ++ y) rest (some_of (course cutter) cutter.chunks.count so.0.cut.can) (omega (arith, ap length (all x), so.1))))
-          (brings_as {Also = λ x. IsCut cutter size x × (length (x ++ text) ≤ size)} (λ x. x) (Some why) (λ x so. (so.0, omega (arith, so.1, ap length (all x), length-append (x ++ y) rest))) (λ x so. refl) (λ x so. refl) cuts.brings);
+      brings = brings_wider (λ x so. rw (all x) at
+          (so_grows (course cutter) cutter.chunks size (x ++ y) rest (some_in so.0.cut) (rw (all x) so.1)))
+          (brings_as (λ x. x) (Some why)
+          (λ x so. (so.0, omega (arith, so.1, ap length (all x), length-append (x ++ y) rest)))
+          (λ x so. refl) (λ x so. refl) cuts.brings);
       stands = tt;
     }
 

@@ -22,7 +22,6 @@ use Rattle.ports_core.{
     declared.{fault.Fault.Fault, file_writer.Opening.TheVariants.Never},
     Draft.draft_part,
     Turn.fault_in,
-    Work.Work,
   },
   proofs.{PartLemmas.{part_begins_itself, part_trans}, ShareLemmas.next_begins, FileWriterLemmas.{in_any, where_well}},
 }
@@ -51,9 +50,9 @@ use Rattle.split_core.specs.{
 use Rattle.split_core.proofs.{
   ChunkerWays.{ends_at, passes_at},
   CutterLemmas.{
-    begun_some, cut_of, so_grows, fulls_are, grown, cutting, has_cut, name_of, no_line, open_early, some_of,
+    begun_some, cut_of, so_grows, fulls_are, grown, cutting, has_cut, name_of, no_line, open_early, some_in,
   },
-  ChunkerLemmas.{complete_all, past_is, whole_is},
+  ChunkerLemmas.{complete_all, past_is, whole_within},
   TargetLemmas.{whole_draft, piece_full, brings_as, brings_then, brings_wider, sends_as, sends_none},
 }
 
@@ -90,7 +89,9 @@ pub settles_none : {told : Bool} {cutter : CutterState} {waiting : List ℕ} {en
 settles_none {cutter = cutter} {waiting} {end} ready ends = record {
   chunks = refl;
   bound = omega arith;
-  sends = sends_as (λ z. z) None (λ z so. so) (λ z so. refl) (λ z so. ap uncut (sym (still_all cutter waiting end z so ends))) (sends_none {target = cutter.target} {So = BeginsBefore cutter end} {from = λ z. uncut z} ready (λ z so. so.0.carries));
+  sends = sends_as (λ z. z) None (λ z so. so) (λ z so. refl)
+      (λ z so. ap uncut (sym (still_all cutter waiting end z so ends)))
+      (sends_none {So = BeginsBefore cutter end} {from = uncut} ready (λ z so. so.0.carries));
   stands = λ z so. rw (still_all cutter waiting end z so ends) (so.0, sym (drop_at z waiting (length z) refl));
 }
 
@@ -101,7 +102,9 @@ module _ {told : Bool} {cutter : CutterState} (waiting : List ℕ) (end : ℕ) {
       → Sends told cutter.target (BeginsBefore cutter end) (λ z. uncut z)
       (λ z. uncut (all_before cutter waiting end z)) old new next fault
   sends_on fault changes = sends_as (λ z. uncut z) fault
-      (λ z so. (so.0.carries, name_of (course cutter) cutter.chunks.count cutter.target.place so.0.all (omega (arith, so.0.carries.placed, some_of (course cutter) cutter.chunks.count so.0.can))))
+      (λ z (has, all). let less : cutter.target.place < cutter.chunks.count =
+      omega (arith, has.carries.placed, some_in has) in
+      (has.carries, name_of (course cutter) cutter.chunks.count cutter.target.place has.all less))
       (λ z so. refl) (λ z so. ap uncut (sym (writes_on cutter end z waiting so short))) changes
 
   pub settles_on : {next : CutterState} {left : List ℕ} {new : List Slot} {n : ℕ}
@@ -115,7 +118,8 @@ module _ {told : Bool} {cutter : CutterState} (waiting : List ℕ) (end : ℕ) {
         sends = sends;
         stands = λ z so. let all = writes_on cutter end z waiting so short in
             let both : length (z ++ y) ≡ length z + n = omega (arith, length-append z y, long) in (
-              rw all (has_cut y writes.chunks step.stays (omega (arith, writes.at, long)) writes.within (omega (arith, writes.count.0, long)) so.0 (rw all at (sends.carries z so))),
+              rw all (has_cut y writes.chunks step.stays (omega (arith, writes.at, long)) writes.within
+                  (omega (arith, writes.count.0, long)) so.0 (rw all at (sends.carries z so))),
               is ∙ sym (ap (λ x. drop (length x) (z ++ waiting)) all ∙ ap (λ k. drop k (z ++ waiting)) both ∙ drop-append-add z waiting n),
             );
       }
@@ -163,6 +167,11 @@ made_none chunker said = ap (work_on (course chunker.cutter) chunker.cutter.chun
 abbrev pub cut_front : ChunkerState → List ℕ → List ℕ
 cut_front chunker x = before_chunk chunker.cutter.chunks (length x) (first_on (course chunker.cutter)) x
 
+settled_none : (chunker : ChunkerState) (x : List ℕ) → chunker.said ≡ None
+    → part_on (course chunker.cutter) (uncut (cut_front chunker x)) ≡ (made chunker).settled x
+settled_none chunker x said =
+    rw (← made_none chunker said) (sym (decided_is (course chunker.cutter) chunker.cutter.chunks x))
+
 module _ {chunker : ChunkerState} {x : List ℕ} (has : IsUnsaid chunker x) where
   all_came : cut_front chunker x ++ chunker.waiting ≡ x
   all_came = ap (λ rest. cut_front chunker x ++ rest) has.waits ∙ begin_then_rest (cut_front chunker x) x (begun_begins chunker.cutter.chunks.unit chunker.cutter.chunks.delim _ x)
@@ -171,11 +180,14 @@ module _ {chunker : ChunkerState} {x : List ℕ} (has : IsUnsaid chunker x) wher
       → BeginsBefore chunker.cutter
       (chunk_start chunker.cutter.chunks.count (length (x ++ more)) (first_on (course chunker.cutter)))
       (cut_front chunker x)
-  front_before more = let chunks = chunker.cutter.chunks in let first = first_on (course chunker.cutter) in (
-    has.cut,
-    begun_later chunks.unit chunks.delim (cut_front chunker x) (start_by_size chunks.count (length x) (length (x ++ more)) first (some_of (course chunker.cutter) chunks.count has.cut.can) (first_fits (course chunker.cutter) chunks.count has.cut.can) (omega (arith, length-append x more)))
-        (begun_again chunks.unit chunks.delim (chunk_start chunks.count (length x) first) x),
-  )
+  front_before more = let on = course chunker.cutter in let chunks = chunker.cutter.chunks in
+      let fits = first_fits on chunks.count has.cut.can in
+      let low : length x ≤ length (x ++ more) = omega (arith, length-append x more) in
+      let later = start_by_size _ _ _ _ (some_in has.cut) fits low in (
+        has.cut,
+        begun_later chunks.unit chunks.delim (cut_front chunker x) later
+            (begun_again chunks.unit chunks.delim _ x),
+      )
 
   came_more : (piece : List ℕ) → cut_front chunker x ++ (chunker.waiting ++ piece) ≡ x ++ piece
   came_more piece = sym (append_assoc (cut_front chunker x) chunker.waiting piece) ∙ ap (λ x. x ++ piece) all_came
@@ -201,21 +213,27 @@ module _ {told : Bool} {chunker next : ChunkerState} {piece : List ℕ} {end : �
   pub passes_unsaid : (result : Result (Unit {0}) Fault)
       → Settles told chunker.cutter (chunker.waiting ++ piece) end old new next.cutter next.waiting (fault_in result)
       → PassesAs told chunker piece old new next result
-  passes_unsaid result settles = let fault = fault_in result in passes_at result (record { can = can; said = same; chunks = settles.chunks })
+  passes_unsaid result settles = passes_at result (record { can = can; said = same; chunks = settles.chunks })
       (omega (arith, settles.bound, spare, length-append chunker.waiting piece))
-      (brings_as (cut_front chunker) fault (λ x holds. let has = is_unsaid said holds in rw (← end_is chunker piece ends has) at (front_before has piece))
-      (λ x holds. sym (decided_is (course chunker.cutter) chunker.cutter.chunks x) ∙ ap (λ (work : Work). work.settled x) (made_none chunker said))
-      (λ x holds. let has = is_unsaid said holds in ap (λ z. part_on (course chunker.cutter) (uncut z)) (to_is chunker piece ends has) ∙ sym (decided_is (course chunker.cutter) chunker.cutter.chunks (x ++ piece)) ∙ ap (λ (work : Work). work.settled (x ++ piece)) (made_none chunker said)) settles.sends.brings)
+      (brings_as (cut_front chunker) fault (λ x holds. before (is_unsaid said holds))
+      (λ x holds. settled_none chunker x said)
+      (λ x holds. rw (to_is chunker piece ends (is_unsaid said holds)) (settled_none chunker (x ++ piece) said))
+      settles.sends.brings)
       (where_well fault settles.stands (λ later x holds. let has = is_unsaid said holds in
-      let (cut, left) = later (cut_front chunker x) (rw (← end_is chunker piece ends has) at (front_before has piece)) in
-      let stays = settles.sends.brings.stays in
-      let on : cut_front next (x ++ piece) ≡ cut_front chunker (x ++ piece) = ap (λ (chunks : Chunks). before_chunk chunks (length (x ++ piece)) (first_on (course next.cutter)) (x ++ piece)) settles.chunks ∙ ap (λ on. before_chunk chunker.cutter.chunks (length (x ++ piece)) (first_on on) (x ++ piece)) stays in
-      let z = cut_front chunker (x ++ piece) in
+      let (cut, left) = later (cut_front chunker x) (before has) in
+      let to = to_is chunker piece ends has in
+      let on : cut_front next (x ++ piece) ≡ cut_front chunker (x ++ piece) =
+      rw (settles.chunks, settles.sends.brings.stays) refl in
       unsaid_is (same ∙ said) (record {
-        cut = rw on (rw (to_is chunker piece ends has) at cut);
-        waits = left ∙ ap (λ z. drop (length z) (cut_front chunker x ++ (chunker.waiting ++ piece))) (to_is chunker piece ends has) ∙ ap (drop (length z)) (came_more has piece) ∙ ap (λ z. drop (length z) (x ++ piece)) (sym on);
+        cut = rw on (rw to at cut);
+        waits = rw on (rw (to, came_more has piece) at left);
         spare = spare ∙ has.spare;
-      })))
+      }))) where
+        fault : Option Fault
+        fault = fault_in result
+
+        before : {x : List ℕ} → IsUnsaid chunker x → BeginsBefore chunker.cutter end (cut_front chunker x)
+        before has = rw (end_is chunker piece ends has) (front_before has piece)
 
 -- The end
 
@@ -336,7 +354,7 @@ cut_off_so {cutter} {waiting} {size} {z} so = record {
 
 some_so : {cutter : CutterState} {waiting : List ℕ} {size : ℕ} {z : List ℕ} → IsSettled cutter waiting size z
     → 0 < cutter.chunks.count
-some_so {cutter} so = some_of (course cutter) cutter.chunks.count so.cut.can
+some_so so = some_in so.cut
 
 to_whole : {cutter : CutterState} {waiting : List ℕ} {size : ℕ} (z : List ℕ) → IsSettled cutter waiting size z
     → Begins (part_on (course cutter) (chunks_within cutter.chunks size z))
@@ -383,23 +401,25 @@ module _ {told : Bool} {cutter mid : CutterState} {waiting : List ℕ} {size : �
   brings_rest : {next : AimState} {new : List Slot} (fault : Option Fault) {done : List ℕ}
       → length done ≤ length waiting → (ends : EndsFull told cutter size old wet mid None)
       → Brings told (course mid) mid.target.aim next (λ z. IsCut mid size z
-      × (length (z ++ done) ≤ size)) (part_so mid size) (λ z. part_so mid size (z ++ done)) wet new fault
+      × (length (z ++ done) ≤ size)) (λ z. part_so mid size z) (λ z. part_so mid size (z ++ done)) wet new fault
       → Brings told (course cutter) cutter.target.aim next (IsSettled cutter waiting size)
       (λ z. part_on (course cutter) (uncut z))
       (λ z. part_on (course cutter) (chunks_within cutter.chunks size (z ++ done))) old new fault
-  brings_rest {next} {new} fault {done} few ends brings = let stays = (ends_first None ends).brings.stays in
-      brings_then (brings_first None ends) (λ z so. so) (brings_as (λ z. z) fault (mid_cut done few ends) (λ z so. ap (λ chunks. part_on (course cutter) (chunks_within chunks size z)) ends.chunks) (λ z so. ap (λ chunks. part_on (course cutter) (chunks_within chunks size (z ++ done))) ends.chunks)
-      (rw (← stays) brings))
+  brings_rest fault {done} few ends brings = brings_then (brings_first None ends)
+      (rw ends.chunks at (mid_cut done few ends)) (rw ((ends_first None ends).brings.stays, ends.chunks) at brings)
 
   pub held_not_cut : {next : CutterState} {new : List Slot} {why : Fault}
       → size ≡ cutter.at + length waiting → EndsFull told cutter size old wet mid None
       → Cuts told mid size (take (min (length waiting) (size - mid.at)) waiting) wet new next (Some why)
       → EndsHeld told cutter waiting size old new next [] (Some why)
-  held_not_cut {why = why} all ends stopped = let cuts = rw (take_all (min (length waiting) (size - mid.at)) waiting (omega (arith, all, ends.at))) at stopped in record {
-    chunks = cuts.chunks ∙ ends.chunks;
-    bound = omega (arith, cuts.bound, ends.at);
-    brings = brings_wider (λ z so. whole_begins (course cutter) (chunks_within cutter.chunks size (z ++ waiting))) (brings_rest (Some why) (omega arith) ends cuts.brings);
-  }
+  held_not_cut {why = why} all ends stopped =
+      let same = take_all (min (length waiting) (size - mid.at)) waiting (omega (arith, all, ends.at)) in
+      let cuts = rw same at stopped in record {
+        chunks = cuts.chunks ∙ ends.chunks;
+        bound = omega (arith, cuts.bound, ends.at);
+        brings = brings_wider (λ z so. whole_begins (course cutter) _)
+            (brings_rest (Some why) (omega arith) ends cuts.brings);
+      }
 
   -- what is left once the output is complete changes nothing
   pub held_ends : {later next : CutterState} {left : ℕ} {between new : List Slot} (fault : Option Fault)
@@ -437,18 +457,21 @@ module _ {told : Bool} {cutter mid : CutterState} {waiting : List ℕ} {size : �
       | inl none ↦ used none
       | inr later ↦ elim later [
         | inl past ↦
-            let both : (z ++ done) ++ drop (length waiting - left) waiting ≡ z ++ waiting = append_assoc z done _ ∙ ap (λ those. z ++ those) (take-append-drop (length waiting - left) waiting) in
-            let complete : (work_on (course cutter) cutter.chunks (Some size)).is_complete (z ++ done) ≡ true =
+            let on = course cutter in let chunks = cutter.chunks in let work = work_on on chunks (Some size) in
+            let rest = drop (length waiting - left) waiting in
+            let both : (z ++ done) ++ rest ≡ z ++ waiting = append_assoc z done rest
+            ∙ ap (λ those. z ++ those) (take-append-drop (length waiting - left) waiting) in
+            let complete : work.is_complete (z ++ done) ≡ true =
             rw (first.stays, is) at (sym (past_is (stands z so)) ∙ past) in
-            complete_all (course cutter) cutter.chunks size (z ++ done) (drop (length waiting - left) waiting) so.cut.can (stands z so).fits complete
-            ∙ ap (work_on (course cutter) cutter.chunks (Some size)).whole both
-            ∙ whole_is (course cutter) cutter.chunks size (z ++ waiting) ∙ ap (whole_on (course cutter)) (cut_of cutter.chunks size (z ++ waiting) (omega (arith, so.all, length-append z waiting)))
+            complete_all on chunks size (z ++ done) rest so.cut.can (stands z so).fits complete ∙ ap work.whole both
+            ∙ sym (whole_within on chunks size (z ++ waiting) (omega (arith, so.all, length-append z waiting)))
         | inr full ↦ used (omega (arith, all, full, cuts.at, cuts.few, ends.at))
       ]
     ] where
       used : left ≡ 0 → whole_on (course cutter) (chunks_within cutter.chunks size (z ++ done))
           ≡ whole_on (course cutter) (chunks_within cutter.chunks size (z ++ waiting))
-      used none = ap (λ those. whole_on (course cutter) (chunks_within cutter.chunks size (z ++ those))) (take_all (length waiting - left) waiting (omega (arith, none)))
+      used none = let same : done ≡ waiting = take_all (length waiting - left) waiting (omega (arith, none)) in
+          rw same refl
 
 -- as the stage ends
 
@@ -468,17 +491,18 @@ pub ends_unsaid : {told : Bool} {chunker next : ChunkerState} {size : ℕ} {old 
     → size ≡ chunker.cutter.at + length chunker.waiting
     → EndsHeld told chunker.cutter chunker.waiting size old new next.cutter next.waiting (fault_in result)
     → EndsAs told chunker old new next result
-ends_unsaid {chunker = chunker} {size = size} result aimed said same spare can size_is ends = let fault = fault_in result in
+ends_unsaid {chunker = chunker} {size = size} result aimed said same spare can size_is ends =
+    let fault = fault_in result in let on = course chunker.cutter in let chunks = chunker.cutter.chunks in
     ends_at result aimed (record { can = can; said = same; chunks = ends.chunks }) (omega (arith, ends.bound, spare))
     (brings_as (cut_front chunker) fault (λ x holds. let has = is_unsaid said holds in record {
       cut = has.cut;
       all = omega (arith, size_is, has.cut.at);
-      is = ap (λ z. before_chunk chunker.cutter.chunks size (first_on (course chunker.cutter)) z) (all_came has) ∙ ap (λ n. before_chunk chunker.cutter.chunks n (first_on (course chunker.cutter)) x) (long x has);
+      is = rw (all_came has, long x has) refl;
     })
-    (λ x holds. sym (decided_is (course chunker.cutter) chunker.cutter.chunks x) ∙ ap (λ (work : Work). work.settled x) (made_none chunker said))
-    (λ x holds. let has = is_unsaid said holds in ap (λ z. whole_on (course chunker.cutter) (chunks_within chunker.cutter.chunks size z)) (all_came has) ∙ ap (λ n. whole_on (course chunker.cutter) (chunks_within chunker.cutter.chunks n x)) (long x has)
-    ∙ ap (whole_on (course chunker.cutter)) (sym (cut_of chunker.cutter.chunks (length x) x (omega arith))) ∙ sym (whole_none (course chunker.cutter) chunker.cutter.chunks x) ∙ ap (λ (work : Work). work.whole x) (made_none chunker said)) ends.brings)
-    (in_any fault (λ x holds. ap (λ (work : Work). work.verdict x) (sym (made_none chunker said)) ∙ well_none (course chunker.cutter) chunker.cutter.chunks x))
+    (λ x holds. settled_none chunker x said)
+    (λ x holds. let has = is_unsaid said holds in rw (all_came has, long x has, ← made_none chunker said)
+    (ap (whole_on on) (sym (cut_of chunks (length x) x (omega arith))) ∙ sym (whole_none on chunks x))) ends.brings)
+    (in_any fault (λ x holds. rw (← made_none chunker said) (well_none on chunks x)))
     (λ some. absurd (false≢true (sym some ∙ ap is_none said))) where
       long : (x : List ℕ) → IsUnsaid chunker x → size ≡ length x
       long x has = omega (arith, size_is, has.cut.at, length-append (cut_front chunker x) chunker.waiting, ap length (all_came has))
