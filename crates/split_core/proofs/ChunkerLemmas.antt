@@ -86,11 +86,14 @@ pub past_is : {cutter : CutterState} {size : ℕ} {x : List ℕ} → IsCut cutte
 past_is {cutter} {size} {x} is = past_at cutter.chunks size cutter.target.place cutter.target.aim x is.cut.can is.fits (placed_at is)
 
 -- and where a text has its size
-full_at : (on : Course) (chunks : Chunks) (size : ℕ) (aim : AimState) (x : List ℕ)
+full_at : (chunks : Chunks) (size : ℕ) (aim : AimState) (x : List ℕ)
     → can_cut (course_of aim) chunks.count ≡ true → is_each_on aim ≡ false → size ≤ length x
     → (work_on (course_of aim) chunks (Some size)).is_complete x ≡ true
-full_at on chunks size (to_files writer elide) x can one full = absurd (false≢true (sym one))
-full_at on chunks size (to_output chunk) x can one full = le-leb _ _ (omega (arith, passed_full chunks size x full, start_within chunks.count size (chunk + 1) (omega (arith, ltb-true _ _ can)) (omega (arith, ltb-true _ _ can))))
+full_at chunks size (to_files writer elide) x can one full = absurd (false≢true (sym one))
+full_at chunks size (to_output chunk) x can one full =
+    let within : chunk + 1 ≤ chunks.count = omega (arith, ltb-true _ _ can) in
+    let start = start_within chunks.count size (chunk + 1) (omega (arith, within)) within in
+    le-leb _ _ (omega (arith, passed_full chunks size x full, start))
 
 -- all was used if none is left
 used_all : {work : Work} {x : List ℕ} {n : ℕ} (spare : IsSpare work x n) → spare.rest ≡ [] → x ≡ spare.used
@@ -100,20 +103,23 @@ used_all spare none = spare.joined ∙ ap (λ rest. spare.used ++ rest) none ∙
 so_used : {work : Work} {x : List ℕ} {n : ℕ} → IsLawful work → (spare : IsSpare work x n)
     → work.settled spare.used ≡ work.settled x
 so_used {work} {x} lawful spare = elim spare.enough [
-  | inl none ↦ ap work.settled (sym (used_all spare none))
-  | inr complete ↦ sym (ap work.settled spare.joined ∙ (lawful.stays spare.used spare.rest complete).settled_stays)
+  | inl none ↦ rw (used_all spare none) refl
+  | inr complete ↦ rw spare.joined (sym (lawful.stays spare.used spare.rest complete).settled_stays)
 ]
 
 pub cut_is : {chunker : ChunkerState} {size : ℕ} {x : List ℕ} (has : IsSaid chunker size x)
     → IsCut chunker.cutter size has.spare.used
 cut_is has = record { cut = has.cut; fits = has.within }
 
+used_is : {chunker : ChunkerState} {size : ℕ} {x : List ℕ} (has : IsSaid chunker size x)
+    → take chunker.cutter.at x ≡ has.spare.used
+used_is has = rw has.spare.joined (take_at has.spare.used has.spare.rest _ (sym has.cut.at))
+
 part_is : {chunker : ChunkerState} {size : ℕ} {x : List ℕ} → IsSaid chunker size x
     → part_so chunker.cutter size (take chunker.cutter.at x) ≡ (said_work chunker.cutter size).settled x
-part_is {chunker} {size} {x} has = let on = course chunker.cutter in let chunks = chunker.cutter.chunks in
-    let used : take chunker.cutter.at x ≡ has.spare.used = ap (take chunker.cutter.at) has.spare.joined ∙ take_at has.spare.used has.spare.rest chunker.cutter.at (sym has.cut.at) in
-    ap (part_so chunker.cutter size) used ∙ settled_within on chunks size has.spare.used has.within
-    ∙ so_used (work_lawful on chunks (Some size) has.cut.can) has.spare
+part_is {chunker} {size} has = let on = course chunker.cutter in let chunks = chunker.cutter.chunks in
+    rw (used_is has) (settled_within on chunks size has.spare.used has.within
+    ∙ so_used (work_lawful on chunks (Some size) has.cut.can) has.spare)
 
 -- A piece
 
@@ -140,22 +146,15 @@ module _ {chunker : ChunkerState} {next : CutterState} {size : ℕ} {piece : Lis
   fits_done = omega (arith, done_fits takes (within_size has), has.cut.at, length-append has.spare.used done)
 
   -- once it is complete, none of the piece is used
-  none_or : (has.spare.rest ≡ []) ⊎ (done ≡ [])
-  none_or = elim has.spare.enough [
-    | inl none ↦ inl none
-    | inr complete ↦ (let e : length piece - past ≡ 0 = omega (arith, takes.still (past_is (cut_is has) ∙ complete)) in inr (ap (λ n. take n piece) e))
-  ]
+  none_done : (said_work chunker.cutter size).is_complete has.spare.used ≡ true → length piece - past ≡ 0
+  none_done complete = omega (arith, takes.still (past_is (cut_is has) ∙ complete))
 
   joined_so : x ++ piece ≡ (has.spare.used ++ done) ++ (has.spare.rest ++ over)
-  joined_so = elim none_or [
-    | inl none ↦
-        ap (λ x. x ++ piece) (used_all has.spare none)
-        ∙ ap (λ piece. has.spare.used ++ piece) (sym (take-append-drop (length piece - past) piece)) ∙ sym (append_assoc has.spare.used done over)
-        ∙ ap (λ rest. (has.spare.used ++ done) ++ (rest ++ over)) (sym none)
-    | inr none ↦
-        ap (λ x. x ++ piece) has.spare.joined ∙ append_assoc has.spare.used has.spare.rest piece
-        ∙ ap (λ piece. has.spare.used ++ (has.spare.rest ++ piece)) (sym (take-append-drop (length piece - past) piece) ∙ ap (λ done. done ++ over) none)
-        ∙ ap (λ used. used ++ (has.spare.rest ++ over)) (sym (append-nil has.spare.used) ∙ ap (λ done. has.spare.used ++ done) (sym none))
+  joined_so = elim has.spare.enough [
+    | inl none ↦ (let both = take-append-drop (length piece - past) piece in
+        rw (used_all has.spare none, none, append_assoc has.spare.used done over, both) refl)
+    | inr complete ↦
+        rw (none_done complete, append-nil has.spare.used, has.spare.joined) (append_assoc has.spare.used _ piece)
   ]
 
   next_cut : IsCut next size (has.spare.used ++ done)
@@ -167,7 +166,7 @@ module _ {chunker : ChunkerState} {next : CutterState} {size : ℕ} {piece : Lis
   needed_so : IsNeeded (said_work chunker.cutter size).is_complete 1 (has.spare.used ++ done)
   needed_so = elim takes.needed [
     | inl all ↦ (let e : length piece - past ≡ 0 = omega (arith, all) in
-        subst (IsNeeded (said_work chunker.cutter size).is_complete 1) (sym (ap (λ n. has.spare.used ++ take n piece) e ∙ append-nil has.spare.used)) has.spare.needed)
+        rw (e, append-nil has.spare.used) has.spare.needed)
     | inr needed ↦ needed has.spare.used (cut_is has)
   ]
 
@@ -176,11 +175,11 @@ module _ {chunker : ChunkerState} {next : CutterState} {size : ℕ} {piece : Lis
   enough_so = elim takes.enough [
     | inl none ↦ zero_past none
     | inr later ↦ elim later [
-      | inl ended ↦ inr (sym (ap (λ (work : Work). work.is_complete (has.spare.used ++ done)) next_work) ∙ sym (past_is next_cut) ∙ ended)
+      | inl ended ↦ inr (rw next_work at (sym (past_is next_cut) ∙ ended))
       | inr full ↦ elim ok [
         | inl none ↦ zero_past none
-        | inr one ↦ inr (sym (ap (λ (work : Work). work.is_complete (has.spare.used ++ done)) next_work)
-            ∙ full_at (course next) next.chunks size next.target.aim (has.spare.used ++ done) next_cut.cut.can one (omega (arith, full, next_cut.cut.at)))
+        | inr one ↦ inr (rw next_work at (full_at next.chunks size next.target.aim (has.spare.used ++ done)
+            next_cut.cut.can one (omega (arith, full, next_cut.cut.at))))
       ]
     ]
   ] where
@@ -188,8 +187,7 @@ module _ {chunker : ChunkerState} {next : CutterState} {size : ℕ} {piece : Lis
         ⊎ ((said_work chunker.cutter size).is_complete (has.spare.used ++ done) ≡ true)
     zero_past none = let out : over ≡ [] = drop_all (length piece - past) piece (omega (arith, none)) in elim has.spare.enough [
       | inl rest ↦ inl (rw (rest, out) refl)
-      | inr complete ↦ (let e : length piece - past ≡ 0 = omega (arith, takes.still (past_is (cut_is has) ∙ complete)) in
-          inr (ap (said_work chunker.cutter size).is_complete (ap (λ n. has.spare.used ++ take n piece) e ∙ append-nil has.spare.used) ∙ complete))
+      | inr complete ↦ inr (rw (none_done complete, append-nil has.spare.used) complete)
     ]
 
   abbrev spare_on : IsSpare (said_work chunker.cutter size) (x ++ piece) (chunker.spare + past)
@@ -222,10 +220,6 @@ module _ {chunker : ChunkerState} {next : CutterState} {size : ℕ} {piece : Lis
   part_on_said = let on = course chunker.cutter in let chunks = chunker.cutter.chunks in
       settled_within on chunks size (has.spare.used ++ done) fits_done
       ∙ so_used (work_lawful on chunks (Some size) has.cut.can) spare_on
-
-used_is : {chunker : ChunkerState} {size : ℕ} {x : List ℕ} (has : IsSaid chunker size x)
-    → take chunker.cutter.at x ≡ has.spare.used
-used_is {chunker} has = ap (take chunker.cutter.at) has.spare.joined ∙ take_at has.spare.used has.spare.rest chunker.cutter.at (sym has.cut.at)
 
 pub is_said : {chunker : ChunkerState} {size : ℕ} {x : List ℕ} → chunker.said ≡ Some size → Holds chunker x
     → IsSaid chunker size x
@@ -260,25 +254,22 @@ module _ (chunker : ChunkerState) {size : ℕ} (said : chunker.said ≡ Some siz
   to_all : (piece bytes more : List ℕ) → bytes ++ more ≡ piece → {x : List ℕ} → IsSaid chunker size x
       → chunker.cutter.at + length bytes ≤ size
       → Begins (part_so chunker.cutter size (take chunker.cutter.at x ++ bytes)) ((made chunker).settled (x ++ piece))
-  to_all piece bytes more both {x} has fits =
+  to_all piece bytes more both has fits =
       let on = course chunker.cutter in
       let chunks = chunker.cutter.chunks in
-      let work = work_on on chunks (Some size) in
       let lawful = work_lawful on chunks (Some size) can in
       let used = has.spare.used in
-      let here : part_so chunker.cutter size (take chunker.cutter.at x ++ bytes) ≡ work.settled (used ++ bytes) =
-      ap (λ used. part_so chunker.cutter size (used ++ bytes)) (used_is has)
-      ∙ settled_within on chunks size (used ++ bytes) (omega (arith, fits, has.cut.at, length-append used bytes)) in
-      let there : Begins (work.settled (used ++ bytes)) (work.settled (x ++ piece)) = elim has.spare.enough [
-        | inl none ↦ (let e : (used ++ bytes) ++ more ≡ x ++ piece = append_assoc used bytes more
-            ∙ ap (λ piece. used ++ piece) both ∙ ap (λ x. x ++ piece) (sym (used_all has.spare none)) in
-            rw e at (lawful.grows (used ++ bytes) more))
-        | inr complete ↦ (let e : used ++ (has.spare.rest ++ piece) ≡ x ++ piece = sym (append_assoc used has.spare.rest piece) ∙ ap (λ x. x ++ piece) (sym has.spare.joined) in
-            let low : work.settled (used ++ bytes) ≡ work.settled used = (lawful.stays used bytes complete).settled_stays in
-            let high : work.settled (x ++ piece) ≡ work.settled used = ap work.settled (sym e) ∙ (lawful.stays used (has.spare.rest ++ piece) complete).settled_stays in
-            rw (low, high) (part_begins_itself (work.settled used)))
-      ] in
-      rw (here, ← made_is chunker said) there
+      let rest = has.spare.rest in
+      let within : length (used ++ bytes) ≤ size = omega (arith, fits, has.cut.at, length-append used bytes) in
+      rw (used_is has, settled_within on chunks size (used ++ bytes) within, ← made_is chunker said) (
+      elim has.spare.enough [
+        | inl none ↦
+            rw (used_all has.spare none, ← both, ← append_assoc used bytes more) (lawful.grows (used ++ bytes) more)
+        | inr complete ↦
+            let low = (lawful.stays used bytes complete).settled_stays in
+            let high = (lawful.stays used (rest ++ piece) complete).settled_stays in
+            rw (has.spare.joined, append_assoc used rest piece, low, high) (part_begins_itself _)
+      ])
 
 module _ {chunker : ChunkerState} {next : CutterState} {size : ℕ} (piece : List ℕ) {told : Bool} {old new : List Slot}
     (said : chunker.said ≡ Some size)
@@ -359,8 +350,8 @@ module _ (chunker : ChunkerState) {next : CutterState} {size : ℕ} (piece : Lis
 
   all_so : (x : List ℕ) (has : IsSaid chunker size x)
       → x ++ piece ≡ (has.spare.used ++ cut_off) ++ drop (length piece - past) piece
-  all_so x has = ap (λ x. x ++ piece) (used_all has.spare (all_used x has))
-      ∙ ap (λ piece. has.spare.used ++ piece) (sym (take-append-drop (length piece - past) piece)) ∙ sym (append_assoc has.spare.used cut_off _)
+  all_so x has = let n = length piece - past in let both = take-append-drop n piece in
+      rw (used_all has.spare (all_used x has), append_assoc has.spare.used cut_off (drop n piece), both) refl
 
   taken : (x : List ℕ) (has : IsSaid chunker size x) → take size (x ++ piece) ≡ has.spare.used ++ cut_off
   taken x has = ap (take size) (all_so x has) ∙ take_at (has.spare.used ++ cut_off) _ size (size_is x has)
@@ -403,12 +394,13 @@ complete_all on chunks size used rest can fits complete = sym (complete_whole on
 whole_said : {chunker : ChunkerState} {size : ℕ} {x : List ℕ} → IsSaid chunker size x
     → whole_on (course chunker.cutter) (chunks_within chunker.cutter.chunks size (take chunker.cutter.at x))
     ≡ (said_work chunker.cutter size).whole x
-whole_said {chunker} {size} {x} has =
-    let on = course chunker.cutter in let chunks = chunker.cutter.chunks in let work = work_on on chunks (Some size) in let used = has.spare.used in
-    ap (λ used. whole_on on (chunks_within chunks size used)) (used_is has) ∙ elim has.spare.enough [
-      | inl none ↦ whole_within on chunks size used has.within ∙ ap work.whole (sym (used_all has.spare none))
-      | inr complete ↦ complete_all on chunks size used has.spare.rest has.cut.can has.within complete ∙ ap work.whole (sym has.spare.joined)
-    ]
+whole_said {chunker} {size} has =
+    let on = course chunker.cutter in let chunks = chunker.cutter.chunks in let used = has.spare.used in
+    rw (used_is has) (elim has.spare.enough [
+      | inl none ↦ rw (used_all has.spare none) (whole_within on chunks size used has.within)
+      | inr complete ↦
+          rw has.spare.joined (complete_all on chunks size used has.spare.rest has.cut.can has.within complete)
+    ])
 
 ends_well : (aim : AimState) (chunks : Chunks) (size : ℕ) (x : List ℕ) {n : ℕ}
     → (spare : IsSpare (work_on (course_of aim) chunks (Some size)) x n) → can_cut (course_of aim) chunks.count ≡ true
@@ -426,7 +418,7 @@ ends_well (to_output chunk) chunks size x spare can fits ends = rw all refl wher
   complete : has_ended chunks size spare.used chunk ≡ true
   complete = elim ends [
     | inl done ↦ done
-    | inr full ↦ full_at (in_output chunk) chunks size (to_output chunk) spare.used can refl full
+    | inr full ↦ full_at chunks size (to_output chunk) spare.used can refl full
   ]
 
   all : has_ended chunks size x chunk ≡ true

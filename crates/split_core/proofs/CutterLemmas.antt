@@ -41,7 +41,7 @@ use Rattle.split_core.specs.{
   Parts.CutUp,
   Split.manner_of,
   inner.Cutter.{Cuts, CutsAs, EndsFull, IsCut, IsCutOff, IsOpen, WritesTo, cut_to, part_so, said_work},
-  inner.Chunks.{GoesOn as Goes, HaveEnded},
+  inner.Chunks.GoesOn as Goes,
   inner.Seen.{is_past_at, is_past_on},
   inner.Sends.{Brings, Changes, GoesOn, HasName, Sends, with_full, with_fulls, with_rest, part_on},
   laws.BegunLaws.{
@@ -126,7 +126,8 @@ pub open_early : (unit : Unit) (delim place : ℕ) (x : List ℕ) → begun_befo
 open_early Bytes delim place x all within = absurd (omega (arith, ltb-true _ _ within))
 open_early Lines delim place x all within = let first = first_lines delim (delimiters delim x) x in
     let rest = drop (length first) x in
-    let both : first ++ rest ≡ x = ap (λ front. front ++ rest) (first_lines-is_take delim (delimiters delim x) x) ∙ take-append-drop (length first) x in
+    let both : first ++ rest ≡ x = ap (λ front. front ++ rest) (first_lines-is_take delim (delimiters delim x) x)
+    ∙ take-append-drop (length first) x in
     let early = begins_early Lines delim place first rest (rw both all)
     (omega (arith, ltb-true _ _ within, ap length both, length-append first rest)) in
     omega (arith, early, open_of_whole delim x)
@@ -219,7 +220,8 @@ name_of (in_files filing elide) count place all less = named_fewer filing.names 
 name_of (in_output chunk) count place all less = tt
 
 full_begins : (on : Course) (cut : CutUp) → Begins (part_on on cut) (part_on on (with_full cut))
-full_begins (in_files filing elide) cut = subst (λ high. Begins (draft_part (manner_of filing) (draft_by elide cut)) (draft_part (manner_of filing) high)) (ends_full elide cut) (ends_begin elide (manner_of filing) (draft_by elide cut))
+full_begins (in_files filing elide) cut = let manner = manner_of filing in
+    subst (Begins _) (ap (draft_part manner) (ends_full elide cut)) (ends_begin elide manner (draft_by elide cut))
 full_begins (in_output chunk) cut = rw (piece_full (pieces_in cut) chunk) (part_begins_itself (piece_at chunk cut))
 
 pub fulls_begin : (on : Course) (cut : CutUp) (few more : ℕ)
@@ -243,15 +245,16 @@ module _ {told : Bool} {cutter now : CutterState} {size : ℕ} {old slots : List
   later x so = elim (cases_lt now.target.place (ended cutter.chunks size x.0)) [
     | inl before ↦ omega (arith, before)
     | inr past ↦ (let e : ended cutter.chunks size x.0 ≡ now.target.place = omega (arith, past, so_far.low x so) in
-        let next = (ended_is cutter.chunks size x.0).next (omega (arith, e, less, ap (λ (chunks : Chunks). chunks.count) so_far.chunks)) in
-        absurd (omega (arith, rw e at next, rw so_far.chunks at ends, passed_at cutter size whole x so, so_far.at)))
+        let next = (rw e at (ended_is cutter.chunks size x.0)).next (rw so_far.chunks at less) in
+        absurd (omega (arith, next, rw so_far.chunks at ends, passed_at cutter size whole x so, so_far.at)))
   ]
 
   pub next_sends : {next : TargetState} {new : List Slot} (fault : Option Fault)
       → Changes told now.target with_full slots new next fault
       → Sends told cutter.target (IsCutOff cutter size) (λ x. x.1) (λ x. with_fulls (suc k) x.1) old new next fault
   next_sends {next} {new} fault went = sends_then so_far.sends
-      (λ x so has. (has, rw so_far.sends.brings.stays (name_of (course cutter) cutter.chunks.count now.target.place so.all (omega (arith, less, ap (λ (chunks : Chunks). chunks.count) so_far.chunks)))))
+      (λ x so has. let name = name_of (course cutter) _ _ so.all (rw so_far.chunks at less) in
+      (has, rw so_far.sends.brings.stays name))
       (sends_as {Also = λ x. GoesOn now.target (with_fulls k x.1)} (λ x. with_fulls k x.1) fault (λ x so. so) (λ x so. refl) (λ x so. refl) went)
 
   pub ends_next : {next : CutterState} {new : List Slot} → next.chunks ≡ now.chunks → next.at ≡ now.at
@@ -377,7 +380,7 @@ pub place_of : {cutter : CutterState} {size : ℕ} {x : List ℕ} (y : List ℕ)
 place_of {cutter} {size} {x} y is some within = let chunks = cutter.chunks in
     let short : length x < size = omega (arith, some, within, length-append x y) in
     let count : 0 < chunks.count = some_in is.cut in
-    let here : HaveEnded chunks size x cutter.target.place = subst (HaveEnded chunks size x) (placed_at is) (ended_is chunks size x) in
+    let here = rw (placed_at is) at (ended_is chunks size x) in
     let less : cutter.target.place < chunks.count = elim (cases_lt cutter.target.place chunks.count) [
       | inl before ↦ before
       | inr past ↦ absurd (omega (arith, here.before, past, here.within, start_past chunks.count size cutter.target.place count past, passed_open chunks size x short, open_within chunks.unit chunks.delim x, short))
@@ -395,14 +398,15 @@ end_so cutter size = chunk_start cutter.chunks.count size (min (cutter.target.pl
 
 end_here : {cutter : CutterState} {size : ℕ} {x : List ℕ} → Place cutter size x
     → end_so cutter size ≡ chunk_start cutter.chunks.count size (cutter.target.place + 1)
-end_here {cutter} {size} at = let e : min (cutter.target.place + 1) cutter.chunks.count ≡ cutter.target.place + 1 = omega (arith, at.less) in ap (chunk_start cutter.chunks.count size) e
+end_here {cutter} at = let place = cutter.target.place + 1 in
+    let e : min place cutter.chunks.count ≡ place = omega (arith, at.less) in rw e refl
 
 -- all of it stands before that
 all_before : {cutter : CutterState} {size : ℕ} {x : List ℕ} (text : List ℕ) → IsCut cutter size x → Place cutter size x
     → before_chunk cutter.chunks size (ended cutter.chunks size x + 1) (x ++ cut_to cutter (end_so cutter size) text)
     ≡ x ++ cut_to cutter (end_so cutter size) text
 all_before {cutter} {size} {x} text is at = let chunks = cutter.chunks in let place = cutter.target.place in
-    let here : HaveEnded chunks size x place = subst (HaveEnded chunks size x) at.is (ended_is chunks size x) in
+    let here = rw at.is at (ended_is chunks size x) in
     rw (at.is, end_here at, is.cut.at) (piece_all chunks size x text at.short here at.less)
 
 -- it goes to the chunk that was begun
@@ -543,7 +547,8 @@ needed_in {cutter} {size} {x} text n going some few is has within = let chunks =
     let z = x ++ take (n - 1) text in
     let last = drop (n - 1) (take n text) in
     let front : take (n - 1) (take n text) ≡ take (n - 1) text = take-take (n - 1) n text (omega arith) in
-    let both : z ++ last ≡ x ++ take n text = append_assoc x (take (n - 1) text) last ∙ ap (λ front. x ++ (front ++ last)) (sym front) ∙ ap (λ y. x ++ y) (take-append-drop (n - 1) (take n text)) in
+    let both : z ++ last ≡ x ++ take n text =
+    rw (append_assoc x (take (n - 1) text) last, ← front, take-append-drop (n - 1) (take n text)) refl in
     let all : before_chunk chunks size (ended chunks size x + 1) (z ++ last) ≡ z ++ last = rw (both, is) (all_before text has place) in
     let one : length last ≡ 1 = omega (arith, length-drop (n - 1) (take n text), length-take n text, some, few) in
     not_yet chunks size cutter.target.place cutter.target.aim z (omega (arith, length-append x (take (n - 1) text), length-take (n - 1) text, within, length-append x text, some, few))
@@ -581,8 +586,7 @@ cuts_again {told} {cutter} {mid} {next} {size} first more {wet = wet} {new} faul
   bound = omega (arith, other.bound, one.bound, length-append first more);
   brings = brings_then (brings_as (λ x. x) None (λ x so. (so.0, low x so.1)) (λ x so. refl) (λ x so. refl) one.brings) (λ x so. so)
       (brings_as (λ x. x ++ first) fault (λ x so. (one.stands x so.0 (low x so.1), omega (arith, so.1, ap length (append_assoc x first more))))
-      (λ x so. ap (λ chunks. part_on (course cutter) (chunks_within chunks size (x ++ first))) one.chunks)
-      (λ x so. ap (λ chunks. part_on (course cutter) (chunks_within chunks size ((x ++ first) ++ more))) one.chunks ∙ ap (part_so cutter size) (append_assoc x first more))
+      (λ x so. rw one.chunks refl) (λ x so. rw (one.chunks, append_assoc x first more) refl)
       (subst (λ on. Brings told on mid.target.aim next.target.aim (λ x. IsCut mid size x × (length (x ++ more) ≤ size)) (λ x. part_on on (chunks_within mid.chunks size x)) (λ x. part_on on (chunks_within mid.chunks size (x ++ more))) wet new fault) one.brings.stays other.brings));
   stands = where_well fault other.stands (λ later x is within. rw (← append_assoc x first more) (later (x ++ first) (one.stands x is (low x within)) (omega (arith, within, ap length (append_assoc x first more)))));
 } where
@@ -613,7 +617,7 @@ module _ {told : Bool} {cutter now : CutterState} {size : ℕ} {text left : List
       → CutsAway told cutter size text rest old new next
   away_more {next} {rest} {n} (some, within, at, step, going) not_past is = record {
     done = so_far.done ++ take n left;
-    both = so_far.both ∙ ap (λ those. so_far.done ++ those) (sym (take-append-drop n left)) ∙ sym (append_assoc so_far.done (take n left) (drop n left)) ∙ ap (λ those. (so_far.done ++ take n left) ++ those) (sym is);
+    both = rw (is, append_assoc so_far.done (take n left) (drop n left), take-append-drop n left) so_far.both;
     cuts = cuts_again so_far.done (take n left) None so_far.cuts step;
     at = omega (arith, at, so_far.at, length-append so_far.done (take n left), length-take n left, within);
     start = elim so_far.start [
@@ -628,7 +632,8 @@ module _ {told : Bool} {cutter now : CutterState} {size : ℕ} {text left : List
         inr (
           z ++ take (n - 1) left,
           last,
-          sym (append_assoc x so_far.done (take n left)) ∙ ap (λ more. z ++ more) (sym (take-append-drop (n - 1) (take n left)) ∙ ap (λ front. front ++ last) front) ∙ sym (append_assoc z (take (n - 1) left) last),
+          rw (append_assoc z (take (n - 1) left) last, ← front, take-append-drop (n - 1) (take n left))
+              (sym (append_assoc x so_far.done (take n left))),
           omega (arith, length-drop (n - 1) (take n left), length-take n left),
           rw (so_far.cuts.brings.stays, so_far.cuts.chunks) at (going not_past z here all),
         ));

@@ -20,7 +20,6 @@ use Rattle.ports_core.{
     Part.{Begins, IsBeginning, only_out},
     Slot.Slot,
     declared.{fault.Fault.Fault, file_writer.Opening.TheVariants.Never},
-    Draft.draft_part,
     Turn.fault_in,
   },
   proofs.{PartLemmas.{part_begins_itself, part_trans}, ShareLemmas.next_begins, FileWriterLemmas.{in_any, where_well}},
@@ -69,15 +68,13 @@ goes_on_so cutter end w (has, all) short = elim (or_cases (nat_lt cutter.at end)
 writes_on : (cutter : CutterState) (end : ℕ) (w front : List ℕ) → BeginsBefore cutter end w
     → true ≡ (nat_lt cutter.at end || cutter.is_within)
     → begun_before cutter.chunks.unit cutter.chunks.delim end (w ++ front) ≡ w ++ cut_to cutter end front
-writes_on cutter end w front so short = begun_on cutter.chunks.unit cutter.chunks.delim end w front (goes_on_so cutter end w so short)
-    ∙ ap (λ at. w ++ begun_before cutter.chunks.unit cutter.chunks.delim (max (end - at) 1) front) (sym so.0.at)
+writes_on cutter end w front so short =
+    rw so.0.at (begun_on cutter.chunks.unit cutter.chunks.delim end w front (goes_on_so cutter end w so short))
 
 -- nothing waits, or it goes with what comes later
 still_all : (cutter : CutterState) (waiting : List ℕ) (end : ℕ) (z : List ℕ) → BeginsBefore cutter end z
     → (length waiting ≡ 0) ⊎ (false ≡ (nat_lt cutter.at end || cutter.is_within)) → all_before cutter waiting end z ≡ z
-still_all cutter waiting end z (has, all) (inl none) =
-    ap (λ rest. begun_before cutter.chunks.unit cutter.chunks.delim end (z ++ rest)) (nil_from_length waiting none)
-    ∙ ap (begun_before cutter.chunks.unit cutter.chunks.delim end) (append-nil z) ∙ all
+still_all cutter waiting end z (has, all) (inl none) = rw (nil_from_length waiting none, append-nil z) all
 still_all cutter waiting end z (has, all) (inr stops) = let (before, within) = or_parts (nat_lt cutter.at end) cutter.is_within (sym stops) in
     let open_at = no_line cutter.chunks.unit cutter.chunks.delim z (sym has.within ∙ within) in
     begun_stays cutter.chunks.unit cutter.chunks.delim end z waiting (omega (arith, open_at, has.at, ltb-false _ _ before)) ∙ all
@@ -142,7 +139,7 @@ begun_later unit delim {place} {other} x within all = same (begun_monotone unit 
   same : IsBeginning (begun_before unit delim place x) (begun_before unit delim other x)
       → IsBeginning (begun_before unit delim other x) x → begun_before unit delim other x ≡ x
   same (more, is) (rest, both) = let none : length rest ≡ 0 = omega (arith, ap length is, length-append (begun_before unit delim place x) more, ap length all, ap length both, length-append (begun_before unit delim other x) rest) in
-      sym (both ∙ ap (λ rest. begun_before unit delim other x ++ rest) (nil_from_length rest none) ∙ append-nil (begun_before unit delim other x))
+      sym (rw (nil_from_length rest none, append-nil (begun_before unit delim other x)) at both)
 
 decided_is : (on : Course) (chunks : Chunks) (x : List ℕ)
     → (work_on on chunks None).settled x ≡ part_on on (decided chunks (first_on on) None x)
@@ -174,7 +171,8 @@ settled_none chunker x said =
 
 module _ {chunker : ChunkerState} {x : List ℕ} (has : IsUnsaid chunker x) where
   all_came : cut_front chunker x ++ chunker.waiting ≡ x
-  all_came = ap (λ rest. cut_front chunker x ++ rest) has.waits ∙ begin_then_rest (cut_front chunker x) x (begun_begins chunker.cutter.chunks.unit chunker.cutter.chunks.delim _ x)
+  all_came = let chunks = chunker.cutter.chunks in
+      rw has.waits (begin_then_rest (cut_front chunker x) x (begun_begins chunks.unit chunks.delim _ x))
 
   front_before : (more : List ℕ)
       → BeginsBefore chunker.cutter
@@ -190,7 +188,7 @@ module _ {chunker : ChunkerState} {x : List ℕ} (has : IsUnsaid chunker x) wher
       )
 
   came_more : (piece : List ℕ) → cut_front chunker x ++ (chunker.waiting ++ piece) ≡ x ++ piece
-  came_more piece = sym (append_assoc (cut_front chunker x) chunker.waiting piece) ∙ ap (λ x. x ++ piece) all_came
+  came_more piece = rw all_came at (sym (append_assoc (cut_front chunker x) chunker.waiting piece))
 
 module _ (chunker : ChunkerState) (piece : List ℕ) {end : ℕ}
     (ends : end ≡ chunk_start chunker.cutter.chunks.count (chunker.cutter.at + length (chunker.waiting ++ piece))
@@ -198,11 +196,11 @@ module _ (chunker : ChunkerState) (piece : List ℕ) {end : ℕ}
   end_is : {x : List ℕ} → IsUnsaid chunker x
       → end ≡ chunk_start chunker.cutter.chunks.count (length (x ++ piece)) (first_on (course chunker.cutter))
   end_is {x} has = let n : chunker.cutter.at + length (chunker.waiting ++ piece) ≡ length (x ++ piece) = omega (arith, has.cut.at, length-append (cut_front chunker x) (chunker.waiting ++ piece), ap length (came_more has piece)) in
-      ends ∙ ap (λ n. chunk_start chunker.cutter.chunks.count n (first_on (course chunker.cutter))) n
+      rw n at ends
 
   to_is : {x : List ℕ} → IsUnsaid chunker x
       → all_before chunker.cutter (chunker.waiting ++ piece) end (cut_front chunker x) ≡ cut_front chunker (x ++ piece)
-  to_is {x} has = ap (begun_before chunker.cutter.chunks.unit chunker.cutter.chunks.delim end) (came_more has piece) ∙ ap (λ end. begun_before chunker.cutter.chunks.unit chunker.cutter.chunks.delim end (x ++ piece)) (end_is has)
+  to_is has = rw (came_more has piece, end_is has) refl
 
 module _ {told : Bool} {chunker next : ChunkerState} {piece : List ℕ} {end : ℕ} {old new : List Slot}
     (said : chunker.said ≡ None) (same : next.said ≡ chunker.said)
@@ -323,7 +321,8 @@ carries_same : (chunks : Chunks) (size : ℕ) (z : List ℕ) (place : ℕ) (aim 
     → length z ≤ size → before_chunk chunks size (first_on (course_of aim)) z ≡ z
     → Carries (record { place = place; aim = aim }) (with_fulls (ended chunks size z) (uncut z))
     → Carries (record { place = place; aim = aim }) (chunks_within chunks size z)
-carries_same chunks size z place (to_files writer elide) count fits all carries = subst (Carries (record { place = place; aim = to_files writer elide })) (first_cut chunks size z count fits all) carries
+carries_same chunks size z place (to_files writer elide) count fits all carries =
+    rw (first_cut chunks size z count fits all) at carries
 carries_same chunks size z place (to_output chunk) count fits all carries = record {
   placed = omega (arith, length-map-range_with_len (chunk_at chunks size z) 0 (ended chunks size z), fulls_long (ended chunks size z) (uncut z), carries.placed);
   has = tt;
@@ -332,13 +331,14 @@ carries_same chunks size z place (to_output chunk) count fits all carries = reco
 -- all of it
 
 whole_begins : (on : Course) (cut : CutUp) → Begins (part_on on cut) (whole_on on cut)
-whole_begins (in_files filing elide) cut = subst (Begins (draft_part (manner_of filing) (draft_by elide cut))) (whole_draft filing elide cut) (next_begins (manner_of filing) Never (draft_by elide cut))
+whole_begins (in_files filing elide) cut =
+    rw (whole_draft filing elide cut) at (next_begins (manner_of filing) Never (draft_by elide cut))
 whole_begins (in_output chunk) cut = part_begins_itself _
 
 settled_cut : {cutter : CutterState} {waiting : List ℕ} {size : ℕ} {z : List ℕ} → IsSettled cutter waiting size z
     → before_chunk cutter.chunks size (first_on (course cutter)) z ≡ z
 settled_cut {cutter} {waiting} {size} {z} so = let at = chunk_start cutter.chunks.count size (first_on (course cutter)) in
-    ap (begun_before cutter.chunks.unit cutter.chunks.delim at) (sym so.is) ∙ begun_again cutter.chunks.unit cutter.chunks.delim at (z ++ waiting) ∙ so.is
+    rw so.is at (begun_again cutter.chunks.unit cutter.chunks.delim at (z ++ waiting))
 
 cut_off_so : {cutter : CutterState} {waiting : List ℕ} {size : ℕ} {z : List ℕ} → IsSettled cutter waiting size z
     → IsCutOff cutter size (z, uncut z)
@@ -352,14 +352,11 @@ cut_off_so {cutter} {waiting} {size} {z} so = record {
   from = omega (arith, so.cut.carries.placed);
 }
 
-some_so : {cutter : CutterState} {waiting : List ℕ} {size : ℕ} {z : List ℕ} → IsSettled cutter waiting size z
-    → 0 < cutter.chunks.count
-some_so so = some_in so.cut
-
 to_whole : {cutter : CutterState} {waiting : List ℕ} {size : ℕ} (z : List ℕ) → IsSettled cutter waiting size z
     → Begins (part_on (course cutter) (chunks_within cutter.chunks size z))
     (whole_on (course cutter) (chunks_within cutter.chunks size (z ++ waiting)))
-to_whole {cutter} {waiting} {size} z so = part_trans _ _ _ (so_grows (course cutter) cutter.chunks size z waiting (some_so so) (omega (arith, so.all, length-append z waiting))) (whole_begins (course cutter) (chunks_within cutter.chunks size (z ++ waiting)))
+to_whole {cutter} {waiting} {size} z so = part_trans _ _ _ (so_grows (course cutter) cutter.chunks size z waiting
+    (some_in so.cut) (omega (arith, so.all, length-append z waiting))) (whole_begins (course cutter) _)
 
 module _ {told : Bool} {cutter mid : CutterState} {waiting : List ℕ} {size : ℕ} {old wet : List Slot} where
   ends_first : (fault : Option Fault) → EndsFull told cutter size old wet mid fault
@@ -372,7 +369,9 @@ module _ {told : Bool} {cutter mid : CutterState} {waiting : List ℕ} {size : �
       → Brings told (course cutter) cutter.target.aim mid.target.aim (IsSettled cutter waiting size)
       (λ z. part_on (course cutter) (uncut z))
       (λ z. part_on (course cutter) (chunks_within cutter.chunks size z)) old wet fault
-  brings_first fault ends = brings_as (λ z. z) fault (λ z so. so) (λ z so. refl) (λ z so. part_same (course cutter) cutter.chunks size z (some_so so) (omega (arith, so.all)) (settled_cut so)) (ends_first fault ends).brings
+  brings_first fault ends = brings_as (λ z. z) fault (λ z so. so) (λ z so. refl) (λ z so.
+      part_same (course cutter) cutter.chunks size z (some_in so.cut) (omega (arith, so.all)) (settled_cut so))
+      (ends_first fault ends).brings
 
   pub held_not_ended : {why : Fault} → EndsFull told cutter size old wet mid (Some why)
       → EndsHeld told cutter waiting size old wet mid waiting (Some why)
@@ -391,7 +390,8 @@ module _ {told : Bool} {cutter mid : CutterState} {waiting : List ℕ} {size : �
         all = rw (stays, ends.chunks) so.cut.all;
         at = ends.at ∙ so.cut.at;
         within = rw ends.chunks (ends.within ∙ so.cut.within);
-        carries = rw (← ends.chunks) at (carries_same cutter.chunks size z mid.target.place mid.target.aim (some_so so) (omega (arith, so.all)) (ap (λ on. before_chunk cutter.chunks size (first_on on) z) stays ∙ settled_cut so) (sends.carries z so));
+        carries = rw (← ends.chunks) at (carries_same cutter.chunks size z mid.target.place mid.target.aim
+            (some_in so.cut) (omega (arith, so.all)) (rw stays (settled_cut so)) (sends.carries z so));
       };
       fits = omega (arith, so.all);
     },
