@@ -12,7 +12,7 @@ use Rattle.std.proofs.{
 use Rattle.ports_core.{
   specs.{
     FileWriter.IsWrite,
-    Part.Begins,
+    Part.{Begins, Part},
     Slot.Slot,
     Work.{IsLawful, IsNeeded, IsSpare, Work},
     declared.{fault.Fault.{Fault, TheVariants.Verdict}, verdict.Verdict.TheVariants.Changed},
@@ -52,10 +52,19 @@ settled_is : (on : Course) (chunks : Chunks) (size : ℕ) (x : List ℕ)
 settled_is (in_files filing elide) chunks size x = refl
 settled_is (in_output chunk) chunks size x = refl
 
-pub whole_is : (on : Course) (chunks : Chunks) (size : ℕ) (x : List ℕ)
+whole_is : (on : Course) (chunks : Chunks) (size : ℕ) (x : List ℕ)
     → (work_on on chunks (Some size)).whole x ≡ whole_on on (chunks_of chunks size x)
 whole_is (in_files filing elide) chunks size x = refl
 whole_is (in_output chunk) chunks size x = refl
+
+-- of a text within its size
+settled_within : (on : Course) (chunks : Chunks) (size : ℕ) (x : List ℕ) → length x ≤ size
+    → part_on on (chunks_within chunks size x) ≡ (work_on on chunks (Some size)).settled x
+settled_within on chunks size x fits = rw (settled_is on chunks size x, cut_of chunks size x fits) refl
+
+pub whole_within : (on : Course) (chunks : Chunks) (size : ℕ) (x : List ℕ) → length x ≤ size
+    → whole_on on (chunks_within chunks size x) ≡ (work_on on chunks (Some size)).whole x
+whole_within on chunks size x fits = rw (whole_is on chunks size x, cut_of chunks size x fits) refl
 
 -- Where the size was said
 
@@ -77,32 +86,51 @@ pub past_is : {cutter : CutterState} {size : ℕ} {x : List ℕ} → IsCut cutte
 past_is {cutter} {size} {x} is = past_at cutter.chunks size cutter.target.place cutter.target.aim x is.cut.can is.fits (placed_at is)
 
 -- and where a text has its size
-full_at : (on : Course) (chunks : Chunks) (size : ℕ) (aim : AimState) (x : List ℕ)
+full_at : (chunks : Chunks) (size : ℕ) (aim : AimState) (x : List ℕ)
     → can_cut (course_of aim) chunks.count ≡ true → is_each_on aim ≡ false → size ≤ length x
     → (work_on (course_of aim) chunks (Some size)).is_complete x ≡ true
-full_at on chunks size (to_files writer elide) x can one full = absurd (false≢true (sym one))
-full_at on chunks size (to_output chunk) x can one full = le-leb _ _ (omega (arith, passed_full chunks size x full, start_within chunks.count size (chunk + 1) (omega (arith, ltb-true _ _ can)) (omega (arith, ltb-true _ _ can))))
+full_at chunks size (to_files writer elide) x can one full = absurd (false≢true (sym one))
+full_at chunks size (to_output chunk) x can one full =
+    let within : chunk + 1 ≤ chunks.count = omega (arith, ltb-true _ _ can) in
+    let start = start_within chunks.count size (chunk + 1) (omega (arith, within)) within in
+    le-leb _ _ (omega (arith, passed_full chunks size x full, start))
+
+-- all was used if none is left
+used_all : {work : Work} {x : List ℕ} {n : ℕ} (spare : IsSpare work x n) → spare.rest ≡ [] → x ≡ spare.used
+used_all spare none = spare.joined ∙ ap (λ rest. spare.used ++ rest) none ∙ append-nil spare.used
 
 -- what is written of what came in is what is written of what was used of it
 so_used : {work : Work} {x : List ℕ} {n : ℕ} → IsLawful work → (spare : IsSpare work x n)
     → work.settled spare.used ≡ work.settled x
 so_used {work} {x} lawful spare = elim spare.enough [
-  | inl none ↦ ap work.settled (sym (spare.joined ∙ ap (λ rest. spare.used ++ rest) none ∙ append-nil spare.used))
-  | inr complete ↦ sym (ap work.settled spare.joined ∙ (lawful.stays spare.used spare.rest complete).settled_stays)
+  | inl none ↦ rw (used_all spare none) refl
+  | inr complete ↦ rw spare.joined (sym (lawful.stays spare.used spare.rest complete).settled_stays)
 ]
 
 pub cut_is : {chunker : ChunkerState} {size : ℕ} {x : List ℕ} (has : IsSaid chunker size x)
     → IsCut chunker.cutter size has.spare.used
 cut_is has = record { cut = has.cut; fits = has.within }
 
+used_is : {chunker : ChunkerState} {size : ℕ} {x : List ℕ} (has : IsSaid chunker size x)
+    → take chunker.cutter.at x ≡ has.spare.used
+used_is has = rw has.spare.joined (take_at has.spare.used has.spare.rest _ (sym has.cut.at))
+
 part_is : {chunker : ChunkerState} {size : ℕ} {x : List ℕ} → IsSaid chunker size x
     → part_so chunker.cutter size (take chunker.cutter.at x) ≡ (said_work chunker.cutter size).settled x
-part_is {chunker} {size} {x} has = let on = course chunker.cutter in let chunks = chunker.cutter.chunks in
-    let used : take chunker.cutter.at x ≡ has.spare.used = ap (take chunker.cutter.at) has.spare.joined ∙ take_at has.spare.used has.spare.rest chunker.cutter.at (sym has.cut.at) in
-    ap (part_so chunker.cutter size) used ∙ ap (part_on on) (sym (cut_of chunks size has.spare.used has.within)) ∙ sym (settled_is on chunks size has.spare.used)
-    ∙ so_used (work_lawful on chunks (Some size) has.cut.can) has.spare
+part_is {chunker} {size} has = let on = course chunker.cutter in let chunks = chunker.cutter.chunks in
+    rw (used_is has) (settled_within on chunks size has.spare.used has.within
+    ∙ so_used (work_lawful on chunks (Some size) has.cut.can) has.spare)
 
 -- A piece
+
+within_size : {chunker : ChunkerState} {size : ℕ} {x : List ℕ} → IsSaid chunker size x → chunker.cutter.at ≤ size
+within_size has = omega (arith, has.within, has.cut.at)
+
+done_fits : {cutter next : CutterState} {size : ℕ} {piece : List ℕ} {told : Bool} {old new : List Slot} {past : ℕ}
+    → CutsAs told cutter size piece old new next past → cutter.at ≤ size
+    → cutter.at + length (take (length piece - past) piece) ≤ size
+done_fits {piece = piece} {past = past} takes within =
+    omega (arith, takes.fits within, length-take (length piece - past) piece, takes.few)
 
 module _ {chunker : ChunkerState} {next : CutterState} {size : ℕ} {piece : List ℕ} {x : List ℕ} {past : ℕ} {told : Bool}
     {old new : List Slot}
@@ -115,37 +143,30 @@ module _ {chunker : ChunkerState} {next : CutterState} {size : ℕ} {piece : Lis
   over = drop (length piece - past) piece
 
   fits_done : length (has.spare.used ++ done) ≤ size
-  fits_done = omega (arith, takes.fits (omega (arith, has.cut.at, has.within)), has.cut.at, length-append has.spare.used done, length-take (length piece - past) piece, takes.few)
+  fits_done = omega (arith, done_fits takes (within_size has), has.cut.at, length-append has.spare.used done)
 
   -- once it is complete, none of the piece is used
-  none_or : (has.spare.rest ≡ []) ⊎ (done ≡ [])
-  none_or = elim has.spare.enough [
-    | inl none ↦ inl none
-    | inr complete ↦ (let e : length piece - past ≡ 0 = omega (arith, takes.still (past_is (cut_is has) ∙ complete)) in inr (ap (λ n. take n piece) e))
-  ]
+  none_done : (said_work chunker.cutter size).is_complete has.spare.used ≡ true → length piece - past ≡ 0
+  none_done complete = omega (arith, takes.still (past_is (cut_is has) ∙ complete))
 
   joined_so : x ++ piece ≡ (has.spare.used ++ done) ++ (has.spare.rest ++ over)
-  joined_so = elim none_or [
-    | inl none ↦
-        ap (λ x. x ++ piece) (has.spare.joined ∙ ap (λ rest. has.spare.used ++ rest) none ∙ append-nil has.spare.used)
-        ∙ ap (λ piece. has.spare.used ++ piece) (sym (take-append-drop (length piece - past) piece)) ∙ sym (append_assoc has.spare.used done over)
-        ∙ ap (λ rest. (has.spare.used ++ done) ++ (rest ++ over)) (sym none)
-    | inr none ↦
-        ap (λ x. x ++ piece) has.spare.joined ∙ append_assoc has.spare.used has.spare.rest piece
-        ∙ ap (λ piece. has.spare.used ++ (has.spare.rest ++ piece)) (sym (take-append-drop (length piece - past) piece) ∙ ap (λ done. done ++ over) none)
-        ∙ ap (λ used. used ++ (has.spare.rest ++ over)) (sym (append-nil has.spare.used) ∙ ap (λ done. has.spare.used ++ done) (sym none))
+  joined_so = elim has.spare.enough [
+    | inl none ↦ (let both = take-append-drop (length piece - past) piece in
+        rw (used_all has.spare none, none, append_assoc has.spare.used done over, both) refl)
+    | inr complete ↦
+        rw (none_done complete, append-nil has.spare.used, has.spare.joined) (append_assoc has.spare.used _ piece)
   ]
 
   next_cut : IsCut next size (has.spare.used ++ done)
   next_cut = takes.cuts.stands has.spare.used (cut_is has) fits_done
 
   next_work : (said_work next size) ≡ (said_work chunker.cutter size)
-  next_work = ap (λ on. work_on on next.chunks (Some size)) takes.cuts.brings.stays ∙ ap (λ chunks. work_on (course chunker.cutter) chunks (Some size)) takes.cuts.chunks
+  next_work = rw (takes.cuts.brings.stays, takes.cuts.chunks) refl
 
   needed_so : IsNeeded (said_work chunker.cutter size).is_complete 1 (has.spare.used ++ done)
   needed_so = elim takes.needed [
     | inl all ↦ (let e : length piece - past ≡ 0 = omega (arith, all) in
-        subst (IsNeeded (said_work chunker.cutter size).is_complete 1) (sym (ap (λ n. has.spare.used ++ take n piece) e ∙ append-nil has.spare.used)) has.spare.needed)
+        rw (e, append-nil has.spare.used) has.spare.needed)
     | inr needed ↦ needed has.spare.used (cut_is has)
   ]
 
@@ -154,11 +175,11 @@ module _ {chunker : ChunkerState} {next : CutterState} {size : ℕ} {piece : Lis
   enough_so = elim takes.enough [
     | inl none ↦ zero_past none
     | inr later ↦ elim later [
-      | inl ended ↦ inr (sym (ap (λ (work : Work). work.is_complete (has.spare.used ++ done)) next_work) ∙ sym (past_is next_cut) ∙ ended)
+      | inl ended ↦ inr (rw next_work at (sym (past_is next_cut) ∙ ended))
       | inr full ↦ elim ok [
         | inl none ↦ zero_past none
-        | inr one ↦ inr (sym (ap (λ (work : Work). work.is_complete (has.spare.used ++ done)) next_work)
-            ∙ full_at (course next) next.chunks size next.target.aim (has.spare.used ++ done) next_cut.cut.can one (omega (arith, full, next_cut.cut.at)))
+        | inr one ↦ inr (rw next_work at (full_at next.chunks size next.target.aim (has.spare.used ++ done)
+            next_cut.cut.can one (omega (arith, full, next_cut.cut.at))))
       ]
     ]
   ] where
@@ -166,8 +187,7 @@ module _ {chunker : ChunkerState} {next : CutterState} {size : ℕ} {piece : Lis
         ⊎ ((said_work chunker.cutter size).is_complete (has.spare.used ++ done) ≡ true)
     zero_past none = let out : over ≡ [] = drop_all (length piece - past) piece (omega (arith, none)) in elim has.spare.enough [
       | inl rest ↦ inl (rw (rest, out) refl)
-      | inr complete ↦ (let e : length piece - past ≡ 0 = omega (arith, takes.still (past_is (cut_is has) ∙ complete)) in
-          inr (ap (said_work chunker.cutter size).is_complete (ap (λ n. has.spare.used ++ take n piece) e ∙ append-nil has.spare.used) ∙ complete))
+      | inr complete ↦ inr (rw (none_done complete, append-nil has.spare.used) complete)
     ]
 
   abbrev spare_on : IsSpare (said_work chunker.cutter size) (x ++ piece) (chunker.spare + past)
@@ -198,11 +218,8 @@ module _ {chunker : ChunkerState} {next : CutterState} {size : ℕ} {piece : Lis
   pub part_on_said : part_so chunker.cutter size (has.spare.used ++ done)
       ≡ (said_work chunker.cutter size).settled (x ++ piece)
   part_on_said = let on = course chunker.cutter in let chunks = chunker.cutter.chunks in
-      ap (part_on on) (sym (cut_of chunks size (has.spare.used ++ done) fits_done)) ∙ sym (settled_is on chunks size (has.spare.used ++ done)) ∙ so_used (work_lawful on chunks (Some size) has.cut.can) spare_on
-
-used_is : {chunker : ChunkerState} {size : ℕ} {x : List ℕ} (has : IsSaid chunker size x)
-    → take chunker.cutter.at x ≡ has.spare.used
-used_is {chunker} has = ap (take chunker.cutter.at) has.spare.joined ∙ take_at has.spare.used has.spare.rest chunker.cutter.at (sym has.cut.at)
+      settled_within on chunks size (has.spare.used ++ done) fits_done
+      ∙ so_used (work_lawful on chunks (Some size) has.cut.can) spare_on
 
 pub is_said : {chunker : ChunkerState} {size : ℕ} {x : List ℕ} → chunker.said ≡ Some size → Holds chunker x
     → IsSaid chunker size x
@@ -218,36 +235,41 @@ made_is chunker said = ap (work_on (course chunker.cutter) chunker.cutter.chunks
 
 module _ (chunker : ChunkerState) {size : ℕ} (said : chunker.said ≡ Some size)
     (can : can_cut (course chunker.cutter) chunker.cutter.chunks.count ≡ true) where
-  cut_has : (x : List ℕ) (bytes : List ℕ) → Holds chunker x → chunker.cutter.at + length bytes ≤ size
-      → IsCut chunker.cutter size (take chunker.cutter.at x) × (length (take chunker.cutter.at x ++ bytes) ≤ size)
-  cut_has x bytes holds fits = let has = is_said said holds in rw (used_is has) (cut_is has, omega (arith, fits, has.cut.at, length-append has.spare.used bytes))
-
   low_is : (x : List ℕ) → Holds chunker x
       → part_so chunker.cutter size (take chunker.cutter.at x) ≡ (made chunker).settled x
-  low_is x holds = part_is (is_said said holds) ∙ ap (λ (work : Work). work.settled x) (made_is chunker said)
+  low_is x holds = rw (← made_is chunker said) (part_is (is_said said holds))
+
+  comes_cut : {next : CutterState} {bytes : List ℕ} {high : List ℕ → Part} {told : Bool} {old new : List Slot}
+      (fault : Option Fault) → Cuts told chunker.cutter size bytes old new next fault
+      → (chunker.cutter.at ≤ size → chunker.cutter.at + length bytes ≤ size)
+      → ((x : List ℕ) → Holds chunker x → part_so chunker.cutter size (take chunker.cutter.at x ++ bytes) ≡ high x)
+      → Comes told chunker high old new (record chunker { cutter = next }) fault
+  comes_cut {bytes = bytes} fault cuts fits high_is = brings_as (λ x. take chunker.cutter.at x) fault
+      (λ x holds. let has = is_said said holds in
+      let within = fits (within_size has) in
+      rw (used_is has) (cut_is has, omega (arith, within, has.cut.at, length-append has.spare.used bytes)))
+      low_is high_is cuts.brings
 
   -- a fault came
-  to_all : (piece bytes more : List ℕ) → piece ≡ bytes ++ more → (x : List ℕ) → Holds chunker x
+  to_all : (piece bytes more : List ℕ) → bytes ++ more ≡ piece → {x : List ℕ} → IsSaid chunker size x
       → chunker.cutter.at + length bytes ≤ size
       → Begins (part_so chunker.cutter size (take chunker.cutter.at x ++ bytes)) ((made chunker).settled (x ++ piece))
-  to_all piece bytes more both x holds fits =
-      let has = is_said said holds in
+  to_all piece bytes more both has fits =
       let on = course chunker.cutter in
       let chunks = chunker.cutter.chunks in
-      let work = work_on on chunks (Some size) in
       let lawful = work_lawful on chunks (Some size) can in
       let used = has.spare.used in
-      let here : part_so chunker.cutter size (take chunker.cutter.at x ++ bytes) ≡ work.settled (used ++ bytes) =
-      ap (λ used. part_so chunker.cutter size (used ++ bytes)) (used_is has) ∙ ap (part_on on) (sym (cut_of chunks size (used ++ bytes) (omega (arith, fits, has.cut.at, length-append used bytes)))) ∙ sym (settled_is on chunks size (used ++ bytes)) in
-      let there : Begins (work.settled (used ++ bytes)) (work.settled (x ++ piece)) = elim has.spare.enough [
-        | inl none ↦ (let e : (used ++ bytes) ++ more ≡ x ++ piece = append_assoc used bytes more ∙ ap (λ piece. used ++ piece) (sym both) ∙ ap (λ x. x ++ piece) (sym (has.spare.joined ∙ ap (λ rest. used ++ rest) none ∙ append-nil used)) in
-            rw e at (lawful.grows (used ++ bytes) more))
-        | inr complete ↦ (let e : used ++ (has.spare.rest ++ piece) ≡ x ++ piece = sym (append_assoc used has.spare.rest piece) ∙ ap (λ x. x ++ piece) (sym has.spare.joined) in
-            let low : work.settled (used ++ bytes) ≡ work.settled used = (lawful.stays used bytes complete).settled_stays in
-            let high : work.settled (x ++ piece) ≡ work.settled used = ap work.settled (sym e) ∙ (lawful.stays used (has.spare.rest ++ piece) complete).settled_stays in
-            rw (low, high) (part_begins_itself (work.settled used)))
-      ] in
-      rw (here, ← made_is chunker said) there
+      let rest = has.spare.rest in
+      let within : length (used ++ bytes) ≤ size = omega (arith, fits, has.cut.at, length-append used bytes) in
+      rw (used_is has, settled_within on chunks size (used ++ bytes) within, ← made_is chunker said) (
+      elim has.spare.enough [
+        | inl none ↦
+            rw (used_all has.spare none, ← both, ← append_assoc used bytes more) (lawful.grows (used ++ bytes) more)
+        | inr complete ↦
+            let low = (lawful.stays used bytes complete).settled_stays in
+            let high = (lawful.stays used (rest ++ piece) complete).settled_stays in
+            rw (has.spare.joined, append_assoc used rest piece, low, high) (part_begins_itself _)
+      ])
 
 module _ {chunker : ChunkerState} {next : CutterState} {size : ℕ} (piece : List ℕ) {told : Bool} {old new : List Slot}
     (said : chunker.said ≡ Some size)
@@ -255,18 +277,23 @@ module _ {chunker : ChunkerState} {next : CutterState} {size : ℕ} (piece : Lis
   pub passes_said : {past : ℕ} (after : ℕ) → after ≡ chunker.spare + past
       → CutsAs told chunker.cutter size piece old new next past → (past ≡ 0) ⊎ (is_each_on next.target.aim ≡ false)
       → PassesAs told chunker piece old new (record chunker { cutter = next; spare = after }) (Ok tt)
-  passes_said {past} after is takes ok = passes_at (Ok tt) (record { can = can; said = refl; chunks = takes.cuts.chunks }) (omega (arith, is, takes.at, takes.few))
-      (brings_as (λ x. take chunker.cutter.at x) None (λ x holds. cut_has chunker said can x (take (length piece - past) piece) holds (omega (arith, takes.fits (omega (arith, (is_said said holds).within, (is_said said holds).cut.at)), length-take (length piece - past) piece, takes.few)))
-      (low_is chunker said can) (λ x holds. let has = is_said said holds in ap (λ used. part_so chunker.cutter size (used ++ take (length piece - past) piece)) (used_is has) ∙ part_on_said takes ok has ∙ ap (λ (work : Work). work.settled (x ++ piece)) (made_is chunker said)) takes.cuts.brings)
+  passes_said after is takes ok = passes_at (Ok tt) (record { can = can; said = refl; chunks = takes.cuts.chunks })
+      (omega (arith, is, takes.at, takes.few))
+      (comes_cut chunker said can None takes.cuts (done_fits takes) (λ x holds. let has = is_said said holds in
+      rw (used_is has, ← made_is chunker said) (part_on_said takes ok has)))
       (λ x holds. said_is said (said_on takes ok (is_said said holds) after is))
 
   pub passes_not : {why : Fault}
       → Cuts told chunker.cutter size (take (min (length piece) (size - chunker.cutter.at)) piece) old new next
       (Some why) → PassesAs told chunker piece old new (record chunker { cutter = next }) (Err why)
   passes_not {why} cuts = let n = min (length piece) (size - chunker.cutter.at) in
-      let fits : (x : List ℕ) → Holds chunker x → chunker.cutter.at + length (take n piece) ≤ size = λ x holds. let has = is_said said holds in omega (arith, length-take n piece, has.within, has.cut.at) in
-      passes_at (Err why) (record { can = can; said = refl; chunks = cuts.chunks }) (omega (arith, cuts.bound, length-take n piece))
-      (brings_wider (λ x holds. to_all chunker said can piece (take n piece) (drop n piece) (sym (take-append-drop n piece)) x holds (fits x holds)) (brings_as (λ x. take chunker.cutter.at x) (Some why) (λ x holds. cut_has chunker said can x (take n piece) holds (fits x holds)) (low_is chunker said can) (λ x holds. refl) cuts.brings)) tt
+      let fits : chunker.cutter.at ≤ size → chunker.cutter.at + length (take n piece) ≤ size =
+      λ within. omega (arith, length-take n piece, within) in
+      passes_at (Err why) (record { can = can; said = refl; chunks = cuts.chunks })
+      (omega (arith, cuts.bound, length-take n piece))
+      (brings_wider (λ x holds. let has = is_said said holds in let within = fits (within_size has) in
+      to_all chunker said can piece (take n piece) (drop n piece) (take-append-drop n piece) has within)
+      (comes_cut chunker said can (Some why) cuts fits (λ x holds. refl))) tt
 
 -- the input has more than it said
 each_course : (aim : AimState) (chunks : Chunks) (size : ℕ) → is_each_on aim ≡ true → (x : List ℕ)
@@ -317,12 +344,14 @@ module _ (chunker : ChunkerState) {next : CutterState} {size : ℕ} (piece : Lis
   ]
 
   size_is : (x : List ℕ) (has : IsSaid chunker size x) → length (has.spare.used ++ cut_off) ≡ size
-  size_is x has = omega (arith, full, takes.at, takes.fits (omega (arith, has.within, has.cut.at)), has.cut.at, length-append has.spare.used cut_off, length-take (length piece - past) piece, takes.few)
+  size_is x has = let fits = takes.fits (within_size has) in
+      let long = length-take (length piece - past) piece in
+      omega (arith, full, takes.at, fits, has.cut.at, length-append has.spare.used cut_off, long, takes.few)
 
   all_so : (x : List ℕ) (has : IsSaid chunker size x)
       → x ++ piece ≡ (has.spare.used ++ cut_off) ++ drop (length piece - past) piece
-  all_so x has = ap (λ x. x ++ piece) (has.spare.joined ∙ ap (λ rest. has.spare.used ++ rest) (all_used x has) ∙ append-nil has.spare.used)
-      ∙ ap (λ piece. has.spare.used ++ piece) (sym (take-append-drop (length piece - past) piece)) ∙ sym (append_assoc has.spare.used cut_off _)
+  all_so x has = let n = length piece - past in let both = take-append-drop n piece in
+      rw (used_all has.spare (all_used x has), append_assoc has.spare.used cut_off (drop n piece), both) refl
 
   taken : (x : List ℕ) (has : IsSaid chunker size x) → take size (x ++ piece) ≡ has.spare.used ++ cut_off
   taken x has = ap (take size) (all_so x has) ∙ take_at (has.spare.used ++ cut_off) _ size (size_is x has)
@@ -332,10 +361,9 @@ module _ (chunker : ChunkerState) {next : CutterState} {size : ℕ} (piece : Lis
 
   pub changed_more : PassesAs told chunker piece old new (record chunker { cutter = next }) (Err (Verdict Changed))
   changed_more = passes_changed (record { can = can; said = refl; chunks = takes.cuts.chunks }) (omega (arith, takes.at, takes.few))
-      (brings_as (λ x. take chunker.cutter.at x) None (λ x holds. cut_has chunker said can x cut_off holds (omega (arith, takes.fits (omega (arith, (is_said said holds).within, (is_said said holds).cut.at)), length-take (length piece - past) piece, takes.few)))
-      (low_is chunker said can) (λ x holds. let has = is_said said holds in
-      ap (λ used. part_so chunker.cutter size (used ++ cut_off)) (used_is has) ∙ ap (λ z. part_on (course chunker.cutter) (chunks_within chunker.cutter.chunks size z)) (sym (taken x has)) ∙ sym (settled_is (course chunker.cutter) chunker.cutter.chunks size (x ++ piece))
-      ∙ ap (λ (work : Work). work.settled (x ++ piece)) (made_is chunker said)) takes.cuts.brings)
+      (comes_cut chunker said can None takes.cuts (done_fits takes) (λ x holds. let has = is_said said holds in
+      rw (used_is has, ← made_is chunker said) (ap (part_so chunker.cutter size) (sym (taken x has))
+      ∙ sym (settled_is (course chunker.cutter) chunker.cutter.chunks size (x ++ piece)))))
       (λ x holds. let has = is_said said holds in let longer : size < length (x ++ piece) = longer_so x has in rw (← made_is chunker said) (
         each_course chunker.cutter.target.aim chunker.cutter.chunks size this (x ++ piece) ∙ lt-ltb _ _ longer,
         each_judges chunker.cutter.target.aim chunker.cutter.chunks size this (x ++ piece) (longer_differs size (x ++ piece) longer),
@@ -360,36 +388,42 @@ pub complete_all : (on : Course) (chunks : Chunks) (size : ℕ) (used rest : Lis
     → length used ≤ size → (work_on on chunks (Some size)).is_complete used ≡ true
     → whole_on on (chunks_within chunks size used) ≡ (work_on on chunks (Some size)).whole (used ++ rest)
 complete_all on chunks size used rest can fits complete = sym (complete_whole on chunks size used fits complete (chunks_within chunks size used))
-    ∙ ap (part_on on) (sym (cut_of chunks size used fits)) ∙ sym (settled_is on chunks size used)
+    ∙ settled_within on chunks size used fits
     ∙ sym ((work_lawful on chunks (Some size) can).stays used rest complete).whole_stays
 
 whole_said : {chunker : ChunkerState} {size : ℕ} {x : List ℕ} → IsSaid chunker size x
     → whole_on (course chunker.cutter) (chunks_within chunker.cutter.chunks size (take chunker.cutter.at x))
     ≡ (said_work chunker.cutter size).whole x
-whole_said {chunker} {size} {x} has =
-    let on = course chunker.cutter in let chunks = chunker.cutter.chunks in let work = work_on on chunks (Some size) in let used = has.spare.used in
-    ap (λ used. whole_on on (chunks_within chunks size used)) (used_is has) ∙ elim has.spare.enough [
-      | inl none ↦ ap (whole_on on) (sym (cut_of chunks size used has.within)) ∙ sym (whole_is on chunks size used) ∙ ap work.whole (sym (has.spare.joined ∙ ap (λ rest. used ++ rest) none ∙ append-nil used))
-      | inr complete ↦ complete_all on chunks size used has.spare.rest has.cut.can has.within complete ∙ ap work.whole (sym has.spare.joined)
-    ]
+whole_said {chunker} {size} has =
+    let on = course chunker.cutter in let chunks = chunker.cutter.chunks in let used = has.spare.used in
+    rw (used_is has) (elim has.spare.enough [
+      | inl none ↦ rw (used_all has.spare none) (whole_within on chunks size used has.within)
+      | inr complete ↦
+          rw has.spare.joined (complete_all on chunks size used has.spare.rest has.cut.can has.within complete)
+    ])
 
 ends_well : (aim : AimState) (chunks : Chunks) (size : ℕ) (x : List ℕ) {n : ℕ}
-    → (spare : IsSpare (work_on (course_of aim) chunks (Some size)) x n)
-    → IsLawful (work_on (course_of aim) chunks (Some size)) → can_cut (course_of aim) chunks.count ≡ true
+    → (spare : IsSpare (work_on (course_of aim) chunks (Some size)) x n) → can_cut (course_of aim) chunks.count ≡ true
     → length spare.used ≤ size
     → ((work_on (course_of aim) chunks (Some size)).is_complete spare.used ≡ true) ⊎ (size ≤ length spare.used)
     → (work_on (course_of aim) chunks (Some size)).verdict x ≡ None
-ends_well (to_files writer elide) chunks size x spare lawful can fits ends = elim spare.enough [
+ends_well (to_files writer elide) chunks size x spare can fits ends = elim spare.enough [
   | inr complete ↦ absurd (omega (arith, fits, ltb-true _ _ complete))
   | inl none ↦ elim ends [
     | inl complete ↦ absurd (omega (arith, fits, ltb-true _ _ complete))
-    | inr full ↦ (let e : length x ≡ size = omega (arith, fits, full, ap length (spare.joined ∙ ap (λ rest. spare.used ++ rest) none ∙ append-nil spare.used)) in rw (eq-eqb _ _ e) refl)
+    | inr full ↦ rw (eq-eqb (length x) size (omega (arith, fits, full, ap length (used_all spare none)))) refl
   ]
 ]
-ends_well (to_output chunk) chunks size x spare lawful can fits ends = let complete : has_ended chunks size spare.used chunk ≡ true = elim ends [
-  | inl complete ↦ complete
-  | inr full ↦ full_at (in_output chunk) chunks size (to_output chunk) spare.used can refl full
-] in let all : has_ended chunks size x chunk ≡ true = ap (λ x. has_ended chunks size x chunk) spare.joined ∙ (lawful.stays spare.used spare.rest complete).still in rw all refl
+ends_well (to_output chunk) chunks size x spare can fits ends = rw all refl where
+  complete : has_ended chunks size spare.used chunk ≡ true
+  complete = elim ends [
+    | inl done ↦ done
+    | inr full ↦ full_at chunks size (to_output chunk) spare.used can refl full
+  ]
+
+  all : has_ended chunks size x chunk ≡ true
+  all = let lawful = work_lawful (in_output chunk) chunks (Some size) can in
+      rw spare.joined (lawful.stays spare.used spare.rest complete).still
 
 ends_badly : (aim : AimState) (chunks : Chunks) (size : ℕ) (x : List ℕ) → length x < size
     → (work_on (course_of aim) chunks (Some size)).is_complete x ≡ false
@@ -403,7 +437,7 @@ module _ {chunker next : ChunkerState} {size : ℕ} {told : Bool} {old new : Lis
       → Comes told chunker (made chunker).whole old new next fault
   end_comes fault ends = brings_as (λ x. chunks_within chunker.cutter.chunks size (take chunker.cutter.at x)) fault
       (λ x holds. let has = is_said said holds in rw (← used_is has) at has.cut.carries)
-      (low_is chunker said same.can) (λ x holds. whole_said (is_said said holds) ∙ ap (λ (work : Work). work.whole x) (made_is chunker said)) ends
+      (low_is chunker said same.can) (λ x holds. rw (← made_is chunker said) (whole_said (is_said said holds))) ends
 
   pub said_stops : {why : Fault} → IsAimed chunker.cutter.target.aim old
       → TargetEnds told chunker.cutter.target old new next.cutter.target (Some why) → IsWrite why
@@ -414,22 +448,24 @@ module _ {chunker next : ChunkerState} {size : ℕ} {told : Bool} {old new : Lis
       → TargetEnds told chunker.cutter.target old new next.cutter.target None
       → (is_past_on chunker.cutter.target ≡ true) ⊎ (size ≤ chunker.cutter.at)
       → EndsAs told chunker old new next (Ok tt)
-  said_ends aimed ends full = ends_at (Ok tt) aimed same bound (end_comes None ends) (λ x holds. let has = is_said said holds in ap (λ (work : Work). work.verdict x) (sym (made_is chunker said))
-      ∙ ends_well chunker.cutter.target.aim chunker.cutter.chunks size x has.spare (work_lawful (course chunker.cutter) chunker.cutter.chunks (Some size) same.can) same.can has.within (elim full [
+  said_ends aimed ends full = ends_at (Ok tt) aimed same bound (end_comes None ends)
+      (λ x holds. let has = is_said said holds in rw (← made_is chunker said)
+      (ends_well chunker.cutter.target.aim chunker.cutter.chunks size x has.spare same.can has.within (elim full [
         | inl past ↦ inl (sym (past_is (cut_is has)) ∙ past)
         | inr all ↦ inr (omega (arith, all, has.cut.at))
-      ])) (λ some. tt)
+      ]))) (λ some. tt)
 
   pub said_changed : TargetEnds told chunker.cutter.target old new next.cutter.target None
       → is_past_on chunker.cutter.target ≡ false → chunker.cutter.at < size
       → EndsAs told chunker old new next (Err (Verdict Changed))
   said_changed ends going short = ends_changed same bound (end_comes None ends) (λ x holds. let has = is_said said holds in
       let open_still = sym (past_is (cut_is has)) ∙ going in
-      let used : has.spare.used ≡ x = elim has.spare.enough [
-        | inl none ↦ sym (has.spare.joined ∙ ap (λ rest. has.spare.used ++ rest) none ∙ append-nil has.spare.used)
+      let all : x ≡ has.spare.used = elim has.spare.enough [
+        | inl none ↦ used_all has.spare none
         | inr complete ↦ absurd (false≢true (sym open_still ∙ complete))
       ] in
-      rw (made_is chunker said) at (ends_badly chunker.cutter.target.aim chunker.cutter.chunks size x (omega (arith, short, has.cut.at, ap length used)) (ap (said_work chunker.cutter size).is_complete (sym used) ∙ open_still)))
+      rw (all, ← made_is chunker said) (ends_badly chunker.cutter.target.aim chunker.cutter.chunks size has.spare.used
+      (omega (arith, short, has.cut.at)) open_still))
 
 past_so : (one two : AimState) (place : ℕ) → course_of two ≡ course_of one → is_past_at two place ≡ is_past_at one place
 past_so (to_files writer elide) (to_files other also) place same = refl

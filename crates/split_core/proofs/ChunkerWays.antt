@@ -159,7 +159,8 @@ module _ {told : Bool} {old new : ChunkerState} {piece : List ℕ} {before after
     owns = comes.owns;
     there = λ are. tt;
     cut = was_cut new (λ work x. work.settled (x ++ piece)) same.can comes;
-    met = rw (works_so old same.can) (met_feeding old.cutter.chunks _ before after why (λ is x holds. absurd (comes.named is x holds)) (course old.cutter) old.said comes.slots comes.only);
+    met = rw (works_so old same.can) (met_feeding old.cutter.chunks _ before after why
+        (λ is x holds. absurd (comes.named is x holds)) (course old.cutter) old.said comes.slots comes.only);
   }
 
   -- the input has changed: all is written
@@ -227,7 +228,8 @@ module _ {told : Bool} {old new : ChunkerState} {before after : List Slot} where
     owns = comes.owns;
     there = λ are. tt;
     cut = was_cut new (λ work. work.whole) same.can comes;
-    met = rw (works_so old same.can) (met_closing old.cutter.chunks _ before after why (λ is x holds. absurd (comes.named is x holds)) (course old.cutter) old.said comes.slots comes.only only_write);
+    met = rw (works_so old same.can) (met_closing old.cutter.chunks _ before after why
+        (λ is x holds. absurd (comes.named is x holds)) (course old.cutter) old.said comes.slots comes.only only_write);
   }
 
   pub ends_changed : IsLike old new → total new ≤ total old → Comes told old (made old).whole before after new None

@@ -30,8 +30,7 @@ use Rattle.seg_core.{
 }
 use Rattle.split_core.specs.{
   Chunks.{
-    before_chunk, begun_before, chunk_at, chunk_start, chunks_of, chunks_within, ended, is_within, lines_before,
-    open_from, passed, pieces_in,
+    before_chunk, begun_before, chunk_at, chunk_start, chunks_of, chunks_within, ended, is_within, open_from, passed, pieces_in,
   },
   ChunkWork.{draft_by, piece_at},
   ChunkerState.{
@@ -41,11 +40,11 @@ use Rattle.split_core.specs.{
   Parts.CutUp,
   Split.manner_of,
   inner.Cutter.{Cuts, CutsAs, EndsFull, IsCut, IsCutOff, IsOpen, Steps, WritesTo, cut_to, part_so, said_work},
-  inner.Chunks.{GoesOn as Goes, HaveEnded},
+  inner.Chunks.GoesOn as Goes,
   inner.Seen.{is_past_at, is_past_on},
   inner.Sends.{Brings, Changes, GoesOn, HasName, Sends, with_full, with_fulls, with_rest, part_on},
   laws.BegunLaws.{
-    begun_begins, begun_first, begun_long, begun_stays, begun_within, open_append, open_within, begun_none,
+    begun_begins, begun_first, begun_long, begun_stays, begun_within, open_append, open_within,
   },
   laws.ChunkLaws.{
     ended_grows, ended_is, ended_only, ends_here, goes_on, passed_full, passed_open, piece_all, start_grows, start_past, start_within,
@@ -61,47 +60,29 @@ use Rattle.split_core.proofs.{
   },
 }
 
--- The lines that begin before a place: all before it, and the rest of the one that it stands in
-
-begun_from : (delim q : ℕ) (x : List ℕ)
-    → begun_before Lines delim (suc q) x ≡ take q x ++ begun_before Lines delim 1 (drop q x)
-begun_from delim zero x = refl
-begun_from delim (suc q) [] = refl
-begun_from delim (suc q) (byte ∷ x) =
-    begun_first delim byte (suc (suc q)) x (omega arith) ∙ ap (λ more. byte ∷ more) (same (eqb byte delim) ∙ begun_from delim q x)
-  where
-    same : (ends : Bool)
-        → cond ends (begun_before Lines delim (suc (suc q) - 1) x)
-        (begun_before Lines delim (max (suc (suc q) - 1) 1) x)
-        ≡ begun_before Lines delim (suc q) x
-    same true = ap (λ n. begun_before Lines delim n x) (omega arith)
-    same false = ap (λ n. begun_before Lines delim n x) (omega arith)
+-- The lines that begin before a place
 
 -- the first line
-begun_line : (delim : ℕ) {rest first : List ℕ} (more : List ℕ) → rest ≡ first ++ more
-    → (0 < length rest → lines_of delim rest ≡ first ∷ lines_of delim more) → (0 < length rest → 0 < length first)
-    → begun_before Lines delim 1 rest ≡ first
-begun_line delim {rest = []} {first = []} more is line some = refl
-begun_line delim {rest = []} {first = byte ∷ first} more is line some = absurd (cc)
-begun_line delim {rest = byte ∷ rest} {first} more is line some =
-    let e : 1 - length first ≡ 0 = omega (arith, some (omega arith)) in
-    ap (λ lines. joined (lines_before 1 lines)) (line (omega arith))
-    ∙ ap (λ n. first ++ joined (lines_before n (lines_of delim more))) e
-    ∙ ap (λ past. first ++ past) (begun_none delim (lines_of delim more)) ∙ append-nil first
+first_of : (delim : ℕ) {rest first : List ℕ} (more : List ℕ) → rest ≡ first ++ more
+    → (0 < length rest → lines_of delim rest ≡ first ∷ lines_of delim more) → first_lines delim 1 rest ≡ first
+first_of delim {rest = []} {first = []} more is line = refl
+first_of delim {rest = []} {first = byte ∷ first} more is line = absurd (cc)
+first_of delim {rest = byte ∷ rest} {first} more is line =
+    ap (λ lines. joined (take 1 lines)) (line (omega arith)) ∙ append-nil first
 
 pub cut_lines : (delim q w : ℕ) (x : List ℕ) {rest first : List ℕ} (more : List ℕ) → w ≤ length x → w ≤ q
     → (w < q → w ≡ length x)
     → rest ≡ drop w x → rest ≡ first ++ more → (0 < length rest → lines_of delim rest ≡ first ∷ lines_of delim more)
-    → (0 < length rest → 0 < length first) → take (w + length first) x ≡ begun_before Lines delim (suc q) x
-cut_lines delim q w x {rest} {first} more within low all is split line some = elim (cases_lt w q) [
+    → take (w + length first) x ≡ begun_before Lines delim (suc q) x
+cut_lines delim q w x {rest} {first} more within low all is split line = elim (cases_lt w q) [
   | inl short ↦ (let e : w ≡ length x = all short in
       take_all (w + length first) x (omega (arith, e))
       ∙ sym (begun_long Lines delim (suc q) x (omega (arith, e, short))))
   | inr long ↦ (let e : w ≡ q = omega (arith, low, long) in
       take-add w (length first) x
       ∙ ap (λ past. take w x ++ past) (ap (take (length first)) (sym is ∙ split) ∙ take_at first more (length first) refl
-      ∙ sym (begun_line delim more split line some) ∙ ap (begun_before Lines delim 1) is)
-      ∙ ap (λ n. take n x ++ begun_before Lines delim 1 (drop n x)) e ∙ sym (begun_from delim q x))
+      ∙ sym (first_of delim more split line) ∙ ap (first_lines delim 1) is)
+      ∙ ap (λ n. take n x ++ first_lines delim 1 (drop n x)) e)
 ]
 
 -- Where a line is open
@@ -111,7 +92,8 @@ pub begins_early : (unit : Unit) (delim place : ℕ) (x y : List ℕ) → begun_
     → 0 < length y → open_from unit delim x < place
 begins_early unit delim place x y all some = elim (cases_lt (open_from unit delim x) place) [
   | inl before ↦ before
-  | inr past ↦ absurd (omega (arith, some, length-append x y, ap length all, ap length (begun_stays unit delim place x y past), begun_within unit delim place x))
+  | inr past ↦ (let same = sym all ∙ begun_stays unit delim place x y past in
+      absurd (omega (arith, some, length-append x y, ap length same, begun_within unit delim place x)))
 ]
 
 open_of_whole : (delim : ℕ) (x : List ℕ)
@@ -125,8 +107,10 @@ pub open_early : (unit : Unit) (delim place : ℕ) (x : List ℕ) → begun_befo
 open_early Bytes delim place x all within = absurd (omega (arith, ltb-true _ _ within))
 open_early Lines delim place x all within = let first = first_lines delim (delimiters delim x) x in
     let rest = drop (length first) x in
-    let both : first ++ rest ≡ x = ap (λ front. front ++ rest) (first_lines-is_take delim (delimiters delim x) x) ∙ take-append-drop (length first) x in
-    let early = begins_early Lines delim place first rest (ap (begun_before Lines delim place) both ∙ all ∙ sym both) (omega (arith, ltb-true _ _ within, ap length both, length-append first rest)) in
+    let both : first ++ rest ≡ x = ap (λ front. front ++ rest) (first_lines-is_take delim (delimiters delim x) x)
+    ∙ take-append-drop (length first) x in
+    let early = begins_early Lines delim place first rest (rw both all)
+    (omega (arith, ltb-true _ _ within, ap length both, length-append first rest)) in
     omega (arith, early, open_of_whole delim x)
 
 pub no_line : (unit : Unit) (delim : ℕ) (x : List ℕ) → is_within unit delim x ≡ false
@@ -175,7 +159,10 @@ ends_open {told} {cutter} {size} {slots} ready within short = record {
   at = refl;
   within = refl;
   sends = sends_as (λ x. x) None (λ x so. so) (λ x so. refl) (λ x so.
-      let e : ended cutter.chunks size x.0 - cutter.target.place ≡ 0 = omega (arith, still_ended cutter.chunks size cutter.target.place x.0 (omega (arith, short, so.at)) (so.begun (sym so.within ∙ within) (omega (arith, short, so.at))) (sym so.within ∙ within) so.from) in
+      let less : length x.0 < size = omega (arith, short, so.at) in
+      let line = sym so.within ∙ within in
+      let is = still_ended cutter.chunks size cutter.target.place x.0 less (so.begun line less) line so.from in
+      let e : ended cutter.chunks size x.0 - cutter.target.place ≡ 0 = omega (arith, is) in
       ap (λ n. with_fulls n x.1) (sym e)) (sends_none ready (λ x so. so.carries));
 }
 
@@ -214,7 +201,8 @@ name_of (in_files filing elide) count place all less = named_fewer filing.names 
 name_of (in_output chunk) count place all less = tt
 
 full_begins : (on : Course) (cut : CutUp) → Begins (part_on on cut) (part_on on (with_full cut))
-full_begins (in_files filing elide) cut = subst (λ high. Begins (draft_part (manner_of filing) (draft_by elide cut)) (draft_part (manner_of filing) high)) (ends_full elide cut) (ends_begin elide (manner_of filing) (draft_by elide cut))
+full_begins (in_files filing elide) cut = let manner = manner_of filing in
+    subst (Begins _) (ap (draft_part manner) (ends_full elide cut)) (ends_begin elide manner (draft_by elide cut))
 full_begins (in_output chunk) cut = rw (piece_full (pieces_in cut) chunk) (part_begins_itself (piece_at chunk cut))
 
 pub fulls_begin : (on : Course) (cut : CutUp) (few more : ℕ)
@@ -238,15 +226,16 @@ module _ {told : Bool} {cutter now : CutterState} {size : ℕ} {old slots : List
   later x so = elim (cases_lt now.target.place (ended cutter.chunks size x.0)) [
     | inl before ↦ omega (arith, before)
     | inr past ↦ (let e : ended cutter.chunks size x.0 ≡ now.target.place = omega (arith, past, so_far.low x so) in
-        let next = (ended_is cutter.chunks size x.0).next (omega (arith, e, less, ap (λ (chunks : Chunks). chunks.count) so_far.chunks)) in
-        absurd (omega (arith, next, ends, passed_at cutter size whole x so, so_far.at, ap (λ (chunks : Chunks). chunk_start chunks.count size (now.target.place + 1)) so_far.chunks, ap (λ p. chunk_start cutter.chunks.count size (p + 1)) e)))
+        let next = (rw e at (ended_is cutter.chunks size x.0)).next (rw so_far.chunks at less) in
+        absurd (omega (arith, next, rw so_far.chunks at ends, passed_at cutter size whole x so, so_far.at)))
   ]
 
   pub next_sends : {next : TargetState} {new : List Slot} (fault : Option Fault)
       → Changes told now.target with_full slots new next fault
       → Sends told cutter.target (IsCutOff cutter size) (λ x. x.1) (λ x. with_fulls (suc k) x.1) old new next fault
   next_sends {next} {new} fault went = sends_then so_far.sends
-      (λ x so has. (has, rw so_far.sends.brings.stays (name_of (course cutter) cutter.chunks.count now.target.place so.all (omega (arith, less, ap (λ (chunks : Chunks). chunks.count) so_far.chunks)))))
+      (λ x so has. let name = name_of (course cutter) _ _ so.all (rw so_far.chunks at less) in
+      (has, rw so_far.sends.brings.stays name))
       (sends_as {Also = λ x. GoesOn now.target (with_fulls k x.1)} (λ x. with_fulls k x.1) fault (λ x so. so) (λ x so. refl) (λ x so. refl) went)
 
   pub ends_next : {next : CutterState} {new : List Slot} → next.chunks ≡ now.chunks → next.at ≡ now.at
@@ -371,6 +360,9 @@ pub some_of : (on : Course) (count : ℕ) → can_cut on count ≡ true → 0 < 
 some_of (in_files filing elide) count can = ltb-true _ _ can
 some_of (in_output chunk) count can = omega (arith, ltb-true _ _ can)
 
+pub some_in : {cutter : CutterState} {x : List ℕ} {cut : CutUp} → HasCut cutter x cut → 0 < cutter.chunks.count
+some_in {cutter} has = some_of (course cutter) cutter.chunks.count has.can
+
 pub placed_at : {cutter : CutterState} {size : ℕ} {x : List ℕ} → IsCut cutter size x
     → ended cutter.chunks size x ≡ cutter.target.place
 placed_at {cutter} {size} {x} is = sym (length-map-range_with_len (chunk_at cutter.chunks size x) 0 (ended cutter.chunks size x)) ∙ is.cut.carries.placed
@@ -379,8 +371,8 @@ pub place_of : {cutter : CutterState} {size : ℕ} {x : List ℕ} (y : List ℕ)
     → length (x ++ y) ≤ size → Place cutter size x
 place_of {cutter} {size} {x} y is some within = let chunks = cutter.chunks in
     let short : length x < size = omega (arith, some, within, length-append x y) in
-    let count : 0 < chunks.count = some_of (course cutter) chunks.count is.cut.can in
-    let here : HaveEnded chunks size x cutter.target.place = subst (HaveEnded chunks size x) (placed_at is) (ended_is chunks size x) in
+    let count : 0 < chunks.count = some_in is.cut in
+    let here = rw (placed_at is) at (ended_is chunks size x) in
     let less : cutter.target.place < chunks.count = elim (cases_lt cutter.target.place chunks.count) [
       | inl before ↦ before
       | inr past ↦ absurd (omega (arith, here.before, past, here.within, start_past chunks.count size cutter.target.place count past, passed_open chunks size x short, open_within chunks.unit chunks.delim x, short))
@@ -398,14 +390,15 @@ end_so cutter size = chunk_start cutter.chunks.count size (min (cutter.target.pl
 
 end_here : {cutter : CutterState} {size : ℕ} {x : List ℕ} → Place cutter size x
     → end_so cutter size ≡ chunk_start cutter.chunks.count size (cutter.target.place + 1)
-end_here {cutter} {size} at = let e : min (cutter.target.place + 1) cutter.chunks.count ≡ cutter.target.place + 1 = omega (arith, at.less) in ap (chunk_start cutter.chunks.count size) e
+end_here {cutter} at = let place = cutter.target.place + 1 in
+    let e : min place cutter.chunks.count ≡ place = omega (arith, at.less) in rw e refl
 
 -- all of it stands before that
 all_before : {cutter : CutterState} {size : ℕ} {x : List ℕ} (text : List ℕ) → IsCut cutter size x → Place cutter size x
     → before_chunk cutter.chunks size (ended cutter.chunks size x + 1) (x ++ cut_to cutter (end_so cutter size) text)
     ≡ x ++ cut_to cutter (end_so cutter size) text
 all_before {cutter} {size} {x} text is at = let chunks = cutter.chunks in let place = cutter.target.place in
-    let here : HaveEnded chunks size x place = subst (HaveEnded chunks size x) at.is (ended_is chunks size x) in
+    let here = rw at.is at (ended_is chunks size x) in
     rw (at.is, end_here at, is.cut.at) (piece_all chunks size x text at.short here at.less)
 
 -- it goes to the chunk that was begun
@@ -490,21 +483,27 @@ cuts_on {told} {cutter} {mid} {next} {size} text {y} {old} {new = new} fault is 
     }
 
 -- a fault came as it was written
-fulls_follow : (on : Course) (cut : CutUp) (n : ℕ) → Begins (part_on on cut) (part_on on (with_fulls n cut))
-fulls_follow on cut n = let e : 0 + n ≡ n = omega arith in rw e at (fulls_begin on cut 0 n)
+fulls_follow : (on : Course) (low : CutUp) {high : CutUp} (n : ℕ) → with_fulls n low ≡ high
+    → Begins (part_on on low) (part_on on high)
+fulls_follow on low n is = let e : 0 + n ≡ n = omega arith in rw (e, is) at (fulls_begin on low 0 n)
 
 pub cuts_not : {told : Bool} {cutter next : CutterState} {size : ℕ} (text : List ℕ) {y : List ℕ} {old new : List Slot}
     {why : Fault} → y ≡ cut_to cutter (end_so cutter size) text → 0 < length text → next.chunks ≡ cutter.chunks
     → next.at ≡ cutter.at → Changes told cutter.target (with_rest y) old new next.target (Some why)
     → Cuts told cutter size y old new next (Some why)
-cuts_not {cutter = cutter} {size = size} text {y} {why = why} is some chunks at stopped =
-    let place : (x : List ℕ) → IsCut cutter size x × (length (x ++ y) ≤ size) → Place cutter size x = λ x so. place_of y so.0 (rw is (begun_some cutter.chunks.unit cutter.chunks.delim _ text (omega arith) some)) so.1 in record {
-      chunks = chunks;
-      bound = omega (arith, at);
-      brings = brings_wider (λ x so. rw (grown cutter.chunks size x y (place x so).some so.1 (rw is (all_before text so.0 (place x so)))) at (fulls_follow (course cutter) (with_rest y (chunks_within cutter.chunks size x)) (ended cutter.chunks size (x ++ y) - ended cutter.chunks size x)))
-          (brings_as {Also = λ x. IsCut cutter size x × (length (x ++ y) ≤ size)} (λ x. x) (Some why) (λ x so. (so.0, place x so)) (λ x so. refl) (λ x so. refl) (changes_cut y (Some why) stopped).brings);
-      stands = tt;
-    }
+cuts_not {cutter = cutter} {size = size} text {y} {why = why} is some chunks at stopped = record {
+  chunks = chunks;
+  bound = omega (arith, at);
+  brings = brings_wider (λ x so. let here = place x so in
+      fulls_follow (course cutter) _ (ended cutter.chunks size (x ++ y) - ended cutter.chunks size x)
+      (grown cutter.chunks size x y here.some so.1 (rw is (all_before text so.0 here))))
+      (brings_as (λ x. x) (Some why) (λ x so. (so.0, place x so)) (λ x so. refl) (λ x so. refl)
+      (changes_cut y (Some why) stopped).brings);
+  stands = tt;
+} where
+  place : (x : List ℕ) → IsCut cutter size x × (length (x ++ y) ≤ size) → Place cutter size x
+  place x (has, within) =
+      place_of y has (rw is (begun_some cutter.chunks.unit cutter.chunks.delim _ text (omega arith) some)) within
 
 -- on the way to all of a text
 pub cuts_all : {told : Bool} {cutter next : CutterState} {size : ℕ} (text : List ℕ) {y : List ℕ}
@@ -515,8 +514,11 @@ cuts_all {cutter = cutter} {size = size} text {y} {why = why} is cuts =
     let all : (x : List ℕ) → (x ++ y) ++ rest ≡ x ++ text = λ x. append_assoc x y rest ∙ ap (λ more. x ++ more) (sym both) in record {
       chunks = cuts.chunks;
       bound = omega (arith, cuts.bound, ap length both, length-append y rest);
-      brings = brings_wider (λ x so. rw (all x) at (so_grows (course cutter) cutter.chunks size (x ++ y) rest (some_of (course cutter) cutter.chunks.count so.0.cut.can) (omega (arith, ap length (all x), so.1))))
-          (brings_as {Also = λ x. IsCut cutter size x × (length (x ++ text) ≤ size)} (λ x. x) (Some why) (λ x so. (so.0, omega (arith, so.1, ap length (all x), length-append (x ++ y) rest))) (λ x so. refl) (λ x so. refl) cuts.brings);
+      brings = brings_wider (λ x so. rw (all x) at
+          (so_grows (course cutter) cutter.chunks size (x ++ y) rest (some_in so.0.cut) (rw (all x) so.1)))
+          (brings_as (λ x. x) (Some why)
+          (λ x so. (so.0, omega (arith, so.1, ap length (all x), length-append (x ++ y) rest)))
+          (λ x so. refl) (λ x so. refl) cuts.brings);
       stands = tt;
     }
 
@@ -537,7 +539,8 @@ needed_in {cutter} {size} {x} text n going some few is has within = let chunks =
     let z = x ++ take (n - 1) text in
     let last = drop (n - 1) (take n text) in
     let front : take (n - 1) (take n text) ≡ take (n - 1) text = take-take (n - 1) n text (omega arith) in
-    let both : z ++ last ≡ x ++ take n text = append_assoc x (take (n - 1) text) last ∙ ap (λ front. x ++ (front ++ last)) (sym front) ∙ ap (λ y. x ++ y) (take-append-drop (n - 1) (take n text)) in
+    let both : z ++ last ≡ x ++ take n text =
+    rw (append_assoc x (take (n - 1) text) last, ← front, take-append-drop (n - 1) (take n text)) refl in
     let all : before_chunk chunks size (ended chunks size x + 1) (z ++ last) ≡ z ++ last = rw (both, is) (all_before text has place) in
     let one : length last ≡ 1 = omega (arith, length-drop (n - 1) (take n text), length-take n text, some, few) in
     not_yet chunks size cutter.target.place cutter.target.aim z (omega (arith, length-append x (take (n - 1) text), length-take (n - 1) text, within, length-append x text, some, few))
@@ -594,8 +597,7 @@ cuts_again {told} {cutter} {mid} {next} {size} first more {wet = wet} {new} faul
   bound = omega (arith, other.bound, one.bound, length-append first more);
   brings = brings_then (brings_as (λ x. x) None (λ x so. (so.0, low x so.1)) (λ x so. refl) (λ x so. refl) one.brings) (λ x so. so)
       (brings_as (λ x. x ++ first) fault (λ x so. (one.stands x so.0 (low x so.1), omega (arith, so.1, ap length (append_assoc x first more))))
-      (λ x so. ap (λ chunks. part_on (course cutter) (chunks_within chunks size (x ++ first))) one.chunks)
-      (λ x so. ap (λ chunks. part_on (course cutter) (chunks_within chunks size ((x ++ first) ++ more))) one.chunks ∙ ap (part_so cutter size) (append_assoc x first more))
+      (λ x so. rw one.chunks refl) (λ x so. rw (one.chunks, append_assoc x first more) refl)
       (subst (λ on. Brings told on mid.target.aim next.target.aim (λ x. IsCut mid size x × (length (x ++ more) ≤ size)) (λ x. part_on on (chunks_within mid.chunks size x)) (λ x. part_on on (chunks_within mid.chunks size (x ++ more))) wet new fault) one.brings.stays other.brings));
   stands = where_well fault other.stands (λ later x is within. rw (← append_assoc x first more) (later (x ++ first) (one.stands x is (low x within)) (omega (arith, within, ap length (append_assoc x first more)))));
 } where
@@ -626,7 +628,7 @@ module _ {told : Bool} {cutter now : CutterState} {size : ℕ} {text left : List
       → CutsAway told cutter size text rest old new next
   away_more {next} {rest} {n} (some, within, at, step, going) not_past is = record {
     done = so_far.done ++ take n left;
-    both = so_far.both ∙ ap (λ those. so_far.done ++ those) (sym (take-append-drop n left)) ∙ sym (append_assoc so_far.done (take n left) (drop n left)) ∙ ap (λ those. (so_far.done ++ take n left) ++ those) (sym is);
+    both = rw (is, append_assoc so_far.done (take n left) (drop n left), take-append-drop n left) so_far.both;
     cuts = cuts_again so_far.done (take n left) None so_far.cuts step;
     at = omega (arith, at, so_far.at, length-append so_far.done (take n left), length-take n left, within);
     start = elim so_far.start [
@@ -641,7 +643,8 @@ module _ {told : Bool} {cutter now : CutterState} {size : ℕ} {text left : List
         inr (
           z ++ take (n - 1) left,
           last,
-          sym (append_assoc x so_far.done (take n left)) ∙ ap (λ more. z ++ more) (sym (take-append-drop (n - 1) (take n left)) ∙ ap (λ front. front ++ last) front) ∙ sym (append_assoc z (take (n - 1) left) last),
+          rw (append_assoc z (take (n - 1) left) last, ← front, take-append-drop (n - 1) (take n left))
+              (sym (append_assoc x so_far.done (take n left))),
           omega (arith, length-drop (n - 1) (take n left), length-take n left),
           rw (so_far.cuts.brings.stays, so_far.cuts.chunks) at (going not_past z here all),
         ));

@@ -487,8 +487,10 @@ fails_caused : (told : Bool) (files : FilesState) {next : Names} (old new : List
 fails_caused told files old new ready has (no_memory same) = inl refl
 fails_caused told files old new ready has (no_line n few _ cut) = let (verbose, rose) = line_breaks told files.tells files.names n ready.tells ready.output cut in inr (inl (verbose, refl, rose))
 fails_caused told files old new ready has (no_file slot kept reason at few _ drew is made) =
-    let size : length (told_next told files.tells files.names old) ≡ length old = written_size 0 (told_of told (line_next files.tells files.names)) old _ refl in
-    inr (inr (slot, refl, rose_later slot old (told_next told files.tells files.names old) new (keeps_write 0 _ old _ refl) (open_rose slot reason kept _ new (at ∙ sym size) made)))
+    let now = told_next told files.tells files.names old in
+    let size : length now ≡ length old = written_size 0 (told_of told (line_next files.tells files.names)) old _ refl in
+    let rose = open_rose slot reason kept _ new (at ∙ sym size) made in
+    inr (inr (slot, refl, rose_later slot old now new (keeps_write 0 _ old _ refl) rose))
 fails_caused told files old new ready has (no_number few _ same) = inl refl
 fails_caused told files old new ready has (no_name few none same) = absurd (false≢true (sym none ∙ has))
 

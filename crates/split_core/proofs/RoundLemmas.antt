@@ -203,18 +203,21 @@ passes_at told round piece (Ok u) is adds = record {
   cut = tt;
   met = tt;
 }
-passes_at told round piece {before = before} {after} (Err why) is adds = record {
-  same = ap (λ filing. round_work (round_plan round.delim round.count round.elide filing)) adds.filing;
-  size = omega arith;
-  holds = tt;
-  outputs = tt;
-  ready = tt;
-  owns = adds.owned;
-  there = λ are. tt;
-  cut = λ start x at. cut (part.unjudged (always_named (is_verbose round.files.tells)) before after why adds.caused (part.none_lacks (is_verbose round.files.tells) before after adds.caused))
-      (stopped_as (output_by (is_verbose round.files.tells)) told (stands_is at.holds) (made_is told round piece at) (stops_in_order (left_by told round piece at (Err why) adds)));
-  met = part.met_files false _ _ (EndsWith ways.terms piece (way.Round round)) (always_named (is_verbose round.files.tells)) (is_verbose round.files.tells) before after why (refl, refl) refl refl adds.caused (λ is. absurd (part.none_lacks (is_verbose round.files.tells) before after adds.caused is));
-}
+passes_at told round piece {before = before} {after} (Err why) is adds =
+    let tells = is_verbose round.files.tells in let lacks = part.none_lacks tells before after adds.caused in record {
+      same = ap (λ filing. round_work (round_plan round.delim round.count round.elide filing)) adds.filing;
+      size = omega arith;
+      holds = tt;
+      outputs = tt;
+      ready = tt;
+      owns = adds.owned;
+      there = λ are. tt;
+      cut = λ start x at. cut (part.unjudged (always_named tells) before after why adds.caused lacks)
+          (stopped_as (output_by tells) told (stands_is at.holds) (made_is told round piece at)
+          (stops_in_order (left_by told round piece at (Err why) adds)));
+      met = part.met_files false _ _ (EndsWith ways.terms piece (way.Round round)) (always_named tells) tells
+          before after why (refl, refl) refl refl adds.caused (λ is. absurd (lacks is));
+    }
 
 -- The end
 

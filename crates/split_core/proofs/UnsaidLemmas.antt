@@ -20,9 +20,7 @@ use Rattle.ports_core.{
     Part.{Begins, IsBeginning, only_out},
     Slot.Slot,
     declared.{fault.Fault.Fault, file_writer.Opening.TheVariants.Never},
-    Draft.draft_part,
     Turn.fault_in,
-    Work.Work,
   },
   proofs.{PartLemmas.{part_begins_itself, part_trans}, ShareLemmas.next_begins, FileWriterLemmas.{in_any, where_well}},
 }
@@ -51,9 +49,9 @@ use Rattle.split_core.specs.{
 use Rattle.split_core.proofs.{
   ChunkerWays.{ends_at, passes_at},
   CutterLemmas.{
-    begun_some, cut_of, so_grows, fulls_are, grown, cutting, has_cut, name_of, no_line, open_early, some_of,
+    begun_some, cut_of, so_grows, fulls_are, grown, cutting, has_cut, name_of, no_line, open_early, some_in,
   },
-  ChunkerLemmas.{complete_all, past_is, whole_is},
+  ChunkerLemmas.{complete_all, past_is, whole_within},
   TargetLemmas.{whole_draft, piece_full, brings_as, brings_then, brings_wider, sends_as, sends_none},
 }
 
@@ -70,15 +68,13 @@ goes_on_so cutter end w (has, all) short = elim (or_cases (nat_lt cutter.at end)
 writes_on : (cutter : CutterState) (end : ℕ) (w front : List ℕ) → BeginsBefore cutter end w
     → true ≡ (nat_lt cutter.at end || cutter.is_within)
     → begun_before cutter.chunks.unit cutter.chunks.delim end (w ++ front) ≡ w ++ cut_to cutter end front
-writes_on cutter end w front so short = begun_on cutter.chunks.unit cutter.chunks.delim end w front (goes_on_so cutter end w so short)
-    ∙ ap (λ at. w ++ begun_before cutter.chunks.unit cutter.chunks.delim (max (end - at) 1) front) (sym so.0.at)
+writes_on cutter end w front so short =
+    rw so.0.at (begun_on cutter.chunks.unit cutter.chunks.delim end w front (goes_on_so cutter end w so short))
 
 -- nothing waits, or it goes with what comes later
 still_all : (cutter : CutterState) (waiting : List ℕ) (end : ℕ) (z : List ℕ) → BeginsBefore cutter end z
     → (length waiting ≡ 0) ⊎ (false ≡ (nat_lt cutter.at end || cutter.is_within)) → all_before cutter waiting end z ≡ z
-still_all cutter waiting end z (has, all) (inl none) =
-    ap (λ rest. begun_before cutter.chunks.unit cutter.chunks.delim end (z ++ rest)) (nil_from_length waiting none)
-    ∙ ap (begun_before cutter.chunks.unit cutter.chunks.delim end) (append-nil z) ∙ all
+still_all cutter waiting end z (has, all) (inl none) = rw (nil_from_length waiting none, append-nil z) all
 still_all cutter waiting end z (has, all) (inr stops) = let (before, within) = or_parts (nat_lt cutter.at end) cutter.is_within (sym stops) in
     let open_at = no_line cutter.chunks.unit cutter.chunks.delim z (sym has.within ∙ within) in
     begun_stays cutter.chunks.unit cutter.chunks.delim end z waiting (omega (arith, open_at, has.at, ltb-false _ _ before)) ∙ all
@@ -90,7 +86,9 @@ pub settles_none : {told : Bool} {cutter : CutterState} {waiting : List ℕ} {en
 settles_none {cutter = cutter} {waiting} {end} ready ends = record {
   chunks = refl;
   bound = omega arith;
-  sends = sends_as (λ z. z) None (λ z so. so) (λ z so. refl) (λ z so. ap uncut (sym (still_all cutter waiting end z so ends))) (sends_none {target = cutter.target} {So = BeginsBefore cutter end} {from = λ z. uncut z} ready (λ z so. so.0.carries));
+  sends = sends_as (λ z. z) None (λ z so. so) (λ z so. refl)
+      (λ z so. ap uncut (sym (still_all cutter waiting end z so ends)))
+      (sends_none {So = BeginsBefore cutter end} {from = uncut} ready (λ z so. so.0.carries));
   stands = λ z so. rw (still_all cutter waiting end z so ends) (so.0, sym (drop_at z waiting (length z) refl));
 }
 
@@ -101,7 +99,9 @@ module _ {told : Bool} {cutter : CutterState} (waiting : List ℕ) (end : ℕ) {
       → Sends told cutter.target (BeginsBefore cutter end) (λ z. uncut z)
       (λ z. uncut (all_before cutter waiting end z)) old new next fault
   sends_on fault changes = sends_as (λ z. uncut z) fault
-      (λ z so. (so.0.carries, name_of (course cutter) cutter.chunks.count cutter.target.place so.0.all (omega (arith, so.0.carries.placed, some_of (course cutter) cutter.chunks.count so.0.can))))
+      (λ z (has, all). let less : cutter.target.place < cutter.chunks.count =
+      omega (arith, has.carries.placed, some_in has) in
+      (has.carries, name_of (course cutter) cutter.chunks.count cutter.target.place has.all less))
       (λ z so. refl) (λ z so. ap uncut (sym (writes_on cutter end z waiting so short))) changes
 
   pub settles_on : {next : CutterState} {left : List ℕ} {new : List Slot} {n : ℕ}
@@ -115,7 +115,8 @@ module _ {told : Bool} {cutter : CutterState} (waiting : List ℕ) (end : ℕ) {
         sends = sends;
         stands = λ z so. let all = writes_on cutter end z waiting so short in
             let both : length (z ++ y) ≡ length z + n = omega (arith, length-append z y, long) in (
-              rw all (has_cut y writes.chunks step.stays (omega (arith, writes.at, long)) writes.within (omega (arith, writes.count.0, long)) so.0 (rw all at (sends.carries z so))),
+              rw all (has_cut y writes.chunks step.stays (omega (arith, writes.at, long)) writes.within
+                  (omega (arith, writes.count.0, long)) so.0 (rw all at (sends.carries z so))),
               is ∙ sym (ap (λ x. drop (length x) (z ++ waiting)) all ∙ ap (λ k. drop k (z ++ waiting)) both ∙ drop-append-add z waiting n),
             );
       }
@@ -138,7 +139,7 @@ begun_later unit delim {place} {other} x within all = same (begun_monotone unit 
   same : IsBeginning (begun_before unit delim place x) (begun_before unit delim other x)
       → IsBeginning (begun_before unit delim other x) x → begun_before unit delim other x ≡ x
   same (more, is) (rest, both) = let none : length rest ≡ 0 = omega (arith, ap length is, length-append (begun_before unit delim place x) more, ap length all, ap length both, length-append (begun_before unit delim other x) rest) in
-      sym (both ∙ ap (λ rest. begun_before unit delim other x ++ rest) (nil_from_length rest none) ∙ append-nil (begun_before unit delim other x))
+      sym (rw (nil_from_length rest none, append-nil (begun_before unit delim other x)) at both)
 
 decided_is : (on : Course) (chunks : Chunks) (x : List ℕ)
     → (work_on on chunks None).settled x ≡ part_on on (decided chunks (first_on on) None x)
@@ -163,22 +164,31 @@ made_none chunker said = ap (work_on (course chunker.cutter) chunker.cutter.chun
 abbrev pub cut_front : ChunkerState → List ℕ → List ℕ
 cut_front chunker x = before_chunk chunker.cutter.chunks (length x) (first_on (course chunker.cutter)) x
 
+settled_none : (chunker : ChunkerState) (x : List ℕ) → chunker.said ≡ None
+    → part_on (course chunker.cutter) (uncut (cut_front chunker x)) ≡ (made chunker).settled x
+settled_none chunker x said =
+    rw (← made_none chunker said) (sym (decided_is (course chunker.cutter) chunker.cutter.chunks x))
+
 module _ {chunker : ChunkerState} {x : List ℕ} (has : IsUnsaid chunker x) where
   all_came : cut_front chunker x ++ chunker.waiting ≡ x
-  all_came = ap (λ rest. cut_front chunker x ++ rest) has.waits ∙ begin_then_rest (cut_front chunker x) x (begun_begins chunker.cutter.chunks.unit chunker.cutter.chunks.delim _ x)
+  all_came = let chunks = chunker.cutter.chunks in
+      rw has.waits (begin_then_rest (cut_front chunker x) x (begun_begins chunks.unit chunks.delim _ x))
 
   front_before : (more : List ℕ)
       → BeginsBefore chunker.cutter
       (chunk_start chunker.cutter.chunks.count (length (x ++ more)) (first_on (course chunker.cutter)))
       (cut_front chunker x)
-  front_before more = let chunks = chunker.cutter.chunks in let first = first_on (course chunker.cutter) in (
-    has.cut,
-    begun_later chunks.unit chunks.delim (cut_front chunker x) (start_by_size chunks.count (length x) (length (x ++ more)) first (some_of (course chunker.cutter) chunks.count has.cut.can) (first_fits (course chunker.cutter) chunks.count has.cut.can) (omega (arith, length-append x more)))
-        (begun_again chunks.unit chunks.delim (chunk_start chunks.count (length x) first) x),
-  )
+  front_before more = let on = course chunker.cutter in let chunks = chunker.cutter.chunks in
+      let fits = first_fits on chunks.count has.cut.can in
+      let low : length x ≤ length (x ++ more) = omega (arith, length-append x more) in
+      let later = start_by_size _ _ _ _ (some_in has.cut) fits low in (
+        has.cut,
+        begun_later chunks.unit chunks.delim (cut_front chunker x) later
+            (begun_again chunks.unit chunks.delim _ x),
+      )
 
   came_more : (piece : List ℕ) → cut_front chunker x ++ (chunker.waiting ++ piece) ≡ x ++ piece
-  came_more piece = sym (append_assoc (cut_front chunker x) chunker.waiting piece) ∙ ap (λ x. x ++ piece) all_came
+  came_more piece = rw all_came at (sym (append_assoc (cut_front chunker x) chunker.waiting piece))
 
 module _ (chunker : ChunkerState) (piece : List ℕ) {end : ℕ}
     (ends : end ≡ chunk_start chunker.cutter.chunks.count (chunker.cutter.at + length (chunker.waiting ++ piece))
@@ -186,11 +196,11 @@ module _ (chunker : ChunkerState) (piece : List ℕ) {end : ℕ}
   end_is : {x : List ℕ} → IsUnsaid chunker x
       → end ≡ chunk_start chunker.cutter.chunks.count (length (x ++ piece)) (first_on (course chunker.cutter))
   end_is {x} has = let n : chunker.cutter.at + length (chunker.waiting ++ piece) ≡ length (x ++ piece) = omega (arith, has.cut.at, length-append (cut_front chunker x) (chunker.waiting ++ piece), ap length (came_more has piece)) in
-      ends ∙ ap (λ n. chunk_start chunker.cutter.chunks.count n (first_on (course chunker.cutter))) n
+      rw n at ends
 
   to_is : {x : List ℕ} → IsUnsaid chunker x
       → all_before chunker.cutter (chunker.waiting ++ piece) end (cut_front chunker x) ≡ cut_front chunker (x ++ piece)
-  to_is {x} has = ap (begun_before chunker.cutter.chunks.unit chunker.cutter.chunks.delim end) (came_more has piece) ∙ ap (λ end. begun_before chunker.cutter.chunks.unit chunker.cutter.chunks.delim end (x ++ piece)) (end_is has)
+  to_is has = rw (came_more has piece, end_is has) refl
 
 module _ {told : Bool} {chunker next : ChunkerState} {piece : List ℕ} {end : ℕ} {old new : List Slot}
     (said : chunker.said ≡ None) (same : next.said ≡ chunker.said)
@@ -201,21 +211,27 @@ module _ {told : Bool} {chunker next : ChunkerState} {piece : List ℕ} {end : �
   pub passes_unsaid : (result : Result (Unit {0}) Fault)
       → Settles told chunker.cutter (chunker.waiting ++ piece) end old new next.cutter next.waiting (fault_in result)
       → PassesAs told chunker piece old new next result
-  passes_unsaid result settles = let fault = fault_in result in passes_at result (record { can = can; said = same; chunks = settles.chunks })
+  passes_unsaid result settles = passes_at result (record { can = can; said = same; chunks = settles.chunks })
       (omega (arith, settles.bound, spare, length-append chunker.waiting piece))
-      (brings_as (cut_front chunker) fault (λ x holds. let has = is_unsaid said holds in rw (← end_is chunker piece ends has) at (front_before has piece))
-      (λ x holds. sym (decided_is (course chunker.cutter) chunker.cutter.chunks x) ∙ ap (λ (work : Work). work.settled x) (made_none chunker said))
-      (λ x holds. let has = is_unsaid said holds in ap (λ z. part_on (course chunker.cutter) (uncut z)) (to_is chunker piece ends has) ∙ sym (decided_is (course chunker.cutter) chunker.cutter.chunks (x ++ piece)) ∙ ap (λ (work : Work). work.settled (x ++ piece)) (made_none chunker said)) settles.sends.brings)
+      (brings_as (cut_front chunker) fault (λ x holds. before (is_unsaid said holds))
+      (λ x holds. settled_none chunker x said)
+      (λ x holds. rw (to_is chunker piece ends (is_unsaid said holds)) (settled_none chunker (x ++ piece) said))
+      settles.sends.brings)
       (where_well fault settles.stands (λ later x holds. let has = is_unsaid said holds in
-      let (cut, left) = later (cut_front chunker x) (rw (← end_is chunker piece ends has) at (front_before has piece)) in
-      let stays = settles.sends.brings.stays in
-      let on : cut_front next (x ++ piece) ≡ cut_front chunker (x ++ piece) = ap (λ (chunks : Chunks). before_chunk chunks (length (x ++ piece)) (first_on (course next.cutter)) (x ++ piece)) settles.chunks ∙ ap (λ on. before_chunk chunker.cutter.chunks (length (x ++ piece)) (first_on on) (x ++ piece)) stays in
-      let z = cut_front chunker (x ++ piece) in
+      let (cut, left) = later (cut_front chunker x) (before has) in
+      let to = to_is chunker piece ends has in
+      let on : cut_front next (x ++ piece) ≡ cut_front chunker (x ++ piece) =
+      rw (settles.chunks, settles.sends.brings.stays) refl in
       unsaid_is (same ∙ said) (record {
-        cut = rw on (rw (to_is chunker piece ends has) at cut);
-        waits = left ∙ ap (λ z. drop (length z) (cut_front chunker x ++ (chunker.waiting ++ piece))) (to_is chunker piece ends has) ∙ ap (drop (length z)) (came_more has piece) ∙ ap (λ z. drop (length z) (x ++ piece)) (sym on);
+        cut = rw on (rw to at cut);
+        waits = rw on (rw (to, came_more has piece) at left);
         spare = spare ∙ has.spare;
-      })))
+      }))) where
+        fault : Option Fault
+        fault = fault_in result
+
+        before : {x : List ℕ} → IsUnsaid chunker x → BeginsBefore chunker.cutter end (cut_front chunker x)
+        before has = rw (end_is chunker piece ends has) (front_before has piece)
 
 -- The end
 
@@ -305,7 +321,8 @@ carries_same : (chunks : Chunks) (size : ℕ) (z : List ℕ) (place : ℕ) (aim 
     → length z ≤ size → before_chunk chunks size (first_on (course_of aim)) z ≡ z
     → Carries (record { place = place; aim = aim }) (with_fulls (ended chunks size z) (uncut z))
     → Carries (record { place = place; aim = aim }) (chunks_within chunks size z)
-carries_same chunks size z place (to_files writer elide) count fits all carries = subst (Carries (record { place = place; aim = to_files writer elide })) (first_cut chunks size z count fits all) carries
+carries_same chunks size z place (to_files writer elide) count fits all carries =
+    rw (first_cut chunks size z count fits all) at carries
 carries_same chunks size z place (to_output chunk) count fits all carries = record {
   placed = omega (arith, length-map-range_with_len (chunk_at chunks size z) 0 (ended chunks size z), fulls_long (ended chunks size z) (uncut z), carries.placed);
   has = tt;
@@ -314,13 +331,14 @@ carries_same chunks size z place (to_output chunk) count fits all carries = reco
 -- all of it
 
 whole_begins : (on : Course) (cut : CutUp) → Begins (part_on on cut) (whole_on on cut)
-whole_begins (in_files filing elide) cut = subst (Begins (draft_part (manner_of filing) (draft_by elide cut))) (whole_draft filing elide cut) (next_begins (manner_of filing) Never (draft_by elide cut))
+whole_begins (in_files filing elide) cut =
+    rw (whole_draft filing elide cut) at (next_begins (manner_of filing) Never (draft_by elide cut))
 whole_begins (in_output chunk) cut = part_begins_itself _
 
 settled_cut : {cutter : CutterState} {waiting : List ℕ} {size : ℕ} {z : List ℕ} → IsSettled cutter waiting size z
     → before_chunk cutter.chunks size (first_on (course cutter)) z ≡ z
 settled_cut {cutter} {waiting} {size} {z} so = let at = chunk_start cutter.chunks.count size (first_on (course cutter)) in
-    ap (begun_before cutter.chunks.unit cutter.chunks.delim at) (sym so.is) ∙ begun_again cutter.chunks.unit cutter.chunks.delim at (z ++ waiting) ∙ so.is
+    rw so.is at (begun_again cutter.chunks.unit cutter.chunks.delim at (z ++ waiting))
 
 cut_off_so : {cutter : CutterState} {waiting : List ℕ} {size : ℕ} {z : List ℕ} → IsSettled cutter waiting size z
     → IsCutOff cutter size (z, uncut z)
@@ -334,14 +352,11 @@ cut_off_so {cutter} {waiting} {size} {z} so = record {
   from = omega (arith, so.cut.carries.placed);
 }
 
-some_so : {cutter : CutterState} {waiting : List ℕ} {size : ℕ} {z : List ℕ} → IsSettled cutter waiting size z
-    → 0 < cutter.chunks.count
-some_so {cutter} so = some_of (course cutter) cutter.chunks.count so.cut.can
-
 to_whole : {cutter : CutterState} {waiting : List ℕ} {size : ℕ} (z : List ℕ) → IsSettled cutter waiting size z
     → Begins (part_on (course cutter) (chunks_within cutter.chunks size z))
     (whole_on (course cutter) (chunks_within cutter.chunks size (z ++ waiting)))
-to_whole {cutter} {waiting} {size} z so = part_trans _ _ _ (so_grows (course cutter) cutter.chunks size z waiting (some_so so) (omega (arith, so.all, length-append z waiting))) (whole_begins (course cutter) (chunks_within cutter.chunks size (z ++ waiting)))
+to_whole {cutter} {waiting} {size} z so = part_trans _ _ _ (so_grows (course cutter) cutter.chunks size z waiting
+    (some_in so.cut) (omega (arith, so.all, length-append z waiting))) (whole_begins (course cutter) _)
 
 module _ {told : Bool} {cutter mid : CutterState} {waiting : List ℕ} {size : ℕ} {old wet : List Slot} where
   ends_first : (fault : Option Fault) → EndsFull told cutter size old wet mid fault
@@ -354,7 +369,9 @@ module _ {told : Bool} {cutter mid : CutterState} {waiting : List ℕ} {size : �
       → Brings told (course cutter) cutter.target.aim mid.target.aim (IsSettled cutter waiting size)
       (λ z. part_on (course cutter) (uncut z))
       (λ z. part_on (course cutter) (chunks_within cutter.chunks size z)) old wet fault
-  brings_first fault ends = brings_as (λ z. z) fault (λ z so. so) (λ z so. refl) (λ z so. part_same (course cutter) cutter.chunks size z (some_so so) (omega (arith, so.all)) (settled_cut so)) (ends_first fault ends).brings
+  brings_first fault ends = brings_as (λ z. z) fault (λ z so. so) (λ z so. refl) (λ z so.
+      part_same (course cutter) cutter.chunks size z (some_in so.cut) (omega (arith, so.all)) (settled_cut so))
+      (ends_first fault ends).brings
 
   pub held_not_ended : {why : Fault} → EndsFull told cutter size old wet mid (Some why)
       → EndsHeld told cutter waiting size old wet mid waiting (Some why)
@@ -373,7 +390,8 @@ module _ {told : Bool} {cutter mid : CutterState} {waiting : List ℕ} {size : �
         all = rw (stays, ends.chunks) so.cut.all;
         at = ends.at ∙ so.cut.at;
         within = rw ends.chunks (ends.within ∙ so.cut.within);
-        carries = rw (← ends.chunks) at (carries_same cutter.chunks size z mid.target.place mid.target.aim (some_so so) (omega (arith, so.all)) (ap (λ on. before_chunk cutter.chunks size (first_on on) z) stays ∙ settled_cut so) (sends.carries z so));
+        carries = rw (← ends.chunks) at (carries_same cutter.chunks size z mid.target.place mid.target.aim
+            (some_in so.cut) (omega (arith, so.all)) (rw stays (settled_cut so)) (sends.carries z so));
       };
       fits = omega (arith, so.all);
     },
@@ -383,23 +401,25 @@ module _ {told : Bool} {cutter mid : CutterState} {waiting : List ℕ} {size : �
   brings_rest : {next : AimState} {new : List Slot} (fault : Option Fault) {done : List ℕ}
       → length done ≤ length waiting → (ends : EndsFull told cutter size old wet mid None)
       → Brings told (course mid) mid.target.aim next (λ z. IsCut mid size z
-      × (length (z ++ done) ≤ size)) (part_so mid size) (λ z. part_so mid size (z ++ done)) wet new fault
+      × (length (z ++ done) ≤ size)) (λ z. part_so mid size z) (λ z. part_so mid size (z ++ done)) wet new fault
       → Brings told (course cutter) cutter.target.aim next (IsSettled cutter waiting size)
       (λ z. part_on (course cutter) (uncut z))
       (λ z. part_on (course cutter) (chunks_within cutter.chunks size (z ++ done))) old new fault
-  brings_rest {next} {new} fault {done} few ends brings = let stays = (ends_first None ends).brings.stays in
-      brings_then (brings_first None ends) (λ z so. so) (brings_as (λ z. z) fault (mid_cut done few ends) (λ z so. ap (λ chunks. part_on (course cutter) (chunks_within chunks size z)) ends.chunks) (λ z so. ap (λ chunks. part_on (course cutter) (chunks_within chunks size (z ++ done))) ends.chunks)
-      (rw (← stays) brings))
+  brings_rest fault {done} few ends brings = brings_then (brings_first None ends)
+      (rw ends.chunks at (mid_cut done few ends)) (rw ((ends_first None ends).brings.stays, ends.chunks) at brings)
 
   pub held_not_cut : {next : CutterState} {new : List Slot} {why : Fault}
       → size ≡ cutter.at + length waiting → EndsFull told cutter size old wet mid None
       → Cuts told mid size (take (min (length waiting) (size - mid.at)) waiting) wet new next (Some why)
       → EndsHeld told cutter waiting size old new next [] (Some why)
-  held_not_cut {why = why} all ends stopped = let cuts = rw (take_all (min (length waiting) (size - mid.at)) waiting (omega (arith, all, ends.at))) at stopped in record {
-    chunks = cuts.chunks ∙ ends.chunks;
-    bound = omega (arith, cuts.bound, ends.at);
-    brings = brings_wider (λ z so. whole_begins (course cutter) (chunks_within cutter.chunks size (z ++ waiting))) (brings_rest (Some why) (omega arith) ends cuts.brings);
-  }
+  held_not_cut {why = why} all ends stopped =
+      let same = take_all (min (length waiting) (size - mid.at)) waiting (omega (arith, all, ends.at)) in
+      let cuts = rw same at stopped in record {
+        chunks = cuts.chunks ∙ ends.chunks;
+        bound = omega (arith, cuts.bound, ends.at);
+        brings = brings_wider (λ z so. whole_begins (course cutter) _)
+            (brings_rest (Some why) (omega arith) ends cuts.brings);
+      }
 
   -- what is left once the output is complete changes nothing
   pub held_ends : {later next : CutterState} {left : ℕ} {between new : List Slot} (fault : Option Fault)
@@ -437,18 +457,21 @@ module _ {told : Bool} {cutter mid : CutterState} {waiting : List ℕ} {size : �
       | inl none ↦ used none
       | inr later ↦ elim later [
         | inl past ↦
-            let both : (z ++ done) ++ drop (length waiting - left) waiting ≡ z ++ waiting = append_assoc z done _ ∙ ap (λ those. z ++ those) (take-append-drop (length waiting - left) waiting) in
-            let complete : (work_on (course cutter) cutter.chunks (Some size)).is_complete (z ++ done) ≡ true =
+            let on = course cutter in let chunks = cutter.chunks in let work = work_on on chunks (Some size) in
+            let rest = drop (length waiting - left) waiting in
+            let both : (z ++ done) ++ rest ≡ z ++ waiting = append_assoc z done rest
+            ∙ ap (λ those. z ++ those) (take-append-drop (length waiting - left) waiting) in
+            let complete : work.is_complete (z ++ done) ≡ true =
             rw (first.stays, is) at (sym (past_is (stands z so)) ∙ past) in
-            complete_all (course cutter) cutter.chunks size (z ++ done) (drop (length waiting - left) waiting) so.cut.can (stands z so).fits complete
-            ∙ ap (work_on (course cutter) cutter.chunks (Some size)).whole both
-            ∙ whole_is (course cutter) cutter.chunks size (z ++ waiting) ∙ ap (whole_on (course cutter)) (cut_of cutter.chunks size (z ++ waiting) (omega (arith, so.all, length-append z waiting)))
+            complete_all on chunks size (z ++ done) rest so.cut.can (stands z so).fits complete ∙ ap work.whole both
+            ∙ sym (whole_within on chunks size (z ++ waiting) (omega (arith, so.all, length-append z waiting)))
         | inr full ↦ used (omega (arith, all, full, cuts.at, cuts.few, ends.at))
       ]
     ] where
       used : left ≡ 0 → whole_on (course cutter) (chunks_within cutter.chunks size (z ++ done))
           ≡ whole_on (course cutter) (chunks_within cutter.chunks size (z ++ waiting))
-      used none = ap (λ those. whole_on (course cutter) (chunks_within cutter.chunks size (z ++ those))) (take_all (length waiting - left) waiting (omega (arith, none)))
+      used none = let same : done ≡ waiting = take_all (length waiting - left) waiting (omega (arith, none)) in
+          rw same refl
 
 -- as the stage ends
 
@@ -468,17 +491,18 @@ pub ends_unsaid : {told : Bool} {chunker next : ChunkerState} {size : ℕ} {old 
     → size ≡ chunker.cutter.at + length chunker.waiting
     → EndsHeld told chunker.cutter chunker.waiting size old new next.cutter next.waiting (fault_in result)
     → EndsAs told chunker old new next result
-ends_unsaid {chunker = chunker} {size = size} result aimed said same spare can size_is ends = let fault = fault_in result in
+ends_unsaid {chunker = chunker} {size = size} result aimed said same spare can size_is ends =
+    let fault = fault_in result in let on = course chunker.cutter in let chunks = chunker.cutter.chunks in
     ends_at result aimed (record { can = can; said = same; chunks = ends.chunks }) (omega (arith, ends.bound, spare))
     (brings_as (cut_front chunker) fault (λ x holds. let has = is_unsaid said holds in record {
       cut = has.cut;
       all = omega (arith, size_is, has.cut.at);
-      is = ap (λ z. before_chunk chunker.cutter.chunks size (first_on (course chunker.cutter)) z) (all_came has) ∙ ap (λ n. before_chunk chunker.cutter.chunks n (first_on (course chunker.cutter)) x) (long x has);
+      is = rw (all_came has, long x has) refl;
     })
-    (λ x holds. sym (decided_is (course chunker.cutter) chunker.cutter.chunks x) ∙ ap (λ (work : Work). work.settled x) (made_none chunker said))
-    (λ x holds. let has = is_unsaid said holds in ap (λ z. whole_on (course chunker.cutter) (chunks_within chunker.cutter.chunks size z)) (all_came has) ∙ ap (λ n. whole_on (course chunker.cutter) (chunks_within chunker.cutter.chunks n x)) (long x has)
-    ∙ ap (whole_on (course chunker.cutter)) (sym (cut_of chunker.cutter.chunks (length x) x (omega arith))) ∙ sym (whole_none (course chunker.cutter) chunker.cutter.chunks x) ∙ ap (λ (work : Work). work.whole x) (made_none chunker said)) ends.brings)
-    (in_any fault (λ x holds. ap (λ (work : Work). work.verdict x) (sym (made_none chunker said)) ∙ well_none (course chunker.cutter) chunker.cutter.chunks x))
+    (λ x holds. settled_none chunker x said)
+    (λ x holds. let has = is_unsaid said holds in rw (all_came has, long x has, ← made_none chunker said)
+    (ap (whole_on on) (sym (cut_of chunks (length x) x (omega arith))) ∙ sym (whole_none on chunks x))) ends.brings)
+    (in_any fault (λ x holds. rw (← made_none chunker said) (well_none on chunks x)))
     (λ some. absurd (false≢true (sym some ∙ ap is_none said))) where
       long : (x : List ℕ) → IsUnsaid chunker x → size ≡ length x
       long x has = omega (arith, size_is, has.cut.at, length-append (cut_front chunker x) chunker.waiting, ap length (all_came has))

@@ -2,7 +2,7 @@
 -- `-n l/N`.
 use Rattle.std.specs.{
   Prelude.{
-    ℕ, ◌+◌, ◌-◌, ◌*◌, ◌/◌, ◌%◌, ◌==◌, ◌<◌, ◌≤◌, nat_lt, nat_le, min, Bool, true, false, List, [], ◌∷◌, ◌++◌, length,
+    ℕ, zero, suc, ◌+◌, ◌-◌, ◌*◌, ◌/◌, ◌%◌, ◌==◌, ◌<◌, ◌≤◌, nat_lt, nat_le, min, Bool, true, false, List, [], ◌∷◌, ◌++◌, length,
     take, drop, map, filter, Option, Some, None, if◌then◌else◌,
   },
   List.range_with_len,

@@ -9,6 +9,6 @@ returns-in-Lines-clause-cut c =
     cut_lines c.args.chunks.delim (c.max-in-Lines.result - 1) c.before-whole.result c.args.text.now _
     c.before-whole.ensures.within c.before-whole.ensures.few c.before-whole.ensures.all
     (take_rest c.args.text.now c.before-whole.result)
-    c.next_line.ensures.joined c.next_line.ensures.first c.next_line.ensures.some
+    c.next_line.ensures.joined c.next_line.ensures.first
     ∙ ap (λ n. begun_before Lines c.args.chunks.delim n c.args.text.now) e
     ∙ ap (λ unit. begun_before unit c.args.chunks.delim (max c.args.skip 1) c.args.text.now) (sym c.in-Lines.is)

@@ -10,7 +10,10 @@ pub returns-then-not-is_open : goal.returns-then-not-is_open
 returns-then-not-is_open g c = finishes_none g.O.Outs.told c.args.self.now c.requires (c.if-not-is_open.ensures ∙ ap (λ (parts : PartsState). is_file parts.writer.current) c.self.view_is)
 
 pub returns-in_err-put_waiting : goal.returns-in_err-put_waiting
-returns-in_err-put_waiting g c = rw (handed_on _ _ c.from_residual.ensures.1, ← c.self.view_is) (held_stops refl c.in_err-put_waiting.ensures.goes (c.in_err-put_waiting.ensures.broke (sym c.if-not-is_open.ensures)))
+returns-in_err-put_waiting g c = let ends = c.in_err-put_waiting.ensures in
+    rw (handed_on _ _ c.from_residual.ensures.1, ← c.self.view_is)
+    (held_stops refl ends.goes (ends.broke (sym c.if-not-is_open.ensures)))
 
 pub returns : goal.returns
-returns g c = rw (← c.self.view_is) (held_ends (fault_in c.end.result) refl c.in_ok-put_waiting.ensures.goes c.end.ensures.goes (some_broke c.end.result c.end.ensures.broke))
+returns g c = rw (← c.self.view_is) (held_ends (fault_in c.end.result) refl c.in_ok-put_waiting.ensures.goes
+    c.end.ensures.goes (some_broke c.end.result c.end.ensures.broke))

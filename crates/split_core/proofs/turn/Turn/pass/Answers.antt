@@ -8,6 +8,7 @@ returns-in_err-gather-clause-passes g c = result_is (PassesAs _ _ _ _ _ _) _ _ c
     (rw (← c.self.view_is, c.gather.ensures.delim, c.gather.ensures.count) (lacks_room _ c.gather.new.self.next c.args.piece.now))
 
 pub returns-clause-passes : goal.returns-clause-passes
-returns-clause-passes g c = rw (← c.self.view_is, c.gather.ensures.delim, c.gather.ensures.count, c.in_ok-gather.ensures.gathers.next_is) (passes_at g.O.Outs.told
-    (record { delim = c.self.inside.deal.delim; count = _; place = c.self.inside.place; next = c.self.inside.deal.next }) c.args.piece.now c.write_bytes.result c.requires
-    (rw (c.at.ensures ∙ picked (record { delim = c.self.inside.deal.delim; count = _; place = c.self.inside.place; next = c.self.inside.deal.next }) c.args.piece.now c.self.invariant c.in_ok-gather.ensures.gathers.gathered_is) at c.write_bytes.ensures))
+returns-clause-passes g c = let gathers = c.in_ok-gather.ensures.gathers in
+    rw (← c.self.view_is, c.gather.ensures.delim, c.gather.ensures.count, gathers.next_is) (passes_at g.O.Outs.told
+    _ c.args.piece.now c.write_bytes.result c.requires
+    (rw (c.at.ensures ∙ picked _ c.args.piece.now c.self.invariant gathers.gathered_is) at c.write_bytes.ensures))
