@@ -2,37 +2,26 @@
 use Rattle.std.proofs.lemmas.{
   Grind.{common_steps, flat_map-append},
   Bool.{cases_lt, eqb-true, le-ltb, lt-ltb},
-  List.{append-nil, drop_at, length-append, length-drop, length-take-le, take_all, take_at},
+  List.{append-nil, length-append, length-drop, length-take, length-take-le, take_all, take-append-drop},
   List.FromFn.{get_or-map-range_with_len, length-map-range_with_len, map-range_with_len_more, take-map-range_with_len},
 }
-use Rattle.std.proofs.Common.{
-  ◌≡◌, ℕ, ◌+◌, ◌-◌, ◌/◌, ◌%◌, ◌<◌, ◌≤◌, zero, suc, nat_lt, Bool, true, false, cond, List, [], ◌∷◌, ◌++◌, length, take,
-  drop, map, get_or, Option, Some, None, inl, inr, refl, sym, ◌∙◌, ap, arith,
-}
+use Rattle.std.proofs.Common.{◌≡◌, ℕ, ◌+◌, ◌-◌, ◌/◌, ◌%◌, ◌<◌, ◌≤◌, zero, suc, true, false, cond, List, [], ◌∷◌, ◌++◌, length, take, drop, map, get_or, Option, Some, None, inl, inr, refl, sym, ◌∙◌, ap, arith}
 use Rattle.std.specs.List.{flat_map, range_with_len}
-use Rattle.seg_core.{
-  specs.{
-    Line.{joined, lines_of, line_count, first_lines},
-    declared.{cut.{Chunks.Chunks, Cut.TheVariants.Round}, unit.Unit.TheVariants.{Bytes, Lines}},
-  },
-  proofs.{FirstLines.{joined-append, lines_of-first_lines, lines_of-after_lines}, LinesOf.joined-lines_of},
-}
+use Rattle.seg_core.{specs.{Line.{joined, lines_of, line_count, first_lines, after_lines, delimiters}, declared.{cut.{Chunks.Chunks, Cut.TheVariants.Round}, unit.Unit.TheVariants.{Bytes, Lines}}}, proofs.{FirstLines.{after_lines-is_drop, delimiters-first_lines, first_lines-full, first_lines-short, first_lines_then_rest}, FirstLines.{lines_of-after_lines, lines_of-first_lines}, LineCounts.line_count-le-length}}
 use Rattle.ports_core.specs.{Agreed.file_bytes, Draft.part_of, Part.only_out, declared.slot.State.TheVariants.Closed}
 use Rattle.split_core.specs.{
   Chunks.{
     IsInChunk, IsInPiece, before_chunk, begun_before, chunk_at, chunk_start, chunks_in, chunks_of, ended, in_the_end,
-    is_as_said, lines_before, pieces_in, size_by,
+    is_as_said, open_from, pieces_in, size_by,
   },
   ChunkWork.{chunk_work, files_by, way_work},
   Split.{Filing, are_named, manner_of, share},
   Parts.{dealt, round_robin, unless_empty},
-  inner.Dealt.EachSome,
-  laws.BegunLaws.{begun_long, lines_all, lines_more},
+  laws.BegunLaws.{begun_lines, begun_long, begun_some, begun_stays, begun_within},
   laws.ChunkLaws.{
     chunk_none, cut_all, ended_within, joined_chunks, start_first, start_grows, start_last, start_next, start_within,
     rest_none, take_within,
   },
-  laws.DealLaws.each_line,
 }
 use Rattle.split_core.proofs.{AgreedLemmas.{each_named, shared_bytes}, RoundLemmas.named_fewer}
 use Rattle.seg_core.specs.declared.cut.Way.TheVariants as way
@@ -122,118 +111,81 @@ shorter_chunk chunks x place within is past =
 
 -- and those of lines
 
-lines_prefix : (place : ℕ) (lines : List (List ℕ)) → (rest : List (List ℕ)) × (lines ≡ lines_before place lines ++ rest)
-lines_prefix place [] = ([], refl)
-lines_prefix place (line ∷ lines) = by (nat_lt 0 place) (lines_prefix (place - length line) lines) where
-  by : (some : Bool) → (rest : List (List ℕ)) × (lines ≡ lines_before (place - length line) lines ++ rest)
-      → (rest : List (List ℕ))
-      × (line ∷ lines ≡ cond some (line ∷ lines_before (place - length line) lines) [] ++ rest)
-  by true (rest, is) = (rest, ap (λ more. line ∷ more) is)
-  by false more = (line ∷ lines, refl)
-
--- a stretch of a text's lines are the lines of what it has
-lines_stretch : (delim : ℕ) (x : List ℕ) (front more rest : List (List ℕ)) → lines_of delim x ≡ (front ++ more) ++ rest
-    → lines_of delim (joined more) ≡ more
-lines_stretch delim x front more rest is =
-    let n = length (front ++ more) in
-    let k = length front in
-    let z = first_lines delim n x in
-    let these : lines_of delim z ≡ front ++ more =
-    lines_of-first_lines delim n x ∙ ap (take n) is ∙ take_at (front ++ more) rest n refl in
-    let those : drop k (lines_of delim z) ≡ more = ap (drop k) these ∙ drop_at front more k refl in
-    ap (λ lines. lines_of delim (joined lines)) (sym those) ∙ lines_of-after_lines delim k z ∙ those
-
--- the lines that begin before a place, and those that begin after it and before a later one
+-- a text's lines are those that begin before a place, and those that begin after it
 lines_between : (delim : ℕ) (x : List ℕ) (place other : ℕ) → place ≤ other
-    → lines_before other (lines_of delim x) ≡ lines_before place (lines_of delim x)
-    ++ lines_of delim (drop (length (joined (lines_before place (lines_of delim x))))
-    (joined (lines_before other (lines_of delim x))))
-lines_between delim x place other within = by (lines_prefix other lines) (lines_more place other lines within) where
-  lines : List (List ℕ)
-  lines = lines_of delim x
-
-  by : (rest : List (List ℕ)) × (lines ≡ lines_before other lines ++ rest)
-      → (more : List (List ℕ)) × (lines_before other lines ≡ lines_before place lines ++ more)
-      → lines_before other lines ≡ lines_before place lines
-      ++ lines_of delim (drop (length (joined (lines_before place lines))) (joined (lines_before other lines)))
-  by (rest, all) (more, is) =
-      let front = lines_before place lines in
-      let left : drop (length (joined front)) (joined (lines_before other lines)) ≡ joined more =
-      ap (λ those. drop (length (joined front)) (joined those)) is
-      ∙ ap (drop (length (joined front))) (joined-append front more)
-      ∙ drop_at (joined front) (joined more) (length (joined front)) refl in
-      is ∙ ap (λ those. front ++ those) (sym (ap (lines_of delim) left
-      ∙ lines_stretch delim x front more rest (all ∙ ap (λ those. those ++ rest) is)))
+    → let front = begun_before Lines delim place x in let whole = begun_before Lines delim other x in
+    lines_of delim whole ≡ lines_of delim front ++ lines_of delim (drop (length front) whole)
+lines_between delim x place other within =
+    let whole = begun_before Lines delim other x in
+    let (n, some, is) = begun_lines delim place other x within in
+    rw (is, ← after_lines-is_drop delim n whole, lines_of-first_lines delim n whole, lines_of-after_lines delim n whole)
+    (sym (take-append-drop n (lines_of delim whole)))
 
 lines_to : (delim : ℕ) (chunks : Chunks) (x : List ℕ) (place : ℕ) → chunks.delim ≡ delim → chunks.unit ≡ Lines
     → flat_map (lines_of delim) (map (chunk_at chunks (length x) x) (range_with_len 0 place))
-    ≡ lines_before (chunk_start chunks.count (length x) place) (lines_of delim x)
-lines_to delim chunks x zero by is = sym (none (lines_of delim x) (start_first chunks.count (length x))) where
-  none : (lines : List (List ℕ)) {at : ℕ} → at ≡ 0 → lines_before at lines ≡ []
-  none [] zero_is = refl
-  none (line ∷ lines) zero_is = rw zero_is refl
+    ≡ lines_of delim (begun_before Lines delim (chunk_start chunks.count (length x) place) x)
+lines_to delim chunks x zero by is =
+    let e = start_first chunks.count (length x) in ap (λ at. lines_of delim (begun_before Lines delim at x)) (sym e)
 lines_to delim chunks x (suc place) by is =
     let at = chunk_start chunks.count (length x) in
     let f = chunk_at chunks (length x) x in
     let e : suc place ≡ place + 1 = omega arith in
-    let piece : f place ≡ drop (length (joined (lines_before (at place) (lines_of delim x))))
-    (joined (lines_before (at (place + 1)) (lines_of delim x))) =
-    ap (λ unit. drop (length (begun_before unit chunks.delim (at place) x))
-    (begun_before unit chunks.delim (at (place + 1)) x)) is
-    ∙ ap (λ ends. drop (length (begun_before Lines ends (at place) x))
-    (begun_before Lines ends (at (place + 1)) x)) by in
+    let front = begun_before Lines delim (at place) x in
+    let piece : f place ≡ drop (length front) (begun_before Lines delim (at (place + 1)) x) = rw (is, by) refl in
     ap (λ n. flat_map (lines_of delim) (map f (range_with_len 0 n))) e
     ∙ ap (flat_map (lines_of delim)) (map-range_with_len_more f 0 place place (omega arith))
     ∙ flat_map-append (lines_of delim) (map f (range_with_len 0 place)) (f place ∷ [])
     ∙ ap (λ front. front ++ (lines_of delim (f place) ++ [])) (lines_to delim chunks x place by is)
-    ∙ ap (λ more. lines_before (at place) (lines_of delim x) ++ more) (append-nil (lines_of delim (f place)))
-    ∙ ap (λ bytes. lines_before (at place) (lines_of delim x) ++ lines_of delim bytes) piece
+    ∙ ap (λ more. lines_of delim front ++ more) (append-nil (lines_of delim (f place)) ∙ ap (lines_of delim) piece)
     ∙ sym (lines_between delim x (at place) (at (place + 1))
     (start_grows chunks.count (length x) place (place + 1) (omega arith)))
-    ∙ ap (λ n. lines_before (at n) (lines_of delim x)) (sym e)
+    ∙ ap (λ n. lines_of delim (begun_before Lines delim (at n) x)) (sym e)
 
 -- no line is cut
 pub lines_in_chunks : (chunks : Chunks) (x : List ℕ) → 0 < chunks.count → chunks.unit ≡ Lines
     → flat_map (lines_of chunks.delim) (chunks_in chunks x) ≡ lines_of chunks.delim x
-lines_in_chunks chunks x some is = let lines = lines_of chunks.delim x in
-    ap (flat_map (lines_of chunks.delim)) (chunks_in_are chunks x some)
+lines_in_chunks chunks x some is = ap (flat_map (lines_of chunks.delim)) (chunks_in_are chunks x some)
     ∙ lines_to chunks.delim chunks x chunks.count refl is
-    ∙ lines_all lines (chunk_start chunks.count (length x) chunks.count) (each_line chunks.delim x)
-    (omega (arith, ap length (joined-lines_of chunks.delim x), start_last chunks.count (length x) some))
+    ∙ ap (lines_of chunks.delim) (begun_long Lines chunks.delim (chunk_start chunks.count (length x) chunks.count) x
+    (omega (arith, start_last chunks.count (length x) some)))
 
 -- a line that begins before a place stands in what begins before it, and no other
-line_before : (lines : List (List ℕ)) (place i : ℕ) → EachSome lines → i < length lines
-    → length (joined (take i lines)) < place
-    → length (joined (take i lines)) < length (joined (lines_before place lines))
-line_before [] place i each within before = absurd (omega (arith, within))
-line_before (line ∷ lines) place zero each within before =
-    rw (lt-ltb 0 place before)
-    (omega (arith, each.0, length-append line (joined (lines_before (place - length line) lines))))
-line_before (line ∷ lines) place (suc i) each within before =
-    let l = length-append line (joined (take i lines)) in
-    rw (lt-ltb 0 place (omega (arith, before)))
-    (omega (
+line_before : (delim : ℕ) (x : List ℕ) (place i : ℕ) → i < line_count delim x → length (first_lines delim i x) < place
+    → length (first_lines delim i x) < length (begun_before Lines delim place x)
+line_before delim x zero i within before = absurd (omega (arith, before))
+line_before delim x (suc q) i within before =
+    let lines = length-append (first_lines delim i x) (after_lines delim i x) in
+    let begun = length-append (take q x) (first_lines delim 1 (drop q x)) in
+    let proper : length (first_lines delim i x) < length x = omega (
       arith,
-      l,
-      length-append line (joined (lines_before (place - length line) lines)),
-      line_before lines (place - length line) i each.1 (omega (arith, within)) (omega (arith, before, l, each.0)),
-    ))
+      within,
+      line_count-le-length delim (after_lines delim i x),
+      ap length (lines_of-after_lines delim i x),
+      length-drop i (lines_of delim x),
+      ap length (first_lines_then_rest delim i x),
+      lines,
+    ) in elim (cases_lt q (length x)) [
+      | inl less ↦ (let more = begun_some Lines delim 1 (drop q x) (omega arith) (omega (arith, length-drop q x, less)) in
+          omega (arith, before, begun, length-take q x, more))
+      | inr all ↦ omega (arith, proper, begun, length-take q x, all)
+    ]
 
-line_after : (lines : List (List ℕ)) (place i : ℕ) → place ≤ length (joined (take i lines))
-    → length (joined (lines_before place lines)) ≤ length (joined (take i lines))
-line_after [] place i past = omega arith
-line_after (line ∷ lines) place zero past = let e : place ≡ 0 = omega (arith, past) in rw e (omega arith)
-line_after (line ∷ lines) place (suc i) past = by (nat_lt 0 place) (line_after lines (place - length line) i
-    (omega (arith, past, l))) where
-      l : length (line ++ joined (take i lines)) ≡ length line + length (joined (take i lines))
-      l = length-append line (joined (take i lines))
-
-      by : (some : Bool)
-          → length (joined (lines_before (place - length line) lines)) ≤ length (joined (take i lines))
-          → length (joined (cond some (line ∷ lines_before (place - length line) lines) []))
-          ≤ length (line ++ joined (take i lines))
-      by true rest = omega (arith, rest, l, length-append line (joined (lines_before (place - length line) lines)))
-      by false rest = omega arith
+line_after : (delim : ℕ) (x : List ℕ) (place i : ℕ) → place ≤ length (first_lines delim i x)
+    → length (begun_before Lines delim place x) ≤ length (first_lines delim i x)
+line_after delim x place i past = let first = first_lines delim i x in elim (cases_lt (delimiters delim x) i) [
+  | inl more ↦ omega (arith, ap length (first_lines-short delim i x more), begun_within Lines delim place x)
+  | inr few ↦ (
+      let rest = after_lines delim i x in
+      let all = first_lines_then_rest delim i x in
+      let counted = delimiters-first_lines delim i x few in
+      let whole : open_from Lines delim first ≡ length first = ap (λ n. length (first_lines delim n first)) counted
+          ∙ ap length (sym (first_lines-full delim i first rest (omega (arith, counted))) ∙ ap (first_lines delim i) all) in
+      omega (
+        arith,
+        ap length (ap (begun_before Lines delim place) (sym all) ∙ begun_stays Lines delim place first rest (omega (arith, whole, past))),
+        begun_within Lines delim place first,
+      ))
+]
 
 -- a line goes with the chunk in which its first byte is
 pub line_in_chunk : (chunks : Chunks) (x : List ℕ) (place i : ℕ) → place < chunks.count → chunks.unit ≡ Lines
@@ -242,16 +194,15 @@ pub line_in_chunk : (chunks : Chunks) (x : List ℕ) (place i : ℕ) → place <
     → IsInPiece (chunks_in chunks x) place (length (first_lines chunks.delim i x))
 line_in_chunk chunks x place i within is less (from, to) =
     let some : 0 < chunks.count = omega (arith, within) in
-    let lines = lines_of chunks.delim x in
     let at = chunk_start chunks.count (length x) in
     let begun : (n : ℕ) → n ≤ chunks.count
-    → joined (take n (chunks_in chunks x)) ≡ joined (lines_before (at n) lines) =
+    → joined (take n (chunks_in chunks x)) ≡ begun_before Lines chunks.delim (at n) x =
     λ n few. join_first chunks x n some few ∙ ap (λ unit. begun_before unit chunks.delim (at n) x) is in (
-      omega (arith, ap length (begun place (omega (arith, within))), line_after lines (at place) i from),
+      omega (arith, ap length (begun place (omega (arith, within))), line_after chunks.delim x (at place) i from),
       omega (
         arith,
         ap length (begun (place + 1) (omega (arith, within))),
-        line_before lines (at (place + 1)) i (each_line chunks.delim x) less to,
+        line_before chunks.delim x (at (place + 1)) i less to,
       ),
     )
 

@@ -1,16 +1,5 @@
 -- Where a text is cut into chunks, and what goes where of it.
-use Rattle.std.proofs.{
-  lemmas.Bool.{cases_lt, false≢true, le-ltb, lt-leb, lt-ltb, ltb-false, ltb-true, Decides.nat_tests},
-  lemmas.List.{
-    append-nil, take_all, take_at, take-append-drop, take-take, length-append, length-drop, length-take,
-    FromFn.length-map-range_with_len,
-  },
-  Math.Seq.take-add,
-  Common.{
-    ◌≡◌, ℕ, ◌+◌, ◌-◌, ◌<◌, ◌≤◌, max, min, zero, suc, Bool, true, false, cond, eqb, nat_lt, List, [], ◌∷◌, ◌++◌, ◌⊎◌,
-    length, take, drop, replicate, Option, Some, None, Ok, inl, inr, refl, sym, ◌∙◌, ap, subst, arith, append_assoc,
-  },
-}
+use Rattle.std.proofs.{lemmas.Bool.{cases_lt, false≢true, le-ltb, lt-leb, lt-ltb, ltb-false, ltb-true, Decides.nat_tests}, lemmas.List.{append-nil, take_all, take_at, take-append-drop, take-take, length-append, length-drop, length-take, FromFn.length-map-range_with_len}, Math.Seq.take-add, Common.{◌≡◌, ℕ, ◌+◌, ◌-◌, ◌<◌, ◌≤◌, min, zero, suc, Bool, true, false, cond, nat_lt, List, [], ◌∷◌, ◌++◌, ◌⊎◌, length, take, drop, replicate, Option, Some, None, Ok, inl, inr, refl, sym, ◌∙◌, ap, subst, arith, append_assoc}}
 use Rattle.ports_core.{
   specs.{
     Draft.draft_part,
@@ -44,7 +33,7 @@ use Rattle.split_core.specs.{
   inner.Seen.{is_past_at, is_past_on},
   inner.Sends.{Brings, Changes, GoesOn, HasName, Sends, with_full, with_fulls, with_rest, part_on},
   laws.BegunLaws.{
-    begun_begins, begun_first, begun_long, begun_stays, begun_within, open_append, open_within,
+    begun_begins, begun_long, begun_some, begun_stays, begun_within, open_append, open_within,
   },
   laws.ChunkLaws.{
     ended_grows, ended_is, ended_only, ends_here, goes_on, passed_full, passed_open, piece_all, start_grows, start_past, start_within,
@@ -165,12 +154,6 @@ ends_open {told} {cutter} {size} {slots} ready within short = record {
       let e : ended cutter.chunks size x.0 - cutter.target.place ≡ 0 = omega (arith, is) in
       ap (λ n. with_fulls n x.1) (sym e)) (sends_none ready (λ x so. so.carries));
 }
-
-pub begun_some : (unit : Unit) (delim place : ℕ) (x : List ℕ) → 0 < place → 0 < length x
-    → 0 < length (begun_before unit delim place x)
-begun_some Bytes delim place x some has = omega (arith, length-take place x, some, has)
-begun_some Lines delim place [] some has = absurd (omega (arith, has))
-begun_some Lines delim place (byte ∷ x) some has = rw (begun_first delim byte place x some) (omega arith)
 
 -- Chunks end one after another
 

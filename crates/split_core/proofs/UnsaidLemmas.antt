@@ -44,12 +44,13 @@ use Rattle.split_core.specs.{
   },
   inner.Sends.{Brings, Changes, Ends as TargetEnds, Sends, with_fulls, with_rest, part_on, whole_on},
   laws.ChunkLaws.{chunk_none, cut_all, ended_all, passed_open, ended_only, start_first, begin_then_rest, start_by_size},
-  laws.BegunLaws.{begun_of_none, begun_again, begun_begins, begun_monotone, begun_on, begun_stays, open_within},
+  laws.BegunLaws.{begun_of_none, begun_again, begun_begins, begun_monotone, begun_on, begun_some, begun_stays},
+  laws.BegunLaws.open_within,
 }
 use Rattle.split_core.proofs.{
   ChunkerWays.{ends_at, passes_at},
   CutterLemmas.{
-    begun_some, cut_of, so_grows, fulls_are, grown, cutting, has_cut, name_of, no_line, open_early, some_in,
+    cut_of, so_grows, fulls_are, grown, cutting, has_cut, name_of, no_line, open_early, some_in,
   },
   ChunkerLemmas.{complete_all, past_is, whole_within},
   TargetLemmas.{whole_draft, piece_full, brings_as, brings_then, brings_wider, sends_as, sends_none},

@@ -1,17 +1,5 @@
 -- Laws that traits cite: what of a text that goes on begins before a place.
-use Rattle.std.{
-  proofs.lemmas.{
-    Grind.common_steps,
-    Bool.{cases_lt, lt-ltb, ltb-true, ltb-false},
-    List.{append-nil, take_all, length-append, length-drop, take-append-le, take-append-drop, take-take},
-  },
-  proofs.Common.{
-    ◌≡◌, ℕ, ◌+◌, ◌-◌, ◌<◌, ◌≤◌, max, zero, suc, Bool, true, false, cond, eqb, nat_lt, List, [], ◌∷◌, ◌++◌, ◌⊎◌, length,
-    take, drop, inl, inr, refl, sym, ◌∙◌, ap, subst, arith,
-  },
-  proofs.Math.Seq.take-append-add,
-  specs.List.onto_first,
-}
+use Rattle.std.{proofs.lemmas.{Bool.{cases_lt, ltb-true, ltb-false}, List.{append-nil, take_all, length-append, length-drop, length-take, take-append-le, take-append-drop, take-take}}, proofs.Common.{◌≡◌, ℕ, ◌+◌, ◌-◌, ◌<◌, ◌≤◌, max, zero, suc, Bool, true, false, cond, eqb, nat_lt, List, [], ◌∷◌, ◌++◌, ◌⊎◌, length, take, drop, inl, inr, refl, sym, ◌∙◌, ap, subst, arith}, proofs.Math.Seq.take-append-add}
 use Rattle.seg_core.{
   specs.{Line.{joined, lines_of, delimiters, first_lines}, declared.unit.Unit.{Unit, TheVariants.{Bytes, Lines}}},
   proofs.Delimiters.{delimiters-append, delimiters-le-length},
@@ -35,12 +23,22 @@ use Rattle.split_core.specs.{
 pub begun_first : (delim byte place : ℕ) (x : List ℕ) → 0 < place
     → begun_before Lines delim place (byte ∷ x) ≡ byte ∷ cond (eqb byte delim) (begun_before Lines delim (place - 1) x)
     (begun_before Lines delim (max (place - 1) 1) x)
+begun_first delim byte zero x some = absurd (omega (arith, some))
 begun_first delim byte (suc zero) x some = first_lines-cons delim byte 0 x
 begun_first delim byte (suc (suc place)) x some = ap (λ more. byte ∷ more) (same (eqb byte delim)) where
-  same : (ends : Bool) → begun_before Lines delim (suc place) x
-      ≡ cond ends (begun_before Lines delim (suc place) x) (begun_before Lines delim (max (suc place) 1) x)
-  same true = refl
-  same false = ap (λ at. begun_before Lines delim at x) (omega arith)
+  to : {at : ℕ} → suc place ≡ at → begun_before Lines delim (suc place) x ≡ begun_before Lines delim at x
+  to is = ap (λ at. begun_before Lines delim at x) is
+
+  same : (ends : Bool) → begun_before Lines delim (suc place) x ≡ cond ends
+      (begun_before Lines delim (suc (suc place) - 1) x) (begun_before Lines delim (max (suc (suc place) - 1) 1) x)
+  same true = to (omega arith)
+  same false = to (omega arith)
+
+pub begun_some : (unit : Unit) (delim place : ℕ) (x : List ℕ) → 0 < place → 0 < length x
+    → 0 < length (begun_before unit delim place x)
+begun_some Bytes delim place x some has = omega (arith, length-take place x, some, has)
+begun_some Lines delim place [] some has = absurd (omega (arith, has))
+begun_some Lines delim place (byte ∷ x) some has = rw (begun_first delim byte place x some) (omega arith)
 
 -- From where on it may still get bytes
 
@@ -178,21 +176,34 @@ begun_long Lines delim (suc place) x long =
 pub begun_lines : (delim place other : ℕ) (x : List ℕ) → place ≤ other → (n : ℕ) × (0 < place → 0 < n)
     × (begun_before Lines delim place x ≡ first_lines delim n (begun_before Lines delim other x))
 begun_lines delim zero other x within = (0, (λ none. absurd (omega (arith, none))), refl)
-begun_lines delim (suc place) other [] within = (1, (λ some. omega arith), rw (begun_of_none Lines delim (suc place), begun_of_none Lines delim other) refl)
+begun_lines delim (suc place) other [] within =
+    (1, (λ some. omega arith), rw (begun_of_none Lines delim (suc place), begun_of_none Lines delim other) refl)
 begun_lines delim (suc place) other (byte ∷ x) within = by (eqb byte delim) refl
-    (begun_lines delim place (other - 1) x (omega (arith, within)))
-    (begun_lines delim (max place 1) (max (other - 1) 1) x (omega (arith, within))) where
-  Early : ℕ → ℕ → Type 0
-  Early at to = (n : ℕ) × (0 < at → 0 < n) × (begun_before Lines delim at x ≡ first_lines delim n (begun_before Lines delim to x))
+    (begun_lines delim (suc place - 1) (other - 1) x (omega (arith, within)))
+    (begun_lines delim (max (suc place - 1) 1) (max (other - 1) 1) x (omega (arith, within))) where
+  Early : ℕ → ℕ → List ℕ → Type 0
+  Early at to x = (n : ℕ) × (0 < at → 0 < n)
+      × (begun_before Lines delim at x ≡ first_lines delim n (begun_before Lines delim to x))
 
-  by : (ends : Bool) → eqb byte delim ≡ ends → Early place (other - 1) → Early (max place 1) (max (other - 1) 1)
-      → (n : ℕ) × (0 < suc place → 0 < n)
-      × (begun_before Lines delim (suc place) (byte ∷ x) ≡ first_lines delim n (begun_before Lines delim other (byte ∷ x)))
-  by true is (n, some, here) later = (suc n, (λ has. omega arith), begun_first delim byte (suc place) x (omega arith)
-      ∙ rw (is, begun_first delim byte other x (omega (arith, within)), is, first_lines-cons delim byte n (begun_before Lines delim (other - 1) x), is) (ap (λ more. byte ∷ more) here))
+  begun : (at : ℕ) → 0 < at → (ends : Bool) → eqb byte delim ≡ ends → begun_before Lines delim at (byte ∷ x)
+      ≡ byte ∷ cond ends (begun_before Lines delim (at - 1) x) (begun_before Lines delim (max (at - 1) 1) x)
+  begun at some ends is = begun_first delim byte at x some ∙ ap (λ ends. byte ∷ cond ends
+      (begun_before Lines delim (at - 1) x) (begun_before Lines delim (max (at - 1) 1) x)) is
+
+  lines : (n : ℕ) (w : List ℕ) (ends : Bool) → eqb byte delim ≡ ends → first_lines delim (suc n) (byte ∷ w)
+      ≡ byte ∷ cond ends (first_lines delim n w) (first_lines delim (suc n) w)
+  lines n w ends is = first_lines-cons delim byte n w
+      ∙ ap (λ ends. byte ∷ cond ends (first_lines delim n w) (first_lines delim (suc n) w)) is
+
+  by : (ends : Bool) → eqb byte delim ≡ ends → Early (suc place - 1) (other - 1) x
+      → Early (max (suc place - 1) 1) (max (other - 1) 1) x → Early (suc place) other (byte ∷ x)
+  by true is (n, some, here) later = (suc n, (λ has. omega arith), begun (suc place) (omega arith) true is
+      ∙ ap (λ more. byte ∷ more) here ∙ sym (ap (first_lines delim (suc n)) (begun other (omega (arith, within)) true is)
+      ∙ lines n (begun_before Lines delim (other - 1) x) true is))
   by false is here (zero, some, later) = absurd (omega (arith, some (omega arith)))
-  by false is here (suc n, some, later) = (suc n, (λ has. omega arith), begun_first delim byte (suc place) x (omega arith)
-      ∙ rw (is, begun_first delim byte other x (omega (arith, within)), is, first_lines-cons delim byte n (begun_before Lines delim (max (other - 1) 1) x), is) (ap (λ more. byte ∷ more) later))
+  by false is here (suc n, some, later) = (suc n, (λ has. omega arith), begun (suc place) (omega arith) false is
+      ∙ ap (λ more. byte ∷ more) later ∙ sym (ap (first_lines delim (suc n)) (begun other (omega (arith, within)) false is)
+      ∙ lines n (begun_before Lines delim (max (other - 1) 1) x) false is))
 
 -- of a text, what begins before a place begins what begins before a later one
 pub begun_monotone : (unit : Unit) (delim : ℕ) {place other : ℕ} (x : List ℕ) → place ≤ other
@@ -234,15 +245,14 @@ again_step delim place x again false = again (max (place - 1) 1)
 
 begun_again_lines : (delim place : ℕ) (x : List ℕ)
     → begun_before Lines delim place (begun_before Lines delim place x) ≡ begun_before Lines delim place x
-begun_again_lines delim place [] = refl
+begun_again_lines delim place [] = ap (begun_before Lines delim place) (begun_of_none Lines delim place)
 begun_again_lines delim place (byte ∷ x) = elim (cases_lt 0 place) [
   | inl some ↦ ap (begun_before Lines delim place) (begun_first delim byte place x some)
       ∙ begun_first delim byte place _ some
       ∙ ap (λ more. byte ∷ more) (again_step delim place x (λ at. begun_again_lines delim at x) (eqb byte delim))
       ∙ sym (begun_first delim byte place x some)
   | inr none ↦ (let e : place ≡ 0 = omega (arith, none) in
-      rw e (ap (begun_before Lines delim 0) (begun_none delim (lines_of delim (byte ∷ x)))
-      ∙ sym (begun_none delim (lines_of delim (byte ∷ x)))))
+      rw e refl)
 ]
 
 -- what begins before a place does so by itself
