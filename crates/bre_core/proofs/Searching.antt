@@ -1,13 +1,9 @@
 -- The truth value says what is contained.
 use Rattle.std.proofs.{
-  Common.{
-    ℕ, zero, suc, ◌≤◌, List, length, arith, rules, ◌≡◌, ◌⊎◌, ◌↔◌, inl, inr, ◌+◌, ◌<◌, Bool, true, false, leb, ◌&&◌,
-    Option, Some, None, refl, sym, ap, ◌∙◌, subst, IsTrue,
-  },
-  lemmas.Bool.{
-    cases_eq, cases_lt, false≢true, or_cases, or_left, or_right, and_parts, and_from, eqb-true, eq-eqb, leb-true,
-    le-leb, lt-ltb,
-  },
+  Common.{ℕ, zero, suc, ◌≤◌, List, length, arith, rules, ◌≡◌, ◌⊎◌, ◌↔◌, inl, inr, ◌+◌, ◌<◌, Bool, true, false, leb},
+  Common.{◌&&◌, Option, Some, None, refl, sym, ap, ◌∙◌, subst, IsTrue},
+  lemmas.Bool.{cases_eq, cases_lt, false≢true, or_cases, or_left, or_right, and_parts, and_from, eqb-true, eq-eqb},
+  lemmas.Bool.{leb-true, le-leb, lt-ltb},
 }
 use Rattle.bre_core.specs.{
   Match.{Parts, Matches, MatchesItem, IsAtMost, Contains},

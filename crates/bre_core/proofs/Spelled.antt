@@ -1,14 +1,10 @@
 -- A text is read as a bracket list where it is spelled as one, and only there.
 use Rattle.std.proofs.{
-  Common.{
-    ◌≡◌, ℕ, ◌+◌, ◌-◌, ◌*◌, ◌<◌, ◌≤◌, true, List, [], ◌∷◌, length, get_or, drop, Some, None, ap, ◌∙◌, arith, rules, ◌≢◌,
-    ◌↔◌, ◌⊎◌, inl, inr, false, cond, ◌++◌, Option, refl, sym, subst, append_assoc, Bool, ◌&&◌, eqb, map, fold,
-    option_map, option_and_then, nat_le,
-  },
-  lemmas.Bool.{
-    cond-true, cond-false, cond_both, le-leb, lt-leb, and_from as both, and_right, cases_Bool, and_parts, and_from,
-    eqb-true, leb-true, false≢true, and_left, or_from,
-  },
+  Common.{◌≡◌, ℕ, ◌+◌, ◌-◌, ◌*◌, ◌<◌, ◌≤◌, true, List, [], ◌∷◌, length, get_or, drop, Some, None, ap, ◌∙◌, arith},
+  Common.{rules, ◌≢◌, ◌↔◌, ◌⊎◌, inl, inr, false, cond, ◌++◌, Option, refl, sym, subst, append_assoc, Bool, ◌&&◌, eqb},
+  Common.{map, fold, option_map, option_and_then, nat_le},
+  lemmas.Bool.{cond-true, cond-false, cond_both, le-leb, lt-leb, and_from as both, and_right, cases_Bool, and_parts},
+  lemmas.Bool.{and_from, eqb-true, leb-true, false≢true, and_left, or_from},
   lemmas.List.at_drop_more,
   lemmas.Option.{none-some, same_Some, cond_some, option_and_then_some},
 }
@@ -22,15 +18,11 @@ use Rattle.bre_core.specs.{
     Element.{Element, TheVariants.{Point, Same, Named}},
     Member.{Member, TheVariants.{Range, Class as InClass}},
   },
-  Bracket.{
-    begins_with, IsBracket, ReadsMember, after_complement, class_at, element_at, enclosed, inner_at, is_dash_inside,
-    matched_bytes, member_at, member_from, name_at, range_to,
-  },
-  Spelled.{
-    IsNumber, AreBounds, exactly, at_least, between, IsInterval, Spelling, plain, symbol, Part, single, range,
-    equivalents, class, byte_of, member_of, name_of, byte_before, part_before, parts_before, list_before, is_opening,
-    IsItself, MayBegin, Stand, IsBracketList, IsSpelled, in_symbols, is_ordered,
-  },
+  Bracket.{begins_with, IsBracket, ReadsMember, after_complement, class_at, element_at, enclosed, inner_at},
+  Bracket.{is_dash_inside, matched_bytes, member_at, member_from, name_at, range_to},
+  Spelled.{IsNumber, AreBounds, exactly, at_least, between, IsInterval, Spelling, plain, symbol, Part, single, range},
+  Spelled.{equivalents, class, byte_of, member_of, name_of, byte_before, part_before, parts_before, list_before},
+  Spelled.{is_opening, IsItself, MayBegin, Stand, IsBracketList, IsSpelled, in_symbols, is_ordered},
   Token.{BeginsWithToken, has_item},
   Steps.Steps,
 }

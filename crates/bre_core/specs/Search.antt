@@ -1,6 +1,7 @@
 -- Whether a line contains a match, as a truth value: all places and all counts that can matter are tried.
-use Rattle.std.specs.Prelude.{
-  ℕ, zero, suc, ◌+◌, Bool, true, false, ◌==◌, ◌&&◌, ◌||◌, nat_le, nat_lt, List, length, slice_index, Option, Some, None,
+use Rattle.std.specs.{
+  Prelude.{ℕ, zero, suc, ◌+◌, Bool, true, false, ◌==◌, ◌&&◌, ◌||◌, nat_le, nat_lt, List, length, slice_index, Option},
+  Prelude.{Some, None},
 }
 use Rattle.bre_core.specs.{ByteSet.has, Pattern.{Pattern, nothing, append, Item, set, front, end, group, repeat}}
 

@@ -1,10 +1,8 @@
 -- What is settled is what all continuations agree on, and where lines go.
 use Rattle.std.proofs.{
-  Common.{
-    ◌≡◌, inl, inr, ℕ, suc, ◌+◌, ◌-◌, ◌<◌, ◌≤◌, ◌&&◌, Bool, true, false, cond, List, [], ◌∷◌, ◌++◌, length, get_or, refl,
-    sym, ◌∙◌, ap, subst, arith, length-append, zero, map, take, drop, append_assoc, nat_lt, nat_le, min, length-take,
-    ◌⊎◌, ne_eqb, eq-eqb, length-drop, length-take-le, rules, ◌≢◌,
-  },
+  Common.{◌≡◌, inl, inr, ℕ, suc, ◌+◌, ◌-◌, ◌<◌, ◌≤◌, ◌&&◌, Bool, true, false, cond, List, [], ◌∷◌, ◌++◌, length},
+  Common.{get_or, refl, sym, ◌∙◌, ap, subst, arith, length-append, zero, map, take, drop, append_assoc, nat_lt, nat_le},
+  Common.{min, length-take, ◌⊎◌, ne_eqb, eq-eqb, length-drop, length-take-le, rules, ◌≢◌},
   lemmas.{
     Bool.{cases_lt, false≢true, Decides.nat_tests},
     List.{append-nil, map-append, take-append-drop, drop-drop},
@@ -14,18 +12,14 @@ use Rattle.std.proofs.{
 use Rattle.csplit_core.specs.{
   Agreed.{CanCome, kept_lines, whole_outputs, settled_outputs, AreFronts, IsAgreed},
   Operand.{Minus, Target, Number, Search, Operand, Line, Plus, most_held, is_kept},
-  Plan.{
-    State, start, Step, Ending, below, search_line, MatchesNone, CutsAt, line_after, state_after, step_of, Runs,
-    is_below, cuts, missed, Misses, is_used_up, misses, is_above,
-  },
+  Plan.{State, start, Step, Ending, below, search_line, MatchesNone, CutsAt, line_after, state_after, step_of, Runs},
+  Plan.{is_below, cuts, missed, Misses, is_used_up, misses, is_above},
   laws.PlanLaws.{line_some, runs, goes_on, plan_runs, plan_once, cuts_still, less_test, not_less_test},
   laws.SectionLaws.{between_still, ends_as, are_within, closed_still, plan_grows, whole_covers, plan_goes_on},
   inner.PlanLaws.{needed, EndsAs},
   Planned.{plan, Plan},
-  Section.{
-    Section, section, section_of, lines_between, is_last_kept, whole_end, settled_end, sections_by, whole_sections,
-    is_final, waiting_lines,
-  },
+  Section.{Section, section, section_of, lines_between, is_last_kept, whole_end, settled_end, sections_by},
+  Section.{whole_sections, is_final, waiting_lines},
   Place.{Place, in_section, left_out, nowhere, place_from, place_of, IsUndecided, is_in, lines_into, ArePlaced},
 }
 use Rattle.csplit_core.proofs.WholeLemmas.{between_rest, after_within, ends_after_all}

@@ -5,10 +5,9 @@ use Rattle.std.{
     Bool.cases_lt,
     List.{append-nil, length-take-le, length-drop, take-append-le, take_all, drop_all, drop-drop, map-append},
   },
-  proofs.Common.{
-    ◌≡◌, ℕ, ◌+◌, ◌-◌, ◌≤◌, Bool, true, false, List, [], ◌++◌, length, refl, sym, ◌∙◌, ap, arith, inl, inr, Option, None,
-    subst, ◌<◌, min, Some, Result, Err, OnOk, take, drop, IfNone, rules, suc, ◌∷◌, map, append_assoc,
-  },
+  proofs.Common.{◌≡◌, ℕ, ◌+◌, ◌-◌, ◌≤◌, Bool, true, false, List, [], ◌++◌, length, refl, sym, ◌∙◌, ap, arith, inl, inr},
+  proofs.Common.{Option, None, subst, ◌<◌, min, Some, Result, Err, OnOk, take, drop, IfNone, rules, suc, ◌∷◌, map},
+  proofs.Common.append_assoc,
   proofs.Math.{Nat.{min-eq_left, min-eq_right}, Seq.{take-add, take-append-add}},
   specs.List.flat_map,
 }
@@ -28,14 +27,11 @@ use Rattle.csplit_core.specs.{
   Input.{newline, all_lines},
   Operand.{Operand, Line, is_kept},
   Output.{Style, manner_of, opening_of, file_in, shares_in, part_of, sizes_wanted},
-  Plan.{
-    State, start, Step, Ending, Runs, search_line, line_after, state_after, step_of, is_used_up, misses, is_above,
-    is_below, cuts,
-  },
+  Plan.{State, start, Step, Ending, Runs, search_line, line_after, state_after, step_of, is_used_up, misses, is_above},
+  Plan.{is_below, cuts},
   Planned.{Plan, plan, plan_within},
-  Section.{
-    lines_between, is_last_kept, settled_end, whole_end, is_final, most_waiting, bytes_of, Section, section, section_of,
-  },
+  Section.{lines_between, is_last_kept, settled_end, whole_end, is_final, most_waiting, bytes_of, Section, section},
+  Section.section_of,
   Progress.AimsAt,
   declared.{progress.Turn.{Turn, TheVariants.Below}, line_cutter.Cut.Cut},
   laws.{
@@ -44,28 +40,20 @@ use Rattle.csplit_core.specs.{
   },
   inner.{
     PlanLaws.{EndsAs, needed},
-    Cutter.{
-      Joins, settled_part, Keeps, part_at, Arrives, Holds, GoesPast, search_after, CutsNow, WentOn, PassesCut, IsAfter,
-      CutAt, CutsAll, WillCut, IsEnd,
-    },
+    Cutter.{Joins, settled_part, Keeps, part_at, Arrives, Holds, GoesPast, search_after, CutsNow, WentOn, PassesCut},
+    Cutter.{IsAfter, CutAt, CutsAll, WillCut, IsEnd},
   },
-  Cutter.{
-    kept_by, most_by, text_from, draft_by, settled_draft, CutterState, suppress_in, state_in, IsAt, EndsNow, IsLive,
-    IsFit, Leads,
-  },
+  Cutter.{kept_by, most_by, text_from, draft_by, settled_draft, CutterState, suppress_in, state_in, IsAt, EndsNow},
+  Cutter.{IsLive, IsFit, Leads},
 }
 use Rattle.csplit_core.proofs.{
-  LineLemmas.{
-    all_lines-append, bytes_between, length-all_lines, count-append, count_from, first_still, rest_more, from_further,
-    first_further,
-  },
+  LineLemmas.{all_lines-append, bytes_between, length-all_lines, count-append, count_from, first_still, rest_more},
+  LineLemmas.{from_further, first_further},
   WholeLemmas.after_within,
 }
 use Rattle.ports_core.specs.{
-  Draft.{
-    Draft, share, made_of, shares_of, draft_part, with_bytes, with_next, told_of_files, size_of_file,
-    part_of as part_by,
-  },
+  Draft.{Draft, share, made_of, shares_of, draft_part, with_bytes, with_next, told_of_files, size_of_file},
+  Draft.part_of as part_by,
   Slot.Slot,
   declared.{fault.Fault.Fault, file_writer.Opening.{Opening, TheVariants.Never}, slot.State.TheVariants.{Open, Closed}},
   FileWriter.{Goes, Reaches, Leaves, WriterState, Writes, IsReady, size_of},
@@ -73,10 +61,8 @@ use Rattle.ports_core.specs.{
 }
 use Rattle.ports_core.proofs.{
   ShareLemmas.{next_shares, bytes_begin, next_begins},
-  FileWriterLemmas.{
-    leaves_again, leaves_still, keeps_files, reaches_again, reaches_as, reaches_still, where_three, stops_wider,
-    put_nothing,
-  },
+  FileWriterLemmas.{leaves_again, leaves_still, keeps_files, reaches_again, reaches_as, reaches_still, where_three},
+  FileWriterLemmas.{stops_wider, put_nothing},
   WriterSteps.{goes_as, goes_more, stops_among, goes_or_lacks},
   PartLemmas.part_trans,
 }

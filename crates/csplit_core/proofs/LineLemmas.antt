@@ -1,26 +1,21 @@
 -- Lines of a text as operands see them, their bytes, and what follows the last newline, where more bytes come.
 use Rattle.std.proofs.{
-  Common.{
-    ◌≡◌, ◌⊎◌, inl, inr, ℕ, ◌+◌, ◌-◌, ◌<◌, ◌≤◌, List, [], ◌∷◌, ◌++◌, length, map, take, drop, refl, sym, ◌∙◌, ap, arith,
-    length-append, Bool, true, false, cond, append_assoc, take-add, rules,
-  },
+  Common.{◌≡◌, ◌⊎◌, inl, inr, ℕ, ◌+◌, ◌-◌, ◌<◌, ◌≤◌, List, [], ◌∷◌, ◌++◌, length, map, take, drop, refl, sym, ◌∙◌, ap},
+  Common.{arith, length-append, Bool, true, false, cond, append_assoc, take-add, rules},
   lemmas.Bool.{cases_lt, cases_eq, eq-eqb, ne_eqb},
-  lemmas.List.{
-    take-append-drop, map-append, take-map, drop-map, length-map, length-drop, drop_all, drop-append-le, take-append-le,
-    drop-drop, append-nil, append_cancel_left, length-take-le,
-  },
+  lemmas.List.{take-append-drop, map-append, take-map, drop-map, length-map, length-drop, drop_all, drop-append-le},
+  lemmas.List.{take-append-le, drop-drop, append-nil, append_cancel_left, length-take-le},
   lemmas.Grind.common_steps,
 }
-use Rattle.seg_core.specs.Line.{
-  lines_of, line_count, delimiters, joined, first_lines, after_lines, ends_with, EndsAt, HasNone, AreLines, LastEndsAt,
+use Rattle.seg_core.specs.{
+  Line.{lines_of, line_count, delimiters, joined, first_lines, after_lines, ends_with, EndsAt, HasNone, AreLines},
+  Line.LastEndsAt,
 }
 use Rattle.seg_core.proofs.{
   LinesOf.{lines_of-append, joined-lines_of, AreLines-lines_of, lines_of-joined},
   LineCounts.{line_count-closed, ends_with-append, line_count-le-length, line_count-open, ends_with-some},
-  FirstLines.{
-    after_lines-is_drop, first_lines_then_rest, joined-append, lines_of-after_lines, first_lines-zero,
-    delimiters-first_lines, lines_of-first_lines,
-  },
+  FirstLines.{after_lines-is_drop, first_lines_then_rest, joined-append, lines_of-after_lines, first_lines-zero},
+  FirstLines.{delimiters-first_lines, lines_of-first_lines},
   EndLines.after_lines-append,
   Delimiters.delimiters-append,
   LastLines.first_lines-whole,

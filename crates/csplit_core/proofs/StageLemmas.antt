@@ -1,10 +1,8 @@
 -- What opening the cutter leaves, what ending it does, and what the stage that takes in bytes owes.
 use Rattle.std.proofs.{
-  Common.{
-    ◌≡◌, inl, ◌+◌, ◌-◌, ◌≤◌, length, max, Bool, true, false, List, [], ◌∷◌, None, Option, Some, refl, sym, ◌∙◌, ap,
-    subst, arith, ℕ, suc, ◌++◌, take, ◌<◌, nat_lt, get_or, rules, cond, drop, inr, ◌^◌, min, length-append, ◌⊎◌, Result,
-    Ok, Err, IfErr, eqb, OnOk, IsTrue,
-  },
+  Common.{◌≡◌, inl, ◌+◌, ◌-◌, ◌≤◌, length, max, Bool, true, false, List, [], ◌∷◌, None, Option, Some, refl, sym, ◌∙◌},
+  Common.{ap, subst, arith, ℕ, suc, ◌++◌, take, ◌<◌, nat_lt, get_or, rules, cond, drop, inr, ◌^◌, min, length-append},
+  Common.{◌⊎◌, Result, Ok, Err, IfErr, eqb, OnOk, IsTrue},
   lemmas.{List.{drop_all, drop-map, append-nil, take-append-drop}, Bool.Decides.nat_tests, Grind.common_steps},
   Math.Nat.min-eq_left,
 }
@@ -23,10 +21,8 @@ use Rattle.ports_core.specs.{
   Turn.{LinesTo, fault_in},
   inner.Part.HasLines,
   Draft.{Draft, draft_part, with_bytes, with_next, Manner},
-  FileWriter.{
-    paused, Goes, Leaves, Reaches, At, WriterState, Writes, size_of, IsReady as CanWrite, IsManner, Breaks, OwnsFiles,
-    manner_in,
-  },
+  FileWriter.{paused, Goes, Leaves, Reaches, At, WriterState, Writes, size_of, IsReady as CanWrite, IsManner, Breaks},
+  FileWriter.{OwnsFiles, manner_in},
   Part.{OutputsAt, StoppedBetween, nothing, writes},
   Engine.{is_verdict, CutsOff, EndsWith, EndsThere, Finishes, StandsAt, IsMet, IsMetWith, IsMetThere, Sweeps},
   Swept.{AreThere, Swept, is_among},
@@ -35,29 +31,21 @@ use Rattle.ports_core.proofs.{
   PartLemmas.{nothing_begins_part, outputs_count, stopped_in_turn},
   ShareLemmas.{bytes_begin, next_begins, nothing_part, nothing_told},
   SlotSteps.none_past,
-  FileWriterLemmas.{
-    breaks_as, same_manner, in_turn, lacks_memory, reaches_as, stops_wider, in_any, leaves_again, reaches_again,
-    leaves_lacking, where_well,
-  },
+  FileWriterLemmas.{breaks_as, same_manner, in_turn, lacks_memory, reaches_as, stops_wider, in_any, leaves_again},
+  FileWriterLemmas.{reaches_again, leaves_lacking, where_well},
   WriterSteps.{files_left, goes_as},
   SweepLemmas.all_cleared,
 }
 use Rattle.csplit_core.proofs.{
-  CutterLemmas.{
-    draft_is, settled_part_is, whole_part_is, runs_to, live_part, live_taken, keeps_on, reaches_then, same_by,
-    settled_same,
-  },
+  CutterLemmas.{draft_is, settled_part_is, whole_part_is, runs_to, live_part, live_taken, keeps_on, reaches_then},
+  CutterLemmas.{same_by, settled_same},
   TryLemmas.{turn_ends, left_is},
-  LineLemmas.{
-    count_from, from_further, bytes_marked, length-all_lines, all_complete, lines_then_open, all_lines-append,
-    joined_line, open_is_line, open_complete, first_complete, front_is, no_newline, tail_is, piece_lines, piece_open,
-    lines_whole, lines_more, open_more,
-  },
+  LineLemmas.{count_from, from_further, bytes_marked, length-all_lines, all_complete, lines_then_open},
+  LineLemmas.{all_lines-append, joined_line, open_is_line, open_complete, first_complete, front_is, no_newline},
+  LineLemmas.{tail_is, piece_lines, piece_open, lines_whole, lines_more, open_more},
   WholeLemmas.ends_after_all,
-  TakeLemmas.{
-    past_plan, past_part, is_past, still_past, more_settled, takes_again, takes_none, takes_wider, took_past,
-    none_there,
-  },
+  TakeLemmas.{past_plan, past_part, is_past, still_past, more_settled, takes_again, takes_none, takes_wider, took_past},
+  TakeLemmas.none_there,
 }
 use Rattle.csplit_core.specs.{
   Csplit.{settled_of, whole_of, verdict_of, waiting, waiting_of, csplit_work, settled_by, verdict_by},
@@ -68,17 +56,14 @@ use Rattle.csplit_core.specs.{
   Planned.{plan, Plan},
   laws.{PlanLaws.{plan_runs, plan_once}, SectionLaws.{ends_as, are_within, closed_still, ends_with as whole_grows}},
   Progress.{state_of, AimsAt, EndsHere},
-  inner.Cutter.{
-    BegunNot, new_for, writer_for, AreSeen, Turns, MovesOn, Opened, settled_part, whole_part, IsJudged, EndsAll,
-    IsWhole, Takes, IsLine, Clears, Keeps, Closed, Closes, ended_so, Judges, Passes, ended_well, ended_short,
-  },
+  inner.Cutter.{BegunNot, new_for, writer_for, AreSeen, Turns, MovesOn, Opened, settled_part, whole_part, IsJudged},
+  inner.Cutter.{EndsAll, IsWhole, Takes, IsLine, Clears, Keeps, Closed, Closes, ended_so, Judges, Passes, ended_well},
+  inner.Cutter.ended_short,
   inner.PlanLaws.{EndsAs, AreWithin},
   Section.{is_final, whole_end, bytes_of, waiting_lines, whole_sections},
   declared.progress.{Progress.Progress, Turn.{Turn, TheVariants.{Below, Missed, Above}}},
-  Cutter.{
-    CutterState, most_next, pattern_next, kept_next, next_of, most_by, pattern_by, kept_by, settled_draft, IsFit,
-    Stands, suppress_in, state_in, text_from, draft_by, IsLive, IsPast, IsSound, load,
-  },
+  Cutter.{CutterState, most_next, pattern_next, kept_next, next_of, most_by, pattern_by, kept_by, settled_draft, IsFit},
+  Cutter.{Stands, suppress_in, state_in, text_from, draft_by, IsLive, IsPast, IsSound, load},
   CsplitState.{CsplitState, Holds, whole_lines, IsReady, Owns, terms, files, work},
 }
 use Rattle.ports_core.specs.declared.fault.Fault.TheVariants as fault_is

@@ -1,11 +1,10 @@
 -- Taking lines in, one by one and stretch by stretch, and cutting them as often as operands cut.
 use Rattle.std.proofs.{
   lemmas.{Grind.common_steps, Bool.{false≢true, cases_lt}},
-  Common.{
-    ◌≡◌, ◌⊎◌, inl, inr, ℕ, ◌+◌, ◌-◌, ◌<◌, ◌≤◌, max, Bool, true, Option, Some, None, List, [], ◌∷◌, ◌++◌, length, refl,
-    sym, ◌∙◌, ap, subst, arith, append_assoc, length-append, IfSome, Ok, Err, take, drop, eqb, Result, take_all,
-    append-nil, take-append-drop, length-drop, length-take-le, drop_at, drop-drop, is_some, take-add, IfOk, rules,
-  },
+  Common.{◌≡◌, ◌⊎◌, inl, inr, ℕ, ◌+◌, ◌-◌, ◌<◌, ◌≤◌, max, Bool, true, Option, Some, None, List, [], ◌∷◌, ◌++◌, length},
+  Common.{refl, sym, ◌∙◌, ap, subst, arith, append_assoc, length-append, IfSome, Ok, Err, take, drop, eqb, Result},
+  Common.{take_all, append-nil, take-append-drop, length-drop, length-take-le, drop_at, drop-drop, is_some, take-add},
+  Common.{IfOk, rules},
 }
 use Rattle.seg_core.{specs.{Line.{line_count, delimiters, ends_with}, Window.Window}, proofs.EndLines.line_count-grows}
 use Rattle.ports_core.{
@@ -29,28 +28,20 @@ use Rattle.csplit_core.specs.{
   Output.{Style, manner_of},
   Planned.{Plan, plan},
   laws.{PlanLaws.plan_runs, SectionLaws.{ends_as, cuts_from, grows}},
-  inner.Cutter.{
-    GoesPast, IsFound, settled_part, part_at, IsWhole, IsLine, Joins, Arrives, Held, Holds, CutsNow, CutsAll, WillCut,
-    TriesNext, search_after, Takes, IsNextFound, Stretches, IsEnd, Tries, IsAfter, CutAt, Spreading, Spread, PassesOver,
-    StopsAt, CutsOn, GoesOn,
-  },
+  inner.Cutter.{GoesPast, IsFound, settled_part, part_at, IsWhole, IsLine, Joins, Arrives, Held, Holds, CutsNow},
+  inner.Cutter.{CutsAll, WillCut, TriesNext, search_after, Takes, IsNextFound, Stretches, IsEnd, Tries, IsAfter, CutAt},
+  inner.Cutter.{Spreading, Spread, PassesOver, StopsAt, CutsOn, GoesOn},
   inner.PlanLaws.needed,
   Section.{is_final, most_waiting, settled_end},
   declared.{line_cutter.{Cut.Cut, Passed.Passed}, progress.Turn.{Turn, TheVariants.Below}},
-  Cutter.{
-    CutterState, suppress_in, state_in, settled_draft, draft_by, IsFit, IsSound, IsAt, IsLive, IsPast, Stands, EndsNow,
-    kept_by, load,
-  },
+  Cutter.{CutterState, suppress_in, state_in, settled_draft, draft_by, IsFit, IsSound, IsAt, IsLive, IsPast, Stands},
+  Cutter.{EndsNow, kept_by, load},
 }
 use Rattle.csplit_core.proofs.{
-  CutterLemmas.{
-    at_more, part_more, live_part, left_count, few_taken, live_taken, settled_part_is, most_is, draft_is, final_count,
-    ended_still, keeps_on, reaches_then, settled_same,
-  },
-  LineLemmas.{
-    all_lines-append, all_lines-line, length-all_lines, count-line, whole_count, whole_from, whole-append, whole_drop,
-    rest_all,
-  },
+  CutterLemmas.{at_more, part_more, live_part, left_count, few_taken, live_taken, settled_part_is, most_is, draft_is},
+  CutterLemmas.{final_count, ended_still, keeps_on, reaches_then, settled_same},
+  LineLemmas.{all_lines-append, all_lines-line, length-all_lines, count-line, whole_count, whole_from, whole-append},
+  LineLemmas.{whole_drop, rest_all},
   TryLemmas.stays,
 }
 

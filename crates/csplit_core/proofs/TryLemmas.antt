@@ -1,10 +1,8 @@
 -- What stays of a plan when more lines come, what a turn says of it, what trying the next operand says, and over which lines it stands as it does.
 use Rattle.std.proofs.{
-  Common.{
-    ◌≡◌, inl, inr, ℕ, suc, ◌+◌, ◌-◌, ◌<◌, ◌≤◌, Bool, true, false, List, [], ◌∷◌, ◌++◌, length, get_or, refl, ◌∙◌, ap,
-    arith, length-append, zero, ◌*◌, ◌^◌, drop, sym, subst, None, Result, Ok, Err, OnOk, IfErr, Option, Some, rules,
-    append-nil, min, cond, take, append_assoc,
-  },
+  Common.{◌≡◌, inl, inr, ℕ, suc, ◌+◌, ◌-◌, ◌<◌, ◌≤◌, Bool, true, false, List, [], ◌∷◌, ◌++◌, length, get_or, refl, ◌∙◌},
+  Common.{ap, arith, length-append, zero, ◌*◌, ◌^◌, drop, sym, subst, None, Result, Ok, Err, OnOk, IfErr, Option, Some},
+  Common.{rules, append-nil, min, cond, take, append_assoc},
   lemmas.{
     Grind.common_steps,
     Bool.{cases_lt, eq-eqb, eqb-true, ne_eqb, false≢true},
@@ -13,17 +11,14 @@ use Rattle.std.proofs.{
 }
 use Rattle.csplit_core.specs.{
   Operand.{Target, Number, Search, Operand, Line, unmarked, is_match, Offset, moved, has_more},
-  Plan.{
-    State, Step, Ending, missed, above, search_line, MatchesNone, Misses, line_after, Runs, is_used_up, misses,
-    is_above, is_below, cuts, below, CutsAt, operands_after, repetition_after, state_after,
-  },
+  Plan.{State, Step, Ending, missed, above, search_line, MatchesNone, Misses, line_after, Runs, is_used_up, misses},
+  Plan.{is_above, is_below, cuts, below, CutsAt, operands_after, repetition_after, state_after},
   Planned.plan,
   laws.{PlanLaws.{cuts_still, goes_on, plan_runs, plan_once, line_some, fewer_left, fewer_moves}, SectionLaws.ends_as},
   Progress.{state_of, EndsHere, AimsAt, WillMove},
-  inner.Cutter.{
-    AreSeen, Turns, FallsAt, GoesPast, WillCut, PassesOn, PassesCut, IsWhole, IsLine, Joins, Looked, IsFound, IsNoCut,
-    search_after, StaysNear, Tries, TriesNext, AreClear, IsNextFound, PassesClear, PassesOver, StopsAt,
-  },
+  inner.Cutter.{AreSeen, Turns, FallsAt, GoesPast, WillCut, PassesOn, PassesCut, IsWhole, IsLine, Joins, Looked},
+  inner.Cutter.{IsFound, IsNoCut, search_after, StaysNear, Tries, TriesNext, AreClear, IsNextFound, PassesClear},
+  inner.Cutter.{PassesOver, StopsAt},
   inner.PlanLaws.{needed, EndsAs},
   declared.{
     progress.{Turn.{Turn, TheVariants.{Missed, Above, Below, Cuts, UsedUp}}, Progress.Progress},
@@ -31,21 +26,18 @@ use Rattle.csplit_core.specs.{
   },
   Measure.{Moves, IsRepeatedBy, IsRepeated, Fits},
   Input.{newline, without_newline, marked, all_lines, is_match_of},
-  Cutter.{
-    CutterState, state_in, most_by, pattern_by, suppress_in, IsFit, pattern_in, AimHolds, IsLive, EndsNow, IsSound,
-  },
+  Cutter.{CutterState, state_in, most_by, pattern_by, suppress_in, IsFit, pattern_in, AimHolds, IsLive, EndsNow},
+  Cutter.IsSound,
 }
 use Rattle.csplit_core.proofs.{
   WholeLemmas.after_within,
-  LineLemmas.{
-    all_lines-append, all_lines-line, length-all_lines, count-append, count-line, whole-append, whole_drop, whole_count,
-    whole_by, line_by,
-  },
+  LineLemmas.{all_lines-append, all_lines-line, length-all_lines, count-append, count-line, whole-append, whole_drop},
+  LineLemmas.{whole_count, whole_by, line_by},
 }
 use Rattle.bre_core.specs.{Pattern.Pattern, Search.contains}
 use Rattle.ports_core.specs.{declared.fault.Fault.{Fault, TheVariants.Memory}, Turn.fault_in}
-use Rattle.seg_core.specs.Line.{
-  line_count, lines_of, delimiters, ends_with, EndsAt, FallsShort, joined, HasNone, IsComplete, AreLines,
+use Rattle.seg_core.specs.{
+  Line.{line_count, lines_of, delimiters, ends_with, EndsAt, FallsShort, joined, HasNone, IsComplete, AreLines},
 }
 use Rattle.seg_core.proofs.{
   Delimiters.delimiters-le-length,

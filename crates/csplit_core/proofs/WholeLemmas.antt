@@ -1,19 +1,15 @@
 -- The last section and the lines that wait are all lines that are left.
 use Rattle.std.proofs.{
-  Common.{
-    ℕ, suc, ◌≤◌, Bool, true, false, arith, ◌≡◌, ◌-◌, List, length, drop, refl, sym, ◌+◌, [], ◌∷◌, ◌++◌, map, ◌∙◌, ap,
-    append_assoc, append-nil, take-append-drop, drop-drop,
-  },
+  Common.{ℕ, suc, ◌≤◌, Bool, true, false, arith, ◌≡◌, ◌-◌, List, length, drop, refl, sym, ◌+◌, [], ◌∷◌, ◌++◌, map, ◌∙◌},
+  Common.{ap, append_assoc, append-nil, take-append-drop, drop-drop},
   lemmas.Grind.common_steps,
 }
 use Rattle.csplit_core.specs.{
   Plan.{line_after, start, Ending, State, Step, Runs, cuts},
   Operand.{Operand, Line},
   Planned.plan,
-  Section.{
-    waiting_lines, most_waiting, Section, section, section_of, lines_between, is_last_kept, whole_end, whole_sections,
-    settled_sections, is_final, lines_in,
-  },
+  Section.{waiting_lines, most_waiting, Section, section, section_of, lines_between, is_last_kept, whole_end},
+  Section.{whole_sections, settled_sections, is_final, lines_in},
   laws.{PlanLaws.plan_runs, SectionLaws.are_within},
 }
 

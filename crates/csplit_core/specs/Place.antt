@@ -1,6 +1,7 @@
 -- Where a line goes, and which lines continuations put into different places.
-use Rattle.std.specs.Prelude.{
-  ◌≡◌, eqb, ℕ, ◌+◌, ◌≤◌, nat_lt, nat_le, ◌&&◌, Bool, true, false, List, [], ◌∷◌, get_or, length, map, if◌then◌else◌,
+use Rattle.std.specs.{
+  Prelude.{◌≡◌, eqb, ℕ, ◌+◌, ◌≤◌, nat_lt, nat_le, ◌&&◌, Bool, true, false, List, [], ◌∷◌, get_or, length, map},
+  Prelude.if◌then◌else◌,
 }
 use Rattle.ports_core.specs.Agreed.{DifferOn}
 use Rattle.csplit_core.specs.{

@@ -1,8 +1,9 @@
 -- Where `csplit` cuts (POSIX.1-2017, XCU csplit). Lines are numbered from 1. There is a current line, at first line 1.
 -- A step is one performance of an operand: it finds the line of a cut, and the lines from the current one to before the
 -- cut are its section. With `suppress` the line at the cut belongs to no section.
-use Rattle.std.specs.Prelude.{
-  ◌≡◌, ℕ, ◌+◌, ◌-◌, ◌*◌, ◌<◌, ◌≤◌, suc, max, eqb, ◌&&◌, Bool, true, false, List, [], ◌∷◌, length, if◌then◌else◌,
+use Rattle.std.specs.{
+  Prelude.{◌≡◌, ℕ, ◌+◌, ◌-◌, ◌*◌, ◌<◌, ◌≤◌, suc, max, eqb, ◌&&◌, Bool, true, false, List, [], ◌∷◌, length},
+  Prelude.if◌then◌else◌,
 }
 use Rattle.csplit_core.specs.Operand.{Target, Number, Search, Operand, Line, is_match, moved, has_more}
 

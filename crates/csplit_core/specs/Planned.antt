@@ -1,6 +1,6 @@
 -- The plan of a run, computed.
-use Rattle.std.specs.Prelude.{
-  ℕ, ◌+◌, ◌-◌, ◌*◌, zero, suc, nat_lt, Bool, List, [], ◌∷◌, length, drop, Option, Some, None, if◌then◌else◌,
+use Rattle.std.specs.{
+  Prelude.{ℕ, ◌+◌, ◌-◌, ◌*◌, zero, suc, nat_lt, Bool, List, [], ◌∷◌, length, drop, Option, Some, None, if◌then◌else◌},
 }
 use Rattle.csplit_core.specs.{
   Operand.{Offset, Target, Number, Search, Operand, Line, moved},

@@ -1,6 +1,6 @@
 -- The sections of a plan: one for each step, and one where the plan ends.
-use Rattle.std.specs.Prelude.{
-  ℕ, ◌-◌, suc, Bool, true, false, List, [], ◌∷◌, ◌++◌, length, map, take, drop, if◌then◌else◌,
+use Rattle.std.specs.{
+  Prelude.{ℕ, ◌-◌, suc, Bool, true, false, List, [], ◌∷◌, ◌++◌, length, map, take, drop, if◌then◌else◌},
 }
 use Rattle.seg_core.specs.Line.{joined}
 use Rattle.csplit_core.specs.{

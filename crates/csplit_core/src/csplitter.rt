@@ -1,6 +1,6 @@
 //! The stage of `csplit`: from bytes, in pieces of any length, to the lines that are cut.
-ghost use Rattle.std.specs.Prelude.{
-  ◌≡◌, ◌≢◌, ◌+◌, ◌-◌, ◌^◌, ◌<◌, ◌≤◌, ◌++◌, List, [], length, min, true, IsTrue, IfErr, IfOk, OnOk,
+ghost use Rattle.std.specs.{
+  Prelude.{◌≡◌, ◌≢◌, ◌+◌, ◌-◌, ◌^◌, ◌<◌, ◌≤◌, ◌++◌, List, [], length, min, true, IsTrue, IfErr, IfOk, OnOk},
 };
 ghost use Rattle.seg_core.specs.Line.{delimiters, ends_with};
 ghost use Rattle.ports_core.specs.{

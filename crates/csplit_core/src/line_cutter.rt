@@ -1,7 +1,7 @@
 //! Cutting lines into sections as they come in: what is settled of them goes to the sections, and the others wait.
-ghost use Rattle.std.specs.Prelude.{
-  ◌≡◌, ◌≢◌, ◌⊎◌, ◌+◌, ◌-◌, ◌<◌, ◌≤◌, ◌^◌, ◌++◌, List, ℕ, [], length, drop, take, Some, None, IfOk, IfErr, IfSome,
-  IfNone, OnOk, IsTrue, true, false,
+ghost use Rattle.std.specs.{
+  Prelude.{◌≡◌, ◌≢◌, ◌⊎◌, ◌+◌, ◌-◌, ◌<◌, ◌≤◌, ◌^◌, ◌++◌, List, ℕ, [], length, drop, take, Some, None, IfOk, IfErr},
+  Prelude.{IfSome, IfNone, OnOk, IsTrue, true, false},
 };
 ghost use Rattle.bre_core.specs.Pattern.{Pattern};
 ghost use Rattle.seg_core.specs.Line.{delimiters, ends_with};
@@ -11,10 +11,9 @@ ghost use Rattle.csplit_core.specs.{
   Plan.{above, missed},
   Planned.plan,
   Cutter.{AimHolds, IsFit, IsSound, load, most_by, pattern_by, seen, state_in, suppress_in},
-  inner.Cutter.{
-    AreClear, Clears, CutAt, CutsAll, CutsOn, EndsAll, GoesOn, IsJudged, Opens, Holds, IsFound, IsLine, IsNoCut,
-    IsWhole, PassesClear, PassesCut, PassesOver, Spread, StopsAt, Stretches, Takes, Tries, TriesNext, WillCut,
-  },
+  inner.Cutter.{AreClear, Clears, CutAt, CutsAll, CutsOn, EndsAll, GoesOn, IsJudged, Opens, Holds, IsFound, IsLine},
+  inner.Cutter.{IsNoCut, IsWhole, PassesClear, PassesCut, PassesOver, Spread, StopsAt, Stretches, Takes, Tries},
+  inner.Cutter.{TriesNext, WillCut},
   Input.{all_lines, newline, without_newline},
 };
 ghost use Rattle.csplit_core.specs.declared.progress.Turn.TheVariants as turn_is;

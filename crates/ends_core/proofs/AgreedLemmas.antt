@@ -5,10 +5,8 @@ use Rattle.std.proofs.{
     Bool.{cases_lt, lt-ltb, le-ltb, eq-eqb, ne_eqb},
     List.{append-nil, drop-append-le, length-replicate},
   },
-  Common.{
-    ◌≡◌, ◌≢◌, ℕ, ◌+◌, ◌-◌, ◌<◌, ◌≤◌, zero, suc, List, [], ◌∷◌, ◌++◌, length, drop, replicate, Bool, true, false, cond,
-    inl, inr, refl, sym, ◌∙◌, ap, subst, arith, append_assoc, length-append, rules,
-  },
+  Common.{◌≡◌, ◌≢◌, ℕ, ◌+◌, ◌-◌, ◌<◌, ◌≤◌, zero, suc, List, [], ◌∷◌, ◌++◌, length, drop, replicate, Bool, true, false},
+  Common.{cond, inl, inr, refl, sym, ◌∙◌, ap, subst, arith, append_assoc, length-append, rules},
   Math.Seq.drop-append_seam,
 }
 use Rattle.seg_core.{
@@ -20,16 +18,14 @@ use Rattle.ports_core.{
     Part.{IsBeginning, nothing, only_out},
     Agreed.{CanCome, IsAgreed, IsUndecided, Spot, spot, spots_from, output_at, ArePlaced},
   },
-  proofs.AgreedLemmas.{
-    none_comes, one_comes, copies_come, other, other_differs, other_comes, agreed_now, beginning_short, common, spot_in,
-    spot_past, some_spot, nothing_waits, IsStretch, stretch_placed,
-  },
+  proofs.AgreedLemmas.{none_comes, one_comes, copies_come, other, other_differs, other_comes, agreed_now},
+  proofs.AgreedLemmas.{beginning_short, common, spot_in, spot_past, some_spot, nothing_waits, IsStretch},
+  proofs.AgreedLemmas.stretch_placed,
 }
 use Rattle.ends_core.specs.{
   Ends.{size, measure, first_of, last_of, but_last_of, head_of, tail_of, after_of},
-  laws.EndsLaws.{
-    measure-append, first_of-append, first_of-short, first_of-full, first_then_after, ends_together, but_last_of-append,
-  },
+  laws.EndsLaws.{measure-append, first_of-append, first_of-short, first_of-full, first_then_after, ends_together},
+  laws.EndsLaws.but_last_of-append,
   Head.{head_work, head_waiting},
   Tail.{tail_work, tail_waiting},
   Place.{head_spots, tail_spots},

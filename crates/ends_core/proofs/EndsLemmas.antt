@@ -3,15 +3,13 @@ use Rattle.std.proofs.lemmas.{
   Grind.common_steps,
   Option.none-some,
   Bool.{false≢true, leb-false, cases_lt, le-leb, lt-leb, leb-true},
-  List.{
-    take_all, nil_from_length, append-nil, append_cancel_left, take-append-drop, take-append-le, take_at, length-drop,
-    length-take, Elements.All-replicate,
-  },
+  List.{take_all, nil_from_length, append-nil, append_cancel_left, take-append-drop, take-append-le, take_at},
+  List.{length-drop, length-take, Elements.All-replicate},
 }
-use Rattle.std.proofs.Common.{
-  ◌≡◌, ℕ, ◌+◌, ◌-◌, ◌<◌, ◌≤◌, ◌&&◌, not, List, [], ◌∷◌, ◌++◌, ◌⊎◌, length, Bool, true, false, IsTrue, Ok, Err, Result,
-  OnOk, nat_le, inl, inr, None, refl, sym, ◌∙◌, ap, subst, arith, length-append, ◌↔◌, replicate, lit<, zero, suc, take,
-  drop, rules,
+use Rattle.std.proofs.{
+  Common.{◌≡◌, ℕ, ◌+◌, ◌-◌, ◌<◌, ◌≤◌, ◌&&◌, not, List, [], ◌∷◌, ◌++◌, ◌⊎◌, length, Bool, true, false, IsTrue, Ok, Err},
+  Common.{Result, OnOk, nat_le, inl, inr, None, refl, sym, ◌∙◌, ap, subst, arith, length-append, ◌↔◌, replicate, lit<},
+  Common.{zero, suc, take, drop, rules},
 }
 use Rattle.ports_core.specs.{
   Slot.{Slot, is_writable, with_written, told_of},
@@ -35,27 +33,22 @@ use Rattle.ends_core.specs.{
   declared.{ends.Ends.{Ends, TheVariants.{First, ButLast, FromNth, Last}}, front.Front.Front, kept.Kept.Kept},
   Ends.{measure, first_of, after_of, last_of},
   Head.{head_work, IsDone, ahead_of},
-  Stage.{
-    Stretch, the_first, the_last, keeps, front_in, work_in, stretch_of, delim_of, unit_of, count_of, left_of,
-    waiting_of, waiting, past_in, past_of, may_lack, least_of, missing_of, work, Holds, terms, is_done, all_but_last,
-  },
+  Stage.{Stretch, the_first, the_last, keeps, front_in, work_in, stretch_of, delim_of, unit_of, count_of, left_of},
+  Stage.{waiting_of, waiting, past_in, past_of, may_lack, least_of, missing_of, work, Holds, terms, is_done},
+  Stage.all_but_last,
   inner.{
-    Stage.{
-      EndsBadly, changed, stopped, IsSilent, passed, due, due_at_end, left_waiting, is_full, unused_of, FullLacksNone,
-      SameAsked, piece_for, wanted_by,
-    },
+    Stage.{EndsBadly, changed, stopped, IsSilent, passed, due, due_at_end, left_waiting, is_full, unused_of},
+    Stage.{FullLacksNone, SameAsked, piece_for, wanted_by},
     Kept.Stops,
   },
   Kept.{held_of, most_of, delim_of as kept_delim, unit_of as kept_unit},
   Shown.changed_below,
   laws.WorkLaws.{full_head, enough_came, fewer_came, complete_came},
-  laws.EndsLaws.{
-    ends_together, first_then_after, measure-append, first_of-append, first_of-short, after_of-append, last_of-append,
-    but_last_of-append, first_of-full,
-  },
+  laws.EndsLaws.{ends_together, first_then_after, measure-append, first_of-append, first_of-short, after_of-append},
+  laws.EndsLaws.{last_of-append, but_last_of-append, first_of-full},
 }
-use Rattle.ends_core.proofs.KeptLemmas.{
-  measure-delimiters, first_of-more, but_last_grows, first_of-nil, after-past, stays,
+use Rattle.ends_core.proofs.{
+  KeptLemmas.{measure-delimiters, first_of-more, but_last_grows, first_of-nil, after-past, stays},
 }
 use Rattle.ports_core.specs.declared.fault.Fault.TheVariants as fault_is
 use Rattle.ends_core.proofs.KeptLemmas as stop

@@ -1,7 +1,7 @@
 -- `head` and `tail` of an input that shows its bytes: they are lawful, and where the text that was shown comes, they end as
 -- those that know nothing of it do.
-use Rattle.std.proofs.Common.{
-  ◌≡◌, ℕ, ◌≤◌, suc, List, length, drop, None, true, false, sym, ◌∙◌, ap, arith, length-append,
+use Rattle.std.proofs.{
+  Common.{◌≡◌, ℕ, ◌≤◌, suc, List, length, drop, None, true, false, sym, ◌∙◌, ap, arith, length-append},
 }
 use Rattle.seg_core.specs.declared.unit.Unit.{Unit as Counted, TheVariants.Bytes}
 use Rattle.ports_core.{specs.{Agreed.ArePlaced, Part.only_out, Work.IsLawful}, proofs.AgreedLemmas.stretch_placed}

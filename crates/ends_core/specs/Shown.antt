@@ -1,7 +1,7 @@
 -- `head` of all but the last, and `tail` of the last, where an input shows its bytes before they are read: they end where
 -- those of the text end that was shown. So nothing waits. What comes may be another text.
-use Rattle.std.specs.Prelude.{
-  ◌≡◌, ℕ, ◌-◌, zero, suc, nat_lt, Bool, true, false, Option, Some, None, List, length, if◌then◌else◌,
+use Rattle.std.specs.{
+  Prelude.{◌≡◌, ℕ, ◌-◌, zero, suc, nat_lt, Bool, true, false, Option, Some, None, List, length, if◌then◌else◌},
 }
 use Rattle.seg_core.specs.declared.unit.Unit.{Unit as Counted, TheVariants.Bytes}
 use Rattle.ports_core.specs.{Source.Content, Work.Work, declared.verdict.Verdict.{Verdict, TheVariants.Changed}}

@@ -1,6 +1,6 @@
 //! The stage of `head` and `tail`: which part of an input is written.
-ghost use Rattle.std.specs.Prelude.{
-  ◌≡◌, ◌+◌, ◌-◌, ◌^◌, ◌<◌, ◌≤◌, ℕ, List, [], true, false, if◌then◌else◌, length, IsTrue, IfOk, IfErr, OnOk,
+ghost use Rattle.std.specs.{
+  Prelude.{◌≡◌, ◌+◌, ◌-◌, ◌^◌, ◌<◌, ◌≤◌, ℕ, List, [], true, false, if◌then◌else◌, length, IsTrue, IfOk, IfErr, OnOk},
 };
 ghost use Rattle.ports_core.specs.{
   Slot.{is_writable, told_of, with_written},
@@ -14,16 +14,12 @@ ghost use Rattle.ends_core.specs.{
   Tail.tail_work,
   Shown.{head_shown, place_of, tail_shown},
   inner.{
-    Stage.{
-      EndsBadly, FullLacksNone, IsSilent, SameAsked, passed, due, due_at_end, is_full, left_waiting, unused_of,
-      wanted_by,
-    },
+    Stage.{EndsBadly, FullLacksNone, IsSilent, SameAsked, passed, due, due_at_end, is_full, left_waiting, unused_of},
+    Stage.wanted_by,
     Kept.Writes,
   },
-  Stage.{
-    Holds, IsAsked, all_but_last, delim_of, missing_of, terms, from_the_nth, left_of, may_lack, past_of, the_first,
-    the_last, unit_of, waiting_of, work,
-  },
+  Stage.{Holds, IsAsked, all_but_last, delim_of, missing_of, terms, from_the_nth, left_of, may_lack, past_of},
+  Stage.{the_first, the_last, unit_of, waiting_of, work},
   laws.WorkLaws.lawful,
 };
 ghost use Rattle.seg_core.specs.declared.unit.Unit.{Unit as Counted};

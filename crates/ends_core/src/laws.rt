@@ -1,6 +1,6 @@
 //! Laws of the definitions, with no code: each stands on the contract of a function that does nothing.
-ghost use Rattle.std.specs.Prelude.{
-  ◌≡◌, ◌<◌, ◌≤◌, ◌+◌, ◌-◌, ◌++◌, ◌⊎◌, ℕ, suc, Bool, List, [], length, None, true, false,
+ghost use Rattle.std.specs.{
+  Prelude.{◌≡◌, ◌<◌, ◌≤◌, ◌+◌, ◌-◌, ◌++◌, ◌⊎◌, ℕ, suc, Bool, List, [], length, None, true, false},
 };
 ghost use Rattle.seg_core.specs.Line.{delimiters, ends_with, line_count};
 ghost use Rattle.ends_core.specs.{
@@ -8,9 +8,8 @@ ghost use Rattle.ends_core.specs.{
   Head.{head_waiting, head_work},
   Place.{head_spots, tail_spots},
   Shown.{head_shown, place_of, tail_shown},
-  Stage.{
-    Holds, all_but_last, count_of, delim_of, terms, keeps, may_lack, stretch_of, the_last, unit_of, waiting_of, work,
-  },
+  Stage.{Holds, all_but_last, count_of, delim_of, terms, keeps, may_lack, stretch_of, the_last, unit_of, waiting_of},
+  Stage.work,
   Tail.{tail_waiting, tail_work},
   declared.ends.Ends.Ends,
 };

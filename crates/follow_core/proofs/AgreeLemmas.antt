@@ -7,10 +7,8 @@ use Rattle.std.proofs.{
     Slice.Eq.bytes_eq-Decides,
   },
   Math.Seq.drop-append_seam as drop_front,
-  Common.{
-    ◌≡◌, ℕ, Bool, true, false, List, [], ◌∷◌, ◌++◌, length, Some, refl, sym, ◌∙◌, ap, arith, length-append,
-    if◌then◌else◌, ◌⊎◌, inl, inr, ◌<◌, take, Option, None, subst, bytes_eq, rules,
-  },
+  Common.{◌≡◌, ℕ, Bool, true, false, List, [], ◌∷◌, ◌++◌, length, Some, refl, sym, ◌∙◌, ap, arith, length-append},
+  Common.{if◌then◌else◌, ◌⊎◌, inl, inr, ◌<◌, take, Option, None, subst, bytes_eq, rules},
 }
 use Rattle.ports_core.{
   specs.Part.IsBeginning,
@@ -19,17 +17,14 @@ use Rattle.ports_core.{
 use Rattle.watch_core.{
   specs.{
     Snapshot.Snapshot,
-    Edits.{
-      Edit, append, truncate, replace, remove, end, bar, World, led_to, with_file, edited, edited_by, seen_in,
-      snapshots_from, snapshots_of,
-    },
+    Edits.{Edit, append, truncate, replace, remove, end, bar, World, led_to, with_file, edited, edited_by, seen_in},
+    Edits.{snapshots_from, snapshots_of},
   },
   proofs.WorldLemmas.{append_leads, append_grows},
 }
 use Rattle.follow_core.{
-  specs.Version.{
-    Version, Entry, version, gap, version_in, entries_led, entries_later, is_file, entries_at_look, entries_of,
-  },
+  specs.Version.{Version, Entry, version, gap, version_in, entries_led, entries_later, is_file, entries_at_look},
+  specs.Version.entries_of,
   specs.Gain.{file_of, gain_between, gains_later, last_from, gains_after},
   specs.Run.{AreKept, name_text},
   specs.Placing.{all_edits, IsUncut, AreSeen, AllSeen},

@@ -5,10 +5,9 @@ use Rattle.std.proofs.{
     List.{append-nil, take-append-le, take-append-drop, take_all, length-drop, length-take-le, drop-drop as drop_drop},
     Bool.{and_parts, false≢true, Decides.nat_tests},
   },
-  Common.{
-    subst₂, ◌≡◌, ℕ, Bool, List, [], ◌∷◌, ◌++◌, ◌⊎◌, inl, inr, ◌∙◌, ap, subst, ◌+◌, ◌<◌, length, take, true, false, Some,
-    None, Option, refl, sym, arith, append_assoc, ◌-◌, ◌≤◌, drop, nat_lt, option_map, suc, zero, IsTrue, is_some, rules,
-  },
+  Common.{subst₂, ◌≡◌, ℕ, Bool, List, [], ◌∷◌, ◌++◌, ◌⊎◌, inl, inr, ◌∙◌, ap, subst, ◌+◌, ◌<◌, length, take, true},
+  Common.{false, Some, None, Option, refl, sym, arith, append_assoc, ◌-◌, ◌≤◌, drop, nat_lt, option_map, suc, zero},
+  Common.{IsTrue, is_some, rules},
   Math.{Seq.take-add, Bool.and-false},
 }
 use Rattle.ports_core.{
@@ -20,10 +19,8 @@ use Rattle.follow_core.specs.{
   Telling.Tells,
   Printing.{PrinterState, broke as short_broke, no_room},
   declared.{notice.Notice.{Notice, TheVariants.Truncated}, visitor.Stop.{Stop, TheVariants.{Broke, Over}}},
-  inner.Giving.{
-    IsFront, AreGiven, ArePut, BrokeAt, Came, CanGoOn, Copies, Ends, FailsToRead, Follows, IfBroke, Keeps, HoldsMany,
-    IsPast, Noted, Puts, Starts, WereFound, change_between, fault_by, notes_past, over_by,
-  },
+  inner.Giving.{IsFront, AreGiven, ArePut, BrokeAt, Came, CanGoOn, Copies, Ends, FailsToRead, Follows, IfBroke, Keeps},
+  inner.Giving.{HoldsMany, IsPast, Noted, Puts, Starts, WereFound, change_between, fault_by, notes_past, over_by},
   inner.Visits.KeepsOthers,
   Standing.IsLong,
   Reading.{AllGive, AreRead, IsRead, IsWhole, none_read, one_more},
@@ -34,16 +31,13 @@ use Rattle.follow_core.specs.{
 }
 use Rattle.follow_core.proofs.{
   EventLemmas.{begins_after, begins_all, begins_bytes, begins_more, bytes-append, lines-append},
-  CallLemmas.{
-    no_failure, tells_state, no_memory, wrote_text, wrote_line, came_none, came_after, puts_after, puts_nothing,
-  },
+  CallLemmas.{no_failure, tells_state, no_memory, wrote_text, wrote_line, came_none, came_after, puts_after},
+  CallLemmas.puts_nothing,
 }
 use Rattle.watch_core.{
   specs.declared.watch.{Broken.{Broken, TheVariants.{Len, Read}}, Seen.Seen},
-  specs.Watched.{
-    NameBreaks, GaveFrom, Watched, breaks, no_name, Finds, Reopens, is_readable, is_watchable, open_contents, opens,
-    watched_at,
-  },
+  specs.Watched.{NameBreaks, GaveFrom, Watched, breaks, no_name, Finds, Reopens, is_readable, is_watchable},
+  specs.Watched.{open_contents, opens, watched_at},
   specs.Snapshot.{Snapshot, Found, holds_many, latest, reads_as},
   proofs.NameLemmas.{broke_so, watchable_within},
 }

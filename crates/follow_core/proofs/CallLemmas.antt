@@ -1,10 +1,8 @@
 -- What a call on a name gives, by what the calls in it give: bytes under headers, and lines; the open file, and where the name leads.
 use Rattle.std.proofs.{
   lemmas.{Grind.common_steps, List.{append-nil, take-append-le}},
-  Common.{
-    ◌≡◌, ℕ, Bool, List, [], ◌∷◌, ◌++◌, inl, inr, ◌∙◌, ap, subst, ◌+◌, ◌<◌, length, take, true, false, not,
-    if◌then◌else◌, Some, None, Option, refl, sym, arith, append_assoc, length-append, bytes_eq, is_none, rules,
-  },
+  Common.{◌≡◌, ℕ, Bool, List, [], ◌∷◌, ◌++◌, inl, inr, ◌∙◌, ap, subst, ◌+◌, ◌<◌, length, take, true, false, not},
+  Common.{if◌then◌else◌, Some, None, Option, refl, sym, arith, append_assoc, length-append, bytes_eq, is_none, rules},
   Math.{Seq.take-append-add, Bool.and-false},
 }
 use Rattle.ports_core.specs.{

@@ -1,9 +1,8 @@
 -- What a call on a name gives: what came to the open file, and where the name leads.
 use Rattle.std.proofs.{
-  Common.{
-    ◌≡◌, ℕ, Bool, List, [], ◌∷◌, ◌++◌, ◌⊎◌, inl, inr, ◌∙◌, ap, subst, length, true, false, not, if◌then◌else◌, Some,
-    None, Option, refl, sym, arith, ◌-◌, drop, nat_lt, Result, Ok, Err, ◌==◌, nat_le, IsTrue, map, IfOk, is_some, rules,
-  },
+  Common.{◌≡◌, ℕ, Bool, List, [], ◌∷◌, ◌++◌, ◌⊎◌, inl, inr, ◌∙◌, ap, subst, length, true, false, not, if◌then◌else◌},
+  Common.{Some, None, Option, refl, sym, arith, ◌-◌, drop, nat_lt, Result, Ok, Err, ◌==◌, nat_le, IsTrue, map, IfOk},
+  Common.{is_some, rules},
   lemmas.{
     Bool.{le-leb, false≢true, eqb-true, eq-eqb, Decides.nat_tests},
     Option.{none-some, same_Some},
@@ -13,10 +12,8 @@ use Rattle.std.proofs.{
 use Rattle.ports_core.specs.{Slot.{Slot, changed_at}, declared.fault.Fault.Fault}
 use Rattle.follow_core.specs.{
   Printing.PrinterState,
-  inner.Giving.{
-    Adds, Copies, Ends, Follows, IfBroke, Keeps, Leads, FromEither, FromFront, HoldsMany, IsPast, Noted, ReadsOf,
-    ToldLed, ToldShort, WereFound, change_between, notes_past, stop_in,
-  },
+  inner.Giving.{Adds, Copies, Ends, Follows, IfBroke, Keeps, Leads, FromEither, FromFront, HoldsMany, IsPast, Noted},
+  inner.Giving.{ReadsOf, ToldLed, ToldShort, WereFound, change_between, notes_past, stop_in},
   declared.{
     visitor.Stop.{Stop, TheVariants.{Broke, Over}},
     notice.Notice.{Notice, TheVariants.{Appeared, Inaccessible, Replaced, Truncated}},
@@ -24,19 +21,17 @@ use Rattle.follow_core.specs.{
   Share.{Due, came_before, due_later, given_by, is_kept, led_before, left_from},
   Event.{Event, all_but, events_later, gives, notes, notes_in},
   Look.{Fate, sound, unled, unopened, unmeasured, unsought, unread, can_meet},
-  Version.{
-    Entry, version, gap, version_in, entries_at_look, entries_led, entries_open, held_at, is_same, open_after_look,
-  },
+  Version.{Entry, version, gap, version_in, entries_at_look, entries_led, entries_open, held_at, is_same},
+  Version.open_after_look,
   Gain.{file_of, last_from},
   Reading.{IsSeen, LeftOpen},
   Standing.{IsLong, StandsAt},
 }
 use Rattle.follow_core.proofs.{
   RunLemmas.last_from-append,
-  CallGivesLemmas.{
-    broke_at, broke_first, contents_open, due_as, due_by, follows_from, follows_stop, found_as, found_both, found_from,
-    goes_after, if_broke, is_held, noted_as, noted_found, nothing_due, opened_there, opens_same, stops_early, untold,
-  },
+  CallGivesLemmas.{broke_at, broke_first, contents_open, due_as, due_by, follows_from, follows_stop, found_as},
+  CallGivesLemmas.{found_both, found_from, goes_after, if_broke, is_held, noted_as, noted_found, nothing_due},
+  CallGivesLemmas.{opened_there, opens_same, stops_early, untold},
 }
 use Rattle.watch_core.specs.{
   declared.watch.Broken.TheVariants.{Len, Look, Open},

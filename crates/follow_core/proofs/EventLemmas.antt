@@ -5,10 +5,8 @@ use Rattle.std.proofs.{
 }
 use Rattle.follow_core.specs.{
   declared.notice.Notice.Notice,
-  Event.{
-    Begins, begins_none, begins_within, begins_on, Event, bytes_in, events_between, events_later, gives, lines_in,
-    notes,
-  },
+  Event.{Begins, begins_none, begins_within, begins_on, Event, bytes_in, events_between, events_later, gives, lines_in},
+  Event.notes,
   Gain.{gain_between, gains_later, last_from},
   Notice.{notice_of, notices_between},
   inner.Giving.IsFront,

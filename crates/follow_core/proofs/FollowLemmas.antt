@@ -1,16 +1,12 @@
 -- A look at all names: at one after another, one look more, and one that was stopped; and one look after another.
 use Rattle.std.proofs.{
-  Common.{
-    ◌≡◌, ℕ, zero, suc, ◌<◌, ◌≤◌, ◌+◌, Bool, true, false, ◌||◌, List, [], ◌∷◌, ◌++◌, length, take, set, replicate,
-    get_or, slice_index_or, refl, sym, ◌∙◌, ap, subst, arith, append_assoc, inl, inr, ◌⊎◌, Option, Some, subst₂, Err,
-    Ok, None, is_some, rules,
-  },
+  Common.{◌≡◌, ℕ, zero, suc, ◌<◌, ◌≤◌, ◌+◌, Bool, true, false, ◌||◌, List, [], ◌∷◌, ◌++◌, length, take, set, replicate},
+  Common.{get_or, slice_index_or, refl, sym, ◌∙◌, ap, subst, arith, append_assoc, inl, inr, ◌⊎◌, Option, Some, subst₂},
+  Common.{Err, Ok, None, is_some, rules},
   Math.{Bool.or-false, Seq.{get_or-append_seam, map-set_same, take-suc}},
   lemmas.Bool.{cases_eq, cases_lt, false≢true},
-  lemmas.List.{
-    append-nil, get_or-map, get_or-set_other, get_or-set_same, length-append, length-map, length-replicate, length-set,
-    length-take-le, get_or_past,
-  },
+  lemmas.List.{append-nil, get_or-map, get_or-set_other, get_or-set_same, length-append, length-map, length-replicate},
+  lemmas.List.{length-set, length-take-le, get_or_past},
 }
 use Rattle.ports_core.specs.{Slot.{Slot, changed_at}, declared.fault.Fault.Fault}
 use Rattle.follow_core.specs.{

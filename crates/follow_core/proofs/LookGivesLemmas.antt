@@ -6,46 +6,35 @@ use Rattle.follow_core.specs.{
     visitor.Stop.{Stop, TheVariants.{Broke, Over}},
     name.Standing.{Standing, TheVariants.{New, Followed, Left}},
   },
-  Reading.{
-    AreAtLook, AreFound, IsFound, IsGiven, IsMissing, IsTold, LeftOpen, NoneBreaks, StartsIn, looks_more, names_more,
-    no_looks,
-  },
+  Reading.{AreAtLook, AreFound, IsFound, IsGiven, IsMissing, IsTold, LeftOpen, NoneBreaks, StartsIn, looks_more},
+  Reading.{names_more, no_looks},
   Event.{Event, bytes_in, gives, lines_in},
   Version.{Entry, gap, entries_at_look, entries_led, held_at, open_after_later, open_after_look, version},
   Gain.{file_of, last_from, last_of, gains_after},
   inner.{
-    Giving.{
-      Anywhere, BrokeAt, Came, Nothing, WereFound, Ends, Follows, IfBroke, Keeps, Shared, Starts, fault_by, is_read,
-      stop_in, text_under,
-    },
+    Giving.{Anywhere, BrokeAt, Came, Nothing, WereFound, Ends, Follows, IfBroke, Keeps, Shared, Starts, fault_by},
+    Giving.{is_read, stop_in, text_under},
     Visits.{Visits, TellsStop, Visited},
   },
-  Look.{
-    Fate, Look, Ways, can_meet, entries_in, failed_by, failed_in, fate_at, is_dropped, snapshots, sound, unled,
-    unopened, unmeasured, unsought, unread, is_first,
-  },
+  Look.{Fate, Look, Ways, can_meet, entries_in, failed_by, failed_in, fate_at, is_dropped, snapshots, sound, unled},
+  Look.{unopened, unmeasured, unsought, unread, is_first},
   Notice.is_missing,
-  Share.{
-    BeginsShare, Due, Share, due_at, due_later, failure_line, failure_of, given_by, is_kept, is_unopened, led_before,
-    missing_share, no_share, share_by,
-  },
+  Share.{BeginsShare, Due, Share, due_at, due_later, failure_line, failure_of, given_by, is_kept, is_unopened},
+  Share.{led_before, missing_share, no_share, share_by},
   Printing.PrinterState,
   Telling.{Tells, failure_text, tail_by},
 }
 use Rattle.follow_core.proofs.{
   CallLemmas.{came_none, failure_said, wrote_after, wrote_line},
-  CallGivesLemmas.{
-    broke_at, contents_open, found_as, found_both, found_from, goes_after, held_many, if_broke, keeps_others, none_of,
-    nothing_due, opened_led, opened_there, some_of,
-  },
+  CallGivesLemmas.{broke_at, contents_open, found_as, found_both, found_from, goes_after, held_many, if_broke},
+  CallGivesLemmas.{keeps_others, none_of, nothing_due, opened_led, opened_there, some_of},
   CatchLemmas.{FromFrontOr, LooksAgain, long_by, ToldAgain, at_look},
   LookLemmas.{first_last, last_file, looked_last, failed_more, failed_sound, broken_sound, broken_more, seeing, IsDue},
 }
 use Rattle.std.proofs.{
-  Common.{
-    ◌⊎◌, ◌≡◌, ◌<◌, ◌+◌, arith, zero, suc, ℕ, Bool, true, false, not, List, [], ◌∷◌, ◌++◌, length, Option, Some, None,
-    refl, sym, ◌∙◌, ap, if◌then◌else◌, subst, inl, inr, ◌&&◌, Result, Ok, Err, IsTrue, IfOk, subst₂, is_none, is_some,
-  },
+  Common.{◌⊎◌, ◌≡◌, ◌<◌, ◌+◌, arith, zero, suc, ℕ, Bool, true, false, not, List, [], ◌∷◌, ◌++◌, length, Option, Some},
+  Common.{None, refl, sym, ◌∙◌, ap, if◌then◌else◌, subst, inl, inr, ◌&&◌, Result, Ok, Err, IsTrue, IfOk, subst₂},
+  Common.{is_none, is_some},
   lemmas.{List.{append-nil, map-append}, Bool.false≢true, Result.IfOk-weaker},
   Math.Bool.and-false,
 }

@@ -2,15 +2,11 @@
 use Rattle.follow_core.specs.{
   Standing.{BrokeIn, StandsAt},
   Event.{bytes_in, events_later},
-  Version.{
-    Entry, gap, version_in, entries_at_look, entries_led, entries_later, entries_open, held_at, open_after,
-    open_after_later, open_after_look,
-  },
+  Version.{Entry, gap, version_in, entries_at_look, entries_led, entries_later, entries_open, held_at, open_after},
+  Version.{open_after_later, open_after_look},
   Gain.{file_of, last_from, last_of, gains_later, gains_after},
-  Look.{
-    Fate, Look, Ways, can_meet, are_met, entries_in, failed_by, failed_in, fate_at, is_dropped, snapshots, sound, unled,
-    unopened, unmeasured, unsought, unread, is_first,
-  },
+  Look.{Fate, Look, Ways, can_meet, are_met, entries_in, failed_by, failed_in, fate_at, is_dropped, snapshots, sound},
+  Look.{unled, unopened, unmeasured, unsought, unread, is_first},
   Run.{AreKept, name_text},
   Notice.is_missing,
   Share.{Due, due_at, gain, gains_from, opened_in},
@@ -22,10 +18,8 @@ use Rattle.follow_core.proofs.{
   RunLemmas.{gains-append, last_from-append, text_goes_on, text_is_gains, entries-append},
 }
 use Rattle.std.proofs.{
-  Common.{
-    ◌≡◌, ℕ, ◌==◌, Bool, true, false, List, [], ◌∷◌, ◌++◌, length, Option, Some, None, refl, sym, ◌∙◌, ap, if◌then◌else◌,
-    subst, append_assoc, ◌&&◌, eqb-true, rules,
-  },
+  Common.{◌≡◌, ℕ, ◌==◌, Bool, true, false, List, [], ◌∷◌, ◌++◌, length, Option, Some, None, refl, sym, ◌∙◌, ap},
+  Common.{if◌then◌else◌, subst, append_assoc, ◌&&◌, eqb-true, rules},
   lemmas.{List.{append-nil, map-append}, Bool.and_parts},
   Math.Bool.{and-false, and-true},
 }

@@ -1,23 +1,18 @@
 -- Looks at all names, one after another
 use Rattle.std.proofs.{
-  Common.{
-    ◌≡◌, ℕ, zero, suc, ◌<◌, ◌≤◌, ◌+◌, ◌-◌, Bool, true, false, IsTrue, if◌then◌else◌, ◌||◌, List, [], ◌∷◌, ◌++◌, length,
-    take, slice_index_or, refl, sym, ◌∙◌, ap, subst, arith, inl, inr, ◌⊎◌, Option, Some, subst₂, Err, not, ◌&&◌, map,
-    Ok, Result, None, is_some, rules,
-  },
+  Common.{◌≡◌, ℕ, zero, suc, ◌<◌, ◌≤◌, ◌+◌, ◌-◌, Bool, true, false, IsTrue, if◌then◌else◌, ◌||◌, List, [], ◌∷◌, ◌++◌},
+  Common.{length, take, slice_index_or, refl, sym, ◌∙◌, ap, subst, arith, inl, inr, ◌⊎◌, Option, Some, subst₂, Err},
+  Common.{not, ◌&&◌, map, Ok, Result, None, is_some, rules},
   Math.{Bool.{or-false as or_none, and-false as and_none}, Seq.take-append_seam},
   lemmas.Bool.{or_parts, cases_lt, and_parts, false≢true, not-true},
-  lemmas.List.{
-    append-nil, get_or-map, length-append, length-map, take_all, get_or-append-add, get_or_append_left, map-append,
-    take-append-le,
-  },
+  lemmas.List.{append-nil, get_or-map, length-append, length-map, take_all, get_or-append-add, get_or_append_left},
+  lemmas.List.{map-append, take-append-le},
 }
 use Rattle.ports_core.specs.{Slot.{Slot, adds}, declared.{fault.Fault.Fault, calling.Calling.Calling}}
 use Rattle.follow_core.specs.{
-  FollowState.{
-    AllReady, Begun, CanLook, FollowState, Holds, IsCause, IsOther, LooksOn, StandsIn, StopsOn, goes_on_at, is_alive,
-    is_alive_from, new_state, nothing, lacks_memory, output_broke, Halted, SawOrNot, opened_follow,
-  },
+  FollowState.{AllReady, Begun, CanLook, FollowState, Holds, IsCause, IsOther, LooksOn, StandsIn, StopsOn, goes_on_at},
+  FollowState.{is_alive, is_alive_from, new_state, nothing, lacks_memory, output_broke, Halted, SawOrNot},
+  FollowState.opened_follow,
   Followed.any_failed,
   Look.{Look, Ways, snapshots, ways_of},
   Share.{shares_at_look_from, shares_of},
@@ -28,9 +23,8 @@ use Rattle.follow_core.specs.{
   Printing.{PrinterState, Short},
   Reading.{AreAtLook, looks_more, no_looks},
   Sharing.CanPrint,
-  Standing.{
-    AllStand, CanVisit, NoneGoesOn, NameState, Stands, no_state, state_at, texts, AreWatched, IsFollowed, IsWatched,
-  },
+  Standing.{AllStand, CanVisit, NoneGoesOn, NameState, Stands, no_state, state_at, texts, AreWatched, IsFollowed},
+  Standing.IsWatched,
   declared.{
     name.Standing.{Standing, TheVariants.{New, Followed, Left}},
     follow.Stage.{Stage, TheVariants.{Fresh, Looking, Over}},

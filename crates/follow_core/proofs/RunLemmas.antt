@@ -2,18 +2,14 @@
 use Rattle.std.{
   proofs.lemmas.Grind.common_steps,
   proofs.Math.{Seq.drop-append_seam as drop_front, Bool.or_assoc},
-  proofs.Common.{
-    ◌≡◌, ℕ, Bool, true, false, List, [], ◌∷◌, ◌++◌, length, drop, refl, sym, ◌∙◌, ap, append_assoc, if◌then◌else◌,
-    append-nil, Option, ◌||◌, arith, is_some,
-  },
+  proofs.Common.{◌≡◌, ℕ, Bool, true, false, List, [], ◌∷◌, ◌++◌, length, drop, refl, sym, ◌∙◌, ap, append_assoc},
+  proofs.Common.{if◌then◌else◌, append-nil, Option, ◌||◌, arith, is_some},
   specs.List.onto_first,
 }
 use Rattle.ports_core.specs.Part.{IsBeginning}
 use Rattle.follow_core.specs.{
-  Version.{
-    Version, Entry, version, gap, entries_of, entries_later, entries_at_look, open_after_look, open_after_later,
-    open_after,
-  },
+  Version.{Version, Entry, version, gap, entries_of, entries_later, entries_at_look, open_after_look, open_after_later},
+  Version.open_after,
   Run.{goes_on, runs_of, last_contents, whole_text, begun_text, name_text, KeptFrom, AreKept},
   Gain.{gain_between, gains_later, last_from, gains_after},
   Look.{Ways, Look},

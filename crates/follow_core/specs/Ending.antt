@@ -1,7 +1,7 @@
 -- How a run of following ends, by what its looks saw.
-use Rattle.std.specs.Prelude.{
-  ◌≡◌, ◌<◌, ◌≤◌, ◌+◌, ◌++◌, ◌∷◌, ℕ, zero, suc, Bool, true, false, IsTrue, List, [], length, take, Option, Some, None,
-  if◌then◌else◌,
+use Rattle.std.specs.{
+  Prelude.{◌≡◌, ◌<◌, ◌≤◌, ◌+◌, ◌++◌, ◌∷◌, ℕ, zero, suc, Bool, true, false, IsTrue, List, [], length, take, Option},
+  Prelude.{Some, None, if◌then◌else◌},
 }
 use Rattle.ports_core.specs.{
   Message.{SaysOn, TellsOn, output_reason},

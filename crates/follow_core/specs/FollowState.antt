@@ -1,7 +1,7 @@
 -- Following: its names and how they stand, from one look to the next.
-use Rattle.std.specs.Prelude.{
-  ◌≡◌, ◌⊎◌, ◌<◌, ◌∷◌, ◌++◌, ◌+◌, ℕ, Bool, true, false, not, ◌&&◌, ◌||◌, List, [], length, map, take, slice_index_or,
-  is_some,
+use Rattle.std.specs.{
+  Prelude.{◌≡◌, ◌⊎◌, ◌<◌, ◌∷◌, ◌++◌, ◌+◌, ℕ, Bool, true, false, not, ◌&&◌, ◌||◌, List, [], length, map, take},
+  Prelude.{slice_index_or, is_some},
 }
 use Rattle.ports_core.specs.{
   Slot.{Slot, Rose},

@@ -1,6 +1,6 @@
 -- The looks that were made, and how each name came through them.
-use Rattle.std.specs.Prelude.{
-  is_some, ℕ, Bool, true, false, not, ◌&&◌, ◌||◌, List, [], ◌∷◌, Option, Some, None, map, slice_index_or,
+use Rattle.std.specs.{
+  Prelude.{is_some, ℕ, Bool, true, false, not, ◌&&◌, ◌||◌, List, [], ◌∷◌, Option, Some, None, map, slice_index_or},
 }
 use Rattle.ends_core.specs.Ends.{tail_of}
 use Rattle.seg_core.specs.declared.unit.Unit.{Unit, TheVariants.{Lines, Bytes}}

@@ -1,7 +1,7 @@
 -- What one look gives for one name.
-use Rattle.std.specs.Prelude.{
-  ◌≡◌, ℕ, ◌+◌, ◌-◌, Bool, true, false, not, is_some, ◌&&◌, List, [], ◌∷◌, ◌++◌, Option, Some, None, length,
-  if◌then◌else◌,
+use Rattle.std.specs.{
+  Prelude.{◌≡◌, ℕ, ◌+◌, ◌-◌, Bool, true, false, not, is_some, ◌&&◌, List, [], ◌∷◌, ◌++◌, Option, Some, None, length},
+  Prelude.if◌then◌else◌,
 }
 use Rattle.ports_core.specs.declared.fault.Fault.{Fault, TheVariants.{Open, Read}}
 use Rattle.watch_core.specs.Snapshot.{Snapshot}
@@ -11,10 +11,8 @@ use Rattle.follow_core.specs.{
   Notice.is_missing,
   Version.{Entry, entries_led, entries_open, held_at, is_same, open_after, open_after_look},
   Telling.failure_text,
-  Look.{
-    Look, Ways, Fate, sound, unled, unopened, unmeasured, unsought, unread, fate_at, is_dropped, is_first, entries_in,
-    snapshots,
-  },
+  Look.{Look, Ways, Fate, sound, unled, unopened, unmeasured, unsought, unread, fate_at, is_dropped, is_first},
+  Look.{entries_in, snapshots},
 }
 
 pub record Share : Type 0 where

@@ -1,6 +1,7 @@
 -- How a name stands between two looks.
-use Rattle.std.specs.Prelude.{
-  ◌≡◌, ◌<◌, ◌≤◌, ◌+◌, ℕ, Bool, true, false, List, [], Option, Some, None, ◌⊎◌, length, map, slice_index_or, is_some,
+use Rattle.std.specs.{
+  Prelude.{◌≡◌, ◌<◌, ◌≤◌, ◌+◌, ℕ, Bool, true, false, List, [], Option, Some, None, ◌⊎◌, length, map, slice_index_or},
+  Prelude.is_some,
 }
 use Rattle.watch_core.specs.{
   declared.watch.Broken.Broken,

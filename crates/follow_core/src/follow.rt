@@ -1,6 +1,6 @@
 //! Following: looks at names, one after another.
-ghost use Rattle.std.specs.Prelude.{
-  ◌≡◌, ◌<◌, ◌≤◌, ◌+◌, ◌^◌, ◌∷◌, ◌++◌, [], ℕ, Bool, List, true, false, length, map, Err, IfOk, IfErr, OnOk,
+ghost use Rattle.std.specs.{
+  Prelude.{◌≡◌, ◌<◌, ◌≤◌, ◌+◌, ◌^◌, ◌∷◌, ◌++◌, [], ℕ, Bool, List, true, false, length, map, Err, IfOk, IfErr, OnOk},
 };
 ghost use Rattle.ports_core.specs.{Slot.Slot, declared.calling.Calling.Calling};
 ghost use Rattle.watch_core.specs.Watched.{Watched, watched_at};

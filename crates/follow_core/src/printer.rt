@@ -1,6 +1,6 @@
 //! Where the bytes of followed names go, under headers.
-ghost use Rattle.std.specs.Prelude.{
-  ◌≡◌, [], Some, IsTrue, IfErr, OnOk, if◌then◌else◌, string_bytes, option_map, is_none,
+ghost use Rattle.std.specs.{
+  Prelude.{◌≡◌, [], Some, IsTrue, IfErr, OnOk, if◌then◌else◌, string_bytes, option_map, is_none},
 };
 ghost use Rattle.ports_core.specs.{Slot.{is_writable, with_written, told_of}, Text.header_of};
 ghost use Rattle.follow_core.specs.{

@@ -1,7 +1,7 @@
 //! A look at one name: what came to its file is written, and what changed or failed is told.
-ghost use Rattle.std.specs.Prelude.{
-  ◌≡◌, ◌≤◌, ◌<◌, ◌∷◌, [], ℕ, List, Bool, true, false, length, nat_lt, option_map, if◌then◌else◌, IsTrue, IfOk, IfErr,
-  Some,
+ghost use Rattle.std.specs.{
+  Prelude.{◌≡◌, ◌≤◌, ◌<◌, ◌∷◌, [], ℕ, List, Bool, true, false, length, nat_lt, option_map, if◌then◌else◌, IsTrue, IfOk},
+  Prelude.{IfErr, Some},
 };
 ghost use Rattle.ends_core.specs.Ends.{tail_of};
 ghost use Rattle.ports_core.specs.{Slot.{is_open, is_writable, slot_at}, Message.SaysOn, Text.message_of};
@@ -11,10 +11,8 @@ ghost use Rattle.follow_core.specs.{
   Event.notes,
   Printing.{PrinterState, fresh_printer},
   inner.{
-    Giving.{
-      Adds, CanGoOn, Copies, Ends, HoldsMany, IsPast, Leads, Noted, Starts, change_between, notes_past, over_in,
-      stop_in,
-    },
+    Giving.{Adds, CanGoOn, Copies, Ends, HoldsMany, IsPast, Leads, Noted, Starts, change_between, notes_past, over_in},
+    Giving.stop_in,
     Visits.{TellsStop, Visits},
   },
   Sharing.CanPrint,

@@ -1,9 +1,7 @@
 -- A watch in memory sees at each look what was planned for it.
 use Rattle.std.proofs.{
-  Common.{
-    ◌≡◌, ℕ, ◌+◌, ◌-◌, ◌<◌, ◌≤◌, ◌⊎◌, inl, inr, min, zero, suc, Bool, true, false, List, [], ◌∷◌, ◌++◌, Option, Some,
-    None, length, refl, if◌then◌else◌, sym, ◌∙◌, ap, subst, arith, get_or, set, length-append, is_some,
-  },
+  Common.{◌≡◌, ℕ, ◌+◌, ◌-◌, ◌<◌, ◌≤◌, ◌⊎◌, inl, inr, min, zero, suc, Bool, true, false, List, [], ◌∷◌, ◌++◌, Option},
+  Common.{Some, None, length, refl, if◌then◌else◌, sym, ◌∙◌, ap, subst, arith, get_or, set, length-append, is_some},
   lemmas.{Bool.cases_lt, Grind.common_steps},
 }
 use Rattle.watch_core.{

@@ -1,16 +1,14 @@
-ghost use Rattle.std.specs.Prelude.{
-  ◌≡◌, ◌++◌, ◌∷◌, [], ◌+◌, ◌≤◌, ◌<◌, Some, None, true, false, length, option_map, take, drop, map, string_bytes, IsTrue,
-  IfOk, IfErr, IfSome, IfNone, OnOk,
+ghost use Rattle.std.specs.{
+  Prelude.{◌≡◌, ◌++◌, ◌∷◌, [], ◌+◌, ◌≤◌, ◌<◌, Some, None, true, false, length, option_map, take, drop, map},
+  Prelude.{string_bytes, IsTrue, IfOk, IfErr, IfSome, IfNone, OnOk},
 };
 ghost use Rattle.ports_core.specs.{
   Slot.changed_at,
-  Source.{
-    Source, source_at, source_of, missing, gives, gets_back, fails, looks, skips, unshown, Gave, BrokeOff, Shows,
-    ShowsAll, ShowsOf, count_shown, holds, cut,
-  },
+  Source.{Source, source_at, source_of, missing, gives, gets_back, fails, looks, skips, unshown, Gave, BrokeOff, Shows},
+  Source.{ShowsAll, ShowsOf, count_shown, holds, cut},
 };
-ghost use Rattle.mem_core.specs.MemInState.{
-  MemInState, Laid, laid_at, laid_in, breaks_in, content_in, file_of, showing, shown_by, with_break,
+ghost use Rattle.mem_core.specs.{
+  MemInState.{MemInState, Laid, laid_at, laid_in, breaks_in, content_in, file_of, showing, shown_by, with_break},
 };
 
 use crate::failing::{Cause, planned};

@@ -1,5 +1,5 @@
-ghost use Rattle.std.specs.Prelude.{
-  ◌≡◌, [], ◌≤◌, ◌<◌, List, length, take, string_bytes, true, IfOk, IfErr, IfSome, IfNone,
+ghost use Rattle.std.specs.{
+  Prelude.{◌≡◌, [], ◌≤◌, ◌<◌, List, length, take, string_bytes, true, IfOk, IfErr, IfSome, IfNone},
 };
 ghost use Rattle.ports_core.specs.{
   declared.reason.Reason.TheVariants.Other,

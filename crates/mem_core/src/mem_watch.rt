@@ -1,13 +1,14 @@
-ghost use Rattle.std.specs.Prelude.{
-  ◌≡◌, ◌<◌, ◌≤◌, ◌^◌, ◌∷◌, ◌++◌, [], map, length, true, false, string_bytes, IfOk, IfErr, OnOk, IfSome, IsTrue, is_some,
+ghost use Rattle.std.specs.{
+  Prelude.{◌≡◌, ◌<◌, ◌≤◌, ◌^◌, ◌∷◌, ◌++◌, [], map, length, true, false, string_bytes, IfOk, IfErr, OnOk, IfSome},
+  Prelude.{IsTrue, is_some},
 };
 ghost use Rattle.watch_core.specs.{
   Edits.empty_world,
   Snapshot.latest,
   Watched.{Finds, GaveFrom, Watched, added, breaks, is_readable, is_watchable, open_contents, opens, watched_at},
 };
-ghost use Rattle.mem_core.specs.MemWatchState.{
-  MemWatchState, edit_of, no_looks, seen, shown, shows, with_look, world_at,
+ghost use Rattle.mem_core.specs.{
+  MemWatchState.{MemWatchState, edit_of, no_looks, seen, shown, shows, with_look, world_at},
 };
 ghost use Rattle.ports_core.specs.Slot.{changed_at};
 

@@ -1,8 +1,8 @@
 //! Files in memory, and names that lead to them.
 ghost use Rattle.std.specs.Prelude.{◌≡◌, ◌∷◌, ℕ, List, map, string_bytes, IfOk, OnOk};
-ghost use Rattle.watch_core.specs.Edits.{
-  Bar, Link, World, append, bar, edited, edited_by, empty_world, end, held_in, is_barred_in, is_one, led_to, replace,
-  truncate,
+ghost use Rattle.watch_core.specs.{
+  Edits.{Bar, Link, World, append, bar, edited, edited_by, empty_world, end, held_in, is_barred_in, is_one, led_to},
+  Edits.{replace, truncate},
 };
 ghost use Rattle.mem_core.specs.MemWatchState.{edit_of, shown};
 

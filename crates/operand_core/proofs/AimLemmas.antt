@@ -1,10 +1,8 @@
 -- What a word spells and aims at, and how deep counts go.
 use Rattle.std.proofs.{
-  Common.{
-    ◌≡◌, ℕ, suc, ◌+◌, ◌-◌, take, drop, add-one, ◌<◌, ◌&&◌, Bool, true, false, not, cond, List, [], ◌∷◌, ◌++◌, Option,
-    Some, None, refl, sym, ◌∙◌, ap, arith, rules, ◌≤◌, subst, Result, Ok, Err, zero, inl, inr, append_assoc, append-nil,
-    eq-eqb, ne_eqb, lt-ltb, le-ltb, ◌==◌, ◌≢◌, option_map, length, IfSome, IsErrAnd,
-  },
+  Common.{◌≡◌, ℕ, suc, ◌+◌, ◌-◌, take, drop, add-one, ◌<◌, ◌&&◌, Bool, true, false, not, cond, List, [], ◌∷◌, ◌++◌},
+  Common.{Option, Some, None, refl, sym, ◌∙◌, ap, arith, rules, ◌≤◌, subst, Result, Ok, Err, zero, inl, inr},
+  Common.{append_assoc, append-nil, eq-eqb, ne_eqb, lt-ltb, le-ltb, ◌==◌, ◌≢◌, option_map, length, IfSome, IsErrAnd},
   lemmas.{List.take_rest, Result.err_from_is_err_and},
 }
 use Rattle.operand_core.specs.{
@@ -16,10 +14,8 @@ use Rattle.operand_core.specs.{
   declared.{word.Word.Word, operand_fault.OperandFaultKind.OperandFaultKind},
 }
 use Rattle.bre_core.specs.{
-  Pattern.{
-    Pattern, Reads, depth_of, positions_of, nothing, append, Item, set, front, end, group, repeat, written,
-    written_item, depth_after, depth_of_item,
-  },
+  Pattern.{Pattern, Reads, depth_of, positions_of, nothing, append, Item, set, front, end, group, repeat, written},
+  Pattern.{written_item, depth_after, depth_of_item},
   Refusal.{IsOfText, IsTooLarge},
   declared.{
     fault.BreFault.{BreFault, TheVariants.{TooLarge, Memory}},

@@ -1,6 +1,6 @@
 -- What a list of words asks of `csplit`: its operands, or the first fault.
-use Rattle.std.specs.Prelude.{
-  ◌≡◌, ℕ, ◌+◌, ◌==◌, ◌≤◌, nat_lt, Bool, List, [], ◌∷◌, ◌++◌, Option, Some, None, if◌then◌else◌,
+use Rattle.std.specs.{
+  Prelude.{◌≡◌, ℕ, ◌+◌, ◌==◌, ◌≤◌, nat_lt, Bool, List, [], ◌∷◌, ◌++◌, Option, Some, None, if◌then◌else◌},
 }
 use Rattle.bre_core.specs.{
   Pattern.{Pattern, Reads, depth_of, positions_of},

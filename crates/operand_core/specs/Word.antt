@@ -1,8 +1,8 @@
 -- What one word of `csplit`'s operands spells (POSIX.1-2017, XCU csplit, OPERANDS; `{*}` is GNU's). A pattern is a text
 -- still. The bytes that have a meaning: 37 `%`, 42 `*`, 43 `+`, 45 `-`, 47 `/`, 92 `\`, 123 `{`, 125 `}`.
-use Rattle.std.specs.Prelude.{
-  ℕ, ◌==◌, ◌&&◌, suc, Bool, false, not, List, [], ◌∷◌, codes, take, drop, Option, Some, None, Ok, Err, option_map,
-  if◌then◌else◌, bytes_eq,
+use Rattle.std.specs.{
+  Prelude.{ℕ, ◌==◌, ◌&&◌, suc, Bool, false, not, List, [], ◌∷◌, codes, take, drop, Option, Some, None, Ok, Err},
+  Prelude.{option_map, if◌then◌else◌, bytes_eq},
 }
 use Rattle.seg_core.specs.Count.{digits_of}
 use Rattle.operand_core.specs.{

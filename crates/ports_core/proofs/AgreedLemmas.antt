@@ -5,10 +5,8 @@ use Rattle.std.proofs.{
     List.{append-nil, get_or_append_left, get_or-replicate, length-map, length-replicate},
     Bool.cases_lt,
   },
-  Common.{
-    ◌≡◌, ◌≢◌, ℕ, ◌+◌, ◌-◌, ◌<◌, ◌≤◌, zero, suc, List, [], ◌∷◌, ◌++◌, length, get_or, replicate, inl, inr, sym, ◌∙◌, ap,
-    arith, length-append, lit<, map, take, drop, refl, rules, subst,
-  },
+  Common.{◌≡◌, ◌≢◌, ℕ, ◌+◌, ◌-◌, ◌<◌, ◌≤◌, zero, suc, List, [], ◌∷◌, ◌++◌, length, get_or, replicate, inl, inr, sym},
+  Common.{◌∙◌, ap, arith, length-append, lit<, map, take, drop, refl, rules, subst},
   Math.Seq.{drop-append_seam, get_or-append_right, take-append_seam},
 }
 use Rattle.ports_core.{

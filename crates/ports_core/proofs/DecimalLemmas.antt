@@ -6,10 +6,8 @@ use Rattle.std.proofs.{
     Fmt.{decimal_by_steps, decimal_is_IsNumeral, decimal_nonempty, length-decimal-le},
     Int.Digits.digits_value-lt,
   },
-  Common.{
-    ◌≡◌, ℕ, ◌+◌, ◌-◌, ◌/◌, ◌%◌, ◌^◌, ◌<◌, ◌≤◌, zero, suc, max, List, [], ◌∷◌, ◌++◌, length, replicate, decimal, refl,
-    sym, ◌∙◌, ap, subst, arith, append_assoc, rules,
-  },
+  Common.{◌≡◌, ℕ, ◌+◌, ◌-◌, ◌/◌, ◌%◌, ◌^◌, ◌<◌, ◌≤◌, zero, suc, max, List, [], ◌∷◌, ◌++◌, length, replicate, decimal},
+  Common.{refl, sym, ◌∙◌, ap, subst, arith, append_assoc, rules},
 }
 use Rattle.ports_core.{
   specs.{

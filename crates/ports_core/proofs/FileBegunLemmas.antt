@@ -1,26 +1,18 @@
 -- What the writer of files does with what is begun: it has no file yet, gets one, and ends
 use Rattle.std.proofs.{
   lemmas.{Grind.common_steps, Bool.cases_lt, List.length-map},
-  Common.{
-    ◌≡◌, ℕ, ◌+◌, ◌<◌, ◌≤◌, ◌^◌, suc, eqb, Bool, false, IsTrue, List, [], ◌∷◌, ◌++◌, length, map, decimal, Option, Some,
-    None, IfSome, Result, Ok, Err, IfErr, inl, inr, refl, sym, ◌∙◌, ap, subst, arith, rules, append-nil, append_assoc,
-    length-append,
-  },
+  Common.{◌≡◌, ℕ, ◌+◌, ◌<◌, ◌≤◌, ◌^◌, suc, eqb, Bool, false, IsTrue, List, [], ◌∷◌, ◌++◌, length, map, decimal, Option},
+  Common.{Some, None, IfSome, Result, Ok, Err, IfErr, inl, inr, refl, sym, ◌∙◌, ap, subst, arith, rules, append-nil},
+  Common.{append_assoc, length-append},
 }
 use Rattle.ports_core.specs.{
-  Draft.{
-    Manner, AreNamed, Draft, share, files_from, told_before, told_of_files, part_with, part_of, opening_line,
-    size_of_file, output_of, made_of, shares_of, draft_part, with_bytes, with_next, manner_by,
-  },
-  FileWriter.{
-    WriterState, Writes, IsCounted, IsCurrent, IsLast, IsOpenAt, IsReady, IsManner, IsWrite, CanTell, RunsShort,
-    manner_in, KeepsFiles, KeepsOrBreaks, Leaves, Goes, paused,
-  },
+  Draft.{Manner, AreNamed, Draft, share, files_from, told_before, told_of_files, part_with, part_of, opening_line},
+  Draft.{size_of_file, output_of, made_of, shares_of, draft_part, with_bytes, with_next, manner_by},
+  FileWriter.{WriterState, Writes, IsCounted, IsCurrent, IsLast, IsOpenAt, IsReady, IsManner, IsWrite, CanTell},
+  FileWriter.{RunsShort, manner_in, KeepsFiles, KeepsOrBreaks, Leaves, Goes, paused},
   Names.{next_name, has_next, line_next, told_next, OpensNone, no_name},
-  Part.{
-    File as PartFile, OutputsAt, Begins, IsBeginning, Output, gets_none, gets_bytes, gets_lines, gets_openings,
-    lines_for, writes,
-  },
+  Part.{File as PartFile, OutputsAt, Begins, IsBeginning, Output, gets_none, gets_bytes, gets_lines, gets_openings},
+  Part.{lines_for, writes},
   Slot.{SlotBreaks, Slot, with_written, told_of, changed_at, opened, closes, is_writable},
   inner.{FileWriter.{MakesNone, Made, Appends, TellsSize, CountsOn, files_with}, Write.Wrote},
   Turn.{AllClosed, fault_in},
@@ -34,23 +26,18 @@ use Rattle.ports_core.specs.{
 }
 use Rattle.ports_core.proofs.{
   PartLemmas.{begins_itself, nothing_begins, files_begin_themselves, part_trans},
-  PartSteps.{
-    Becomes, becomes_again, with_last, begun_out, file_begins, file_of, line_begins, out_added, writes_to, opens,
-    falls_wider, close_begins, closes_last, closes_not,
-  },
+  PartSteps.{Becomes, becomes_again, with_last, begun_out, file_begins, file_of, line_begins, out_added, writes_to},
+  PartSteps.{opens, falls_wider, close_begins, closes_last, closes_not},
   OpenLemmas.{IsNextName, opens_not, stops_opening},
   ShareLemmas.{stopped_part, part_grows, closed_files, ended_files, name_after, open_part, closed_part, none_part},
   SlotLemmas.length-changed_at,
-  SlotSteps.{
-    KeepsMade, opened_last, writable_within, close_rose, keeps_write, written_writable, keeps_open, writable_before,
-    made_again, opened_writable, made_close, made_break, keeps_close, writable_elsewhere,
-  },
+  SlotSteps.{KeepsMade, opened_last, writable_within, close_rose, keeps_write, written_writable, keeps_open},
+  SlotSteps.{writable_before, made_again, opened_writable, made_close, made_break, keeps_close, writable_elsewhere},
   WriteLemmas.none_written,
-  FileWriterLemmas.{
-    tells_line, reaches_by, reaches_as, made_count, where_well, in_any, leaves_again, leaves_still, at_file, last_file,
-    can_tell, there_same, owned_same, owned_opened, owned_unopened, make_breaks, line_breaks, now_is, file_named,
-    goes_still, never_short, wrote_leaves, appends_leaves, counted_on, none_counted,
-  },
+  FileWriterLemmas.{tells_line, reaches_by, reaches_as, made_count, where_well, in_any, leaves_again, leaves_still},
+  FileWriterLemmas.{at_file, last_file, can_tell, there_same, owned_same, owned_opened, owned_unopened, make_breaks},
+  FileWriterLemmas.{line_breaks, now_is, file_named, goes_still, never_short, wrote_leaves, appends_leaves, counted_on},
+  FileWriterLemmas.none_counted,
 }
 use Rattle.ports_core.specs.inner.Write as short
 use Rattle.ports_core.specs.declared.fault.Fault.TheVariants as fault

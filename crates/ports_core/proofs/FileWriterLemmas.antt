@@ -1,19 +1,15 @@
 -- What the writer of files does: what it writes, whose the outputs are, and which faults come.
 use Rattle.std.proofs.{
   lemmas.{Grind.common_steps, Bool.{false≢true, cases_lt}, List.{length-map, take-append-drop, Recursion.or_push}},
-  Common.{
-    ◌≡◌, ℕ, ◌+◌, ◌<◌, ◌≤◌, ◌^◌, zero, suc, eqb, eq-eqb, ne_eqb, Bool, true, ◌||◌, IsTrue, List, [], ◌∷◌, ◌++◌, length,
-    map, take, drop, replicate, decimal, Option, Some, None, IfNone, IfSome, Result, OnOk, IsErrAnd, inl, inr, refl,
-    sym, ◌∙◌, ap, subst, arith, rules, append-nil, length-append,
-  },
+  Common.{◌≡◌, ℕ, ◌+◌, ◌<◌, ◌≤◌, ◌^◌, zero, suc, eqb, eq-eqb, ne_eqb, Bool, true, ◌||◌, IsTrue, List, [], ◌∷◌, ◌++◌},
+  Common.{length, map, take, drop, replicate, decimal, Option, Some, None, IfNone, IfSome, Result, OnOk, IsErrAnd, inl},
+  Common.{inr, refl, sym, ◌∙◌, ap, subst, arith, rules, append-nil, length-append},
   Math.{Bool.or-false, Seq.{take-append-add, take-append_seam, drop-append_seam}},
 }
 use Rattle.ports_core.specs.{
   Draft.{Manner, AreNamed, Draft, share, part_of, output_of, made_of, shares_of, draft_part, with_bytes, manner_by},
-  FileWriter.{
-    WriterState, Writes, CanCount, IsCounted, IsCurrent, IsLast, IsOpenAt, IsReady, IsManner, CanTell, Breaks,
-    manner_in, At, KeepsFiles, KeepsOrBreaks, Leaves, Reaches, Goes,
-  },
+  FileWriter.{WriterState, Writes, CanCount, IsCounted, IsCurrent, IsLast, IsOpenAt, IsReady, IsManner, CanTell},
+  FileWriter.{Breaks, manner_in, At, KeepsFiles, KeepsOrBreaks, Leaves, Reaches, Goes},
   Name.Naming,
   Names.{next_name, line_next, told_next, OpensNone, no_memory, no_line, no_file, no_number, no_name},
   Part.{File as PartFile, Part, OutputsAt, Begins, IsBeginning, Output, gets_lines, lines_for, writes},
@@ -34,16 +30,12 @@ use Rattle.ports_core.specs.{
 use Rattle.ports_core.proofs.{
   HandedOn.handed_on,
   PartLemmas.{take_begins_after, files_begin_themselves, part_begins_itself, turn_between, turn_next, turn_last},
-  PartSteps.{
-    Becomes, becomes_again, with_last, halts_here, there_from, line_begins, lines_all, lines_of_last, out_added,
-    writes_to,
-  },
+  PartSteps.{Becomes, becomes_again, with_last, halts_here, there_from, line_begins, lines_all, lines_of_last},
+  PartSteps.{out_added, writes_to},
   ShareLemmas.{closed_files, ended_files, name_after, open_part, none_part, still_made, made_or},
   SlotLemmas.length-changed_at,
-  SlotSteps.{
-    KeepsFiled, KeepsMade, filed_more, filed_same, none_past, file_before, at_end, write_rose, keeps_write, made_write,
-    written_writable, made_short, open_rose, rose_later, keeps_again,
-  },
+  SlotSteps.{KeepsFiled, KeepsMade, filed_more, filed_same, none_past, file_before, at_end, write_rose, keeps_write},
+  SlotSteps.{made_write, written_writable, made_short, open_rose, rose_later, keeps_again},
   SweepLemmas.by_place,
 }
 use Rattle.ports_core.specs.inner.Write as short

@@ -1,10 +1,8 @@
 -- How many digits a number has, and what is read of one in a form.
 use Rattle.std.proofs.{
-  Common.{
-    ◌≡◌, ℕ, ◌+◌, ◌-◌, ◌*◌, ◌/◌, ◌%◌, ◌^◌, ◌<◌, ◌≤◌, ◌==◌, ◌||◌, ◌&&◌, zero, suc, not, nat_lt, Bool, true, false, cond,
-    List, [], ◌∷◌, ◌++◌, length, filter, replicate, inl, inr, refl, sym, ◌∙◌, ap, arith, add-mul, mul_assoc, append-nil,
-    append_assoc, length-append, mul-le-mul, pow-suc, div-add-mod', mod-lt,
-  },
+  Common.{◌≡◌, ℕ, ◌+◌, ◌-◌, ◌*◌, ◌/◌, ◌%◌, ◌^◌, ◌<◌, ◌≤◌, ◌==◌, ◌||◌, ◌&&◌, zero, suc, not, nat_lt, Bool, true, false},
+  Common.{cond, List, [], ◌∷◌, ◌++◌, length, filter, replicate, inl, inr, refl, sym, ◌∙◌, ap, arith, add-mul},
+  Common.{mul_assoc, append-nil, append_assoc, length-append, mul-le-mul, pow-suc, div-add-mod', mod-lt},
   Math.Nat.{pow-le-pow_right, pow-succ', pow-zero},
   lemmas.{List.Elements.filter-append, Bool.{cases_lt, cond_both, ltb-false, ltb-true, Decides.nat_tests}},
 }
@@ -14,10 +12,8 @@ use Rattle.ports_core.{
     alphabet.Alphabet.Alphabet,
     form.{Base.Base, Filling.{Filling, TheVariants.{Zeros, BlanksBefore, BlanksAfter}}, Form.Form},
   },
-  specs.Name.{
-    radix, character, written, alphabet_of, digits_up_to, digit_count, digits_written, filled, formatted, hex_mark,
-    mark_of, marked,
-  },
+  specs.Name.{radix, character, written, alphabet_of, digits_up_to, digit_count, digits_written, filled, formatted},
+  specs.Name.{hex_mark, mark_of, marked},
   proofs.CounterLemmas.{first_digit_small, many_characters, power_positive},
 }
 use Rattle.ports_core.specs.declared.form.Base.TheVariants as base

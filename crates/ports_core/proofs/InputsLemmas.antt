@@ -1,10 +1,8 @@
 -- Lemmas on what reads leave of the inputs of a run.
 use Rattle.std.proofs.{
   lemmas.{Grind.common_steps, Bool.{and_parts, false≢true, not-true}},
-  Common.{
-    ◌≡◌, ℕ, ◌≤◌, Bool, true, false, IsTrue, List, [], ◌++◌, take, slice_index_or, arith, sym, refl, ◌<◌, ◌∙◌, ap,
-    append-nil, take-append-drop,
-  },
+  Common.{◌≡◌, ℕ, ◌≤◌, Bool, true, false, IsTrue, List, [], ◌++◌, take, slice_index_or, arith, sym, refl, ◌<◌, ◌∙◌, ap},
+  Common.{append-nil, take-append-drop},
 }
 use Rattle.ports_core.{
   specs.{

@@ -5,10 +5,8 @@ use Rattle.std.proofs.{
     Bool.false≢true,
     List.{length-replicate, length-take-le, nil_from_length, take-append-drop},
   },
-  Common.{
-    ◌≡◌, ℕ, ◌<◌, ◌≤◌, ◌^◌, max, zero, suc, not, ◌&&◌, Bool, true, false, IsTrue, List, [], ◌∷◌, length, take, replicate,
-    if◌then◌else◌, inl, refl, sym, ◌∙◌, ap, subst, arith,
-  },
+  Common.{◌≡◌, ℕ, ◌<◌, ◌≤◌, ◌^◌, max, zero, suc, not, ◌&&◌, Bool, true, false, IsTrue, List, [], ◌∷◌, length, take},
+  Common.{replicate, if◌then◌else◌, inl, refl, sym, ◌∙◌, ap, subst, arith},
 }
 use Rattle.ports_core.{
   specs.{

@@ -1,16 +1,12 @@
 -- A file with the next name that wasn't opened: why, and what that leaves.
 use Rattle.std.proofs.{
-  Common.{
-    ◌≡◌, ℕ, ◌<◌, ◌^◌, Bool, List, [], ◌∷◌, ◌++◌, ◌⊎◌, length, take, drop, None, Some, inl, inr, refl, sym, subst, ap,
-    ◌∙◌, IsTrue, arith, append_assoc,
-  },
+  Common.{◌≡◌, ℕ, ◌<◌, ◌^◌, Bool, List, [], ◌∷◌, ◌++◌, ◌⊎◌, length, take, drop, None, Some, inl, inr, refl, sym, subst},
+  Common.{ap, ◌∙◌, IsTrue, arith, append_assoc},
   lemmas.List.{append-nil, take-append-drop},
 }
 use Rattle.ports_core.specs.{
-  Names.{
-    next_name, has_next, with_one_drawn, told_next, line_next, OpensNone, no_memory, no_line, no_file, no_number,
-    no_name,
-  },
+  Names.{next_name, has_next, with_one_drawn, told_next, line_next, OpensNone, no_memory, no_line, no_file, no_number},
+  Names.no_name,
   Slot.{Slot, FailsToOpen, broke, numberless, unopened, adds, told_of, with_written},
   Part.{File, Part, Begins, IsAt, IsBeginning, IsDueLine, IsNext, Marks, Output},
   Turn.AllClosed,
@@ -21,9 +17,8 @@ use Rattle.ports_core.specs.{
 }
 use Rattle.ports_core.proofs.{
   PartLemmas.{begins_itself, due_by, marks_by, turn_next},
-  PartSteps.{
-    Becomes, becomes_again, begun_out, file_of, halts_here, line_begins, lines_due, more_files, out_added, with_last,
-  },
+  PartSteps.{Becomes, becomes_again, begun_out, file_of, halts_here, line_begins, lines_due, more_files, out_added},
+  PartSteps.with_last,
   SlotLemmas.length-changed_at,
   WriteLemmas.none_written,
 }

@@ -5,18 +5,15 @@ use Rattle.std.proofs.{
     List.{append-nil, take-append-drop, drop_all, length-map},
     Bool.{false≢true, and_parts, not-true},
   },
-  Common.{
-    ◌≡◌, ℕ, ◌+◌, ◌<◌, ◌≤◌, zero, suc, List, [], ◌∷◌, ◌++◌, length, take, drop, Bool, true, false, IsTrue, ◌⊎◌, inl, inr,
-    refl, sym, ◌∙◌, ap, arith, append_assoc, rules,
-  },
+  Common.{◌≡◌, ℕ, ◌+◌, ◌<◌, ◌≤◌, zero, suc, List, [], ◌∷◌, ◌++◌, length, take, drop, Bool, true, false, IsTrue, ◌⊎◌},
+  Common.{inl, inr, refl, sym, ◌∙◌, ap, arith, append_assoc, rules},
 }
 use Rattle.ports_core.specs.{
   Slot.{Slot, is_open, slot_at, is_writable, with_written, with_broken, told_of},
   Write.BrokeAfter,
-  Part.{
-    File, Part, nothing, only_out, OutputsAt, IsBeginning, FilesBegin, Begins, IsNext, Marks, IsAt, InOrder,
-    StoppedBetween, Output, gets_none, gets_bytes, gets_lines, gets_openings, openings_for, IsDueLine, LinesInOrder,
-  },
+  Part.{File, Part, nothing, only_out, OutputsAt, IsBeginning, FilesBegin, Begins, IsNext, Marks, IsAt, InOrder},
+  Part.{StoppedBetween, Output, gets_none, gets_bytes, gets_lines, gets_openings, openings_for, IsDueLine},
+  Part.LinesInOrder,
   Turn.{AllClosed, InTurn, StoppedInTurn, LinesTo},
   inner.Part.HasLines,
   declared.{reason.Reason.Reason, slot.State.State, fault.Fault.{Fault, TheVariants.{Memory, Write, Open}}},

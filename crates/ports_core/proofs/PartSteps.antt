@@ -1,9 +1,7 @@
 -- Outputs that have a part have another, as their last file is opened, written and closed; or a fault stops them in between.
 use Rattle.std.proofs.{
-  Common.{
-    ◌≡◌, ℕ, ◌+◌, suc, Bool, false, List, [], ◌∷◌, ◌++◌, length, take, Option, Some, None, inl, inr, refl, sym, ◌∙◌, ap,
-    arith, length-append,
-  },
+  Common.{◌≡◌, ℕ, ◌+◌, suc, Bool, false, List, [], ◌∷◌, ◌++◌, length, take, Option, Some, None, inl, inr, refl, sym},
+  Common.{◌∙◌, ap, arith, length-append},
   lemmas.List.{append-nil, take_all},
   Math.Seq.take-append_seam,
 }
@@ -11,20 +9,16 @@ use Rattle.ports_core.specs.{
   declared.{reason.Reason.TheVariants.Other, fault.Fault.Fault, slot.{Mode.TheVariants.Fresh, State.State}},
   Draft.{told_before, told_of_files},
   Slot.{SlotBreaks, Slot, opened, changed_at, adds, closes, with_written, told_of},
-  Part.{
-    File, Part, OutputsAt, Begins, FilesBegin, IsNext, Marks, IsAt, IsDueLine, Output, gets_none, gets_bytes,
-    gets_lines, gets_openings, lines_for, openings_for,
-  },
+  Part.{File, Part, OutputsAt, Begins, FilesBegin, IsNext, Marks, IsAt, IsDueLine, Output, gets_none, gets_bytes},
+  Part.{gets_lines, gets_openings, lines_for, openings_for},
   Turn.{AllClosed, InTurn, IsThere, LinesTo},
   inner.Write.Wrote,
 }
 use Rattle.ports_core.proofs.{
   SlotLemmas.length-changed_at,
   FileLemmas.{gets, ended, file_more, last_changes, write_makes, close_makes},
-  PartLemmas.{
-    begins_itself, begins_more, take_begins_after, files_begin_themselves, part_begins_itself, IsNoOpen, none_due,
-    openings-append, out_more, outputs_count, turn_between, turn_last,
-  },
+  PartLemmas.{begins_itself, begins_more, take_begins_after, files_begin_themselves, part_begins_itself, IsNoOpen},
+  PartLemmas.{none_due, openings-append, out_more, outputs_count, turn_between, turn_last},
 }
 use Rattle.ports_core.specs.inner.Write as short
 use Rattle.ports_core.specs.declared.fault.Fault.TheVariants as fault

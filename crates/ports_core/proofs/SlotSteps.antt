@@ -1,17 +1,13 @@
 -- Slots as they are opened, written and closed, and as they break.
 use Rattle.std.proofs.{
   lemmas.{Grind.common_steps, Bool.false≢true},
-  Common.{
-    ◌≡◌, ℕ, ◌<◌, ◌≤◌, zero, suc, not, ◌&&◌, List, [], ◌∷◌, ◌++◌, length, take, Bool, true, false, IsTrue, refl, sym,
-    ◌∙◌, ap, arith, rules, length-append,
-  },
+  Common.{◌≡◌, ℕ, ◌<◌, ◌≤◌, zero, suc, not, ◌&&◌, List, [], ◌∷◌, ◌++◌, length, take, Bool, true, false, IsTrue, refl},
+  Common.{sym, ◌∙◌, ap, arith, rules, length-append},
   Math.Seq.get_or-append_seam,
 }
 use Rattle.ports_core.specs.{
-  Slot.{
-    SlotBreaks, Slot, Rose, is_open, has_file, can_write, no_slot, slot_at, changed_at, opened, unopened, adds, closes,
-    breaks, with_written, with_broken, told_of, is_writable, KeepsBroken,
-  },
+  Slot.{SlotBreaks, Slot, Rose, is_open, has_file, can_write, no_slot, slot_at, changed_at, opened, unopened, adds},
+  Slot.{closes, breaks, with_written, with_broken, told_of, is_writable, KeepsBroken},
   Swept.{Swept, none},
   Write.BrokeAfter,
   inner.Write.{WritesShort, broke},

@@ -1,17 +1,14 @@
 -- Lemmas on removing many files.
 use Rattle.std.proofs.{
   lemmas.{Grind.common_steps, Bool.{false≢true, or_parts}},
-  Common.{
-    ◌≡◌, ℕ, ◌+◌, ◌<◌, ◌≤◌, zero, suc, eqb, eq-eqb, true, false, ◌||◌, List, [], ◌∷◌, ◌++◌, length, get_or, set, take,
-    drop, Result, Ok, Err, is_ok, OnOk, IfErr, refl, sym, ◌∙◌, ap, arith, length-set, take-suc, take-suc-set, drop-cons,
-    drop-set-lt, rules, append-nil, append_assoc,
-  },
+  Common.{◌≡◌, ℕ, ◌+◌, ◌<◌, ◌≤◌, zero, suc, eqb, eq-eqb, true, false, ◌||◌, List, [], ◌∷◌, ◌++◌, length, get_or, set},
+  Common.{take, drop, Result, Ok, Err, is_ok, OnOk, IfErr, refl, sym, ◌∙◌, ap, arith, length-set, take-suc},
+  Common.{take-suc-set, drop-cons, drop-set-lt, rules, append-nil, append_assoc},
 }
 use Rattle.ports_core.{
   specs.Slot.{Slot, has_file, slot_at, changed_at, SlotBreaks, removes, closes, breaks},
-  specs.Swept.{
-    Cleared, SweptFrom, removed, stuck, none, is_among, AreThere, Tries, Removes, all_tried, tried, goes, stays,
-  },
+  specs.Swept.{Cleared, SweptFrom, removed, stuck, none, is_among, AreThere, Tries, Removes, all_tried, tried, goes},
+  specs.Swept.stays,
   specs.declared.fault.Fault.Fault,
   proofs.SlotLemmas.{length-changed_at, changed_at-again, slot_at-elsewhere},
 }

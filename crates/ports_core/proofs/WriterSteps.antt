@@ -1,10 +1,8 @@
 -- What the writer of files does, one change after another, and where one is stopped.
 use Rattle.std.proofs.{
   lemmas.{Grind.common_steps, Bool.false≢true},
-  Common.{
-    ◌≡◌, ℕ, Bool, false, List, [], ◌∷◌, ◌++◌, ◌⊎◌, length, map, Option, Some, None, Result, Ok, Err, IfErr, inl, inr,
-    refl, sym, ◌∙◌, ap, subst, arith, rules, append_assoc,
-  },
+  Common.{◌≡◌, ℕ, Bool, false, List, [], ◌∷◌, ◌++◌, ◌⊎◌, length, map, Option, Some, None, Result, Ok, Err, IfErr, inl},
+  Common.{inr, refl, sym, ◌∙◌, ap, subst, arith, rules, append_assoc},
 }
 use Rattle.ports_core.specs.{
   Draft.{Manner, Draft, share, part_of, made_of, draft_part, with_bytes, with_next},
@@ -22,10 +20,8 @@ use Rattle.ports_core.specs.{
 use Rattle.ports_core.proofs.{
   ShareLemmas.{stopped_part, bytes_begin, next_begins, begun_begins, still_made},
   SweepLemmas.{left_apart, left_has, left_there, same_size},
-  FileWriterLemmas.{
-    lacks_memory, leaves_again, leaves_lacking, put_nothing, reaches_again, reaches_as, stops_wider, where_short,
-    where_well,
-  },
+  FileWriterLemmas.{lacks_memory, leaves_again, leaves_lacking, put_nothing, reaches_again, reaches_as, stops_wider},
+  FileWriterLemmas.{where_short, where_well},
 }
 use Rattle.ports_core.specs.declared.fault.Fault.TheVariants as fault
 use Rattle.ports_core.specs.declared.slot.State.TheVariants as state

@@ -1,6 +1,6 @@
 -- What a tool has written that writes one file after another: the files that ended, and the one that is open.
-use Rattle.std.specs.Prelude.{
-  ◌≡◌, ℕ, ◌+◌, ◌<◌, Bool, true, false, List, [], ◌∷◌, ◌++◌, length, map, codes, decimal, if◌then◌else◌,
+use Rattle.std.specs.{
+  Prelude.{◌≡◌, ℕ, ◌+◌, ◌<◌, Bool, true, false, List, [], ◌∷◌, ◌++◌, length, map, codes, decimal, if◌then◌else◌},
 }
 use Rattle.ports_core.specs.{
   declared.reason.Reason.TheVariants.Other,

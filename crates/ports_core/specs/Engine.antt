@@ -1,6 +1,6 @@
 -- What each call of an engine owes.
-use Rattle.std.specs.Prelude.{
-  ◌≡◌, ℕ, ◌+◌, ◌≤◌, ◌^◌, Bool, true, false, List, [], ◌++◌, ◌⊎◌, None, length, IsTrue, Result, OnOk, IfErr,
+use Rattle.std.specs.{
+  Prelude.{◌≡◌, ℕ, ◌+◌, ◌≤◌, ◌^◌, Bool, true, false, List, [], ◌++◌, ◌⊎◌, None, length, IsTrue, Result, OnOk, IfErr},
 }
 use Rattle.ports_core.specs.{
   Slot.{Slot, Rose, is_writable},

@@ -1,6 +1,7 @@
 -- What contracts see of the writer of files, and what its calls do.
-use Rattle.std.specs.Prelude.{
-  ◌≡◌, ℕ, ◌+◌, ◌<◌, ◌≤◌, ◌^◌, suc, Bool, true, false, List, [], ◌∷◌, length, Option, Some, None, IfNone, IfSome, IsTrue,
+use Rattle.std.specs.{
+  Prelude.{◌≡◌, ℕ, ◌+◌, ◌<◌, ◌≤◌, ◌^◌, suc, Bool, true, false, List, [], ◌∷◌, length, Option, Some, None, IfNone},
+  Prelude.{IfSome, IsTrue},
 }
 use Rattle.ports_core.specs.{
   Draft.{Manner, Draft, AreNamed, output_of, made_of, shares_of, draft_part, manner_by},

@@ -1,6 +1,6 @@
 -- What a tool has written at some moment: bytes on standard output, and files in the order in which they were opened.
-use Rattle.std.specs.Prelude.{
-  ◌≡◌, ℕ, ◌+◌, ◌<◌, suc, Bool, true, false, List, [], ◌∷◌, ◌++◌, ◌⊎◌, length, map, take, drop, if◌then◌else◌,
+use Rattle.std.specs.{
+  Prelude.{◌≡◌, ℕ, ◌+◌, ◌<◌, suc, Bool, true, false, List, [], ◌∷◌, ◌++◌, ◌⊎◌, length, map, take, drop, if◌then◌else◌},
 }
 use Rattle.ports_core.specs.{
   Slot.{SlotBreaks, Slot, is_open, with_written, unopened, told_of},

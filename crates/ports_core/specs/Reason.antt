@@ -2,10 +2,8 @@
 use Rattle.std.specs.Prelude.{ℕ, ℤ, pos, negsuc, ◌==◌, List, [], ◌∷◌, codes, Option, Some, None, if◌then◌else◌}
 use Rattle.ports_core.specs.declared.reason.Reason.{
   Reason,
-  TheVariants.{
-    Gone, Missing, Denied, Folder, NoFolder, Full, TooLarge, ReadOnly, Quota, TooMany, Device, Busy, LongName, Circle,
-    Input, Other,
-  },
+  TheVariants.{Gone, Missing, Denied, Folder, NoFolder, Full, TooLarge, ReadOnly, Quota, TooMany, Device, Busy},
+  TheVariants.{LongName, Circle, Input, Other},
 }
 
 -- what a message says of it after the name

@@ -3,10 +3,8 @@ use Rattle.std.specs.Prelude.{◌≡◌, ℕ, ◌≤◌, suc, Bool, List, [], �
 use Rattle.ports_core.specs.{
   Slot.Slot,
   declared.fault.Fault.Fault,
-  Part.{
-    File, Part, OutputsAt, Begins, IsNext, Marks, IsAt, Output, gets_none, gets_bytes, gets_lines, gets_openings,
-    AreLines, AreOpenings, nothing,
-  },
+  Part.{File, Part, OutputsAt, Begins, IsNext, Marks, IsAt, Output, gets_none, gets_bytes, gets_lines, gets_openings},
+  Part.{AreLines, AreOpenings, nothing},
 }
 use Rattle.ports_core.specs.declared.slot.State.TheVariants as state
 

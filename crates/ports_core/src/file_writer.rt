@@ -1,6 +1,6 @@
 //! Writing one file after another: each is opened when it is due, and closed before the next.
-ghost use Rattle.std.specs.Prelude.{
-  ◌≡◌, ◌+◌, ◌<◌, ◌≤◌, ◌++◌, ◌∷◌, [], length, decimal, true, vec_capacity, vec_len, IfErr, IsTrue, OnOk,
+ghost use Rattle.std.specs.{
+  Prelude.{◌≡◌, ◌+◌, ◌<◌, ◌≤◌, ◌++◌, ◌∷◌, [], length, decimal, true, vec_capacity, vec_len, IfErr, IsTrue, OnOk},
 };
 ghost use Rattle.ports_core.specs.{
   Draft.{with_bytes, with_next},

@@ -1,7 +1,7 @@
 //! How a number is written, as a conversion of C's `printf` says it.
 ghost use Rattle.std.specs.Prelude.{◌≡◌, ◌+◌, ◌<◌, ◌^◌, ◌++◌, length, string_bytes, IfOk};
-ghost use Rattle.ports_core.specs.Name.{
-  alphabet_of, digit_count, digits_written, formatted, least_digits, mark_of, marked, radix, written,
+ghost use Rattle.ports_core.specs.{
+  Name.{alphabet_of, digit_count, digits_written, formatted, least_digits, mark_of, marked, radix, written},
 };
 
 use crate::Alphabet;

@@ -1,7 +1,7 @@
 //! Engines: what all of them share around a tool's stage. They count what comes in, take no more than 2^63-1 bytes, and
 //! return `Failed` once a fault or the end came.
-ghost use Rattle.std.specs.Prelude.{
-  ◌≡◌, ◌+◌, ◌^◌, ◌<◌, ◌≤◌, ◌↔◌, ℕ, List, [], true, false, length, OnOk, OnErr, IsErrOf, IsTrue,
+ghost use Rattle.std.specs.{
+  Prelude.{◌≡◌, ◌+◌, ◌^◌, ◌<◌, ◌≤◌, ◌↔◌, ℕ, List, [], true, false, length, OnOk, OnErr, IsErrOf, IsTrue},
 };
 ghost use Rattle.ports_core.specs.{
   Source.is_readable,

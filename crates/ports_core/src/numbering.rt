@@ -1,5 +1,6 @@
-ghost use Rattle.std.specs.Prelude.{
-  nat_lt, ◌≡◌, ◌++◌, ◌∷◌, [], ◌+◌, ◌*◌, ◌≤◌, ◌<◌, ◌^◌, replicate, decimal, string_bytes, IsTrue, IfOk, SomeIff,
+ghost use Rattle.std.specs.{
+  Prelude.{nat_lt, ◌≡◌, ◌++◌, ◌∷◌, [], ◌+◌, ◌*◌, ◌≤◌, ◌<◌, ◌^◌, replicate, decimal, string_bytes, IsTrue, IfOk},
+  Prelude.SomeIff,
 };
 ghost use Rattle.ports_core.specs.{
   Name.{radix, written, suffix_at, has_suffix, widening_suffix, zero_filled, IsWide, block_size},

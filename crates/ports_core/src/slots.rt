@@ -1,6 +1,6 @@
-ghost use Rattle.std.specs.Prelude.{
-  ◌≡◌, [], ◌≤◌, ◌<◌, ◌+◌, ◌-◌, ◌^◌, ◌∷◌, ◌++◌, ℕ, List, false, length, string_bytes, IsTrue, IfOk, IfSome, IfNone, OnOk,
-  vec_capacity, vec_len,
+ghost use Rattle.std.specs.{
+  Prelude.{◌≡◌, [], ◌≤◌, ◌<◌, ◌+◌, ◌-◌, ◌^◌, ◌∷◌, ◌++◌, ℕ, List, false, length, string_bytes, IsTrue, IfOk, IfSome},
+  Prelude.{IfNone, OnOk, vec_capacity, vec_len},
 };
 ghost use Rattle.ports_core.specs.Slot.{with_lost};
 

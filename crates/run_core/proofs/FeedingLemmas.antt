@@ -1,11 +1,9 @@
 -- Lemmas on the loop that feeds an engine, and on what an engine uses of its input.
 use Rattle.std.proofs.{
   lemmas.{Grind.common_steps, List.{append-nil, drop_at, length-take}, Bool.{false≢true, or_right}},
-  Common.{
-    ◌⊎◌, ◌≡◌, ℕ, ◌+◌, ◌<◌, ◌≤◌, ◌^◌, Bool, true, false, List, [], ◌++◌, length, take, Result, Ok, Err, IfOk, None,
-    arith, length-append, length-take, inl, inr, refl, sym, ◌∙◌, ap, IsTrue, ◌-◌, drop, not, if◌then◌else◌,
-    append_assoc, rules,
-  },
+  Common.{◌⊎◌, ◌≡◌, ℕ, ◌+◌, ◌<◌, ◌≤◌, ◌^◌, Bool, true, false, List, [], ◌++◌, length, take, Result, Ok, Err, IfOk},
+  Common.{None, arith, length-append, length-take, inl, inr, refl, sym, ◌∙◌, ap, IsTrue, ◌-◌, drop, not, if◌then◌else◌},
+  Common.{append_assoc, rules},
 }
 use Rattle.ports_core.specs.{
   Slot.{Slot, changed_at},
@@ -21,10 +19,8 @@ use Rattle.ports_core.specs.{
 use Rattle.ports_core.proofs.InputsLemmas.{HasRead, changed_source}
 use Rattle.run_core.specs.{
   declared.feeding.Fed.{Fed, TheVariants.{Whole, Enough, Broken}},
-  Feeding.{
-    is_enough, Step, Stops, ToldEnd, HasAll, to_end, enough, call_of, close_of, feeds, closes, FedAs, whole, had_enough,
-    broke_off, judged, stopped, IsUnread, Uses,
-  },
+  Feeding.{is_enough, Step, Stops, ToldEnd, HasAll, to_end, enough, call_of, close_of, feeds, closes, FedAs, whole},
+  Feeding.{had_enough, broke_off, judged, stopped, IsUnread, Uses},
   inner.RunSteps.{EndsSo, finished, fell_short},
 }
 use Rattle.ports_core.specs.declared.fault.Fault.TheVariants as fault_is

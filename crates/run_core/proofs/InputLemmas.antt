@@ -5,17 +5,14 @@ use Rattle.std.proofs.{
     Bool.{false≢true, or_parts, or_left, or_right, false_from_ne_true},
     List.{append-nil, nil_from_length, Recursion.and_push},
   },
-  Common.{
-    is_some, ◌≡◌, ℕ, ◌+◌, ◌<◌, ◌≤◌, zero, suc, Bool, true, false, ◌||◌, IsTrue, if◌then◌else◌, List, [], ◌∷◌, ◌++◌,
-    length, Option, Some, None, IfSome, arith, inl, inr, refl, ◌⊎◌, not, take, Result, Ok, Err, sym, ◌∙◌, ap, subst,
-    lit≤, codes, ◌-◌, drop, map, get_or, Bor, append_assoc, lit<, rules,
-  },
+  Common.{is_some, ◌≡◌, ℕ, ◌+◌, ◌<◌, ◌≤◌, zero, suc, Bool, true, false, ◌||◌, IsTrue, if◌then◌else◌, List, [], ◌∷◌},
+  Common.{◌++◌, length, Option, Some, None, IfSome, arith, inl, inr, refl, ◌⊎◌, not, take, Result, Ok, Err, sym, ◌∙◌},
+  Common.{ap, subst, lit≤, codes, ◌-◌, drop, map, get_or, Bor, append_assoc, lit<, rules},
   Math.Bool.{and-false, and-true, or-false, or-true, or_assoc},
 }
 use Rattle.ports_core.specs.{
-  Source.{
-    Content, Source, source_at, source_of, is_readable, missing, Opens, OpensNothing, IsFresh, Opens as OpensFile,
-  },
+  Source.{Content, Source, source_at, source_of, is_readable, missing, Opens, OpensNothing, IsFresh},
+  Source.Opens as OpensFile,
   declared.{
     fault.Fault.{Fault, TheVariants.{Memory, Write, Read, Open}},
     verdict.Verdict.Verdict,
@@ -40,29 +37,21 @@ use Rattle.ports_core.proofs.{
 }
 use Rattle.run_core.specs.{
   Feeding.{IsUnread, Step, ToldEnd, Uses, is_enough, FedAs, whole, had_enough, broke_off, judged, stopped},
-  Input.{
-    Input, World, IsFor, shown_of, showing, is_dash, input_of, inputs_from, next_slot, has_dash, AreFrom, inputs_at,
-    file_input, standard_input, read_before,
-  },
+  Input.{Input, World, IsFor, shown_of, showing, is_dash, input_of, inputs_from, next_slot, has_dash, AreFrom},
+  Input.{inputs_at, file_input, standard_input, read_before},
   Reading.{AreDone, AreUntouched, IsDone, IsUntouched, Leaves, count_after},
-  inner.RunSteps.{
-    TakesOne, OfSource, HeaderFails, no_room, broke, TookInput, took, cut_off, input_from, TookAll, all, stopped_at,
-    not_begun, HasStreams, OfName, standard_source,
-  },
+  inner.RunSteps.{TakesOne, OfSource, HeaderFails, no_room, broke, TookInput, took, cut_off, input_from, TookAll, all},
+  inner.RunSteps.{stopped_at, not_begun, HasStreams, OfName, standard_source},
   declared.{inputs.Progress.Progress, feeding.Fed.{Fed, TheVariants.{Whole, Enough, Broken}}},
-  RunEnds.{
-    unheaded, heading, calling, step_after, EndsAs, as_defined, stopped as run_stopped, no_room as run_unmade, RunsOver,
-    unopened,
-  },
+  RunEnds.{unheaded, heading, calling, step_after, EndsAs, as_defined, stopped as run_stopped, no_room as run_unmade},
+  RunEnds.{RunsOver, unopened},
   RunSteps.{IsShown, OnlyLooked, world_of},
-  Task.{
-    Task, Outcome, after_part, header_text, of_content, made_by, no_outcome, joined, of_input, of_inputs, is_missing,
-    are_missing,
-  },
+  Task.{Task, Outcome, after_part, header_text, of_content, made_by, no_outcome, joined, of_input, of_inputs},
+  Task.{is_missing, are_missing},
 }
-use Rattle.run_core.proofs.StopLemmas.{
-  after_assoc, out_on, at_after, stop_after, none_to_sweep, nothing_after, swept_from, said_swept, error_open,
-  stop_error, stop_swept, said_at,
+use Rattle.run_core.proofs.{
+  StopLemmas.{after_assoc, out_on, at_after, stop_after, none_to_sweep, nothing_after, swept_from, said_swept},
+  StopLemmas.{error_open, stop_error, stop_swept, said_at},
 }
 use Rattle.ports_core.specs.Source as from
 use Rattle.ports_core.specs.declared.fault.Fault.TheVariants as fault_is

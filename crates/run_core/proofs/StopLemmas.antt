@@ -1,18 +1,15 @@
 -- Lemmas on what is written after what was written before, on outputs that a fault stopped, and on the message that tells it.
 use Rattle.std.proofs.{
   lemmas.{Grind.common_steps, List.{map-append, append-nil}},
-  Common.{
-    ◌≡◌, ℕ, ◌+◌, ◌<◌, ◌≤◌, suc, Bool, true, false, List, [], ◌∷◌, ◌++◌, length, take, drop, ◌⊎◌, inl, inr, refl, sym,
-    ◌∙◌, ap, arith, append_assoc, length-append, zero, lit<, subst,
-  },
+  Common.{◌≡◌, ℕ, ◌+◌, ◌<◌, ◌≤◌, suc, Bool, true, false, List, [], ◌∷◌, ◌++◌, length, take, drop, ◌⊎◌, inl, inr, refl},
+  Common.{sym, ◌∙◌, ap, arith, append_assoc, length-append, zero, lit<, subst},
   Math.Seq.{take-append-add, drop-append-add},
 }
 use Rattle.ports_core.specs.{
   Slot.{Slot, with_written, told_of, is_open, slot_at, adds, breaks, unopened, with_broken},
-  Part.{
-    nothing, Part, File, only_out, OutputsAt, IsBeginning, Begins, IsNext, IsAt, StoppedBetween, file_of, told_file,
-    Marks, Output, gets_none, gets_bytes, gets_lines, gets_openings, lines_for, openings_for, LinesInOrder,
-  },
+  Part.{nothing, Part, File, only_out, OutputsAt, IsBeginning, Begins, IsNext, IsAt, StoppedBetween, file_of},
+  Part.{told_file, Marks, Output, gets_none, gets_bytes, gets_lines, gets_openings, lines_for, openings_for},
+  Part.LinesInOrder,
   Swept.{Swept, SweptFrom, Cleared},
   declared.fault.Fault.{Fault, TheVariants.{Write, Open}},
   Message.{OnError, output_named, output_reason},

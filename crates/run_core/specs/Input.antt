@@ -1,6 +1,7 @@
 -- What a run finds at the names that it is to read, one after another.
-use Rattle.std.specs.Prelude.{
-  ◌≡◌, ℕ, ◌+◌, Bool, true, false, ◌||◌, List, [], ◌∷◌, Option, Some, None, codes, if◌then◌else◌, bytes_eq, is_some,
+use Rattle.std.specs.{
+  Prelude.{◌≡◌, ℕ, ◌+◌, Bool, true, false, ◌||◌, List, [], ◌∷◌, Option, Some, None, codes, if◌then◌else◌, bytes_eq},
+  Prelude.is_some,
 }
 use Rattle.ports_core.specs.{Inputs.empty, Source.Content}
 

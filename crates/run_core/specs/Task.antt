@@ -1,6 +1,6 @@
 -- What a run makes of its inputs: one tool's work on each, one after another.
-use Rattle.std.specs.Prelude.{
-  is_some, ℕ, ◌||◌, ◌&&◌, Bool, true, false, List, [], ◌∷◌, ◌++◌, Option, Some, None, if◌then◌else◌,
+use Rattle.std.specs.{
+  Prelude.{is_some, ℕ, ◌||◌, ◌&&◌, Bool, true, false, List, [], ◌∷◌, ◌++◌, Option, Some, None, if◌then◌else◌},
 }
 use Rattle.ports_core.specs.{
   Part.{Part, nothing, only_out},

@@ -1,6 +1,6 @@
 //! The inputs of a run, one after another.
-ghost use Rattle.std.specs.Prelude.{
-  ◌≡◌, ◌<◌, ◌≤◌, ◌||◌, ℕ, List, Option, Some, true, false, map, length, IfErr, IfSome, OnOk, OnErr, IsTrue,
+ghost use Rattle.std.specs.{
+  Prelude.{◌≡◌, ◌<◌, ◌≤◌, ◌||◌, ℕ, List, Option, Some, true, false, map, length, IfErr, IfSome, OnOk, OnErr, IsTrue},
 };
 ghost use Rattle.ports_core.specs.{
   Slot.{Slot, is_open, slot_at, is_writable, streams, told_of, with_written},
@@ -15,10 +15,8 @@ ghost use Rattle.run_core.specs.{
   Feeding.{FedAs, IsUnread, is_stop},
   Input.{has_dash, is_dash, next_slot},
   Reading.{IsDone, Leaves, count_after},
-  inner.RunSteps.{
-    TakesOne, HasStreams, HeaderFails, KeepsOther, OfName, OfSource, TookAll, TookInput, input_from, reason_of,
-    standard_source,
-  },
+  inner.RunSteps.{TakesOne, HasStreams, HeaderFails, KeepsOther, OfName, OfSource, TookAll, TookInput, input_from},
+  inner.RunSteps.{reason_of, standard_source},
   RunEnds.{EndsAs, RunsOver},
   RunSteps.{IsShown, world_of},
   Task.{header_text, of_content, of_input},

@@ -1,7 +1,7 @@
 //! Callers of `run_words`, as the program is one, that rest on the laws of `tools_core`: what each of them ensures follows by one law
 //! from what `run_words` ensures, and nothing is known here of what the tools do.
-ghost use Rattle.std.specs.Prelude.{
-  ◌≡◌, ◌+◌, ◌++◌, ◌∷◌, [], ℕ, List, None, Some, map, drop, codes, true, false, IfOk, IfSome,
+ghost use Rattle.std.specs.{
+  Prelude.{◌≡◌, ◌+◌, ◌++◌, ◌∷◌, [], ℕ, List, None, Some, map, drop, codes, true, false, IfOk, IfSome},
 };
 ghost use Rattle.ends_core.specs.Ends.{tail_of};
 ghost use Rattle.mem_core.specs.MemWatchState.{seen, shows};

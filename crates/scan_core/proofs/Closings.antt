@@ -1,8 +1,8 @@
 -- Entering all that follows without a byte, by words that are closed and by hops.
-use Rattle.std.proofs.Common.{
-  rules, ◌≡◌, ℕ, ◌+◌, ◌*◌, ◌/◌, ◌%◌, ◌^◌, ◌<◌, List, length, get_or, set, sym, ap, ◌∙◌, subst, arith, w64, ◌⊎◌, inl,
-  inr, zero, suc, ◌≤◌, Bool, false, [], ◌∷◌, refl, ◌↔◌, true, IsTrue, ◌++◌, length-append, eqb, not, bit_and, bit_or,
-  Result, Ok, Err, OnOk,
+use Rattle.std.proofs.{
+  Common.{rules, ◌≡◌, ℕ, ◌+◌, ◌*◌, ◌/◌, ◌%◌, ◌^◌, ◌<◌, List, length, get_or, set, sym, ap, ◌∙◌, subst, arith, w64, ◌⊎◌},
+  Common.{inl, inr, zero, suc, ◌≤◌, Bool, false, [], ◌∷◌, refl, ◌↔◌, true, IsTrue, ◌++◌, length-append, eqb, not},
+  Common.{bit_and, bit_or, Result, Ok, Err, OnOk},
 }
 use Rattle.std.proofs.lemmas.{
   Nat.{
@@ -31,10 +31,8 @@ use Rattle.scan_core.specs.{
 use Rattle.scan_core.proofs.{
   Countings.set_elsewhere,
   Enterings.{at_index, at_least, each_more, each_to, flows_of, led_by, parts_anywhere},
-  Insides.{
-    adds_anywhere, adds_both, entered_one, either_bit, flows_join, fresh_bit, is_in_word, is_within, left_bit,
-    right_bit, spreads_out, unset-set,
-  },
+  Insides.{adds_anywhere, adds_both, entered_one, either_bit, flows_join, fresh_bit, is_in_word, is_within, left_bit},
+  Insides.{right_bit, spreads_out, unset-set},
 }
 
 -- some of a word's numbers are those of a hop, or none

@@ -1,27 +1,21 @@
 -- Walks over the nodes of a pattern.
 use Rattle.std.proofs.{
-  Common.{
-    rules, ◌≡◌, ◌⊎◌, inl, inr, ℕ, zero, suc, ◌+◌, ◌-◌, ◌≤◌, List, [], ◌∷◌, ◌++◌, length, refl, ap, subst, arith, sym,
-    ◌∙◌, ◌↔◌, Option, Some, None, ◌*◌, ◌<◌, Bool, IsTrue, length-append, suc-mul, add-mul,
-  },
+  Common.{rules, ◌≡◌, ◌⊎◌, inl, inr, ℕ, zero, suc, ◌+◌, ◌-◌, ◌≤◌, List, [], ◌∷◌, ◌++◌, length, refl, ap, subst, arith},
+  Common.{sym, ◌∙◌, ◌↔◌, Option, Some, None, ◌*◌, ◌<◌, Bool, IsTrue, length-append, suc-mul, add-mul},
   lemmas.{Bool.cases_eq, Grind.common_steps},
 }
 use Rattle.scan_core.{
   specs.declared.node.Node.{Node, TheVariants.{Take, First, Last, Choose, Back}},
-  specs.Code.{
-    At, Leads, Goes, Walks, Path, maybe, starred, up_to, copies, tail_of, code_of, code_of_item, Entered, IsOrdered,
-    IsOrderedItem, weight,
-  },
+  specs.Code.{At, Leads, Goes, Walks, Path, maybe, starred, up_to, copies, tail_of, code_of, code_of_item, Entered},
+  specs.Code.{IsOrdered, IsOrderedItem, weight},
   specs.inner.Sets.{FitsIn, IsCode},
   specs.Counted.EndsIn,
   proofs.Enterings.at_least,
 }
 use Rattle.bre_core.{
   specs.Match.{Parts, IsAtMost, Matches, MatchesItem, Contains},
-  specs.Pattern.{
-    Pattern, nothing, append, Item, set, front, end, group, repeat, repeated, positions_in, positions_in_item,
-    positions_of,
-  },
+  specs.Pattern.{Pattern, nothing, append, Item, set, front, end, group, repeat, repeated, positions_in},
+  specs.Pattern.{positions_in_item, positions_of},
   specs.Search.contains,
   proofs.Searching.{stays, contains_tells, one_truth},
 }

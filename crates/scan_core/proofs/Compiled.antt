@@ -1,10 +1,8 @@
 -- The code that is written is the pattern's.
 use Rattle.std.proofs.{
   lemmas.{Grind.common_steps, List.{reverse-append, reverse-reverse, at_drop_more, Elements.All-pop}},
-  Common.{
-    rules, arith, ◌≡◌, ℕ, ◌≤◌, Option, Some, length, List, [], ◌∷◌, ◌++◌, reverse, None, sym, ap, ◌∙◌, subst, ◌⊎◌, inl,
-    inr, zero, suc, ◌+◌, ◌-◌, ◌<◌, drop, get_or, refl, append_assoc, append-nil, All,
-  },
+  Common.{rules, arith, ◌≡◌, ℕ, ◌≤◌, Option, Some, length, List, [], ◌∷◌, ◌++◌, reverse, None, sym, ap, ◌∙◌, subst},
+  Common.{◌⊎◌, inl, inr, zero, suc, ◌+◌, ◌-◌, ◌<◌, drop, get_or, refl, append_assoc, append-nil, All},
 }
 use Rattle.scan_core.specs.{
   declared.{
@@ -14,10 +12,8 @@ use Rattle.scan_core.specs.{
   },
   inner.{
     Backwards.{IsBegun, Repeats, begun},
-    Compiling.{
-      AreBegun, Pops, Waits, IsNow, FinishesBy, Finishes, PopsNone, Begins, Closes, Writes, Passes, PassesLeaf, TakesIn,
-      Takes, TakesAll,
-    },
+    Compiling.{AreBegun, Pops, Waits, IsNow, FinishesBy, Finishes, PopsNone, Begins, Closes, Writes, Passes},
+    Compiling.{PassesLeaf, TakesIn, Takes, TakesAll},
   },
   Code.{code_of, code_of_item, IsOrdered, IsOrderedItem, copies, tail_of, up_to},
 }

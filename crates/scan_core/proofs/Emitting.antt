@@ -1,9 +1,7 @@
 -- An item that stands last, written out as often as a duplication asks for.
 use Rattle.std.proofs.{
-  Common.{
-    rules, ◌≡◌, ℕ, zero, suc, ◌+◌, ◌≤◌, List, ◌++◌, length, reverse, refl, sym, ap, ◌∙◌, arith, append_assoc,
-    append-nil, ◌-◌, ◌<◌, [], ◌∷◌, set, length-append,
-  },
+  Common.{rules, ◌≡◌, ℕ, zero, suc, ◌+◌, ◌≤◌, List, ◌++◌, length, reverse, refl, sym, ap, ◌∙◌, arith, append_assoc},
+  Common.{append-nil, ◌-◌, ◌<◌, [], ◌∷◌, set, length-append},
   lemmas.{List.{reverse-append, length-reverse}, Grind.common_steps},
   Math.Seq.set-append_seam,
 }

@@ -1,9 +1,7 @@
 -- The nodes at the numbers of a code, and what they lead to.
 use Rattle.std.proofs.{
-  Common.{
-    rules, ◌≡◌, ◌⊎◌, inl, inr, ℕ, zero, suc, ◌+◌, ◌<◌, ◌≤◌, Bool, true, false, IsTrue, List, [], ◌∷◌, length, get_or,
-    refl, sym, ◌∙◌, arith, ◌-◌, ◌++◌,
-  },
+  Common.{rules, ◌≡◌, ◌⊎◌, inl, inr, ℕ, zero, suc, ◌+◌, ◌<◌, ◌≤◌, Bool, true, false, IsTrue, List, [], ◌∷◌, length},
+  Common.{get_or, refl, sym, ◌∙◌, arith, ◌-◌, ◌++◌},
   lemmas.{Bool.false≢true, Grind.common_steps},
 }
 use Rattle.bre_core.specs.{Match.Parts, ByteSet.has}

@@ -1,17 +1,15 @@
 -- Bits of words, and sets that grow by a number.
-use Rattle.std.proofs.Common.{
-  rules, ◌≡◌, ◌⊎◌, ◌↔◌, inl, inr, ℕ, zero, suc, ◌*◌, ◌/◌, ◌%◌, ◌^◌, ◌<◌, ◌≤◌, true, false, IsTrue, not, List, [], ◌∷◌,
-  length, get_or, set, eqb, refl, sym, ap, ◌∙◌, subst, arith, eq-eqb, eqb-true, w64, min, ◌+◌, Bool, ◌-◌, max, bit_and,
-  bit_or,
+use Rattle.std.proofs.{
+  Common.{rules, ◌≡◌, ◌⊎◌, ◌↔◌, inl, inr, ℕ, zero, suc, ◌*◌, ◌/◌, ◌%◌, ◌^◌, ◌<◌, ◌≤◌, true, false, IsTrue, not, List},
+  Common.{[], ◌∷◌, length, get_or, set, eqb, refl, sym, ap, ◌∙◌, subst, arith, eq-eqb, eqb-true, w64, min, ◌+◌, Bool},
+  Common.{◌-◌, max, bit_and, bit_or},
 }
 use Rattle.std.proofs.lemmas.{
   Bool.{cases_eq, false≢true, cases_lt},
   List.{get_or-set_same, get_or-set_other, length-set, set-get_or},
   Nat.{le_or_l, or_lt, and_le_l},
-  Nat.Bits.{
-    shr_and_one, bit_at_set_same, bit_at_set_other, and_high, bit_at_and, bit_at_or, bit_at_not, bit_at-lt, bit_at-zero,
-    bit_at_mask_inside, bit_at_ones, bit_at_above, bit_at_cat_low, bit_at_cat_high,
-  },
+  Nat.Bits.{shr_and_one, bit_at_set_same, bit_at_set_other, and_high, bit_at_and, bit_at_or, bit_at_not, bit_at-lt},
+  Nat.Bits.{bit_at-zero, bit_at_mask_inside, bit_at_ones, bit_at_above, bit_at_cat_low, bit_at_cat_high},
   Grind.common_steps,
 }
 use Rattle.std.specs.Int.{bit_at, bit_not, Bits.{or_zero_r, or_zero_l}}

@@ -1,9 +1,7 @@
 -- A search by sets of words, place by place.
 use Rattle.std.proofs.{
-  Common.{
-    ◌≡◌, ◌⊎◌, ◌↔◌, inl, inr, ℕ, suc, ◌+◌, ◌*◌, ◌<◌, ◌≤◌, Bool, true, false, IsTrue, List, length, slice_index, refl,
-    sym, ◌∙◌, subst, arith, rules, ◌/◌, ◌%◌, [], ◌∷◌, ◌++◌, length-append, get_or, ap, mul-le-mul,
-  },
+  Common.{◌≡◌, ◌⊎◌, ◌↔◌, inl, inr, ℕ, suc, ◌+◌, ◌*◌, ◌<◌, ◌≤◌, Bool, true, false, IsTrue, List, length, slice_index},
+  Common.{refl, sym, ◌∙◌, subst, arith, rules, ◌/◌, ◌%◌, [], ◌∷◌, ◌++◌, length-append, get_or, ap, mul-le-mul},
   lemmas.{Bool.{false≢true, cases_eq}, List.{get_or_append_left, get_or_default}},
 }
 use Rattle.scan_core.specs.{

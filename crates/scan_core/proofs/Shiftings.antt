@@ -1,9 +1,7 @@
 -- A table of few states as words.
 use Rattle.std.proofs.{
-  Common.{
-    rules, ◌≡◌, ◌⊎◌, ◌↔◌, inl, inr, ℕ, zero, suc, ◌+◌, ◌*◌, ◌<◌, ◌≤◌, Bool, true, false, IsTrue, List, [], ◌∷◌, ◌++◌,
-    length, slice_index, refl, sym, subst, arith, length-append, ◌-◌, get_or, ap, ◌∙◌, ◌/◌, ◌%◌, ◌^◌, ◌==◌,
-  },
+  Common.{rules, ◌≡◌, ◌⊎◌, ◌↔◌, inl, inr, ℕ, zero, suc, ◌+◌, ◌*◌, ◌<◌, ◌≤◌, Bool, true, false, IsTrue, List, [], ◌∷◌},
+  Common.{◌++◌, length, slice_index, refl, sym, subst, arith, length-append, ◌-◌, get_or, ap, ◌∙◌, ◌/◌, ◌%◌, ◌^◌, ◌==◌},
   lemmas.{
     Bool.{cases_eq, ne_eqb, cases_lt},
     List.{get_or_push, get_or_append_left, get_or_default},

@@ -1,8 +1,8 @@
 //! Building a pattern's table ahead: set by set and byte by byte, as far as there is room.
 
-ghost use Rattle.std.specs.Prelude.{
-  ◌≡◌, ◌↔◌, ◌<◌, ◌≤◌, ◌+◌, ◌*◌, ◌/◌, ◌%◌, ℕ, List, Bool, IsTrue, IsFalse, IfOk, IfErr, IfSome, [], length,
-  slice_index_or,
+ghost use Rattle.std.specs.{
+  Prelude.{◌≡◌, ◌↔◌, ◌<◌, ◌≤◌, ◌+◌, ◌*◌, ◌/◌, ◌%◌, ℕ, List, Bool, IsTrue, IsFalse, IfOk, IfErr, IfSome, [], length},
+  Prelude.slice_index_or,
 };
 ghost use Rattle.bre_core.specs.{declared.fault.BreFault.TheVariants.Memory, ByteSet.has};
 ghost use Rattle.scan_core.specs.{

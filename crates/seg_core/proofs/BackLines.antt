@@ -1,9 +1,8 @@
 -- Delimiters that are counted from the end of a text.
 use Rattle.std.proofs.{
   lemmas.{Grind.common_steps, List.{take_more, drop-drop}},
-  Common.{
-    ◌≡◌, ℕ, ◌+◌, ◌-◌, ◌<◌, ◌≤◌, Bool, true, false, eqb, List, [], ◌∷◌, length, take, drop, get_or, refl, arith, rules,
-  },
+  Common.{◌≡◌, ℕ, ◌+◌, ◌-◌, ◌<◌, ◌≤◌, Bool, true, false, eqb, List, [], ◌∷◌, length, take, drop, get_or, refl, arith},
+  Common.rules,
 }
 use mir.Val.{bool_byte}
 use Rattle.seg_core.{

@@ -1,9 +1,7 @@
 -- A text in blocks.
 use Rattle.std.proofs.{
-  Common.{
-    ◌≡◌, ℕ, zero, suc, ◌+◌, ◌-◌, ◌^◌, ◌<◌, ◌≤◌, List, [], ◌∷◌, ◌++◌, length, take, drop, get_or, set, refl, sym, ap,
-    ◌∙◌, arith, append-nil, append_assoc, length-append, length-drop, drop-drop, take_at, drop_at,
-  },
+  Common.{◌≡◌, ℕ, zero, suc, ◌+◌, ◌-◌, ◌^◌, ◌<◌, ◌≤◌, List, [], ◌∷◌, ◌++◌, length, take, drop, get_or, set, refl, sym},
+  Common.{ap, ◌∙◌, arith, append-nil, append_assoc, length-append, length-drop, drop-drop, take_at, drop_at},
   lemmas.{List.Elements.{All-set, All-take, All-drop}, Grind.common_steps},
   Math.Seq.{drop-append-add, take-append-add},
 }

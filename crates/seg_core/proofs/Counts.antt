@@ -5,10 +5,8 @@ use Rattle.std.{
     Bool.{le-leb, lt-leb, lt-ltb, and_from, and_right},
     List.{take_rest, Folds.list_all_at, Sums.{prefix_len-le-length, prefix_len_stops}},
   },
-  proofs.Common.{
-    rules, ◌≡◌, ℕ, suc, ◌+◌, ◌-◌, ◌*◌, ◌^◌, ◌<◌, ◌≤◌, ◌⊎◌, min, Bool, true, false, cond, leb, ltb, ◌&&◌, List, [], ◌∷◌,
-    Option, Ok, Err, length, take, drop, refl, ap, arith,
-  },
+  proofs.Common.{rules, ◌≡◌, ℕ, suc, ◌+◌, ◌-◌, ◌*◌, ◌^◌, ◌<◌, ◌≤◌, ◌⊎◌, min, Bool, true, false, cond, leb, ltb, ◌&&◌},
+  proofs.Common.{List, [], ◌∷◌, Option, Ok, Err, length, take, drop, refl, ap, arith},
   specs.{List.{prefix_len, list_all}, Char.is_ascii_digit},
 }
 use Rattle.seg_core.specs.{

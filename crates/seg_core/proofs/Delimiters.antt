@@ -1,10 +1,8 @@
 -- How many delimiters a text has.
 use Rattle.std.proofs.{
   lemmas.{Grind.common_steps, List.{take_more, take-append-drop}},
-  Common.{
-    ◌≡◌, ◌≢◌, ℕ, ◌+◌, ◌-◌, ◌<◌, ◌≤◌, Bool, true, false, cond, eqb, List, [], ◌∷◌, ◌++◌, length, take, drop, get_or, sym,
-    ap, ◌∙◌, arith, take-add, eq-eqb, ne_eqb,
-  },
+  Common.{◌≡◌, ◌≢◌, ℕ, ◌+◌, ◌-◌, ◌<◌, ◌≤◌, Bool, true, false, cond, eqb, List, [], ◌∷◌, ◌++◌, length, take, drop},
+  Common.{get_or, sym, ap, ◌∙◌, arith, take-add, eq-eqb, ne_eqb},
 }
 use Rattle.seg_core.specs.Line.{delimiters}
 

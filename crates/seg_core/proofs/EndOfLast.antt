@@ -1,6 +1,6 @@
 -- Where the last delimiter of a text stands.
-use Rattle.std.proofs.Common.{
-  ◌≡◌, ℕ, zero, suc, ◌+◌, ◌<◌, eqb, true, [], ◌∷◌, List, length, drop, get_or, sym, ap, ◌∙◌, arith, eq-eqb,
+use Rattle.std.proofs.{
+  Common.{◌≡◌, ℕ, zero, suc, ◌+◌, ◌<◌, eqb, true, [], ◌∷◌, List, length, drop, get_or, sym, ap, ◌∙◌, arith, eq-eqb},
 }
 use Rattle.memchr.specs.Find.{Nowhere, Passes, is_byte}
 use Rattle.seg_core.{

@@ -1,13 +1,10 @@
 -- The first lines of a text, and of a text that goes on.
 use Rattle.std.proofs.{
-  Common.{
-    rules, ◌≡◌, ℕ, zero, suc, ◌+◌, ◌-◌, ◌<◌, ◌≤◌, Bool, true, false, cond, eqb, inl, List, [], ◌∷◌, ◌++◌, length, take,
-    drop, get_or, refl, sym, ap, ◌∙◌, arith,
-  },
+  Common.{rules, ◌≡◌, ℕ, zero, suc, ◌+◌, ◌-◌, ◌<◌, ◌≤◌, Bool, true, false, cond, eqb, inl, List, [], ◌∷◌, ◌++◌, length},
+  Common.{take, drop, get_or, refl, sym, ap, ◌∙◌, arith},
   lemmas.{
-    List.{
-      take_more, take-append-drop, take_at, drop_at, take_all, length-take-le, append-nil, append_assoc, length-append,
-    },
+    List.{take_more, take-append-drop, take_at, drop_at, take_all, length-take-le, append-nil, append_assoc},
+    List.length-append,
     Grind.common_steps,
   },
 }

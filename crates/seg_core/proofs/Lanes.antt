@@ -2,15 +2,11 @@
 use Rattle.std.{
   proofs.lemmas.{
     Grind.common_steps,
-    Simd.{
-      tops_compared, zip2_splat, Each2-of, Each1-zip2, sum_bound, bytes_below, sum_fits, sum_dots, sum_by-ones,
-      fold-sum,
-    },
+    Simd.{tops_compared, zip2_splat, Each2-of, Each1-zip2, sum_bound, bytes_below, sum_fits, sum_dots, sum_by-ones},
+    Simd.fold-sum,
   },
-  proofs.Common.{
-    ◌≡◌, ℕ, zero, suc, ◌+◌, ◌-◌, ◌*◌, ◌≤◌, Bool, true, false, cond, eqb, List, [], ◌∷◌, length, map, replicate, refl,
-    sym, ap, ◌∙◌, arith, w8, w32, Fits,
-  },
+  proofs.Common.{◌≡◌, ℕ, zero, suc, ◌+◌, ◌-◌, ◌*◌, ◌≤◌, Bool, true, false, cond, eqb, List, [], ◌∷◌, length, map},
+  proofs.Common.{replicate, refl, sym, ap, ◌∙◌, arith, w8, w32, Fits},
   specs.Simd.Lanes.{Each1, Each2, zip2, sum_l, sel_l, top, products, dots, Steps, fold_l},
 }
 use Rattle.seg_core.specs.{declared.line.TheConstants.{STEP, RUN}, Line.delimiters}

@@ -1,10 +1,8 @@
 -- The last lines of a text, and of a text that goes on.
 use Rattle.std.proofs.{
   lemmas.Grind.common_steps,
-  Common.{
-    ◌≡◌, ℕ, zero, suc, ◌+◌, ◌-◌, ◌<◌, ◌≤◌, true, List, [], ◌∷◌, ◌++◌, length, take, drop, refl, sym, ap, ◌∙◌, arith,
-    take-append-drop, take-take, append_assoc, length-append, length-take-le,
-  },
+  Common.{◌≡◌, ℕ, zero, suc, ◌+◌, ◌-◌, ◌<◌, ◌≤◌, true, List, [], ◌∷◌, ◌++◌, length, take, drop, refl, sym, ap, ◌∙◌},
+  Common.{arith, take-append-drop, take-take, append_assoc, length-append, length-take-le},
 }
 use Rattle.seg_core.{
   specs.Line.{delimiters, ends_with, first_lines, line_count, but_last_lines, BeginsAt},

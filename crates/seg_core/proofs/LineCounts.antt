@@ -1,10 +1,8 @@
 -- How many lines a text has.
 use Rattle.std.{
   proofs.lemmas.{Grind.common_steps, Bool.{eq-eqb, ne_eqb, false≢true}},
-  proofs.Common.{
-    ◌≡◌, ◌≢◌, ℕ, zero, suc, ◌+◌, ◌-◌, ◌<◌, ◌≤◌, Bool, true, false, not, cond, eqb, List, [], ◌∷◌, ◌++◌, length, take,
-    drop, get_or, refl, sym, ap, ◌∙◌, arith, rules, take_all, length-append, length-take-le,
-  },
+  proofs.Common.{◌≡◌, ◌≢◌, ℕ, zero, suc, ◌+◌, ◌-◌, ◌<◌, ◌≤◌, Bool, true, false, not, cond, eqb, List, [], ◌∷◌, ◌++◌},
+  proofs.Common.{length, take, drop, get_or, refl, sym, ap, ◌∙◌, arith, rules, take_all, length-append, length-take-le},
   specs.List.onto_first,
 }
 use mir.Val.{bool_byte}

@@ -2,10 +2,8 @@
 use Rattle.std.{
   proofs.{
     lemmas.{Grind.common_steps, Bool.cases_eq},
-    Common.{
-      rules, ◌≡◌, ◌≢◌, ℕ, ◌<◌, Bool, true, false, cond, eqb, List, [], ◌∷◌, ◌++◌, inl, inr, length, refl, sym, ap, ◌∙◌,
-      arith, append-nil,
-    },
+    Common.{rules, ◌≡◌, ◌≢◌, ℕ, ◌<◌, Bool, true, false, cond, eqb, List, [], ◌∷◌, ◌++◌, inl, inr, length, refl, sym},
+    Common.{ap, ◌∙◌, arith, append-nil},
   },
   specs.List.onto_first,
 }

@@ -5,10 +5,8 @@ use Rattle.std.proofs.{
     Bool.{eq-eqb, ne_eqb, eqb-true, false≢true},
     List.{take_more, take-append-drop, take_all, drop_all, length-append},
   },
-  Common.{
-    ◌≡◌, ℕ, zero, suc, ◌+◌, ◌<◌, ◌≤◌, Bool, true, false, cond, List, [], ◌∷◌, ◌++◌, length, take, drop, get_or, refl,
-    sym, ap, subst, ◌∙◌, arith,
-  },
+  Common.{◌≡◌, ℕ, zero, suc, ◌+◌, ◌<◌, ◌≤◌, Bool, true, false, cond, List, [], ◌∷◌, ◌++◌, length, take, drop, get_or},
+  Common.{refl, sym, ap, subst, ◌∙◌, arith},
 }
 use Rattle.memchr.specs.Find.{Nowhere, Passes, is_byte}
 use Rattle.seg_core.{

@@ -1,9 +1,7 @@
 -- The value of digits, one digit after another, and held at a limit.
 use Rattle.std.proofs.{
-  Common.{
-    rules, ◌≡◌, ℕ, ◌+◌, ◌-◌, ◌*◌, ◌^◌, ◌<◌, min, List, [], ◌∷◌, ◌++◌, length, take, get_or, ap, ◌∙◌, arith, add-one,
-    pow-suc,
-  },
+  Common.{rules, ◌≡◌, ℕ, ◌+◌, ◌-◌, ◌*◌, ◌^◌, ◌<◌, min, List, [], ◌∷◌, ◌++◌, length, take, get_or, ap, ◌∙◌, arith},
+  Common.{add-one, pow-suc},
   lemmas.List.{take_more, length_push},
 }
 use Rattle.seg_core.specs.Count.{value_of}

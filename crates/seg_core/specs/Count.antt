@@ -1,9 +1,7 @@
 -- Counts, as options take them: an optional sign, digits, and a suffix that stands for a factor.
 use Rattle.std.specs.{
-  Prelude.{
-    ℕ, Bool, ◌+◌, ◌-◌, ◌*◌, ◌^◌, ◌==◌, ◌&&◌, nat_lt, nat_le, List, [], ◌∷◌, Option, None, Some, Result, Ok, Err,
-    if◌then◌else◌, length, drop, codes, bytes_eq,
-  },
+  Prelude.{ℕ, Bool, ◌+◌, ◌-◌, ◌*◌, ◌^◌, ◌==◌, ◌&&◌, nat_lt, nat_le, List, [], ◌∷◌, Option, None, Some, Result, Ok, Err},
+  Prelude.{if◌then◌else◌, length, drop, codes, bytes_eq},
   List.{prefix_len, take_while, list_all},
   Char.is_ascii_digit,
 }

@@ -2,10 +2,8 @@
 -- text, and that the definitions have as their first argument. POSIX's lines are those that end with the newline, byte
 -- 10.
 use Rattle.std.specs.{
-  Prelude.{
-    ◌≡◌, ◌≢◌, ℕ, ◌+◌, ◌-◌, ◌<◌, ◌≤◌, ◌==◌, Bool, true, false, List, [], ◌∷◌, ◌++◌, ◌⊎◌, if◌then◌else◌, length, take,
-    drop,
-  },
+  Prelude.{◌≡◌, ◌≢◌, ℕ, ◌+◌, ◌-◌, ◌<◌, ◌≤◌, ◌==◌, Bool, true, false, List, [], ◌∷◌, ◌++◌, ◌⊎◌, if◌then◌else◌, length},
+  Prelude.{take, drop},
   List.onto_first,
 }
 use Rattle.seg_core.specs.declared.line_reach.{Reach.{Reach, TheVariants.{Ends, Short}}, ReachBack.ReachBack}

@@ -1,6 +1,6 @@
 //! The last bytes of what came in.
-ghost use Rattle.std.specs.Prelude.{
-  ◌≡◌, ℕ, ◌+◌, ◌-◌, ◌<◌, ◌≤◌, ◌==◌, true, List, [], ◌++◌, length, take, drop, min, IsOk, IfOk, IfErr, OnOk,
+ghost use Rattle.std.specs.{
+  Prelude.{◌≡◌, ℕ, ◌+◌, ◌-◌, ◌<◌, ◌≤◌, ◌==◌, true, List, [], ◌++◌, length, take, drop, min, IsOk, IfOk, IfErr, OnOk},
 };
 ghost use Rattle.seg_core.specs.Window.{with_put, without_front};
 

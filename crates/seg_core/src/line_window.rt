@@ -1,6 +1,7 @@
 //! The last lines of what came in.
-ghost use Rattle.std.specs.Prelude.{
-  ◌≡◌, ℕ, ◌+◌, ◌-◌, ◌<◌, ◌≤◌, ◌==◌, List, [], ◌++◌, length, take, drop, min, IsOk, IfOk, IfErr, IfSome, OnOk, None,
+ghost use Rattle.std.specs.{
+  Prelude.{◌≡◌, ℕ, ◌+◌, ◌-◌, ◌<◌, ◌≤◌, ◌==◌, List, [], ◌++◌, length, take, drop, min, IsOk, IfOk, IfErr, IfSome, OnOk},
+  Prelude.None,
 };
 ghost use Rattle.seg_core.specs.{Line.{but_last_lines, delimiters, first_lines, line_count}, Window.without_first};
 

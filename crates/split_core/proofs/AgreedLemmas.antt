@@ -5,10 +5,8 @@ use Rattle.std.proofs.{
     Bool.{cases_lt, ne_eqb, Decides.nat_tests},
     List.{append-nil, get_or_append_left, take_all, length-map, length-replicate},
   },
-  Common.{
-    ◌≡◌, ℕ, ◌+◌, ◌-◌, ◌<◌, ◌≤◌, zero, suc, List, [], ◌∷◌, ◌++◌, get_or, length, map, drop, replicate, Bool, true, false,
-    cond, refl, sym, ◌∙◌, ap, arith, append_assoc, length-append, zero-add, rules,
-  },
+  Common.{◌≡◌, ℕ, ◌+◌, ◌-◌, ◌<◌, ◌≤◌, zero, suc, List, [], ◌∷◌, ◌++◌, get_or, length, map, drop, replicate, Bool, true},
+  Common.{false, cond, refl, sym, ◌∙◌, ap, arith, append_assoc, length-append, zero-add, rules},
   Math.Seq.drop-append_seam,
 }
 use Rattle.seg_core.specs.{
@@ -31,9 +29,8 @@ use Rattle.ports_core.proofs.{
 use Rattle.split_core.specs.{
   Parts.{whole_lines, after_first, cut_up, unless_empty, parts, settled_rest, waiting_rest},
   inner.CutLaws.named,
-  Split.{
-    Filing, Plan, Share, share, are_named, output_by, settled_parts, settled_by, split_work, dealt_files, bytes_in,
-  },
+  Split.{Filing, Plan, Share, share, are_named, output_by, settled_parts, settled_by, split_work, dealt_files},
+  Split.bytes_in,
   PartsState.parts_work,
   Round.{round_plan, round_work},
   laws.{

@@ -1,9 +1,7 @@
 -- Lemmas on inputs that a work can't tell apart, and on what a stage owes that was fed one in place of the other.
 use Rattle.std.proofs.{
-  Common.{
-    ◌≡◌, ℕ, ◌↔◌, ◌≤◌, ◌<◌, Bool, true, false, List, [], ◌++◌, length, take, drop, Result, Ok, Err, inl, inr, refl, sym,
-    ◌∙◌, ap, subst, arith, append_assoc,
-  },
+  Common.{◌≡◌, ℕ, ◌↔◌, ◌≤◌, ◌<◌, Bool, true, false, List, [], ◌++◌, length, take, drop, Result, Ok, Err, inl, inr},
+  Common.{refl, sym, ◌∙◌, ap, subst, arith, append_assoc},
   lemmas.{
     Bool.{cases_lt, false≢true},
     List.{append-nil, length-append, nil_from_length, drop-append-le, take-append-drop, take-append-le, take_at},
@@ -11,10 +9,8 @@ use Rattle.std.proofs.{
   Math.Seq.drop-append_seam,
 }
 use Rattle.ports_core.specs.{
-  Engine.{
-    CutsOff, EndsThere, EndsWith, Finishes, IsMet, IsMetThere, IsMetWith, Passes, PutsOut, StandsAt, TakesIn, Terms,
-    TookIn,
-  },
+  Engine.{CutsOff, EndsThere, EndsWith, Finishes, IsMet, IsMetThere, IsMetWith, Passes, PutsOut, StandsAt, TakesIn},
+  Engine.{Terms, TookIn},
   Part.{OutputsAt, Part},
   Slot.Slot,
   Work.{IsLawful, IsNeeded, IsSpare, Means, Needs, Work},

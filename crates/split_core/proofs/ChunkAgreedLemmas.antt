@@ -1,9 +1,7 @@
 -- What is settled of chunks is what all continuations agree on.
 use Rattle.std.proofs.{
-  Common.{
-    ◌≡◌, ◌≢◌, ℕ, ◌+◌, ◌-◌, ◌*◌, ◌/◌, ◌<◌, ◌≤◌, max, zero, suc, Bool, true, false, cond, List, [], ◌∷◌, ◌++◌, length,
-    take, drop, map, get_or, replicate, Option, Some, None, inl, inr, refl, sym, ◌∙◌, ap, subst, arith,
-  },
+  Common.{◌≡◌, ◌≢◌, ℕ, ◌+◌, ◌-◌, ◌*◌, ◌/◌, ◌<◌, ◌≤◌, max, zero, suc, Bool, true, false, cond, List, [], ◌∷◌, ◌++◌},
+  Common.{length, take, drop, map, get_or, replicate, Option, Some, None, inl, inr, refl, sym, ◌∙◌, ap, subst, arith},
   lemmas.{
     Bool.{cases_lt, eq-eqb, ltb-false},
     List.{append-nil, drop-append-le, length-append, length-replicate, map-append, take_all},
@@ -30,19 +28,15 @@ use Rattle.split_core.specs.{
   Parts.{CutUp, unless_empty},
   Place.beside_output,
   Split.{Filing, Share, are_named, has_bytes, manner_of, output_by, share},
-  Chunks.{
-    before_chunk, begun_before, chunk_at, chunk_start, chunks_of, decided, ended, in_the_end, is_longer, open_from,
-    pieces_in, size_by,
-  },
+  Chunks.{before_chunk, begun_before, chunk_at, chunk_start, chunks_of, decided, ended, in_the_end, is_longer},
+  Chunks.{open_from, pieces_in, size_by},
   ChunkAgreed.{AgreeAt, CanFollow, HasNoMore},
   ChunkWork.{ChunksPlan, chunk_work, chunks_settled, chunks_whole, chunks_work, files_by, kept},
   inner.Chunks.HaveEnded,
   laws.ChunkWorkLaws.{chunk_lawful, chunks_lawful, first_kept, kept-append, length-kept},
   laws.BegunLaws.{begun_begins, begun_first, begun_first_place, begun_monotone, begun_on, begun_within, open_within},
-  laws.ChunkLaws.{
-    all_joined, before_stays, chunks_are, cut_all, ended_is, full_stays, map_parts, passed_open, start_by_size,
-    start_first, start_grows, start_past,
-  },
+  laws.ChunkLaws.{all_joined, before_stays, chunks_are, cut_all, ended_is, full_stays, map_parts, passed_open},
+  laws.ChunkLaws.{start_by_size, start_first, start_grows, start_past},
 }
 use Rattle.split_core.proofs.{
   AgreedLemmas.{bytes_named, each_named, named_bytes},

@@ -1,9 +1,7 @@
 -- Lemmas on what stands before one chunk alone: which bytes these are is no matter.
 use Rattle.std.{
-  proofs.Common.{
-    ◌≡◌, ℕ, ◌+◌, ◌-◌, ◌<◌, ◌≤◌, max, nat_le, nat_lt, ◌==◌, ◌||◌, Bool, true, false, cond, List, [], ◌++◌, ◌⊎◌, length,
-    take, drop, map, get_or, Some, None, inl, inr, refl, sym, ◌∙◌, ap, arith, if◌then◌else◌,
-  },
+  proofs.Common.{◌≡◌, ℕ, ◌+◌, ◌-◌, ◌<◌, ◌≤◌, max, nat_le, nat_lt, ◌==◌, ◌||◌, Bool, true, false, cond, List, [], ◌++◌},
+  proofs.Common.{◌⊎◌, length, take, drop, map, get_or, Some, None, inl, inr, refl, sym, ◌∙◌, ap, arith, if◌then◌else◌},
   proofs.lemmas.{
     Bool.{cases_lt, lt-leb},
     List.{
@@ -22,9 +20,8 @@ use Rattle.split_core.specs.{
   Chunks.{before_chunk, begun_before, chunk_at, chunk_start, chunks_within, ended, has_ended, open_from, pieces_in},
   ChunkWork.chunk_work,
   laws.BegunLaws.{begun_on, open_append, open_within},
-  laws.ChunkLaws.{
-    before_later, before_next, chunk_none, ended_is, passed_full, passed_open, start_grows, start_within, take_within,
-  },
+  laws.ChunkLaws.{before_later, before_next, chunk_none, ended_is, passed_full, passed_open, start_grows, start_within},
+  laws.ChunkLaws.take_within,
   laws.ChunkWorkLaws.chunk_lawful,
 }
 use Rattle.split_core.proofs.AlikeLemmas.{spare_so}

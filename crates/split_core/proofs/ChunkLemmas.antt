@@ -5,23 +5,32 @@ use Rattle.std.proofs.lemmas.{
   List.{append-nil, length-append, length-drop, length-take, length-take-le, take_all, take-append-drop},
   List.FromFn.{get_or-map-range_with_len, length-map-range_with_len, map-range_with_len_more, take-map-range_with_len},
 }
-use Rattle.std.proofs.Common.{◌≡◌, ℕ, ◌+◌, ◌-◌, ◌/◌, ◌%◌, ◌<◌, ◌≤◌, zero, suc, true, false, cond, List, [], ◌∷◌, ◌++◌, length, take, drop, map, get_or, Option, Some, None, inl, inr, refl, sym, ◌∙◌, ap, arith}
+use Rattle.std.proofs.{
+  Common.{◌≡◌, ℕ, ◌+◌, ◌-◌, ◌/◌, ◌%◌, ◌<◌, ◌≤◌, zero, suc, true, false, cond, List, [], ◌∷◌, ◌++◌, length, take, drop},
+  Common.{map, get_or, Option, Some, None, inl, inr, refl, sym, ◌∙◌, ap, arith},
+}
 use Rattle.std.specs.List.{flat_map, range_with_len}
-use Rattle.seg_core.{specs.{Line.{joined, lines_of, line_count, first_lines, after_lines, delimiters}, declared.{cut.{Chunks.Chunks, Cut.TheVariants.Round}, unit.Unit.TheVariants.{Bytes, Lines}}}, proofs.{FirstLines.{after_lines-is_drop, delimiters-first_lines, first_lines-full, first_lines-short, first_lines_then_rest}, FirstLines.{lines_of-after_lines, lines_of-first_lines}, LineCounts.line_count-le-length}}
+use Rattle.seg_core.{
+  specs.{
+    Line.{joined, lines_of, line_count, first_lines, after_lines, delimiters},
+    declared.{cut.{Chunks.Chunks, Cut.TheVariants.Round}, unit.Unit.TheVariants.{Bytes, Lines}},
+  },
+  proofs.{
+    FirstLines.{after_lines-is_drop, delimiters-first_lines, first_lines-full, first_lines-short},
+    FirstLines.{first_lines_then_rest, lines_of-after_lines, lines_of-first_lines},
+    LineCounts.line_count-le-length,
+  },
+}
 use Rattle.ports_core.specs.{Agreed.file_bytes, Draft.part_of, Part.only_out, declared.slot.State.TheVariants.Closed}
 use Rattle.split_core.specs.{
-  Chunks.{
-    IsInChunk, IsInPiece, before_chunk, begun_before, chunk_at, chunk_start, chunks_in, chunks_of, ended, in_the_end,
-    is_as_said, open_from, pieces_in, size_by,
-  },
+  Chunks.{IsInChunk, IsInPiece, before_chunk, begun_before, chunk_at, chunk_start, chunks_in, chunks_of, ended},
+  Chunks.{in_the_end, is_as_said, open_from, pieces_in, size_by},
   ChunkWork.{chunk_work, files_by, way_work},
   Split.{Filing, are_named, manner_of, share},
   Parts.{dealt, round_robin, unless_empty},
   laws.BegunLaws.{begun_lines, begun_long, begun_some, begun_stays, begun_within},
-  laws.ChunkLaws.{
-    chunk_none, cut_all, ended_within, joined_chunks, start_first, start_grows, start_last, start_next, start_within,
-    rest_none, take_within,
-  },
+  laws.ChunkLaws.{chunk_none, cut_all, ended_within, joined_chunks, start_first, start_grows, start_last, start_next},
+  laws.ChunkLaws.{start_within, rest_none, take_within},
 }
 use Rattle.split_core.proofs.{AgreedLemmas.{each_named, shared_bytes}, RoundLemmas.named_fewer}
 use Rattle.seg_core.specs.declared.cut.Way.TheVariants as way
@@ -179,7 +188,7 @@ line_after delim x place i past = let first = first_lines delim i x in elim (cas
       let all = first_lines_then_rest delim i x in
       let counted = delimiters-first_lines delim i x few in
       let whole : open_from Lines delim first ≡ length first = ap (λ n. length (first_lines delim n first)) counted
-          ∙ ap length (sym (first_lines-full delim i first rest (omega (arith, counted))) ∙ ap (first_lines delim i) all) in
+      ∙ ap length (sym (first_lines-full delim i first rest (omega (arith, counted))) ∙ ap (first_lines delim i) all) in
       omega (
         arith,
         ap length (ap (begun_before Lines delim place) (sym all) ∙ begun_stays Lines delim place first rest (omega (arith, whole, past))),

@@ -1,15 +1,11 @@
 -- Which files of chunks there are once some bytes came in, and when the output of one chunk is complete.
 use Rattle.std.proofs.{
-  Common.{
-    ◌≡◌, ℕ, ◌+◌, ◌-◌, ◌*◌, ◌<◌, ◌≤◌, zero, suc, Bool, true, false, List, [], ◌∷◌, ◌++◌, length, take, drop, map, get_or,
-    Option, Some, None, ◌⊎◌, inl, inr, refl, sym, ◌∙◌, ap, arith,
-  },
+  Common.{◌≡◌, ℕ, ◌+◌, ◌-◌, ◌*◌, ◌<◌, ◌≤◌, zero, suc, Bool, true, false, List, [], ◌∷◌, ◌++◌, length, take, drop, map},
+  Common.{get_or, Option, Some, None, ◌⊎◌, inl, inr, refl, sym, ◌∙◌, ap, arith},
   Math.Seq.{get_or-append_seam, take-append_seam},
   lemmas.Bool.{cases_lt, cond_both, eq-eqb, eqb-true, false≢true, leb-true, le-leb, ne_eqb},
-  lemmas.List.{
-    append-nil, length-append, length-map, map-append, take-take, Elements.filter-append,
-    FromFn.length-map-range_with_len,
-  },
+  lemmas.List.{append-nil, length-append, length-map, map-append, take-take, Elements.filter-append},
+  lemmas.List.FromFn.length-map-range_with_len,
 }
 use Rattle.std.specs.List.{filter}
 use Rattle.seg_core.specs.{Line.joined, declared.cut.Chunks.Chunks}
@@ -34,10 +30,8 @@ use Rattle.split_core.specs.{
   },
 }
 use Rattle.split_core.proofs.{
-  ChunkAgreedLemmas.{
-    TailFiles, chunks_left, far_on, few_decided, fill, fills, none_files, said_filled, joined_files, none_kept,
-    said_split, settled_files, whole_files,
-  },
+  ChunkAgreedLemmas.{TailFiles, chunks_left, far_on, few_decided, fill, fills, none_files, said_filled, joined_files},
+  ChunkAgreedLemmas.{none_kept, said_split, settled_files, whole_files},
   ChunkLemmas.{bytes_filed, same_pieces},
   RoundLemmas.named_at,
 }

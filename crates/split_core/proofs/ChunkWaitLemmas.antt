@@ -1,9 +1,7 @@
 -- What waits of an input that is cut into chunks is what continuations put to different places.
 use Rattle.std.proofs.{
-  Common.{
-    ◌≡◌, ◌≢◌, ℕ, ◌+◌, ◌-◌, ◌*◌, ◌<◌, ◌≤◌, suc, Bool, true, false, List, [], ◌∷◌, ◌++◌, length, drop, replicate, Option,
-    Some, None, refl, sym, ◌∙◌, ap, subst, arith,
-  },
+  Common.{◌≡◌, ◌≢◌, ℕ, ◌+◌, ◌-◌, ◌*◌, ◌<◌, ◌≤◌, suc, Bool, true, false, List, [], ◌∷◌, ◌++◌, length, drop, replicate},
+  Common.{Option, Some, None, refl, sym, ◌∙◌, ap, subst, arith},
   lemmas.{Bool.ltb-false, List.{append-nil, append_assoc, length-append, take_all, take-append-drop}},
 }
 use Rattle.seg_core.specs.{Line.joined, declared.cut.Chunks.Chunks}

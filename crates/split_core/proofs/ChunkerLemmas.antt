@@ -4,10 +4,8 @@ use Rattle.std.proofs.{
     Bool.{cases_lt, eq-eqb, false≢true, le-leb, le-ltb, lt-ltb, ltb-true, Decides.eqb_tells},
     List.{append-nil, drop_all, take_at, take-append-drop, length-append, length-drop, length-take},
   },
-  Common.{
-    ◌≡◌, ℕ, ◌+◌, ◌-◌, ◌<◌, ◌≤◌, min, Bool, true, false, eqb, nat_lt, List, [], ◌++◌, ◌⊎◌, length, take, drop, Option,
-    Some, None, Ok, Err, inl, inr, refl, sym, ◌∙◌, ap, subst, arith, append_assoc,
-  },
+  Common.{◌≡◌, ℕ, ◌+◌, ◌-◌, ◌<◌, ◌≤◌, min, Bool, true, false, eqb, nat_lt, List, [], ◌++◌, ◌⊎◌, length, take, drop},
+  Common.{Option, Some, None, Ok, Err, inl, inr, refl, sym, ◌∙◌, ap, subst, arith, append_assoc},
 }
 use Rattle.ports_core.{
   specs.{
@@ -22,10 +20,8 @@ use Rattle.ports_core.{
 use Rattle.seg_core.specs.declared.cut.Chunks.{Chunks}
 use Rattle.split_core.specs.{
   Chunks.{chunks_of, chunks_within, ended, has_ended},
-  ChunkerState.{
-    AimState, ChunkerState, Course, CutterState, Holds, HoldsBy, IsAimed, IsSaid, TargetState, can_cut, course,
-    course_of, in_files, in_output, to_files, to_output, work_on, total,
-  },
+  ChunkerState.{AimState, ChunkerState, Course, CutterState, Holds, HoldsBy, IsAimed, IsSaid, TargetState, can_cut},
+  ChunkerState.{course, course_of, in_files, in_output, to_files, to_output, work_on, total},
   inner.{
     Chunker.{Comes, EndsAs, IsLike, PassesAs, made},
     Cutter.{Cuts, CutsAs, IsCut, part_so, said_work},

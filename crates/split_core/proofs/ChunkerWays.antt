@@ -2,10 +2,8 @@
 use Rattle.std.{
   specs.Option.is_none,
   proofs.lemmas.{Grind.common_steps, Bool.{ltb-true, Decides.nat_tests}, List.length-append},
-  proofs.Common.{
-    ◌≡◌, ℕ, ◌+◌, ◌≤◌, Bool, true, false, IsTrue, List, ◌++◌, length, Option, Some, None, Result, Ok, Err, IfNone,
-    IfSome, inl, inr, refl, sym, ◌∙◌, ap, subst, arith, if◌then◌else◌,
-  },
+  proofs.Common.{◌≡◌, ℕ, ◌+◌, ◌≤◌, Bool, true, false, IsTrue, List, ◌++◌, length, Option, Some, None, Result, Ok, Err},
+  proofs.Common.{IfNone, IfSome, inl, inr, refl, sym, ◌∙◌, ap, subst, arith, if◌then◌else◌},
 }
 use Rattle.ports_core.specs.{
   Engine.{IsMet, StandsAt},
@@ -23,10 +21,8 @@ use Rattle.ports_core.specs.{
 use Rattle.ports_core.proofs.{PartLemmas.{stopped_here, stopped_in_turn}, ShareLemmas.has_told, SpareLemmas.all_used}
 use Rattle.seg_core.specs.declared.cut.Chunks.{Chunks}
 use Rattle.split_core.specs.{
-  ChunkerState.{
-    AimState, ChunkerState, Course, Holds, HoldsBy, IsAimed, can_cut, course, course_of, first_on, to_files, to_output,
-    in_files, in_output, made_if, total, work, work_on,
-  },
+  ChunkerState.{AimState, ChunkerState, Course, Holds, HoldsBy, IsAimed, can_cut, course, course_of, first_on},
+  ChunkerState.{to_files, to_output, in_files, in_output, made_if, total, work, work_on},
   Chunks.{is_longer, undecided},
   Split.{Filing, manner_of},
   inner.{Chunker.{Comes, EndsAs, IsLike, PassesAs, made}, Sends.{AtAim, IsOf, manner_on, output_on}},

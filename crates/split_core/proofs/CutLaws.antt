@@ -6,11 +6,9 @@ use Rattle.std.proofs.{
     Bool.Decides.nat_tests,
     List.{append-nil, take_all, take-append-drop, append_cancel_left, length-take-le},
   },
-  Common.{
-    ◌≡◌, ℕ, ◌<◌, ◌≤◌, List, [], ◌∷◌, ◌++◌, length, take, drop, true, false, cond, refl, sym, ◌∙◌, ap, subst, arith,
-    append_assoc, map, ◌+◌, ◌%◌, Bool, eqb, rules, take_all, take-append-drop, ne_eqb, ◌-◌, nat_lt, length-append,
-    length-drop,
-  },
+  Common.{◌≡◌, ℕ, ◌<◌, ◌≤◌, List, [], ◌∷◌, ◌++◌, length, take, drop, true, false, cond, refl, sym, ◌∙◌, ap, subst},
+  Common.{arith, append_assoc, map, ◌+◌, ◌%◌, Bool, eqb, rules, take_all, take-append-drop, ne_eqb, ◌-◌, nat_lt},
+  Common.{length-append, length-drop},
   Math.{Seq.drop-append_seam, Nat.{mod-add-mod, mod-lt}},
 }
 use Rattle.seg_core.{
@@ -19,17 +17,15 @@ use Rattle.seg_core.{
     declared.cut.Limit.{Limit, TheVariants.{Lines, Bytes, LineBytes}},
     Cut.most,
   },
-  proofs.FirstLines.{
-    first_lines-is_take, first_lines-append, first_lines-full, first_lines-short, delimiters-first_lines,
-  },
+  proofs.FirstLines.{first_lines-is_take, first_lines-append, first_lines-full, first_lines-short},
+  proofs.FirstLines.delimiters-first_lines,
   proofs.Delimiters.{delimiters-append, delimiters-le-length},
   proofs.EndLines.after_lines-append,
 }
 use Rattle.split_core.specs.{
   Parts.{whole_lines, open_line, measure, is_full, first_part, after_first, cut_up, dealt},
-  laws.CutLaws.{
-    whole_within, cuts_up, cut_once, full_from, whole_of_lines, whole_of_none, whole_then_open, whole_some, has_lines,
-  },
+  laws.CutLaws.{whole_within, cuts_up, cut_once, full_from, whole_of_lines, whole_of_none, whole_then_open, whole_some},
+  laws.CutLaws.has_lines,
   inner.{CutLaws.{Cuts, stops, goes, cut_so}, Step.{IsSettled, IsTurned, IsHeld, Leads}},
   Split.{Share, share},
   Round.opened_by,

@@ -1,5 +1,13 @@
 -- Where a text is cut into chunks, and what goes where of it.
-use Rattle.std.proofs.{lemmas.Bool.{cases_lt, false≢true, le-ltb, lt-leb, lt-ltb, ltb-false, ltb-true, Decides.nat_tests}, lemmas.List.{append-nil, take_all, take_at, take-append-drop, take-take, length-append, length-drop, length-take, FromFn.length-map-range_with_len}, Math.Seq.take-add, Common.{◌≡◌, ℕ, ◌+◌, ◌-◌, ◌<◌, ◌≤◌, min, zero, suc, Bool, true, false, cond, nat_lt, List, [], ◌∷◌, ◌++◌, ◌⊎◌, length, take, drop, replicate, Option, Some, None, Ok, inl, inr, refl, sym, ◌∙◌, ap, subst, arith, append_assoc}}
+use Rattle.std.proofs.{
+  lemmas.Bool.{cases_lt, false≢true, le-ltb, lt-leb, lt-ltb, ltb-false, ltb-true, Decides.nat_tests},
+  lemmas.List.{append-nil, take_all, take_at, take-append-drop, take-take, length-append, length-drop, length-take},
+  lemmas.List.FromFn.length-map-range_with_len,
+  Math.Seq.take-add,
+  Common.{◌≡◌, ℕ, ◌+◌, ◌-◌, ◌<◌, ◌≤◌, min, zero, suc, Bool, true, false, cond, nat_lt, List, [], ◌∷◌, ◌++◌, ◌⊎◌},
+  Common.{length, take, drop, replicate, Option, Some, None, Ok, inl, inr, refl, sym, ◌∙◌, ap, subst, arith},
+  Common.append_assoc,
+}
 use Rattle.ports_core.{
   specs.{
     Draft.draft_part,
@@ -18,35 +26,27 @@ use Rattle.seg_core.{
   proofs.FirstLines.{delimiters-first_lines, first_lines-is_take, lines_of-first_lines},
 }
 use Rattle.split_core.specs.{
-  Chunks.{
-    before_chunk, begun_before, chunk_at, chunk_start, chunks_of, chunks_within, ended, is_within, open_from, passed, pieces_in,
-  },
+  Chunks.{before_chunk, begun_before, chunk_at, chunk_start, chunks_of, chunks_within, ended, is_within, open_from},
+  Chunks.{passed, pieces_in},
   ChunkWork.{draft_by, piece_at},
-  ChunkerState.{
-    AimState, Carries, Course, CutterState, HasAll, HasCut, IsAimed, can_cut, course_of, to_files, to_output, work_on,
-    TargetState, course, in_files, in_output,
-  },
+  ChunkerState.{AimState, Carries, Course, CutterState, HasAll, HasCut, IsAimed, can_cut, course_of, to_files},
+  ChunkerState.{to_output, work_on, TargetState, course, in_files, in_output},
   Parts.CutUp,
   Split.manner_of,
   inner.Cutter.{Cuts, CutsAs, EndsFull, IsCut, IsCutOff, IsOpen, Steps, WritesTo, cut_to, part_so, said_work},
   inner.Chunks.GoesOn as Goes,
   inner.Seen.{is_past_at, is_past_on},
   inner.Sends.{Brings, Changes, GoesOn, HasName, Sends, with_full, with_fulls, with_rest, part_on},
-  laws.BegunLaws.{
-    begun_begins, begun_long, begun_some, begun_stays, begun_within, open_append, open_within,
-  },
-  laws.ChunkLaws.{
-    ended_grows, ended_is, ended_only, ends_here, goes_on, passed_full, passed_open, piece_all, start_grows, start_past, start_within,
-  },
+  laws.BegunLaws.{begun_begins, begun_long, begun_some, begun_stays, begun_within, open_append, open_within},
+  laws.ChunkLaws.{ended_grows, ended_is, ended_only, ends_here, goes_on, passed_full, passed_open, piece_all},
+  laws.ChunkLaws.{start_grows, start_past, start_within},
   laws.ChunkWorkLaws.{chunks_go_on, piece_on, shares_on},
   laws.ShareLaws.part_begins,
 }
 use Rattle.split_core.proofs.{
   RoundLemmas.named_fewer,
-  TargetLemmas.{
-    brings_as, brings_then, brings_wider, ends_begin, ends_full, piece_full, sends_as, sends_none, sends_then,
-    sends_wider,
-  },
+  TargetLemmas.{brings_as, brings_then, brings_wider, ends_begin, ends_full, piece_full, sends_as, sends_none},
+  TargetLemmas.{sends_then, sends_wider},
 }
 
 -- The lines that begin before a place

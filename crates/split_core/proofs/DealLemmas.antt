@@ -2,18 +2,14 @@
 use Rattle.std.proofs.{
   lemmas.Bool.{eq-eqb, eqb-true, eqb-false, ne_eqb, cases_eq, Decides.nat_tests},
   lemmas.Simd.trailing_mask_l,
-  lemmas.List.{
-    get_or-drop, get_or-take, take_min, take_more, take-append-drop, take_all, take-take, drop-take, drop-drop,
-    length-take-le, length-drop, length-replicate, append-nil, ext_get_or, take-append-le,
-  },
+  lemmas.List.{get_or-drop, get_or-take, take_min, take_more, take-append-drop, take_all, take-take, drop-take},
+  lemmas.List.{drop-drop, length-take-le, length-drop, length-replicate, append-nil, ext_get_or, take-append-le},
   lemmas.List.FromFn.{length-map-range_with_len, get_or-map-range_with_len},
   lemmas.Grind.common_steps,
   lemmas.Result.on_ok_weaker,
-  Common.{
-    ◌≡◌, ◌≢◌, ℕ, ◌+◌, ◌-◌, ◌*◌, ◌/◌, ◌^◌, ◌<◌, ◌≤◌, zero, suc, min, Bool, true, false, not, cond, eqb, List, [], ◌∷◌,
-    ◌++◌, length, take, drop, get_or, refl, sym, ◌∙◌, ap, subst, arith, length-append, replicate, ◌%◌, max, set, Result,
-    OnOk, append_assoc, rules,
-  },
+  Common.{◌≡◌, ◌≢◌, ℕ, ◌+◌, ◌-◌, ◌*◌, ◌/◌, ◌^◌, ◌<◌, ◌≤◌, zero, suc, min, Bool, true, false, not, cond, eqb, List, []},
+  Common.{◌∷◌, ◌++◌, length, take, drop, get_or, refl, sym, ◌∙◌, ap, subst, arith, length-append, replicate, ◌%◌, max},
+  Common.{set, Result, OnOk, append_assoc, rules},
   Math.{
     Nat.{div-div-eq-div-mul, div-one, zero-div, mod-add-mod, mod-eq_of_lt, mod-mod, mod_self, mod-le},
     Seq.{take-add, take-append-add},

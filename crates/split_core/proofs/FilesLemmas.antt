@@ -9,47 +9,37 @@ use Rattle.std.proofs.{
     FromFn.{length-map-range_with_len, take-map-range_with_len, map-range_with_len_more},
   },
   lemmas.Result.{IfErr-weaker, on_ok_weaker},
-  Common.{
-    ◌≡◌, ℕ, ◌+◌, ◌-◌, ◌<◌, ◌≤◌, zero, suc, max, Bool, cond, ltb, List, [], ◌++◌, ◌⊎◌, length, map, take, drop, Result,
-    Ok, Err, append_assoc, inl, inr, refl, sym, ◌∙◌, ap, subst, arith, true, false, ◌∷◌, get_or, length-append, IsTrue,
-    rules, zero-add,
-  },
+  Common.{◌≡◌, ℕ, ◌+◌, ◌-◌, ◌<◌, ◌≤◌, zero, suc, max, Bool, cond, ltb, List, [], ◌++◌, ◌⊎◌, length, map, take, drop},
+  Common.{Result, Ok, Err, append_assoc, inl, inr, refl, sym, ◌∙◌, ap, subst, arith, true, false, ◌∷◌, get_or},
+  Common.{length-append, IsTrue, rules, zero-add},
   Math.{Path.fun_ext, Seq.drop-append_seam},
 }
 use Rattle.std.specs.List.{range_with_len}
 use Rattle.ports_core.specs.{
   Name.{Naming, name_at, has_name},
-  Names.{
-    next_name, has_next, line_next, told_next, CanTell, OpensNone, no_memory, no_name, no_line, no_number, no_file,
-  },
+  Names.{next_name, has_next, line_next, told_next, CanTell, OpensNone, no_memory, no_name, no_line, no_number},
+  Names.no_file,
   declared.{
     names.Names.Names,
     file_writer.Tells.{Tells, TheVariants.{Nothing, Sizes, Openings}},
     slot.{State.TheVariants.{Open, Closed}, Mode.TheVariants.Fresh},
     fault.Fault.Fault,
   },
-  Slot.{
-    Slot, Rose, changed_at, slot_at, opened, adds, closes, is_closable, with_written, SlotBreaks, told_of, KeepsBroken,
-  },
-  Part.{
-    File, Part, OutputsAt, StoppedBetween, FilesBegin, Begins, IsBeginning, IsDueLine, IsNext, IsAt, LinesInOrder,
-    Marks, Output, openings_for, writes as are_written,
-  },
+  Slot.{Slot, Rose, changed_at, slot_at, opened, adds, closes, is_closable, with_written, SlotBreaks, told_of},
+  Slot.KeepsBroken,
+  Part.{File, Part, OutputsAt, StoppedBetween, FilesBegin, Begins, IsBeginning, IsDueLine, IsNext, IsAt, LinesInOrder},
+  Part.{Marks, Output, openings_for, writes as are_written},
   Draft.{opening_line, output_of, part_with, told_before, told_of_files},
   Write.BrokeAfter,
   Turn.fault_in,
   inner.Write.Wrote,
 }
 use Rattle.ports_core.proofs.{
-  PartLemmas.{
-    IsNoOpen, begins_itself, begins_trans, due_by, kept_trans, marks_by, none_due, openings-append, openings_since,
-    out_more, sound_at,
-  },
-  SlotSteps.{
-    keeps_again, keeps_close, keeps_open, keeps_write, open_rose, rose_later, write_rose, writable_before,
-    writable_elsewhere, writable_within, written_writable, opened_writable, broken_there, written_size, short_size,
-    broken_size,
-  },
+  PartLemmas.{IsNoOpen, begins_itself, begins_trans, due_by, kept_trans, marks_by, none_due, openings-append},
+  PartLemmas.{openings_since, out_more, sound_at},
+  SlotSteps.{keeps_again, keeps_close, keeps_open, keeps_write, open_rose, rose_later, write_rose, writable_before},
+  SlotSteps.{writable_elsewhere, writable_within, written_writable, opened_writable, broken_there, written_size},
+  SlotSteps.{short_size, broken_size},
   OpenLemmas.{IsNextName, StopsOpening, stops_opening},
   FileWriterLemmas.{breaks_later, can_tell},
   SlotLemmas.length-changed_at,
@@ -61,10 +51,8 @@ use Rattle.split_core.specs.{
   FilesState.{FilesState, filing_in},
   Round.{AreReady, output_at},
   laws.ShareLaws.{kept_file, told_begins},
-  inner.Sharing.{
-    file_at, files_by, part_by, all_open, only_at, StandAt, KeepsFiles, IsOfFiles, Adds, Leaves, Grow, Halts,
-    closed_first, Opens, HaveClosed, ClosesAll, with_opened,
-  },
+  inner.Sharing.{file_at, files_by, part_by, all_open, only_at, StandAt, KeepsFiles, IsOfFiles, Adds, Leaves, Grow},
+  inner.Sharing.{Halts, closed_first, Opens, HaveClosed, ClosesAll, with_opened},
   Sharing.CannotOpen,
 }
 use Rattle.ports_core.specs.inner.Write as short

@@ -1,9 +1,7 @@
 -- Lemmas on chunks of an input of which no byte came in yet.
 use Rattle.std.proofs.{
-  Common.{
-    ◌≡◌, ℕ, ◌<◌, Bool, true, false, List, [], Option, Some, None, IfSome, refl, sym, ◌∙◌, ap, subst, arith, inl, zero,
-    suc, max,
-  },
+  Common.{◌≡◌, ℕ, ◌<◌, Bool, true, false, List, [], Option, Some, None, IfSome, refl, sym, ◌∙◌, ap, subst, arith, inl},
+  Common.{zero, suc, max},
   Math.Seq.{drop-nil, take-nil},
 }
 use Rattle.seg_core.specs.declared.{cut.Chunks.Chunks, unit.Unit.{Unit as Counted, TheVariants.{Bytes, Lines}}}
@@ -13,10 +11,8 @@ use Rattle.split_core.specs.{
   Split.{Filing, manner_of},
   Parts.uncut,
   Chunks.{chunks_within, decided, is_within},
-  ChunkerState.{
-    Carries, Course, CutterState, HasAll, HasCut, HoldsBy, TargetState, can_cut, course_of, in_files, in_output,
-    work_on,
-  },
+  ChunkerState.{Carries, Course, CutterState, HasAll, HasCut, HoldsBy, TargetState, can_cut, course_of, in_files},
+  ChunkerState.{in_output, work_on},
   laws.BegunLaws.begun_of_none,
 }
 use Rattle.split_core.proofs.{UnsaidLemmas.none_within, CutterLemmas.some_of}

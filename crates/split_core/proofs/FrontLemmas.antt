@@ -1,9 +1,7 @@
 -- Lemmas on what is passed over before the one chunk that is written.
 use Rattle.std.proofs.{
-  Common.{
-    ◌≡◌, ℕ, ◌+◌, ◌-◌, ◌<◌, ◌≤◌, nat_lt, zero, suc, Bool, true, false, List, [], length, replicate, Some, inl, inr, refl,
-    sym, ◌∙◌, ap, subst, arith,
-  },
+  Common.{◌≡◌, ℕ, ◌+◌, ◌-◌, ◌<◌, ◌≤◌, nat_lt, zero, suc, Bool, true, false, List, [], length, replicate, Some, inl},
+  Common.{inr, refl, sym, ◌∙◌, ap, subst, arith},
   lemmas.{
     Bool.{lt-leb, lt-ltb, ltb-true, ne_eqb},
     List.{append-nil, length-append, length-replicate, take_all, FromFn.length-map-range_with_len},
@@ -15,10 +13,8 @@ use Rattle.split_core.{
   specs.Alike.{AreAlike, as_if},
   specs.Chunks.{chunk_at, chunk_start, chunks_within, ended, is_within, open_from, passed},
   specs.ChunkWork.{chunk_work, piece_at},
-  specs.ChunkerState.{
-    CanHave, ChunkerState, HasCut, Holds, HoldsBy, IsSaid, course, course_of, can_cut, in_output, to_output, work,
-    work_on,
-  },
+  specs.ChunkerState.{CanHave, ChunkerState, HasCut, Holds, HoldsBy, IsSaid, course, course_of, can_cut, in_output},
+  specs.ChunkerState.{to_output, work, work_on},
   specs.inner.Chunker.{TakesFront, passed_to},
   specs.laws.{
     BegunLaws.{begun_long, none_open},

@@ -1,9 +1,8 @@
 -- What waits where one chunk alone is written.
 use Rattle.std.proofs.{
-  Common.{
-    ◌≡◌, ◌≢◌, ℕ, ◌+◌, ◌-◌, ◌*◌, ◌/◌, ◌%◌, ◌<◌, ◌≤◌, max, zero, suc, eqb, nat_lt, Bool, true, false, cond, List, [], ◌∷◌,
-    ◌++◌, length, take, drop, get_or, replicate, Option, Some, None, inl, inr, refl, sym, ◌∙◌, ap, subst, arith,
-  },
+  Common.{◌≡◌, ◌≢◌, ℕ, ◌+◌, ◌-◌, ◌*◌, ◌/◌, ◌%◌, ◌<◌, ◌≤◌, max, zero, suc, eqb, nat_lt, Bool, true, false, cond, List},
+  Common.{[], ◌∷◌, ◌++◌, length, take, drop, get_or, replicate, Option, Some, None, inl, inr, refl, sym, ◌∙◌, ap},
+  Common.{subst, arith},
   lemmas.{
     Bool.{cases_lt, le-ltb, lt-ltb},
     List.{append-nil, append_assoc, length-append, length-replicate, length-take, take-append-drop},
@@ -17,9 +16,8 @@ use Rattle.ports_core.{
   proofs.AgreedLemmas.{copies_come, none_comes, some_spot, spot_in, spot_past, stretch_placed, beginning_short},
 }
 use Rattle.split_core.specs.{
-  Chunks.{
-    before_chunk, begun_before, chunk_at, chunk_start, chunks_of, in_the_end, is_as_said, open_from, pieces_in, size_by,
-  },
+  Chunks.{before_chunk, begun_before, chunk_at, chunk_start, chunks_of, in_the_end, is_as_said, open_from, pieces_in},
+  Chunks.size_by,
   ChunkAgreed.{CanFollow, one_chunk_spots, piece_spots},
   ChunkWork.chunk_work,
   laws.BegunLaws.{begun_begins, begun_first, begun_first_place, begun_monotone, begun_on, begun_stays},

@@ -1,19 +1,16 @@
 -- What each call on parts leaves: a step of a piece, a piece that is taken in step by step, the end of the input, and what the stage owes.
 use Rattle.std.proofs.{
   lemmas.{Grind.common_steps, List.{append-nil, drop-take, take-append-drop, length-map, map-append}},
-  Common.{
-    ◌≡◌, ℕ, ◌+◌, ◌-◌, ◌<◌, ◌≤◌, suc, List, [], ◌∷◌, ◌++◌, ◌⊎◌, length, map, Bool, true, false, Option, Some, None,
-    IfSome, IsTrue, Result, Ok, Err, OnOk, IfErr, IfOk, inl, inr, refl, sym, ◌∙◌, ap, subst, arith, length-append, take,
-    drop, append_assoc, not, cond, rules,
-  },
+  Common.{◌≡◌, ℕ, ◌+◌, ◌-◌, ◌<◌, ◌≤◌, suc, List, [], ◌∷◌, ◌++◌, ◌⊎◌, length, map, Bool, true, false, Option, Some},
+  Common.{None, IfSome, IsTrue, Result, Ok, Err, OnOk, IfErr, IfOk, inl, inr, refl, sym, ◌∙◌, ap, subst, arith},
+  Common.{length-append, take, drop, append_assoc, not, cond, rules},
   Math.Seq.take-length,
 }
 use Rattle.ports_core.specs.{
   Draft.{Manner, Draft, share, Share, made_of, shares_of, draft_part, output_of, with_bytes, with_next},
   Engine.{CutsOff, EndsWith, EndsThere, IsMet, StandsAt, is_verdict},
-  FileWriter.{
-    Leaves, Reaches, WriterState, Writes, At, Breaks, CanCount, CanTell, Goes, IsCurrent, IsWrite, is_file, manner_in,
-  },
+  FileWriter.{Leaves, Reaches, WriterState, Writes, At, Breaks, CanCount, CanTell, Goes, IsCurrent, IsWrite, is_file},
+  FileWriter.manner_in,
   Name.{Naming, has_name},
   Part.writes,
   Slot.{Slot, is_writable},
@@ -29,10 +26,8 @@ use Rattle.ports_core.specs.{
   Work.Needs,
 }
 use Rattle.ports_core.proofs.{
-  FileWriterLemmas.{
-    goes_still, in_any, keeps_files, leaves_again, leaves_still, reaches_again, reaches_as, reaches_still, stops_wider,
-    where_short, where_well,
-  },
+  FileWriterLemmas.{goes_still, in_any, keeps_files, leaves_again, leaves_still, reaches_again, reaches_as},
+  FileWriterLemmas.{reaches_still, stops_wider, where_short, where_well},
   WriterSteps.{goes_again, goes_lacking, goes_more, goes_wider, stops_among},
   PartLemmas.{begins_itself, begins_trans, kept_trans, stopped_in_turn},
   ShareLemmas.{has_told, bytes_begin, made_begin, next_begins, shares_after, shares_wider, still_made},
@@ -41,9 +36,8 @@ use Rattle.seg_core.specs.{Cut.most, declared.cut.Limit.Limit}
 use Rattle.split_core.specs.{
   Parts.{cut_up, parts, settled_rest, unless_empty, waiting_rest},
   PartsState.{PartsState, IsReady, Lacks, Stands, filing_of, work},
-  Split.{
-    Filing, TellsNoSizes, are_named, is_verbose, tells_by, draft_of, manner_of, output_by, settled_parts, split_means,
-  },
+  Split.{Filing, TellsNoSizes, are_named, is_verbose, tells_by, draft_of, manner_of, output_by, settled_parts},
+  Split.split_means,
   declared.step.Step.{Step, TheVariants.{Goes as GoesOn, Ends, Begins, Waits}},
   inner.CutLaws.{cut_so, named},
   inner.Sharing.{CannotClose, always_named},

@@ -1,9 +1,7 @@
 -- Lemmas on dealing lines in turn, as a stage, and on what waits in the engine in each of its two ways to cut.
 use Rattle.std.proofs.{
-  Common.{
-    ◌≡◌, ℕ, ◌+◌, ◌%◌, ◌<◌, ◌≤◌, zero, suc, min, max, Bool, true, false, not, cond, List, [], ◌∷◌, ◌++◌, length, map,
-    take, drop, get_or, Some, None, refl, sym, ◌∙◌, ap, subst, arith, Ok, Err, OnOk, IfErr, Result, rules,
-  },
+  Common.{◌≡◌, ℕ, ◌+◌, ◌%◌, ◌<◌, ◌≤◌, zero, suc, min, max, Bool, true, false, not, cond, List, [], ◌∷◌, ◌++◌, length},
+  Common.{map, take, drop, get_or, Some, None, refl, sym, ◌∙◌, ap, subst, arith, Ok, Err, OnOk, IfErr, Result, rules},
   Math.{Nat.{mod-add-mod, mod-eq_of_lt, mod-mod, mod-le}, Path.fun_ext, Seq.drop-length},
   lemmas.{
     Bool.cases_lt,
@@ -43,13 +41,10 @@ use Rattle.split_core.specs.{
   inner.CutLaws.named,
   inner.Dealt.{dealt_piece, dealt_first, reached_by, share_of},
   inner.Ways.{EndsAs, PassesAs, held},
-  inner.Sharing.{
-    file_at, files_by, always_named, part_by, all_open, closed_first, StandAt, Adds, Opens, Leaves, ClosesAll,
-  },
-  Split.{
-    Filing, share, manner_of, are_named, is_verbose, output_by, dealt_files, settled_by, is_short, has_bytes,
-    split_work, bytes_in,
-  },
+  inner.Sharing.{file_at, files_by, always_named, part_by, all_open, closed_first, StandAt, Adds, Opens, Leaves},
+  inner.Sharing.ClosesAll,
+  Split.{Filing, share, manner_of, are_named, is_verbose, output_by, dealt_files, settled_by, is_short, has_bytes},
+  Split.{split_work, bytes_in},
   FilesState.{FilesState, filing_in},
   RoundState.RoundState,
   Round.{round_plan, round_work, work, opened_by, Holds, OwnsFiles},

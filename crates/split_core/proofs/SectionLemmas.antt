@@ -12,10 +12,9 @@ use Rattle.std.proofs.{
     FromFn.{length-map-range_with_len, get_or-map-range_with_len, take-map-range_with_len},
   },
   lemmas.Bool.{cond_both, cases_eq, cases_lt, eq-eqb, ne_eqb, eqb-true, Decides.nat_tests},
-  Common.{
-    ◌≡◌, ℕ, ◌+◌, ◌-◌, ◌*◌, ◌<◌, ◌≤◌, zero, suc, List, [], ◌∷◌, ◌++◌, length, take, drop, map, get_or, false, refl, sym,
-    ◌∙◌, ap, arith, length-append, length-drop, rules, ◌%◌, min, Bool, true, cond, eqb, if◌then◌else◌, ◌==◌, inl, inr,
-  },
+  Common.{◌≡◌, ℕ, ◌+◌, ◌-◌, ◌*◌, ◌<◌, ◌≤◌, zero, suc, List, [], ◌∷◌, ◌++◌, length, take, drop, map, get_or, false},
+  Common.{refl, sym, ◌∙◌, ap, arith, length-append, length-drop, rules, ◌%◌, min, Bool, true, cond, eqb, if◌then◌else◌},
+  Common.{◌==◌, inl, inr},
   Math.{ListN.get_or-map, Nat.{suc-mul, zero-mul, mod-lt, mod-eq_of_lt, add-mod_right}},
 }
 use Rattle.std.specs.List.{All, range_with_len}

@@ -1,10 +1,8 @@
 -- What goes to the files of chunks, or to standard output where one of them goes there.
 use Rattle.std.proofs.{
   lemmas.{Bool.{false≢true, eq-eqb, eqb-true}, List.{append-nil, length-append, Elements.filter-append}},
-  Common.{
-    ◌≡◌, ℕ, ◌+◌, ◌≤◌, zero, suc, Bool, true, false, List, [], ◌∷◌, ◌++◌, length, map, filter, get_or, cond, eqb, Option,
-    Some, None, Result, Ok, Err, IfSome, IfNone, IfErr, IsTrue, inl, refl, sym, ◌∙◌, ap, subst, arith,
-  },
+  Common.{◌≡◌, ℕ, ◌+◌, ◌≤◌, zero, suc, Bool, true, false, List, [], ◌∷◌, ◌++◌, length, map, filter, get_or, cond, eqb},
+  Common.{Option, Some, None, Result, Ok, Err, IfSome, IfNone, IfErr, IsTrue, inl, refl, sym, ◌∙◌, ap, subst, arith},
   Math.Seq.get_or-append_seam,
 }
 use Rattle.ports_core.specs.{
@@ -26,9 +24,8 @@ use Rattle.ports_core.specs.{
   declared.slot.State.TheVariants.Closed,
 }
 use Rattle.ports_core.proofs.{
-  FileWriterLemmas.{
-    breaks_later, in_any, leaves_again, reaches_again, reaches_as, stops_wider, where_well, where_short,
-  },
+  FileWriterLemmas.{breaks_later, in_any, leaves_again, reaches_again, reaches_as, stops_wider, where_well},
+  FileWriterLemmas.where_short,
   PartLemmas.{out_begins, out_cut, out_more, part_begins_itself, part_trans, turn_between},
   PartSteps.there_from,
   SlotSteps.{keeps_again, keeps_write, write_rose},
@@ -38,15 +35,12 @@ use Rattle.ports_core.proofs.{
 use Rattle.split_core.specs.{
   ChunkWork.{draft_by, files_by, kept, piece_at},
   Chunks.pieces_in,
-  ChunkerState.{
-    AimState, Carries, Course, IsAimed, TargetState, course_of, filing_by, in_files, in_output, to_files, to_output,
-  },
+  ChunkerState.{AimState, Carries, Course, IsAimed, TargetState, course_of, filing_by, in_files, in_output, to_files},
+  ChunkerState.to_output,
   Parts.CutUp,
   Split.{Filing, TellsNoSizes, has_bytes, manner_of},
-  inner.Sends.{
-    AtAim, Brings, Files, IsOf, Changes, GoesOn, Sends, begun_by, empties_by, ends_by, manner_on, output_on, or_empty,
-    with_full, with_rest, part_on, whole_on,
-  },
+  inner.Sends.{AtAim, Brings, Files, IsOf, Changes, GoesOn, Sends, begun_by, empties_by, ends_by, manner_on, output_on},
+  inner.Sends.{or_empty, with_full, with_rest, part_on, whole_on},
   laws.ChunkWorkLaws.length-kept,
 }
 use Rattle.split_core.proofs.FilesLemmas.{named_before}

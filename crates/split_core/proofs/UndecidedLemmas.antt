@@ -1,9 +1,8 @@
 -- Where the bytes of parts that follow one another go, and which of them continuations put into different files.
 use Rattle.std.proofs.{
-  Common.{
-    take, ◌≡◌, ℕ, ◌+◌, ◌-◌, ◌<◌, zero, suc, List, [], ◌∷◌, ◌++◌, length, get_or, inl, inr, refl, sym, ◌∙◌, ap, subst,
-    arith, length-append, ◌≢◌, ◌⊎◌, ◌≤◌, map, Bool, true, false, not, rules, zero-add, ◌%◌, drop, cond, eqb, mod-lt,
-  },
+  Common.{take, ◌≡◌, ℕ, ◌+◌, ◌-◌, ◌<◌, zero, suc, List, [], ◌∷◌, ◌++◌, length, get_or, inl, inr, refl, sym, ◌∙◌, ap},
+  Common.{subst, arith, length-append, ◌≢◌, ◌⊎◌, ◌≤◌, map, Bool, true, false, not, rules, zero-add, ◌%◌, drop, cond},
+  Common.{eqb, mod-lt},
   lemmas.Bool.{cond_both, cases_lt, false≢true, eq-eqb, Decides.nat_tests},
   lemmas.List.{
     append-nil,
@@ -35,9 +34,8 @@ use Rattle.ports_core.specs.{
   declared.slot.State.TheVariants.{Open, Closed},
 }
 use Rattle.ports_core.proofs.{
-  AgreedLemmas.{
-    spot_in, spot_past, none_comes, beginning_short, common, none_before, nothing_waits, AreFront, stretch_placed,
-  },
+  AgreedLemmas.{spot_in, spot_past, none_comes, beginning_short, common, none_before, nothing_waits, AreFront},
+  AgreedLemmas.stretch_placed,
   ShareLemmas.one_on,
 }
 use Rattle.split_core.specs.{
@@ -51,10 +49,8 @@ use Rattle.split_core.specs.{
 }
 use Rattle.split_core.proofs.{
   SectionLemmas.{joined_parts, settled_list},
-  AgreedLemmas.{
-    named_bytes, came_in, settled_bytes_in, settled_in, shared_bytes, waiting_is, named_more, each_named, list_count,
-    decides_lines, one_of, delimiters_some, plan_by,
-  },
+  AgreedLemmas.{named_bytes, came_in, settled_bytes_in, settled_in, shared_bytes, waiting_is, named_more, each_named},
+  AgreedLemmas.{list_count, decides_lines, one_of, delimiters_some, plan_by},
   CutLaws.{open_of_none, cut_all, opened_by-most},
   RoundLemmas.{dealt_all, none_yet},
   FilesLemmas.named_before,

@@ -2,17 +2,13 @@
 use Rattle.std.specs.{Option.is_none, List.range_with_len}
 use Rattle.std.proofs.{
   lemmas.Bool.{cases_lt, false≢true, ltb-false, ltb-true, or_cases, or_parts},
-  lemmas.List.{
-    append-nil, get_or_past, drop_at, take_all, take-append-drop, length-append, length-drop, length-take,
-    nil_from_length,
-  },
+  lemmas.List.{append-nil, get_or_past, drop_at, take_all, take-append-drop, length-append, length-drop, length-take},
+  lemmas.List.nil_from_length,
   lemmas.List.FromFn.{get_or-map-range_with_len, length-map-range_with_len, map-range_with_len_more},
   lemmas.Nat.div-add-mod',
-  Common.{
-    ◌≡◌, ℕ, ◌+◌, ◌-◌, ◌<◌, ◌≤◌, max, min, zero, suc, Bool, true, false, ◌||◌, nat_lt, List, [], ◌∷◌, ◌++◌, ◌⊎◌, length,
-    map, take, drop, replicate, get_or, ◌/◌, ◌*◌, Option, Some, None, Result, Ok, Err, inl, inr, refl, sym, ◌∙◌, ap,
-    subst, arith, append_assoc,
-  },
+  Common.{◌≡◌, ℕ, ◌+◌, ◌-◌, ◌<◌, ◌≤◌, max, min, zero, suc, Bool, true, false, ◌||◌, nat_lt, List, [], ◌∷◌, ◌++◌, ◌⊎◌},
+  Common.{length, map, take, drop, replicate, get_or, ◌/◌, ◌*◌, Option, Some, None, Result, Ok, Err, inl, inr, refl},
+  Common.{sym, ◌∙◌, ap, subst, arith, append_assoc},
   Math.Seq.{drop-append-add, drop-nil},
 }
 use Rattle.ports_core.{
@@ -26,22 +22,16 @@ use Rattle.ports_core.{
 }
 use Rattle.seg_core.specs.declared.{cut.Chunks.Chunks, unit.Unit.Unit as Counted}
 use Rattle.split_core.specs.{
-  Chunks.{
-    before_chunk, pieces_in, begun_before, chunk_at, chunk_start, chunks_of, chunks_within, decided, ended, is_within,
-    open_from,
-  },
+  Chunks.{before_chunk, pieces_in, begun_before, chunk_at, chunk_start, chunks_of, chunks_within, decided, ended},
+  Chunks.{is_within, open_from},
   Parts.{CutUp, uncut},
-  ChunkerState.{
-    AimState, Carries, ChunkerState, Course, course_of, to_files, to_output, CutterState, Holds, HoldsBy, IsAimed,
-    IsUnsaid, TargetState, can_cut, course, first_on, in_files, in_output, work_on,
-  },
+  ChunkerState.{AimState, Carries, ChunkerState, Course, course_of, to_files, to_output, CutterState, Holds, HoldsBy},
+  ChunkerState.{IsAimed, IsUnsaid, TargetState, can_cut, course, first_on, in_files, in_output, work_on},
   Split.manner_of,
   ChunkWork.draft_by,
   inner.Chunker.{EndsAs, PassesAs, made},
-  inner.Cutter.{
-    BeginsBefore, Cuts, CutsAs, EndsFull, EndsHeld, IsCut, IsCutOff, IsSettled, part_so, Settles, WritesTo, all_before,
-    cut_to,
-  },
+  inner.Cutter.{BeginsBefore, Cuts, CutsAs, EndsFull, EndsHeld, IsCut, IsCutOff, IsSettled, part_so, Settles, WritesTo},
+  inner.Cutter.{all_before, cut_to},
   inner.Sends.{Brings, Changes, Ends as TargetEnds, Sends, with_fulls, with_rest, part_on, whole_on},
   laws.ChunkLaws.{chunk_none, cut_all, ended_all, passed_open, ended_only, start_first, begin_then_rest, start_by_size},
   laws.BegunLaws.{begun_of_none, begun_again, begun_begins, begun_monotone, begun_on, begun_some, begun_stays},
@@ -49,9 +39,7 @@ use Rattle.split_core.specs.{
 }
 use Rattle.split_core.proofs.{
   ChunkerWays.{ends_at, passes_at},
-  CutterLemmas.{
-    cut_of, so_grows, fulls_are, grown, cutting, has_cut, name_of, no_line, open_early, some_in,
-  },
+  CutterLemmas.{cut_of, so_grows, fulls_are, grown, cutting, has_cut, name_of, no_line, open_early, some_in},
   ChunkerLemmas.{complete_all, past_is, whole_within},
   TargetLemmas.{whole_draft, piece_full, brings_as, brings_then, brings_wider, sends_as, sends_none},
 }

@@ -1,9 +1,7 @@
 -- Lemmas on when one chunk is complete, and on how many bytes are wanted until then.
 use Rattle.std.{
-  proofs.Common.{
-    ◌≡◌, ℕ, ◌+◌, ◌-◌, ◌≤◌, max, nat_lt, take, Bool, true, false, List, ◌++◌, length, Option, Some, None, inl, inr, refl,
-    sym, ◌∙◌, ap, subst, arith,
-  },
+  proofs.Common.{◌≡◌, ℕ, ◌+◌, ◌-◌, ◌≤◌, max, nat_lt, take, Bool, true, false, List, ◌++◌, length, Option, Some, None},
+  proofs.Common.{inl, inr, refl, sym, ◌∙◌, ap, subst, arith},
   proofs.lemmas.{Bool.{false≢true, cases_lt, leb-true}, List.{append-nil, length-append, take_at}},
   specs.Option.is_some,
 }

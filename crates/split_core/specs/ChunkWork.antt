@@ -2,10 +2,8 @@
 -- manual, split, `-n N`, `-n l/N`, `-n K/N`, `-n l/K/N` and `-n r/K/N`.
 use Rattle.std.specs.{
   Option.is_none,
-  Prelude.{
-    ◌≡◌, ℕ, ◌||◌, max, Bool, true, false, List, [], ◌++◌, map, filter, get_or, IsTrue, Option, Some, None,
-    if◌then◌else◌,
-  },
+  Prelude.{◌≡◌, ℕ, ◌||◌, max, Bool, true, false, List, [], ◌++◌, map, filter, get_or, IsTrue, Option, Some, None},
+  Prelude.if◌then◌else◌,
 }
 use Rattle.seg_core.specs.{Line.lines_of, declared.cut.{Chunks.Chunks, Way.Way}}
 use Rattle.ports_core.specs.{

@@ -1,6 +1,6 @@
 -- What contracts see of chunks of an input.
-use Rattle.std.specs.Prelude.{
-  ◌≡◌, ℕ, ◌+◌, ◌≤◌, max, nat_lt, Bool, true, false, List, [], length, Option, Some, None, IsTrue,
+use Rattle.std.specs.{
+  Prelude.{◌≡◌, ℕ, ◌+◌, ◌≤◌, max, nat_lt, Bool, true, false, List, [], length, Option, Some, None, IsTrue},
 }
 use Rattle.ports_core.specs.{
   FileWriter.{WriterState, Writes, OwnsFiles, IsReady as CanWrite},

@@ -1,6 +1,10 @@
 -- How a text is cut into chunks, and which bytes or lines go with each: GNU coreutils manual, split, `-n N` and
 -- `-n l/N`.
-use Rattle.std.specs.{Prelude.{ℕ, zero, suc, ◌+◌, ◌*◌, ◌/◌, ◌%◌, ◌==◌, ◌<◌, ◌≤◌, nat_lt, nat_le, min, Bool, true, false, List, [], ◌∷◌, ◌++◌, length, take, drop, map, filter, Option, Some, None, if◌then◌else◌}, List.range_with_len}
+use Rattle.std.specs.{
+  Prelude.{ℕ, zero, suc, ◌+◌, ◌*◌, ◌/◌, ◌%◌, ◌==◌, ◌<◌, ◌≤◌, nat_lt, nat_le, min, Bool, true, false, List, [], ◌∷◌},
+  Prelude.{◌++◌, length, take, drop, map, filter, Option, Some, None, if◌then◌else◌},
+  List.range_with_len,
+}
 use Rattle.seg_core.specs.{
   Line.{joined, delimiters, first_lines},
   declared.{cut.Chunks.Chunks, unit.Unit.{Unit, TheVariants.{Bytes, Lines}}},

@@ -1,6 +1,6 @@
 -- Lines dealt in turn, as a stage does it: GNU coreutils manual, split, `-n r/N`.
-use Rattle.std.specs.Prelude.{
-  ◌≡◌, ℕ, ◌+◌, ◌%◌, ◌<◌, ◌≤◌, Bool, true, false, List, length, min, slice_index_or, if◌then◌else◌,
+use Rattle.std.specs.{
+  Prelude.{◌≡◌, ℕ, ◌+◌, ◌%◌, ◌<◌, ◌≤◌, Bool, true, false, List, length, min, slice_index_or, if◌then◌else◌},
 }
 use Rattle.seg_core.specs.{Line.{delimiters, line_count}, declared.cut.Cut.TheVariants.Round}
 use Rattle.ports_core.specs.{FileWriter.CanTell, Slot.{Slot, is_closable}, Work.{Work, always_well}}

@@ -1,6 +1,6 @@
 //! Laws of the definitions, with no code: each stands on the contract of a function that does nothing.
-ghost use Rattle.std.specs.Prelude.{
-  ◌≡◌, ◌<◌, ◌≤◌, ◌+◌, ◌*◌, ◌++◌, ℕ, List, [], true, get_or, length, map, take, drop, All, false,
+ghost use Rattle.std.specs.{
+  Prelude.{◌≡◌, ◌<◌, ◌≤◌, ◌+◌, ◌*◌, ◌++◌, ℕ, List, [], true, get_or, length, map, take, drop, All, false},
 };
 ghost use Rattle.ports_core.specs.{
   Agreed.{ArePlaced, IsAgreed, IsUndecided},

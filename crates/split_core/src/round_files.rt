@@ -1,5 +1,5 @@
-ghost use Rattle.std.specs.Prelude.{
-  ◌≡◌, ◌+◌, ◌≤◌, ◌<◌, ◌++◌, ◌∷◌, [], true, length, slice_index_or, vec_len, vec_capacity,
+ghost use Rattle.std.specs.{
+  Prelude.{◌≡◌, ◌+◌, ◌≤◌, ◌<◌, ◌++◌, ◌∷◌, [], true, length, slice_index_or, vec_len, vec_capacity},
 };
 ghost use Rattle.split_core.specs.{Round.AreReady, Split.are_named, inner.Sharing.{Adds, ClosesAll, Opens, only_at}};
 ghost use Rattle.ports_core.specs.Name.{has_name};

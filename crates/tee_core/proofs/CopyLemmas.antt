@@ -5,11 +5,9 @@ use Rattle.std.{
     Bool.{cond_both, false≢true, Decides.nat_tests},
     List.{append-nil, length-map, Folds.concat-append},
   },
-  proofs.Common.{
-    ◌≡◌, ℕ, ◌+◌, ◌<◌, zero, suc, List, [], ◌∷◌, ◌++◌, length, map, take, codes, get_or, set, Bor, Bool, true, false,
-    if◌then◌else◌, refl, sym, ◌∙◌, ap, arith, append_assoc, ◌≤◌, Option, Some, None, inl, inr, length-append,
-    append-nil,
-  },
+  proofs.Common.{◌≡◌, ℕ, ◌+◌, ◌<◌, zero, suc, List, [], ◌∷◌, ◌++◌, length, map, take, codes, get_or, set, Bor, Bool},
+  proofs.Common.{true, false, if◌then◌else◌, refl, sym, ◌∙◌, ap, arith, append_assoc, ◌≤◌, Option, Some, None, inl},
+  proofs.Common.{inr, length-append, append-nil},
   proofs.Math.ListN.get_or-map,
   specs.List.concat,
 }
@@ -17,26 +15,19 @@ use Rattle.ports_core.specs.{
   Slot.{Slot, no_slot, slot_at, is_open, changed_at, opened, adds, breaks, told_of},
   Text.{Message, message_of},
   Message.{SaysOn, SaysAll},
-  declared.{
-    calling.Calling.Calling, reason.Reason.Reason, fault.Fault.Fault, on_broken.OnBroken.OnBroken, slot.Mode.Mode,
-  },
+  declared.{calling.Calling.Calling, reason.Reason.Reason, fault.Fault.Fault, on_broken.OnBroken.OnBroken},
+  declared.slot.Mode.Mode,
   Streams.{standard_output, standard_error},
 }
 use Rattle.ports_core.proofs.{MessageLemmas.{all_said_state, says_more, says_after}, Runs.adds_both}
 use Rattle.tee_core.specs.{
-  Run.{
-    Break, EachFile, no_file, one_file, output_names, OutputLeft, output_whole, output_cut, fault_in, is_done, lost_for,
-    said_in, said_before, FileLeft, file_whole, file_unopened, file_cut, file_unclosed, said_of_input, standing_before,
-    standing_of, standings_before, tee_called, tells_in, stands_as,
-  },
-  inner.Steps.{
-    HasStreams, SaysTo, said_since, standings_of, tells, Copies, FileHas, has_all, has_none, has_begun, IsTeeOf,
-    HasCopied, output_slot,
-  },
-  Outputs.{
-    ChangesEach, Gets, gets_all, breaks_off, gets_none, IsFile, IsOutput, IsReady, IsUsable, Closes, is_closed,
-    fails_to_close, was_broken,
-  },
+  Run.{Break, EachFile, no_file, one_file, output_names, OutputLeft, output_whole, output_cut, fault_in, is_done},
+  Run.{lost_for, said_in, said_before, FileLeft, file_whole, file_unopened, file_cut, file_unclosed, said_of_input},
+  Run.{standing_before, standing_of, standings_before, tee_called, tells_in, stands_as},
+  inner.Steps.{HasStreams, SaysTo, said_since, standings_of, tells, Copies, FileHas, has_all, has_none, has_begun},
+  inner.Steps.{IsTeeOf, HasCopied, output_slot},
+  Outputs.{ChangesEach, Gets, gets_all, breaks_off, gets_none, IsFile, IsOutput, IsReady, IsUsable, Closes, is_closed},
+  Outputs.{fails_to_close, was_broken},
   TeeState.TeeState,
   declared.standing.Standing.{Standing, TheVariants.{Sound, Broken, Gone}},
 }

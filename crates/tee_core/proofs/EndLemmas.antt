@@ -1,11 +1,9 @@
 -- Lemmas on what a run reads of its input, and on how it ends.
 use Rattle.std.{
   proofs.lemmas.{Grind.common_steps, Bool.{cases_Bool, false≢true, Decides.nat_tests}},
-  proofs.Common.{
-    ◌≡◌, ℕ, ◌+◌, ◌<◌, ◌≤◌, ◌^◌, List, [], ◌∷◌, ◌++◌, length, take, Bool, true, false, Option, Some, None, IsTrue, ◌⊎◌,
-    refl, sym, ◌∙◌, ap, subst, arith, length-append, length-take, append-nil, inl, inr, All, zero, suc, map, not, ◌&&◌,
-    ◌||◌, if◌then◌else◌, is_none,
-  },
+  proofs.Common.{◌≡◌, ℕ, ◌+◌, ◌<◌, ◌≤◌, ◌^◌, List, [], ◌∷◌, ◌++◌, length, take, Bool, true, false, Option, Some, None},
+  proofs.Common.{IsTrue, ◌⊎◌, refl, sym, ◌∙◌, ap, subst, arith, length-append, length-take, append-nil, inl, inr, All},
+  proofs.Common.{zero, suc, map, not, ◌&&◌, ◌||◌, if◌then◌else◌, is_none},
   specs.List.{concat, list_any},
 }
 use Rattle.ports_core.specs.{
@@ -21,18 +19,16 @@ use Rattle.ports_core.specs.{
   Message.{TellsOn, output_reason},
   Streams.{standard_output, standard_error},
 }
-use Rattle.ports_core.proofs.InputsLemmas.{
-  HasRead, changed_source, came_broken, came_sound, still_readable, read_broken, read_failed, read_more, read_none_more,
-  read_to_end, of_content,
+use Rattle.ports_core.proofs.{
+  InputsLemmas.{HasRead, changed_source, came_broken, came_sound, still_readable, read_broken, read_failed, read_more},
+  InputsLemmas.{read_none_more, read_to_end, of_content},
 }
 use Rattle.tee_core.specs.{
-  Run.{
-    AreSound, lost_for, GaveLast, IsRead, LeavesOf, to_end, to_break, to_limit, to_broken_output, EndsAs, copied,
-    no_room, FileLeft, file_whole, file_unopened, file_cut, file_unclosed, FilesLeft, no_file, one_file, ComesIn,
-    IsAsFound, OutputLeft, output_whole, output_cut, Break, all_copied, any_is, are_sound, ends_run, forgives,
-    gone_status, is_done, is_same, messages_of, output_names, said_before, said_in, standing_of, standings_before,
-    status_for, status_of, tee_called,
-  },
+  Run.{AreSound, lost_for, GaveLast, IsRead, LeavesOf, to_end, to_break, to_limit, to_broken_output, EndsAs, copied},
+  Run.{no_room, FileLeft, file_whole, file_unopened, file_cut, file_unclosed, FilesLeft, no_file, one_file, ComesIn},
+  Run.{IsAsFound, OutputLeft, output_whole, output_cut, Break, all_copied, any_is, are_sound, ends_run, forgives},
+  Run.{gone_status, is_done, is_same, messages_of, output_names, said_before, said_in, standing_of, standings_before},
+  Run.{status_for, status_of, tee_called},
   declared.standing.Standing.{Standing, TheVariants.{Sound, Broken, Gone}},
   inner.Steps.{Copies, CopiesRead, HasCopied},
 }

@@ -5,10 +5,9 @@ use Rattle.std.{
     Grind.common_steps,
     List.{append-nil, get_or-append-add, get_or_append_left, length-map},
   },
-  proofs.Common.{
-    ◌≡◌, ℕ, ◌+◌, ◌-◌, ◌^◌, ◌<◌, ◌≤◌, zero, suc, List, [], ◌∷◌, ◌++◌, length, map, take, drop, get_or, Bor, true, inl,
-    inr, refl, sym, ◌∙◌, ap, arith, append_assoc, length-append, replicate, Bool, false, Option, Some, None,
-  },
+  proofs.Common.{◌≡◌, ℕ, ◌+◌, ◌-◌, ◌^◌, ◌<◌, ◌≤◌, zero, suc, List, [], ◌∷◌, ◌++◌, length, map, take, drop, get_or, Bor},
+  proofs.Common.{true, inl, inr, refl, sym, ◌∙◌, ap, arith, append_assoc, length-append, replicate, Bool, false},
+  proofs.Common.{Option, Some, None},
   specs.List.list_any,
 }
 use Rattle.ports_core.{
@@ -25,14 +24,13 @@ use Rattle.tee_core.specs.{
   },
   Outputs.{IsOutput, IsReady, IsUsable},
   TeeState.TeeState,
-  Run.{
-    Break, EachFile, no_file, one_file, output_whole, ends_run, fault_in, is_done, output_names, standing_of,
-    standings_before, stands_as,
-  },
+  Run.{Break, EachFile, no_file, one_file, output_whole, ends_run, fault_in, is_done, output_names, standing_of},
+  Run.{standings_before, stands_as},
   declared.standing.Standing.{Standing, TheVariants.Sound},
 }
-use Rattle.tee_core.proofs.CopyLemmas.{
-  AllMark, Marked, all_marked, break_now, marked_none, marked_now, none_marked, said_marked, stand_now, stand_so,
+use Rattle.tee_core.proofs.{
+  CopyLemmas.{AllMark, Marked, all_marked, break_now, marked_none, marked_now, none_marked, said_marked, stand_now},
+  CopyLemmas.stand_so,
 }
 use Rattle.ports_core.specs.declared.fault.Fault.TheVariants as fault
 

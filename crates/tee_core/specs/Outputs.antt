@@ -1,6 +1,6 @@
 -- The outputs of a tee, and what each of its calls makes of them.
-use Rattle.std.specs.Prelude.{
-  ◌≡◌, ℕ, ◌+◌, ◌≤◌, ◌<◌, Bool, true, false, not, ◌&&◌, List, [], ◌∷◌, length, take, ◌⊎◌, if◌then◌else◌,
+use Rattle.std.specs.{
+  Prelude.{◌≡◌, ℕ, ◌+◌, ◌≤◌, ◌<◌, Bool, true, false, not, ◌&&◌, List, [], ◌∷◌, length, take, ◌⊎◌, if◌then◌else◌},
 }
 use Rattle.ports_core.specs.{
   Slot.{Slot, slot_at, is_open, adds, breaks, closes, told_of},

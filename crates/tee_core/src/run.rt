@@ -1,7 +1,7 @@
 //! A whole run of `tee`.
-ghost use Rattle.std.specs.Prelude.{
-  ◌≡◌, ◌∷◌, ◌+◌, ◌<◌, ◌≤◌, ◌^◌, ◌-◌, replicate, ◌++◌, ℕ, List, Option, [], true, false, map, length, get_or, IfOk,
-  IfErr, IfSome, IsTrue, codes,
+ghost use Rattle.std.specs.{
+  Prelude.{◌≡◌, ◌∷◌, ◌+◌, ◌<◌, ◌≤◌, ◌^◌, ◌-◌, replicate, ◌++◌, ℕ, List, Option, [], true, false, map, length, get_or},
+  Prelude.{IfOk, IfErr, IfSome, IsTrue, codes},
 };
 ghost use Rattle.ports_core.specs.{
   declared.{fault.Fault.Fault, slot.Mode.Mode},
@@ -14,9 +14,8 @@ ghost use Rattle.ports_core.specs.{
 ghost use Rattle.tee_core.specs.{
   Opening.Opens,
   Run.{AreSound, EndsAs, all_copied, forgives, is_done, output_names, said_of_input, tee_called, stands_as},
-  inner.Steps.{
-    HasCopied, Copies, CopiesRead, HasStreams, IsTeeOf, SaysTo, said_since, standings_of, tells, output_slot,
-  },
+  inner.Steps.{HasCopied, Copies, CopiesRead, HasStreams, IsTeeOf, SaysTo, said_since, standings_of, tells},
+  inner.Steps.output_slot,
   declared.standing.Standing.TheVariants.Sound,
 };
 

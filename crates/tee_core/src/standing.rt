@@ -1,7 +1,7 @@
 //! How outputs stand, and what follows for a run.
 ghost use Rattle.std.specs.{Prelude.◌≡◌, List.list_any};
-ghost use Rattle.tee_core.specs.Run.{
-  any_is, ends_run, gone_status, has_failed, is_done, is_quiet, is_same, is_told, lost_for, status_for,
+ghost use Rattle.tee_core.specs.{
+  Run.{any_is, ends_run, gone_status, has_failed, is_done, is_quiet, is_same, is_told, lost_for, status_for},
 };
 
 use ports_core::{Fault, OnBroken, Reason};

@@ -1,6 +1,6 @@
 //! An input's copies.
-ghost use Rattle.std.specs.Prelude.{
-  ◌≡◌, ◌++◌, ◌+◌, ◌≤◌, ◌<◌, ◌^◌, ◌-◌, ℕ, List, true, false, length, map, IfOk, IfErr, OnOk,
+ghost use Rattle.std.specs.{
+  Prelude.{◌≡◌, ◌++◌, ◌+◌, ◌≤◌, ◌<◌, ◌^◌, ◌-◌, ℕ, List, true, false, length, map, IfOk, IfErr, OnOk},
 };
 ghost use Rattle.ports_core.specs.Slot.{Slot, adds, is_open, slot_at, told_of};
 ghost use Rattle.tee_core.specs.{

@@ -1,10 +1,9 @@
 -- Lemmas on opening a tool's engine.
 use Rattle.std.proofs.{
   lemmas.{Grind.common_steps, List.length-replicate, Bool.false≢true},
-  Common.{
-    ◌≡◌, ℕ, ◌-◌, ◌<◌, ◌≤◌, ◌^◌, zero, suc, Bool, true, false, IsTrue, if◌then◌else◌, List, [], length, Result, Ok, Err,
-    IfOk, IfErr, IsErr, OnOk, refl, sym, ◌∙◌, ap, arith, Option, Some, None, option_map, replicate, inl, inr,
-  },
+  Common.{◌≡◌, ℕ, ◌-◌, ◌<◌, ◌≤◌, ◌^◌, zero, suc, Bool, true, false, IsTrue, if◌then◌else◌, List, [], length, Result},
+  Common.{Ok, Err, IfOk, IfErr, IsErr, OnOk, refl, sym, ◌∙◌, ap, arith, Option, Some, None, option_map, replicate, inl},
+  Common.inr,
 }
 use Rattle.ports_core.specs.{
   Slot.{Slot, is_writable},

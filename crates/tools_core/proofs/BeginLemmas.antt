@@ -6,11 +6,9 @@ use Rattle.std.{
     Bool.{and_parts, cases_eq, false≢true, cases_lt, cond_both, eq-eqb, eqb-true, lt-ltb},
     List.{Elements.{All-append, All-cons, All-nil}, Folds.concat-append},
   },
-  proofs.Common.{
-    ◌≡◌, ℕ, ◌+◌, ◌≤◌, ◌<◌, zero, suc, Bool, true, false, List, [], ◌∷◌, ◌++◌, length, map, Option, Some, inl, inr, ◌⊎◌,
-    refl, sym, ◌∙◌, ap, arith, append-nil, rules, cond, take, None, subst, append_assoc, codes, All, not, ◌&&◌, ◌==◌,
-    ◌||◌,
-  },
+  proofs.Common.{◌≡◌, ℕ, ◌+◌, ◌≤◌, ◌<◌, zero, suc, Bool, true, false, List, [], ◌∷◌, ◌++◌, length, map, Option, Some},
+  proofs.Common.{inl, inr, ◌⊎◌, refl, sym, ◌∙◌, ap, arith, append-nil, rules, cond, take, None, subst, append_assoc},
+  proofs.Common.{codes, All, not, ◌&&◌, ◌==◌, ◌||◌},
   proofs.Math.Bool.{and_assoc, or-true},
   specs.List.concat,
 }
@@ -34,9 +32,8 @@ use Rattle.ports_core.specs.{
   Text.{Message, message_of},
 }
 use Rattle.ports_core.proofs.{
-  PartLemmas.{
-    nothing_begins, nothing_begins_part, part_begins_itself, part_trans, begins_itself, begins_trans, take_begins_after,
-  },
+  PartLemmas.{nothing_begins, nothing_begins_part, part_begins_itself, part_trans, begins_itself, begins_trans},
+  PartLemmas.take_begins_after,
   SlotLemmas.{slot_at-changed, slot_at-elsewhere},
 }
 use Rattle.seg_core.specs.{declared.cut.{Cut.{Cut, TheVariants.{Parts, Round}}, Way.Way}, Cut.IsWay}
@@ -58,26 +55,21 @@ use Rattle.tools_core.{
     Promises.{BeginsAs, BrokeAt, IsCalled, Run, SaysLines, StopsRun, TellsMet, failing},
     About.{TellsText, no_text, text_cut, text_whole},
   },
-  proofs.LeftLemmas.{
-    Kept, slots_at, swept_kept, outputs_of, slot_of, slots_of, copy, tee_made, text_made, HasLine, has_after,
-    has_before, one_line,
-  },
+  proofs.LeftLemmas.{Kept, slots_at, swept_kept, outputs_of, slot_of, slots_of, copy, tee_made, text_made, HasLine},
+  proofs.LeftLemmas.{has_after, has_before, one_line},
 }
 use Rattle.run_core.specs.{
   Feeding.{HasAll, IsCall, Step, enough, is_enough, made_of, to_end, opens, feeds, closes},
   Input.Input,
-  RunEnds.{
-    EndsAs, RunStep, as_defined, calling as call_step, heading, no_room, stopped, unheaded, unopened as unopened_step,
-  },
+  RunEnds.{EndsAs, RunStep, as_defined, calling as call_step, heading, no_room, stopped, unheaded},
+  RunEnds.unopened as unopened_step,
   Task.{Task, after_part, are_missing, header_text, is_missing, made_by, of_content, of_input, of_inputs},
 }
 use Rattle.run_core.proofs.StopLemmas.{after_assoc, begins_after, nothing_after}
 use Rattle.tee_core.specs.{
   declared.standing.Standing.TheVariants.{Broken, Gone},
-  Run.{
-    Break, FileLeft, FilesLeft, IsRead, OutputLeft, are_sound, fault_in, messages_of, output_names, said_before,
-    said_in, said_of_input,
-  },
+  Run.{Break, FileLeft, FilesLeft, IsRead, OutputLeft, are_sound, fault_in, messages_of, output_names, said_before},
+  Run.{said_in, said_of_input},
 }
 use Rattle.ports_core.specs.declared.reason.Reason.TheVariants as reason
 use Rattle.seg_core.specs.declared.cut.Way.TheVariants as way

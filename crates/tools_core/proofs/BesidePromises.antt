@@ -1,9 +1,8 @@
 -- Over the inputs that any run found there is a run that no fault stops.
 use Rattle.std.{
-  proofs.Common.{
-    ◌≡◌, ℕ, ◌+◌, ◌≤◌, ◌<◌, ◌^◌, suc, zero, Bool, true, false, ◌||◌, cond, List, [], ◌∷◌, ◌++◌, length, map, Option,
-    Some, None, inl, inr, ◌⊎◌, refl, sym, ◌∙◌, ap, subst, arith, lit<, append_assoc, length-append,
-  },
+  proofs.Common.{◌≡◌, ℕ, ◌+◌, ◌≤◌, ◌<◌, ◌^◌, suc, zero, Bool, true, false, ◌||◌, cond, List, [], ◌∷◌, ◌++◌, length},
+  proofs.Common.{map, Option, Some, None, inl, inr, ◌⊎◌, refl, sym, ◌∙◌, ap, subst, arith, lit<, append_assoc},
+  proofs.Common.length-append,
   proofs.Math.Seq.get_or-append_seam,
   proofs.lemmas.{Bool.{cases_Bool, cases_lt, false≢true}, List.{length-map, Elements.All-map}},
   specs.List.concat,

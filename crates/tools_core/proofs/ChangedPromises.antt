@@ -1,7 +1,7 @@
 -- What `split` leaves of an input that gives fewer or more bytes than it showed before.
-use Rattle.std.proofs.Common.{
-  ◌≡◌, ℕ, ◌<◌, true, false, List, [], ◌∷◌, length, map, drop, Option, Some, None, is_some, refl, sym, ◌∙◌, ap, subst,
-  append-nil,
+use Rattle.std.proofs.{
+  Common.{◌≡◌, ℕ, ◌<◌, true, false, List, [], ◌∷◌, length, map, drop, Option, Some, None, is_some, refl, sym, ◌∙◌, ap},
+  Common.{subst, append-nil},
 }
 use Rattle.ports_core.specs.{
   Part.Part,

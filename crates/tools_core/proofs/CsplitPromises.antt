@@ -5,18 +5,14 @@ use Rattle.std.{
     Bool.{cond_both, false≢true, lt-ltb},
     List.{append-nil, length-map, map-append, Elements.{All-append, All-cons, All-map, All-nil}},
   },
-  proofs.Common.{
-    ◌≡◌, ℕ, ◌+◌, drop, Bool, true, false, eqb, List, [], ◌∷◌, Option, Some, None, refl, ◌∙◌, ◌-◌, ◌<◌, ◌≤◌, ◌++◌,
-    length, map, sym, ap, subst, arith, cond,
-  },
+  proofs.Common.{◌≡◌, ℕ, ◌+◌, drop, Bool, true, false, eqb, List, [], ◌∷◌, Option, Some, None, refl, ◌∙◌, ◌-◌, ◌<◌},
+  proofs.Common.{◌≤◌, ◌++◌, length, map, sym, ap, subst, arith, cond},
   specs.List.flat_map,
 }
 use Rattle.operand_core.specs.{
   declared.operand.{Operand.Operand, Target.{Target, TheVariants.{Number, Search}}, Times.{Times, TheVariants.Count}},
-  Reading.{
-    Aim, line, match, Spelled, Aimed, aims, fails, Words, AreRead, Asks, IsTarget, aim_of, failed, least_after, no_more,
-    times_by, with_operand, words_from, words_of,
-  },
+  Reading.{Aim, line, match, Spelled, Aimed, aims, fails, Words, AreRead, Asks, IsTarget, aim_of, failed, least_after},
+  Reading.{no_more, times_by, with_operand, words_from, words_of},
   Word.{Spelling, number, search, spelling, closed_at, repeated, numbered},
   Style.Style,
 }
@@ -25,10 +21,8 @@ use Rattle.csplit_core.specs.{
   Csplit.verdict_of,
   Input.{all_lines, marked, newline},
   Output.{file_in, manner_of, naming_of, shares_in, state_in},
-  Plan.{
-    State, start, line_after, operands_after, step_of, Step, Ending, below, Runs, is_used_up, misses, is_above,
-    is_below, cuts,
-  },
+  Plan.{State, start, line_after, operands_after, step_of, Step, Ending, below, Runs, is_used_up, misses, is_above},
+  Plan.{is_below, cuts},
   Planned.plan,
   Section.{Section, section_of, bytes_of, is_final, is_last_kept, lines_between, lines_in, whole_sections},
   laws.{PlanLaws.plan_runs, SectionLaws.{are_within, bytes-append}},
@@ -36,10 +30,8 @@ use Rattle.csplit_core.specs.{
 use Rattle.csplit_core.proofs.WholeLemmas.{ends_after_all, none_lost_at_end, between_rest, rest_is_all}
 use Rattle.tools_core.{
   specs.{
-    Promises.{
-      SkipNothing, skips, Run, Does, HasInput, AreNumbered, AreSections, IsSound, contents_of, files_of, in_turn,
-      last_section, left_out, text_at,
-    },
+    Promises.{SkipNothing, skips, Run, Does, HasInput, AreNumbered, AreSections, IsSound, contents_of, files_of},
+    Promises.{in_turn, last_section, left_out, text_at},
     Tasks.csplit_task,
   },
   proofs.{

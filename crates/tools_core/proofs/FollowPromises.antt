@@ -1,10 +1,9 @@
 -- What `tail` writes of one file that only grows, where it follows it and meets no fault.
 use Rattle.std.proofs.{
   lemmas.{Grind.common_steps, Bool.{cond_both, or_parts, cases_lt, false≢true}, List.length-map},
-  Common.{
-    ◌≡◌, ℕ, ◌+◌, ◌<◌, ◌≤◌, max, zero, suc, Bool, true, false, List, [], ◌∷◌, ◌++◌, length, drop, Option, Some, None, Ok,
-    refl, sym, ◌∙◌, ap, subst, arith, append_assoc, append-nil, ◌&&◌, cond, is_some, not, ◌||◌, inl, inr, rules,
-  },
+  Common.{◌≡◌, ℕ, ◌+◌, ◌<◌, ◌≤◌, max, zero, suc, Bool, true, false, List, [], ◌∷◌, ◌++◌, length, drop, Option, Some},
+  Common.{None, Ok, refl, sym, ◌∙◌, ap, subst, arith, append_assoc, append-nil, ◌&&◌, cond, is_some, not, ◌||◌, inl},
+  Common.{inr, rules},
   Math.Seq.drop-append_seam as drop_front,
 }
 use Rattle.watch_core.specs.{Snapshot.{Snapshot, waiting}, Watched.Watched}
@@ -14,10 +13,8 @@ use Rattle.follow_core.specs.{
   Run.{AreKept, name_text},
   Version.{Entry, entries_led, entries_later, entries_of, open_after, open_after_later, version_in},
   Followed.{any_failed, text_from},
-  Look.{
-    Fate, Look, Ways, entries_in, fate_at, is_dropped, is_first, sound, unled, unopened, unmeasured, unsought, unread,
-    snapshots, ways_of,
-  },
+  Look.{Fate, Look, Ways, entries_in, fate_at, is_dropped, is_first, sound, unled, unopened, unmeasured, unsought},
+  Look.{unread, snapshots, ways_of},
   Notice.is_missing,
   Share.{Share, bytes_of, gain, gains_from, missing_share, no_share, share_by, share_of, shares_from},
   FollowState.is_alive,

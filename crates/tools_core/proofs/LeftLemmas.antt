@@ -6,11 +6,9 @@ use Rattle.std.proofs.{
     Bool.{and_parts, false≢true, not-false, or_cases, or_left, or_parts, or_right, cases_Bool},
     List.Elements.{All-append, All-cons, All-head, All-map, All-nil, All-tail},
   },
-  Common.{
-    ◌≡◌, ℕ, ◌+◌, ◌<◌, zero, suc, Bool, true, false, ◌&&◌, cond, is_some, List, [], ◌∷◌, ◌++◌, length, map, Option, Some,
-    None, inl, inr, ◌⊎◌, refl, sym, ◌∙◌, ap, arith, append_assoc, append-nil, not, subst, All, rules, ◌≤◌, ◌^◌, is_none,
-    Ok, codes, length-append, option_map,
-  },
+  Common.{◌≡◌, ℕ, ◌+◌, ◌<◌, zero, suc, Bool, true, false, ◌&&◌, cond, is_some, List, [], ◌∷◌, ◌++◌, length, map},
+  Common.{Option, Some, None, inl, inr, ◌⊎◌, refl, sym, ◌∙◌, ap, arith, append_assoc, append-nil, not, subst, All},
+  Common.{rules, ◌≤◌, ◌^◌, is_none, Ok, codes, length-append, option_map},
 }
 use Rattle.ports_core.specs.{
   Slot.{Slot, adds, has_file, slot_at, closes, opened, removes},
@@ -44,10 +42,9 @@ use Rattle.split_core.specs.{
 use Rattle.ends_core.specs.Shown.{head_in, tail_in}
 use Rattle.tools_core.{
   proofs.SameLemmas.{all_made_alike, head_knows, tail_knows, way_knows},
-  specs.Promises.{
-    AllAlike, AreAlike, GivesBytes, are_same, give_same, SaysLines, Completes, FindAlike, IsCopied, IsFound, IsGone,
-    IsTask, IsUnstopped, LeaveAlike, Ran, Run, TellsMet, Unstopped, broken_off, failing, judged, missing, removes_files,
-  },
+  specs.Promises.{AllAlike, AreAlike, GivesBytes, are_same, give_same, SaysLines, Completes, FindAlike, IsCopied},
+  specs.Promises.{IsFound, IsGone, IsTask, IsUnstopped, LeaveAlike, Ran, Run, TellsMet, Unstopped, broken_off, failing},
+  specs.Promises.{judged, missing, removes_files},
   specs.About.{TellsText, no_text, text_cut, text_whole},
   specs.Outcome.{DoesAsked, RefusesOperands},
   specs.Tasks.{csplit_task, filing_of, head_task, is_minus, is_plus, names_of, speaker_of, split_task, tail_task, by},
@@ -67,10 +64,8 @@ use Rattle.run_core.specs.{
   Feeding.{IsCall, Step, closes as ends_call, feeds, is_enough, opens},
   Input.{Input, inputs_at, standard_input},
   RunEnds.{RunStep, calling as call_step, heading, unheaded, unopened, EndsAs, as_defined},
-  Task.{
-    Outcome, Task, after_part, header_text, is_missing, joined, of_content, of_input, of_inputs, verdict_messages,
-    made_by, status_of,
-  },
+  Task.{Outcome, Task, after_part, header_text, is_missing, joined, of_content, of_input, of_inputs, verdict_messages},
+  Task.{made_by, status_of},
 }
 use Rattle.run_core.proofs.StopLemmas.{beside_error, swept_error}
 use Rattle.tee_core.{

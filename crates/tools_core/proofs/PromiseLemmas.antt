@@ -2,10 +2,8 @@
 -- `tee` leave of one input, and that what any run leaves is a beginning of it.
 use Rattle.std.proofs.{
   lemmas.{Grind.common_steps, List.Elements.All-map},
-  Common.{
-    ◌≡◌, ℕ, Bool, true, false, if◌then◌else◌, List, [], ◌∷◌, Option, Some, None, inl, inr, refl, sym, ◌∙◌, ap, arith,
-    ◌+◌, ◌-◌, ◌++◌, map, drop, subst, length, option_map,
-  },
+  Common.{◌≡◌, ℕ, Bool, true, false, if◌then◌else◌, List, [], ◌∷◌, Option, Some, None, inl, inr, refl, sym, ◌∙◌, ap},
+  Common.{arith, ◌+◌, ◌-◌, ◌++◌, map, drop, subst, length, option_map},
 }
 use Rattle.ports_core.specs.{
   Slot.{Slot, slot_at},
@@ -25,23 +23,18 @@ use Rattle.words_core.specs.{
 }
 use Rattle.tools_core.specs.{
   Tasks.{filing_of, head_task, tail_task, names_of, is_minus, is_plus},
-  Promises.{
-    GivesBytes, IsSteady, counted, Completes, Does, FindAlike, HasInput, Ran, Run, IsHead, IsTail, IsBare, CountAlike,
-    output_of, AreCopies, IsSound, files_of, BeginsAs, BeginsEach,
-  },
+  Promises.{GivesBytes, IsSteady, counted, Completes, Does, FindAlike, HasInput, Ran, Run, IsHead, IsTail, IsBare},
+  Promises.{CountAlike, output_of, AreCopies, IsSound, files_of, BeginsAs, BeginsEach},
   Outcome.{DoesAsked, names_at},
 }
 use Rattle.tools_core.proofs.{
-  BeginLemmas.{
-    all_have_names, ending, is_way, part_of, bare_begins, begins_kept, begins_whole, lawful_grows, way_grows,
-    still_begins, tee_begins, text_begins,
-  },
+  BeginLemmas.{all_have_names, ending, is_way, part_of, bare_begins, begins_kept, begins_whole, lawful_grows},
+  BeginLemmas.{way_grows, still_begins, tee_begins, text_begins},
   LeftLemmas.{Makes, completes_left, left_whole, same_made, slots_of, copies_are, copy, tee_made, left_at, ran_over},
   StoppedPromises.{completes_or, silent_completes},
   RunLemmas.can_run,
-  SameLemmas.{
-    KnowsNoMore, head_in-None, head_in_lawful, head_knows, steady_made, tail_in-None, tail_in_lawful, tail_knows,
-  },
+  SameLemmas.{KnowsNoMore, head_in-None, head_in_lawful, head_knows, steady_made, tail_in-None, tail_in_lawful},
+  SameLemmas.tail_knows,
 }
 use Rattle.seg_core.specs.declared.{
   count.Sign.{Sign, TheVariants.{Plain, Minus, Plus}},

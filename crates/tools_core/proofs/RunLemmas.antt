@@ -1,10 +1,8 @@
 -- How a run ends, by its words.
 use Rattle.std.{
   specs.Option.unwrap_or,
-  proofs.Common.{
-    ◌≡◌, ℕ, List, [], ◌∷◌, Option, Some, None, option_map, Result, Ok, Err, refl, sym, ◌∙◌, ap, subst, Bool, true,
-    false, length, map, Bor, inl, inr, codes, arith, max,
-  },
+  proofs.Common.{◌≡◌, ℕ, List, [], ◌∷◌, Option, Some, None, option_map, Result, Ok, Err, refl, sym, ◌∙◌, ap, subst},
+  proofs.Common.{Bool, true, false, length, map, Bor, inl, inr, codes, arith, max},
   proofs.lemmas.Bool.false≢true,
 }
 use Rattle.ports_core.specs.{
@@ -35,10 +33,8 @@ use Rattle.words_core.specs.{
   Spelling.{given_by, IsRefused},
   Value.then_check,
   Table.{ToolRow, row_named, tools},
-  Words.{
-    about_or, topic_in, work_for, program_asked, settings_for, settings_of, tool_settings, topic_named, CanRun,
-    HasBadOperands, looks,
-  },
+  Words.{about_or, topic_in, work_for, program_asked, settings_for, settings_of, tool_settings, topic_named, CanRun},
+  Words.{HasBadOperands, looks},
 }
 use Rattle.words_core.proofs.LimitLemmas.{read-can}
 use Rattle.follow_core.{proofs.LookedLemmas.{ends_by, most_made}, specs.Ending.{no_room as no_room_yet, shows_by}}

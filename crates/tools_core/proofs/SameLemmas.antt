@@ -1,9 +1,7 @@
 -- Lemmas on inputs that give what they show before they are read: what is made of them is what is made of those that show nothing.
 use Rattle.std.proofs.{
-  Common.{
-    ◌≡◌, ℕ, ◌&&◌, ◌||◌, if◌then◌else◌, Bool, true, false, is_some, List, [], ◌∷◌, Option, Some, None, inl, inr, refl,
-    sym, ◌∙◌, ap, length, option_map,
-  },
+  Common.{◌≡◌, ℕ, ◌&&◌, ◌||◌, if◌then◌else◌, Bool, true, false, is_some, List, [], ◌∷◌, Option, Some, None, inl, inr},
+  Common.{refl, sym, ◌∙◌, ap, length, option_map},
   Math.Bool.or-true,
   lemmas.Bool.eq-eqb,
 }
@@ -16,9 +14,8 @@ use Rattle.ports_core.specs.{
 use Rattle.seg_core.specs.declared.{unit.Unit.Unit as Counted, cut.Way.Way}
 use Rattle.ends_core.{
   specs.{Shown.{head_in, tail_in}, Head.head_work, Tail.tail_work, laws.WorkLaws.{head_lawful, tail_lawful}},
-  proofs.ShownLemmas.{
-    head_shown_lawful, tail_shown_lawful, verdict-head_shown, verdict-tail_shown, whole-head_shown, whole-tail_shown,
-  },
+  proofs.ShownLemmas.{head_shown_lawful, tail_shown_lawful, verdict-head_shown, verdict-tail_shown, whole-head_shown},
+  proofs.ShownLemmas.whole-tail_shown,
 }
 use Rattle.split_core.specs.{Chunks.is_as_said, ChunkWork.{is_written, way_work}, Split.Filing}
 use Rattle.run_core.specs.{

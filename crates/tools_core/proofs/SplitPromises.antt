@@ -2,18 +2,14 @@
 use Rattle.std.proofs.{
   lemmas.Grind.common_steps,
   lemmas.Bool.{cases_lt, cond_both, false≢true, lt-ltb, ltb-false, ltb-true},
-  lemmas.List.{
-    get_or_append_left, length-map, length-take, length-take-le, length-drop, get_or-take, get_or_past,
-    take-append-drop, take-append-le, take_all,
-  },
+  lemmas.List.{get_or_append_left, length-map, length-take, length-take-le, length-drop, get_or-take, get_or_past},
+  lemmas.List.{take-append-drop, take-append-le, take_all},
   lemmas.List.FromFn.{get_or-map-range_with_len, length-map-range_with_len},
   lemmas.List.Elements.{All-cons, All-map, All-nil},
   lemmas.Nat.mod_below,
-  Common.{
-    ◌≡◌, ℕ, ◌+◌, ◌-◌, ◌/◌, ◌%◌, ◌^◌, ◌<◌, ◌≤◌, zero, suc, List, [], ◌∷◌, ◌++◌, length, inl, inr, refl, sym, ◌∙◌, ap,
-    arith, append_assoc, length-append, Less, nat_cmp, append-nil, div-add-mod', rules, ◌*◌, min, Bool, true, false,
-    IsTrue, not, cond, map, take, drop, subst, filter, get_or, Some, None, All, suc-mul,
-  },
+  Common.{◌≡◌, ℕ, ◌+◌, ◌-◌, ◌/◌, ◌%◌, ◌^◌, ◌<◌, ◌≤◌, zero, suc, List, [], ◌∷◌, ◌++◌, length, inl, inr, refl, sym, ◌∙◌},
+  Common.{ap, arith, append_assoc, length-append, Less, nat_cmp, append-nil, div-add-mod', rules, ◌*◌, min, Bool, true},
+  Common.{false, IsTrue, not, cond, map, take, drop, subst, filter, get_or, Some, None, All, suc-mul},
   Math.Seq.{take-append_seam, drop-append_seam, take-append-add},
 }
 use Rattle.std.specs.{Cmp.Lexicographic.slice_cmp, List.{flat_map, range_with_len}, Prelude.{Option, nat_lt}}
@@ -30,10 +26,9 @@ use Rattle.ports_core.specs.{
 }
 use Rattle.ports_core.proofs.OrderLemmas.{in_order}
 use Rattle.tools_core.{
-  specs.Promises.{
-    AreChunks, AreEven, AreInOrder, KeepLines, Splits, makes_files, text_at, Run, Does, HasInput, AreListed, ArePieces,
-    AreLinePieces, AreUncut, AreDealt, EndsLine, IsFilled, IsSound, contents_of, files_of, lines_telling, output_of,
-  },
+  specs.Promises.{AreChunks, AreEven, AreInOrder, KeepLines, Splits, makes_files, text_at, Run, Does, HasInput},
+  specs.Promises.{AreListed, ArePieces, AreLinePieces, AreUncut, AreDealt, EndsLine, IsFilled, IsSound, contents_of},
+  specs.Promises.{files_of, lines_telling, output_of},
   specs.Tasks.{filing_of, naming_of, split_task},
   proofs.{
     SameLemmas.way_knows,
@@ -51,10 +46,8 @@ use Rattle.seg_core.proofs.{
   Delimiters.{delimiters-append, delimiters-le-length},
   LastLines.first_lines-whole,
   LinesOf.joined-lines_of,
-  FirstLines.{
-    delimiters-first_lines, first_lines-append, first_lines-full, first_lines-more, first_lines-short,
-    length-first_lines-le, lines_of-first_lines, lines_of-after_lines,
-  },
+  FirstLines.{delimiters-first_lines, first_lines-append, first_lines-full, first_lines-more, first_lines-short},
+  FirstLines.{length-first_lines-le, lines_of-first_lines, lines_of-after_lines},
   LineCounts.{line_count-open, line_count_near},
 }
 use Rattle.run_core.specs.Task.{after_part}
@@ -77,10 +70,8 @@ use Rattle.split_core.proofs.{
   CutLaws.{first_then_after, bytes_of_shares},
   AgreedLemmas.{bytes_named, each_named},
   RoundLemmas.{joined_files, named_fewer, named_at},
-  SectionLemmas.{
-    line_at, all_dealt, first_files, joined_parts, part_lines, part_bytes, lines_count, bytes_count,
-    line_bytes_are_parts, line_bytes_once, line_bytes_within,
-  },
+  SectionLemmas.{line_at, all_dealt, first_files, joined_parts, part_lines, part_bytes, lines_count, bytes_count},
+  SectionLemmas.{line_bytes_are_parts, line_bytes_once, line_bytes_within},
   ChunkAgreedLemmas.joined-kept,
 }
 use Rattle.words_core.specs.{

@@ -1,10 +1,9 @@
 -- A run that a fault stopped told it, and which outputs are broken then.
 use Rattle.std.{
   proofs.lemmas.{Grind.common_steps, Bool.{cases_Bool, false≢true, or_cases}, List.{get_or_push, Elements.All-append}},
-  proofs.Common.{
-    None, ◌≡◌, ℕ, ◌^◌, ◌≤◌, suc, Bool, true, false, cond, is_none, List, [], not, ◌||◌, map, ◌∷◌, ◌++◌, length,
-    length-append, Option, Some, codes, inl, inr, ◌⊎◌, refl, sym, ◌∙◌, ap, subst, arith, take, zero, rules, get_or,
-  },
+  proofs.Common.{None, ◌≡◌, ℕ, ◌^◌, ◌≤◌, suc, Bool, true, false, cond, is_none, List, [], not, ◌||◌, map, ◌∷◌, ◌++◌},
+  proofs.Common.{length, length-append, Option, Some, codes, inl, inr, ◌⊎◌, refl, sym, ◌∙◌, ap, subst, arith, take},
+  proofs.Common.{zero, rules, get_or},
   proofs.Math.Seq.get_or-append_seam,
   specs.List.concat,
 }
@@ -48,21 +47,16 @@ use Rattle.tools_core.specs.{
   About.{TellsText, no_text, text_cut, text_whole},
   Outcome.{DoesAsked, refuser, speaker, word_of},
   Tasks.{by, names_of, speaker_of, tool_of},
-  Promises.{
-    BrokeAt, Completes, Does, HasGone, HasLong, IsCalled, IsCopied, IsGone, IsSilent, IsStopped, IsTask, IsUnstopped,
-    Ran, Run, SaysLines, SaysWhy, StopsRun, Tells, TellsMet, Unstopped, WhyBroken, broken_off, failing, named,
-    removes_files,
-  },
+  Promises.{BrokeAt, Completes, Does, HasGone, HasLong, IsCalled, IsCopied, IsGone, IsSilent, IsStopped, IsTask},
+  Promises.{IsUnstopped, Ran, Run, SaysLines, SaysWhy, StopsRun, Tells, TellsMet, Unstopped, WhyBroken, broken_off},
+  Promises.{failing, named, removes_files},
 }
 use Rattle.tools_core.proofs.{
-  BeginLemmas.{
-    broken_tells, IsLoud, IsMarked, TellsOfInput, failing_stops, marked_at, tee_lines, tee_tells, unsound_broke,
-  },
-  LeftLemmas.{
-    HasLine, LeftBy, all_tell, completes_left, left_at, left_says, one_line, ran_over, slots_at, swept_gone, swept_kept,
-    speaker_is, AreLive, IsSoundAt, has_after, has_before, inputs_fit, live_begin, outputs_live, says_line, step_live,
-    task_lives,
-  },
+  BeginLemmas.{broken_tells, IsLoud, IsMarked, TellsOfInput, failing_stops, marked_at, tee_lines, tee_tells},
+  BeginLemmas.unsound_broke,
+  LeftLemmas.{HasLine, LeftBy, all_tell, completes_left, left_at, left_says, one_line, ran_over, slots_at, swept_gone},
+  LeftLemmas.{swept_kept, speaker_is, AreLive, IsSoundAt, has_after, has_before, inputs_fit, live_begin, outputs_live},
+  LeftLemmas.{says_line, step_live, task_lives},
   RunLemmas.{memory_by, runs_as_named},
 }
 use Rattle.ports_core.specs.declared.reason.Reason.TheVariants as reason

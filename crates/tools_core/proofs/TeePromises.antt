@@ -1,10 +1,8 @@
 -- What a run of `tee` leaves, and what ended it.
 use Rattle.std.proofs.{
-  Common.{
-    ◌≡◌, ◌⊎◌, ◌||◌, ℕ, ◌≤◌, ◌<◌, ◌^◌, ◌+◌, get_or, map, not, zero, suc, Bool, true, false, List, [], ◌∷◌, ◌++◌, length,
-    take, Option, None, Some, cond, if◌then◌else◌, nat_lt, inl, inr, refl, sym, ◌∙◌, ap, subst, arith, append-nil,
-    append_assoc, All, length-append,
-  },
+  Common.{◌≡◌, ◌⊎◌, ◌||◌, ℕ, ◌≤◌, ◌<◌, ◌^◌, ◌+◌, get_or, map, not, zero, suc, Bool, true, false, List, [], ◌∷◌, ◌++◌},
+  Common.{length, take, Option, None, Some, cond, if◌then◌else◌, nat_lt, inl, inr, refl, sym, ◌∙◌, ap, subst, arith},
+  Common.{append-nil, append_assoc, All, length-append},
   lemmas.{Bool.{lt-ltb, not-true, or_parts, false≢true, or_cases, Decides.nat_tests}, List.Folds.concat-append},
   Math.Bool.or-true,
 }
@@ -25,10 +23,8 @@ use Rattle.ports_core.specs.{
 }
 use Rattle.ports_core.proofs.PartLemmas.{begins_itself, begins_more, begins_trans, take_begins_after}
 use Rattle.tee_core.specs.{
-  Run.{
-    Break, FileLeft, FilesLeft, IsRead, LeavesOf, OutputLeft, any_is, ends_run, is_done, is_same, lost_for, stands_as,
-    standing_before, standing_of, standings_before,
-  },
+  Run.{Break, FileLeft, FilesLeft, IsRead, LeavesOf, OutputLeft, any_is, ends_run, is_done, is_same, lost_for},
+  Run.{stands_as, standing_before, standing_of, standings_before},
   declared.standing.Standing.{Standing, TheVariants.Sound},
 }
 use Rattle.words_core.specs.{TeeWords.TeeAsked, declared.settings.Settings.TheVariants.Tee}

@@ -1,10 +1,8 @@
 -- What people rest on, in a manual's words: what a run leaves, over inputs and outputs that tell their bytes, as those
 -- in memory do.
 use Rattle.std.specs.{
-  Prelude.{
-    ◌≡◌, ℕ, ◌+◌, ◌^◌, ◌/◌, ◌%◌, ◌<◌, ◌≤◌, ◌==◌, suc, nat_lt, Bool, true, false, not, List, [], ◌∷◌, ◌++◌, length, map,
-    take, drop, All, slice_index_or, ◌⊎◌, Option, Some, None, Ok, if◌then◌else◌,
-  },
+  Prelude.{◌≡◌, ℕ, ◌+◌, ◌^◌, ◌/◌, ◌%◌, ◌<◌, ◌≤◌, ◌==◌, suc, nat_lt, Bool, true, false, not, List, [], ◌∷◌, ◌++◌},
+  Prelude.{length, map, take, drop, All, slice_index_or, ◌⊎◌, Option, Some, None, Ok, if◌then◌else◌},
   List.{concat, flat_map},
   declared.cmp.Ordering.TheVariants.Less,
   Ordering.nat_cmp,

@@ -3,9 +3,8 @@
 -- input breaks off.
 use Rattle.std.specs.{
   Option.unwrap_or,
-  Prelude.{
-    ℕ, ◌&&◌, nat_lt, is_none, Bool, true, false, not, List, [], ◌∷◌, length, slice_index_or, codes, Option, option_map,
-  },
+  Prelude.{ℕ, ◌&&◌, nat_lt, is_none, Bool, true, false, not, List, [], ◌∷◌, length, slice_index_or, codes, Option},
+  Prelude.option_map,
 }
 use Rattle.ports_core.specs.{
   Name.{Naming, numbering_of},

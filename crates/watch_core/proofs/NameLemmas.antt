@@ -1,9 +1,7 @@
 -- The names that are watched, where one of them changes.
 use Rattle.std.proofs.{
-  Common.{
-    ◌≡◌, ℕ, ◌<◌, zero, suc, Bool, true, false, ◌&&◌, IsTrue, List, [], ◌∷◌, ◌++◌, length, refl, sym, ◌∙◌, ap, subst,
-    arith, get_or, set, is_some, Option,
-  },
+  Common.{◌≡◌, ℕ, ◌<◌, zero, suc, Bool, true, false, ◌&&◌, IsTrue, List, [], ◌∷◌, ◌++◌, length, refl, sym, ◌∙◌, ap},
+  Common.{subst, arith, get_or, set, is_some, Option},
   lemmas.Bool.false≢true,
 }
 use Rattle.ports_core.{specs.{Slot.changed_at, declared.reason.Reason.Reason}, proofs.SlotLemmas.set-changed}

@@ -1,8 +1,8 @@
 -- Files under edits, and processes that end. Of a name that leads nowhere only a replacement does anything, and it makes a file that was not
 -- there before; whether a name can be read doesn't depend on where it leads. A file to which no name leads any more keeps what it holds.
-use Rattle.std.specs.Prelude.{
-  ℕ, ◌==◌, ◌||◌, Bool, true, false, List, [], ◌∷◌, ◌++◌, length, map, take, Option, Some, None, slice_index_or,
-  bytes_eq, if◌then◌else◌,
+use Rattle.std.specs.{
+  Prelude.{ℕ, ◌==◌, ◌||◌, Bool, true, false, List, [], ◌∷◌, ◌++◌, length, map, take, Option, Some, None},
+  Prelude.{slice_index_or, bytes_eq, if◌then◌else◌},
 }
 use Rattle.ports_core.specs.Slot.{changed_at}
 use Rattle.watch_core.specs.Snapshot.{Snapshot}

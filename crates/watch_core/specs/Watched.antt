@@ -1,6 +1,7 @@
 -- The names that are watched: which file of each is open, and by which call it broke and why.
-use Rattle.std.specs.Prelude.{
-  is_none, is_some, ◌≡◌, ℕ, Bool, true, ◌&&◌, List, [], Option, Some, None, length, drop, option_map, slice_index_or,
+use Rattle.std.specs.{
+  Prelude.{is_none, is_some, ◌≡◌, ℕ, Bool, true, ◌&&◌, List, [], Option, Some, None, length, drop, option_map},
+  Prelude.slice_index_or,
 }
 use Rattle.ports_core.specs.{
   declared.reason.Reason.{Reason, TheVariants.Other},

@@ -1,5 +1,5 @@
-ghost use Rattle.std.specs.Prelude.{
-  ◌≡◌, ◌≤◌, ◌<◌, ◌^◌, true, length, string_bytes, IfOk, OnOk, OnErr, IfSome, IfNone, OnSome, is_some,
+ghost use Rattle.std.specs.{
+  Prelude.{◌≡◌, ◌≤◌, ◌<◌, ◌^◌, true, length, string_bytes, IfOk, OnOk, OnErr, IfSome, IfNone, OnSome, is_some},
 };
 ghost use Rattle.ports_core.specs.declared.reason.Reason.{Reason};
 ghost use Rattle.watch_core.specs.Watched.{Watched, added, breaks, opens};

@@ -1,6 +1,6 @@
-ghost use Rattle.std.specs.Prelude.{
-  ◌≡◌, ◌≤◌, ◌<◌, ◌^◌, ◌++◌, ◌∷◌, [], ℕ, List, Bool, true, length, max, option_map, take, is_some, IfOk, IfErr, OnOk,
-  IfSome, IsTrue,
+ghost use Rattle.std.specs.{
+  Prelude.{◌≡◌, ◌≤◌, ◌<◌, ◌^◌, ◌++◌, ◌∷◌, [], ℕ, List, Bool, true, length, max, option_map, take, is_some, IfOk, IfErr},
+  Prelude.{OnOk, IfSome, IsTrue},
 };
 ghost use Rattle.watch_core.specs.{
   Snapshot.{Snapshot, Found, forgiving, holds_many, latest, leads_to, reads_as, waiting},

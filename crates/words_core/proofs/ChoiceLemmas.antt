@@ -1,10 +1,8 @@
 -- Lemmas on what options ask for, one after another.
 use Rattle.std.{
   proofs.lemmas.{Grind.common_steps, Bool.or_parts},
-  proofs.Common.{
-    ◌≡◌, ◌≤◌, ◌↔◌, ℕ, Bool, true, false, ◌||◌, arith, List, [], ◌∷◌, ◌++◌, length, Option, Some, None, Result, Ok, Err,
-    refl, ◌∙◌, ap, is_some, if◌then◌else◌, filter, IsOk, rules,
-  },
+  proofs.Common.{◌≡◌, ◌≤◌, ◌↔◌, ℕ, Bool, true, false, ◌||◌, arith, List, [], ◌∷◌, ◌++◌, length, Option, Some, None},
+  proofs.Common.{Result, Ok, Err, refl, ◌∙◌, ap, is_some, if◌then◌else◌, filter, IsOk, rules},
   specs.Option.unwrap_or,
 }
 use Rattle.ports_core.specs.declared.{
@@ -14,24 +12,19 @@ use Rattle.ports_core.specs.declared.{
 }
 use Rattle.seg_core.specs.declared.cut.Way.{Way}
 use Rattle.words_core.specs.{
-  declared.{
-    choice.Choice.Choice, tail_words.TailSettings.TailSettings, spelled.Chosen.Chosen,
-    csplit_words.CsplitOptions.CsplitOptions,
-  },
+  declared.{choice.Choice.Choice, tail_words.TailSettings.TailSettings, spelled.Chosen.Chosen},
+  declared.csplit_words.CsplitOptions.CsplitOptions,
   Given.{GivenOperand, asked_by, texts_of},
   CsplitWords.{csplit_by, plain},
   EndsWords.{EndsAsked, ends_by, names_asked, ten_lines},
-  SplitWords.{
-    SplitAsked, delim_by, is_way, no_options, only_way, separator_in, split_by, thousand_lines, way_in, way_of,
-  },
+  SplitWords.{SplitAsked, delim_by, is_way, no_options, only_way, separator_in, split_by, thousand_lines, way_in},
+  SplitWords.way_of,
   TailWords.{retry_by, tail_by, tail_of, unfollowed},
   TeeWords.{TeeAsked, fresh, tee_by},
   Words.{about_or, or_later, settings_for, topic_in, topic_of, work_for},
-  Laws.{
-    LastDecides, amount_of, appends, counts, counts_looks, counts_pause, names_process, drops_sizes, elides_files,
-    tells_of_files, ends_with_zero, gives_ending, gives_format, has, heads, keeps_files, leaves_lines_out, names_prefix,
-    retries, says_followed, says_on_broken, separates, spells, widens,
-  },
+  Laws.{LastDecides, amount_of, appends, counts, counts_looks, counts_pause, names_process, drops_sizes, elides_files},
+  Laws.{tells_of_files, ends_with_zero, gives_ending, gives_format, has, heads, keeps_files, leaves_lines_out},
+  Laws.{names_prefix, retries, says_followed, says_on_broken, separates, spells, widens},
 }
 use Rattle.ports_core.specs.declared.tool.Tool.TheVariants as tool
 use Rattle.ports_core.specs.declared.slot.Mode.TheVariants as mode

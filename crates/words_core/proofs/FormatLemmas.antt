@@ -6,11 +6,9 @@ use Rattle.std.proofs.{
     List.{take-append-drop, take_rest},
     Str.{IsCharBoundary-after_ascii, IsCharBoundary-before_ascii, IsCharBoundary-end},
   },
-  Common.{
-    ◌≡◌, ℕ, ◌+◌, ◌-◌, ◌^◌, ◌<◌, ◌≤◌, ◌==◌, ◌&&◌, suc, min, not, nat_le, Bool, true, false, cond, List, [], ◌∷◌, ◌++◌,
-    length, take, drop, get_or, Option, Some, None, inl, inr, refl, sym, subst, ◌∙◌, ap, arith, append_assoc,
-    length-append,
-  },
+  Common.{◌≡◌, ℕ, ◌+◌, ◌-◌, ◌^◌, ◌<◌, ◌≤◌, ◌==◌, ◌&&◌, suc, min, not, nat_le, Bool, true, false, cond, List, [], ◌∷◌},
+  Common.{◌++◌, length, take, drop, get_or, Option, Some, None, inl, inr, refl, sym, subst, ◌∙◌, ap, arith},
+  Common.{append_assoc, length-append},
   Math.Seq.{drop-append_seam, get_or-append_seam},
 }
 use Rattle.std.specs.{
@@ -22,10 +20,8 @@ use Rattle.std.specs.{
 use Rattle.ports_core.specs.declared.form.{Base.Base, Form.Form}
 use Rattle.seg_core.specs.Count.{after_digits}
 use Rattle.words_core.specs.{
-  Format.{
-    Format, around, before_it, conversion_in, format_in, after_precision, after_text, digits_by, form_of, with_letter,
-    base_of, with_rest, go_with, plain_text,
-  },
+  Format.{Format, around, before_it, conversion_in, format_in, after_precision, after_text, digits_by, form_of},
+  Format.{with_letter, base_of, with_rest, go_with, plain_text},
   inner.Format.{AfterLetter, without_percent},
 }
 

@@ -1,10 +1,8 @@
 -- Whatever words spell, sizes, counts of files and widths are within their limits, and files that lines are dealt to have names.
 use Rattle.std.{
   proofs.lemmas.{Grind.common_steps, Bool.cond_both},
-  proofs.Common.{
-    ◌≡◌, ℕ, zero, suc, ◌+◌, ◌-◌, ◌^◌, ◌≤◌, false, arith, List, [], ◌∷◌, ◌++◌, Option, Some, None, Result, Ok, Err, IfOk,
-    inl, inr, ◌⊎◌, rules,
-  },
+  proofs.Common.{◌≡◌, ℕ, zero, suc, ◌+◌, ◌-◌, ◌^◌, ◌≤◌, false, arith, List, [], ◌∷◌, ◌++◌, Option, Some, None, Result},
+  proofs.Common.{Ok, Err, IfOk, inl, inr, ◌⊎◌, rules},
   specs.Prelude.{⊤, IfSome, filter, ◌==◌},
 }
 use Rattle.ports_core.{
@@ -32,10 +30,8 @@ use Rattle.words_core.specs.{
   Value.then_check,
   Given.{asked_by, Given, GivenOperand},
   Spelling.{Meaning, meaning_of, given_before, onward, spelled, start_of, given_by},
-  SplitWords.{
-    SplitAsked, AreNamed, CanSplit, IsInLimits, IsWidth, is_way, only_way, way_of, split_by, no_options, suffix_for,
-    files_in, split_asked, separator_in, for_all, first_number, free, least_width, wide_enough,
-  },
+  SplitWords.{SplitAsked, AreNamed, CanSplit, IsInLimits, IsWidth, is_way, only_way, way_of, split_by, no_options},
+  SplitWords.{suffix_for, files_in, split_asked, separator_in, for_all, first_number, free, least_width, wide_enough},
   Laws.{AreAmong, none, passed, taken},
   Words.{CanRun, about_or, settings_for, topic_in, work_for},
 }

@@ -2,10 +2,8 @@
 use Rattle.std.{
   proofs.{
     lemmas.Grind.common_steps,
-    Common.{
-      ◌≡◌, refl, ℕ, ◌-◌, ◌^◌, ◌==◌, ◌&&◌, ◌≤◌, ◌<◌, arith, List, [], ◌∷◌, ◌++◌, Option, Some, None, Result, Ok, Err,
-      IfOk, inl, inr, ◌⊎◌, rules,
-    },
+    Common.{◌≡◌, refl, ℕ, ◌-◌, ◌^◌, ◌==◌, ◌&&◌, ◌≤◌, ◌<◌, arith, List, [], ◌∷◌, ◌++◌, Option, Some, None, Result, Ok},
+    Common.{Err, IfOk, inl, inr, ◌⊎◌, rules},
   },
   specs.Prelude.{⊤, IfSome, nat_lt},
 }
@@ -27,13 +25,10 @@ use Rattle.words_core.specs.{
   Division.{all_in, division_in, numbers_in},
   SplitWords.AreFew,
   Given.{Given, GivenOperand, bare, joined},
-  Lettered.{
-    counted_with, is_lettered, is_start, is_unit, letter_named, switched, switches, times, unit_in, with_letters,
-  },
-  Spelling.{
-    Meaning, before, said, valued, lettered, option_lettered, cluster, after_equals, named, dashed, foremost, given_at,
-    mixed, meaning_of,
-  },
+  Lettered.{counted_with, is_lettered, is_start, is_unit, letter_named, switched, switches, times, unit_in},
+  Lettered.with_letters,
+  Spelling.{Meaning, before, said, valued, lettered, option_lettered, cluster, after_equals, named, dashed, foremost},
+  Spelling.{given_at, mixed, meaning_of},
 }
 use Rattle.words_core.proofs.SpellingLemmas.{either}
 use Rattle.words_core.specs.declared.choice.Choice.TheVariants as choice

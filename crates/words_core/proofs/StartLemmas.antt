@@ -1,10 +1,8 @@
 -- Lemmas on a first word of `tail` that is a hyphen or a `+`, digits and letters.
 use Rattle.std.proofs.{
   lemmas.Bool.{and_parts, Decides.nat_tests},
-  Common.{
-    ◌≡◌, refl, ℕ, ◌-◌, ◌*◌, ◌^◌, ◌≤◌, ◌<◌, ◌==◌, true, false, arith, append-nil, List, [], ◌∷◌, ◌++◌, length, Ok, Err,
-    subst,
-  },
+  Common.{◌≡◌, refl, ℕ, ◌-◌, ◌*◌, ◌^◌, ◌≤◌, ◌<◌, ◌==◌, true, false, arith, append-nil, List, [], ◌∷◌, ◌++◌, length, Ok},
+  Common.{Err, subst},
   Math.Bool.{and-false, or-true},
 }
 use Rattle.std.specs.{Char.is_ascii_digit, List.{list_all, prefix_len}, Prelude.nat_lt}

@@ -9,10 +9,8 @@ use Rattle.ports_core.specs.declared.{
 use Rattle.words_core.specs.{
   Division.division_in,
   Format.{Format, format_in, format_seen},
-  Value.{
-    byte_in, counted, ending_in, followed_in, hex_in, not_zero, on_broken_in, pause_in, process_in, size_in, then_check,
-    up_to,
-  },
+  Value.{byte_in, counted, ending_in, followed_in, hex_in, not_zero, on_broken_in, pause_in, process_in, size_in},
+  Value.{then_check, up_to},
   declared.{choice.{Choice.Choice, Kind.Kind}, format.Format.Format as Written},
 }
 use Rattle.words_core.specs.declared.choice.Choice.TheVariants as choice

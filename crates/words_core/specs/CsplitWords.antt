@@ -1,6 +1,6 @@
 -- What options and operands ask of `csplit`, or what is wrong with them.
-use Rattle.std.specs.Prelude.{
-  ◌≡◌, ℕ, false, true, List, [], ◌∷◌, ◌++◌, codes, slice_index_or, Option, Some, None, Result, Ok, Err,
+use Rattle.std.specs.{
+  Prelude.{◌≡◌, ℕ, false, true, List, [], ◌∷◌, ◌++◌, codes, slice_index_or, Option, Some, None, Result, Ok, Err},
 }
 use Rattle.bre_core.specs.Fault.{number_of, offset_of}
 use Rattle.operand_core.specs.{
@@ -15,10 +15,8 @@ use Rattle.ports_core.specs.declared.fault.{
   UsageKind.{UsageKind, TheVariants.{MissingOperand, BadOperand, BadPattern, PatternTooLarge}},
 }
 use Rattle.words_core.specs.{
-  declared.{
-    choice.Choice.Choice, spelled.Chosen.Chosen, csplit_words.CsplitOptions.CsplitOptions,
-    format.Format.Format as Written,
-  },
+  declared.{choice.Choice.Choice, spelled.Chosen.Chosen, csplit_words.CsplitOptions.CsplitOptions},
+  declared.format.Format.Format as Written,
   Choice.{format_of, text},
   Given.{asked_by, Given, GivenOperand, places_of, texts_of},
   Format.Format,

@@ -1,6 +1,6 @@
 -- What the value of `-n` of `split` says: GNU coreutils manual, split, CHUNKS.
-use Rattle.std.specs.Prelude.{
-  ℕ, ◌-◌, ◌==◌, ◌&&◌, nat_lt, List, [], ◌∷◌, length, Option, Some, None, Result, Ok, Err, if◌then◌else◌,
+use Rattle.std.specs.{
+  Prelude.{ℕ, ◌-◌, ◌==◌, ◌&&◌, nat_lt, List, [], ◌∷◌, length, Option, Some, None, Result, Ok, Err, if◌then◌else◌},
 }
 use Rattle.seg_core.specs.{
   Count.{after_digits, digits_of, leading_digits},

@@ -1,9 +1,8 @@
 -- The format of names that `csplit -b` takes: a text with one conversion of C's `printf`, which says how a number is
 -- written (GNU coreutils manual, csplit; C standard and POSIX, `fprintf`). Before and after it stand texts, where two `%` are one.
 use Rattle.std.specs.{
-  Prelude.{
-    ℕ, ◌-◌, ◌==◌, ◌&&◌, ◌||◌, Bool, not, nat_le, List, [], ◌∷◌, length, take, drop, Option, Some, None, if◌then◌else◌,
-  },
+  Prelude.{ℕ, ◌-◌, ◌==◌, ◌&&◌, ◌||◌, Bool, not, nat_le, List, [], ◌∷◌, length, take, drop, Option, Some, None},
+  Prelude.if◌then◌else◌,
   List.{list_any, prefix_len},
   Option.unwrap_or,
 }

@@ -1,10 +1,8 @@
 -- A first word of a hyphen, digits and letters, as `-5c` of `head` and `-20f` of `tail`, and one of a `+`, as `+5` of
 -- `tail`: GNU's, from before POSIX. What follows the hyphen or the `+` is the text. 45 is a hyphen.
 use Rattle.std.specs.{
-  Prelude.{
-    ℕ, ◌*◌, ◌^◌, ◌==◌, ◌&&◌, ◌||◌, nat_lt, Bool, true, false, List, [], ◌∷◌, length, filter, codes, is_some, Option,
-    Some, None, Result, Ok, Err, if◌then◌else◌,
-  },
+  Prelude.{ℕ, ◌*◌, ◌^◌, ◌==◌, ◌&&◌, ◌||◌, nat_lt, Bool, true, false, List, [], ◌∷◌, length, filter, codes, is_some},
+  Prelude.{Option, Some, None, Result, Ok, Err, if◌then◌else◌},
   Option.unwrap_or,
 }
 use Rattle.seg_core.specs.{

@@ -1,10 +1,8 @@
 -- What the words after a tool's name spell: options with their values, and operands. What a word means depends on what
 -- the words before it left. 43 is a `+`, 45 a hyphen, 61 `=`.
 use Rattle.std.specs.{
-  Prelude.{
-    ◌≡◌, ℕ, ◌+◌, ◌==◌, ◌&&◌, nat_lt, Bool, List, [], ◌∷◌, length, ◌⊎◌, Option, Some, None, Result, Ok, Err,
-    if◌then◌else◌,
-  },
+  Prelude.{◌≡◌, ℕ, ◌+◌, ◌==◌, ◌&&◌, nat_lt, Bool, List, [], ◌∷◌, length, ◌⊎◌, Option, Some, None, Result, Ok, Err},
+  Prelude.if◌then◌else◌,
   List.{before_first, after_first, position_or_len},
 }
 use Rattle.seg_core.specs.{Count.is_number, declared.count.Sign.TheVariants.{Plain, Plus}}

@@ -1,8 +1,7 @@
 -- What options and operands ask of `tail`, or what is wrong with them.
 use Rattle.std.specs.{
-  Prelude.{
-    ℕ, ◌-◌, ◌^◌, Bool, true, false, List, [], ◌∷◌, codes, Option, Some, None, Result, Ok, Err, if◌then◌else◌, bytes_eq,
-  },
+  Prelude.{ℕ, ◌-◌, ◌^◌, Bool, true, false, List, [], ◌∷◌, codes, Option, Some, None, Result, Ok, Err, if◌then◌else◌},
+  Prelude.bytes_eq,
   List.list_any,
 }
 use Rattle.ports_core.specs.declared.fault.{Fault.{Fault, TheVariants.Usage}, UsageKind.TheVariants.BadFollow}

@@ -1,7 +1,7 @@
 -- What a list of words asks for, by how the program was called. The first word is the tool's name, and words are counted
 -- from there, from 0.
-use Rattle.std.specs.Prelude.{
-  ℕ, ◌-◌, ◌^◌, Bool, true, false, List, [], ◌∷◌, Option, Some, None, option_map, Result, Ok, Err,
+use Rattle.std.specs.{
+  Prelude.{ℕ, ◌-◌, ◌^◌, Bool, true, false, List, [], ◌∷◌, Option, Some, None, option_map, Result, Ok, Err},
 }
 use Rattle.ports_core.specs.declared.{
   calling.Calling.Calling,

@@ -6,10 +6,8 @@ ghost use Rattle.std.specs.{
 };
 ghost use Rattle.words_core.specs.{
   inner.Format.{AfterLetter, without_percent},
-  Format.{
-    after_precision, base_of, conversion_in, filling_by, form_of, format_in, format_seen, go_with, is_flag, plain_text,
-    precision_in, with_letter, with_width, after_text,
-  },
+  Format.{after_precision, base_of, conversion_in, filling_by, form_of, format_in, format_seen, go_with, is_flag},
+  Format.{plain_text, precision_in, with_letter, with_width, after_text},
 };
 
 use crate::spelling::first_letter;

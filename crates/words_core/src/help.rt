@@ -1,10 +1,8 @@
 //! The texts of help and of the version. Help is made from the rows of the table, so it has what the tools take.
 ghost use Rattle.std.specs.Prelude.{◌≡◌, ◌++◌, drop, length, map, IfOk, IfErr, codes};
 ghost use Rattle.words_core.specs.{
-  Help.{
-    after_name, help_of, line, listed, option_line, option_lines, program_help, text_about, tool_help, tool_lines,
-    value_listed, version_of,
-  },
+  Help.{after_name, help_of, line, listed, option_line, option_lines, program_help, text_about, tool_help, tool_lines},
+  Help.{value_listed, version_of},
   Table.{row_seen, tool_seen},
 };
 

@@ -1,9 +1,7 @@
 //! Laws of what words spell and ask for, with no code: each stands on the contract of a function whose body is empty.
 ghost use Rattle.std.specs.{
-  Prelude.{
-    ◌≡◌, ◌≢◌, ◌↔◌, ◌+◌, ◌-◌, ◌*◌, ◌^◌, ◌≤◌, ◌<◌, ◌++◌, ℕ, List, [], ◌∷◌, All, Some, None, Ok, Err, IsOk, true, false,
-    length, filter, codes, if◌then◌else◌,
-  },
+  Prelude.{◌≡◌, ◌≢◌, ◌↔◌, ◌+◌, ◌-◌, ◌*◌, ◌^◌, ◌≤◌, ◌<◌, ◌++◌, ℕ, List, [], ◌∷◌, All, Some, None, Ok, Err, IsOk, true},
+  Prelude.{false, length, filter, codes, if◌then◌else◌},
   List.Contains,
 };
 ghost use Rattle.ports_core.specs.declared.fault.UsageKind.{
@@ -21,14 +19,13 @@ ghost use Rattle.words_core.specs.{
   Choice.choice_in,
   CsplitWords.{chosen_by, decimal_form, style_of},
   Format.{Format, format_in},
-  Laws.{
-    AreAlike, AreAmong, AreNames, CsplitAsks, EndsAsk, FollowAsks, Gives, HasLetters, IsLetter, IsLong,
-    IsNumberWithLetters, IsSwitch, IsTold, LastDecides, LeaveTheRest, MeanTheSame, NumberAsks, OnBrokenAsks, SplitAsks,
-    StartAsks, TeeAsks, amount_of, appends, as_operands, as_wide, begin_with_start, counts, counts_looks, counts_pause,
-    drops_sizes, elides_files, ends_with_zero, following, fresh_file, gives_ending, gives_format, has, heads, how_many,
-    is_plain, keeps_files, kind_of, leave_open, leaves_lines_out, names_prefix, names_process, plain_style, retries,
-    says_followed, says_on_broken, separates, spells, tells_of_files, ten_of_input, thousands, widens,
-  },
+  Laws.{AreAlike, AreAmong, AreNames, CsplitAsks, EndsAsk, FollowAsks, Gives, HasLetters, IsLetter, IsLong},
+  Laws.{IsNumberWithLetters, IsSwitch, IsTold, LastDecides, LeaveTheRest, MeanTheSame, NumberAsks, OnBrokenAsks},
+  Laws.{SplitAsks, StartAsks, TeeAsks, amount_of, appends, as_operands, as_wide, begin_with_start, counts},
+  Laws.{counts_looks, counts_pause, drops_sizes, elides_files, ends_with_zero, following, fresh_file, gives_ending},
+  Laws.{gives_format, has, heads, how_many, is_plain, keeps_files, kind_of, leave_open, leaves_lines_out, names_prefix},
+  Laws.{names_process, plain_style, retries, says_followed, says_on_broken, separates, spells, tells_of_files},
+  Laws.{ten_of_input, thousands, widens},
   EndsWords.{ends_of, ten_lines},
   Lettered.{is_lettered, is_start, with_letters},
   SplitWords.{SplitAsked, is_way, least_width, split_asked, split_of, way_in, way_of, separator_in},

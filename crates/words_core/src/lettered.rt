@@ -5,10 +5,8 @@ ghost use Rattle.seg_core.specs.Count.{after_digits, leading_digits, value_of};
 ghost use Rattle.words_core.specs.{
   Given.joined,
   inner.Spelling.Adds,
-  Lettered.{
-    are_known, are_of_tail, is_known, is_lettered, is_start, is_switch, is_unit, letter_named, switched, switches,
-    times, unit_in, unit_of, with_letters,
-  },
+  Lettered.{are_known, are_of_tail, is_known, is_lettered, is_start, is_switch, is_unit, letter_named, switched},
+  Lettered.{switches, times, unit_in, unit_of, with_letters},
   Spelling.{given_at, reading},
   Table.row_seen,
 };

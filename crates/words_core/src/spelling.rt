@@ -3,10 +3,8 @@ ghost use Rattle.std.specs.{Prelude.{◌≡◌, ◌∷◌, option_map, IfSome, m
 ghost use Rattle.seg_core.specs.Count.{is_number};
 ghost use Rattle.words_core.specs.{
   inner.Spelling.{Adds, first_letter},
-  Spelling.{
-    Reads, after_equals, attached, cluster, ending, foremost, given_by, is_equals, long, meaning_of, mixed, named,
-    reading, spelled, valued,
-  },
+  Spelling.{Reads, after_equals, attached, cluster, ending, foremost, given_by, is_equals, long, meaning_of, mixed},
+  Spelling.{named, reading, spelled, valued},
   Given.one_operand,
   Table.{row_seen, tool_seen},
 };

@@ -4,10 +4,9 @@ ghost use Rattle.std.specs.Prelude.{◌≡◌, ℕ, ◌+◌, ◌^◌, ◌<◌, �
 ghost use Rattle.ports_core.specs.Name.{name_count};
 ghost use Rattle.words_core.specs.{
   Given.{operand_seen, option_seen},
-  SplitWords.{
-    SplitAsked, files_in, first_number, fixed, for_all, free, least_width, names_all, no_options, numbered, or_two,
-    separator_in, split_asked, split_by, split_of, suffix_for, thousand_lines, way_in, is_way, only_way, wide_enough,
-  },
+  SplitWords.{SplitAsked, files_in, first_number, fixed, for_all, free, least_width, names_all, no_options, numbered},
+  SplitWords.{or_two, separator_in, split_asked, split_by, split_of, suffix_for, thousand_lines, way_in, is_way},
+  SplitWords.{only_way, wide_enough},
   Division.{dealt_by, way_of_division},
   declared.division.Dealing.TheVariants.Turns,
   inner.SplitWords.with_way,

@@ -4,9 +4,9 @@
 //! `--max-unchanged-stats` of `tail`, the `-p` and `--output-error` of `tee` and the long names are GNU's; `--looks` is of
 //! these tools alone.
 ghost use Rattle.std.specs.Prelude.{◌≡◌, [], ◌∷◌, map, option_map, IfNone, IfSome};
-ghost use Rattle.words_core.specs.Table.{
-  beginning, begins_one, is_among, only_one, option_called, option_named, program_table, row_named, row_seen, tool_seen,
-  tools,
+ghost use Rattle.words_core.specs.{
+  Table.{beginning, begins_one, is_among, only_one, option_called, option_named, program_table, row_named, row_seen},
+  Table.{tool_seen, tools},
 };
 
 use crate::choice::{Choice, Kind};

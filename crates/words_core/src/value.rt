@@ -6,9 +6,9 @@ ghost use Rattle.std.specs.{
   List.list_all,
 };
 ghost use Rattle.seg_core.specs.Count.{count_of, digits_of};
-ghost use Rattle.words_core.specs.Value.{
-  byte_in, counted, ending_in, followed_in, fraction_in, fraction_of, hex_in, is_zero, milliseconds, not_zero,
-  number_fault, on_broken_in, process_in, pause_in, size_in, up_to,
+ghost use Rattle.words_core.specs.{
+  Value.{byte_in, counted, ending_in, followed_in, fraction_in, fraction_of, hex_in, is_zero, milliseconds, not_zero},
+  Value.{number_fault, on_broken_in, process_in, pause_in, size_in, up_to},
 };
 
 use ports_core::{OnBroken, UsageKind};

@@ -3,10 +3,8 @@ ghost use Rattle.std.specs.Prelude.{◌≡◌, map, IfOk, IfErr};
 ghost use Rattle.words_core.specs.{
   Given.option_seen,
   Spelling.IsRefused,
-  Words.{
-    CanRun, HasBadOperands, HasOperands, follows, looks, program_asked, settings_for, settings_of, tool_named, topic_in,
-    topic_named, work_for,
-  },
+  Words.{CanRun, HasBadOperands, HasOperands, follows, looks, program_asked, settings_for, settings_of, tool_named},
+  Words.{topic_in, topic_named, work_for},
 };
 
 use crate::choice::Choice;

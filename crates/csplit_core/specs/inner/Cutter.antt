@@ -1,7 +1,7 @@
 -- What private calls say of where a run stands, of the cutter of lines, and of the stage that takes in bytes.
-use Rattle.std.specs.Prelude.{
-  ◌≡◌, ℕ, ◌<◌, ◌≤◌, Bool, false, List, ◌∷◌, length, drop, ◌⊎◌, ◌+◌, true, [], ◌++◌, take, get_or, Option, Some, None,
-  IfNone, IfSome, IfOk, Result, Ok, Err, ◌≢◌, OnOk, IsTrue, if◌then◌else◌,
+use Rattle.std.specs.{
+  Prelude.{◌≡◌, ℕ, ◌<◌, ◌≤◌, Bool, false, List, ◌∷◌, length, drop, ◌⊎◌, ◌+◌, true, [], ◌++◌, take, get_or, Option},
+  Prelude.{Some, None, IfNone, IfSome, IfOk, Result, Ok, Err, ◌≢◌, OnOk, IsTrue, if◌then◌else◌},
 }
 use Rattle.csplit_core.specs.{
   Operand.{Operand, Line, is_match},
@@ -18,10 +18,8 @@ use Rattle.csplit_core.specs.{
   Planned.plan,
   inner.PlanLaws.needed,
   Section.is_final,
-  Cutter.{
-    CutterState, AimHolds, seen, suppress_in, state_in, kept_by, IsFit, IsSound, load, draft_by, IsAt, EndsNow, IsLive,
-    Stands,
-  },
+  Cutter.{CutterState, AimHolds, seen, suppress_in, state_in, kept_by, IsFit, IsSound, load, draft_by, IsAt, EndsNow},
+  Cutter.{IsLive, Stands},
   CsplitState.{CsplitState, terms, whole_lines},
 }
 use Rattle.bre_core.specs.{Pattern.Pattern, Search.contains}
@@ -36,9 +34,8 @@ use Rattle.ports_core.specs.{
     file_writer.{Keeps.TheVariants.All, Tells.{Tells, TheVariants.{Nothing, Sizes}}},
   },
   Draft.draft_part,
-  FileWriter.{
-    WriterState, OwnsFiles, IsManner, IsReady, Breaks, manner_in, size_of, Leaves, Reaches, new_writer, paused,
-  },
+  FileWriter.{WriterState, OwnsFiles, IsManner, IsReady, Breaks, manner_in, size_of, Leaves, Reaches, new_writer},
+  FileWriter.paused,
   Turn.fault_in,
   Engine.Sweeps,
 }

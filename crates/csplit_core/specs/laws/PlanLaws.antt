@@ -1,21 +1,17 @@
 -- Laws that traits cite: the plan that is computed is the one plan there is, and it goes on as the lines do.
 use Rattle.std.proofs.{
   lemmas.{Grind.common_steps, Bool.{cases_lt, Decides.nat_tests}, List.{drop_all, length-take-le, take-append-drop}},
-  Common.{
-    ◌≡◌, inl, inr, ℕ, zero, suc, ◌+◌, ◌-◌, ◌<◌, ◌≤◌, Bool, true, false, cond, List, [], ◌∷◌, ◌++◌, append_assoc, length,
-    drop, take, get_or, Option, Some, None, refl, sym, ◌∙◌, ap, arith, length-append, ◌*◌, nat_lt, subst, rules,
-  },
+  Common.{◌≡◌, inl, inr, ℕ, zero, suc, ◌+◌, ◌-◌, ◌<◌, ◌≤◌, Bool, true, false, cond, List, [], ◌∷◌, ◌++◌, append_assoc},
+  Common.{length, drop, take, get_or, Option, Some, None, refl, sym, ◌∙◌, ap, arith, length-append, ◌*◌, nat_lt, subst},
+  Common.rules,
   Math.Seq.get_or-append_seam,
 }
 use Rattle.csplit_core.specs.{
   Operand.{Operand, Line, unmarked, is_match, Offset, Target, Number, Search, has_more},
-  Plan.{
-    State, search_line, start, Step, Ending, used_up, missed, above, below, CutsAt, Misses, line_after, operands_after,
-    repetition_after, state_after, step_of, Runs, is_used_up, misses, is_above, is_below, cuts,
-  },
-  Planned.{
-    first_among, first_match, ends, goes, turn_at, turn_from, turn_to, turn_of, ended, with_step, plan_within, plan,
-  },
+  Plan.{State, search_line, start, Step, Ending, used_up, missed, above, below, CutsAt, Misses, line_after},
+  Plan.{operands_after, repetition_after, state_after, step_of, Runs, is_used_up, misses, is_above, is_below, cuts},
+  Planned.{first_among, first_match, ends, goes, turn_at, turn_from, turn_to, turn_of, ended, with_step, plan_within},
+  Planned.plan,
   inner.PlanLaws.{MatchesAs, after, left_of, needed_by, needed, so, RunsAs},
   Measure.Moves,
 }

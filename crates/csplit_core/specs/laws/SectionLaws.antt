@@ -1,10 +1,8 @@
 -- Laws that traits cite: what sections are when more lines come.
 use Rattle.std.proofs.{
   lemmas.{Grind.{common_steps, flat_map-append}, List.{append-nil, map-append}},
-  Common.{
-    ◌≡◌, ◌⊎◌, inl, inr, ℕ, zero, suc, ◌+◌, ◌-◌, ◌≤◌, Bool, true, false, cond, List, [], ◌∷◌, ◌++◌, length, map, take,
-    drop, refl, sym, ◌∙◌, ap, subst, arith, append_assoc, length-append,
-  },
+  Common.{◌≡◌, ◌⊎◌, inl, inr, ℕ, zero, suc, ◌+◌, ◌-◌, ◌≤◌, Bool, true, false, cond, List, [], ◌∷◌, ◌++◌, length, map},
+  Common.{take, drop, refl, sym, ◌∙◌, ap, subst, arith, append_assoc, length-append},
 }
 use Rattle.ports_core.{
   specs.{
@@ -17,15 +15,11 @@ use Rattle.ports_core.{
 }
 use Rattle.csplit_core.specs.{
   Operand.{Operand, Line, is_kept},
-  Plan.{
-    State, start, Step, Ending, above, below, line_after, state_after, Runs, is_used_up, misses, is_above, is_below,
-    cuts,
-  },
+  Plan.{State, start, Step, Ending, above, below, line_after, state_after, Runs, is_used_up, misses, is_above},
+  Plan.{is_below, cuts},
   Planned.{plan_within, plan},
-  Section.{
-    Section, section, section_of, lines_between, bytes_of, is_last_kept, whole_end, settled_end, sections_by,
-    settled_sections,
-  },
+  Section.{Section, section, section_of, lines_between, bytes_of, is_last_kept, whole_end, settled_end, sections_by},
+  Section.settled_sections,
   Output.{Style, manner_of, opening_of, file_in, state_in, shares_in, part_of},
   Csplit.{settled_of, whole_of},
   laws.PlanLaws.{line_some, goes_on, runs, plan_runs, plan_once},

@@ -1,7 +1,7 @@
 -- What a look leaves at one name, at one name after another and at all names, and what all looks of a run do.
-use Rattle.std.specs.Prelude.{
-  Bool, true, false, ◌||◌, List, [], ◌∷◌, ◌≡◌, ℕ, ◌++◌, Option, Some, None, length, Result, Ok, Err, ◌<◌, take, ◌≤◌,
-  IfErr, IfOk, OnOk, ◌+◌, map, is_some,
+use Rattle.std.specs.{
+  Prelude.{Bool, true, false, ◌||◌, List, [], ◌∷◌, ◌≡◌, ℕ, ◌++◌, Option, Some, None, length, Result, Ok, Err, ◌<◌},
+  Prelude.{take, ◌≤◌, IfErr, IfOk, OnOk, ◌+◌, map, is_some},
 }
 use Rattle.follow_core.specs.{
   declared.{

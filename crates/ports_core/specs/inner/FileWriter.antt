@@ -1,7 +1,7 @@
 -- What private calls say of the writer of files.
-use Rattle.std.specs.Prelude.{
-  ◌≡◌, ℕ, ◌+◌, ◌<◌, ◌≤◌, ◌^◌, Bool, decimal, List, [], ◌∷◌, ◌++◌, length, Option, None, IfNone, IfSome, IsTrue, Result,
-  Ok, Err,
+use Rattle.std.specs.{
+  Prelude.{◌≡◌, ℕ, ◌+◌, ◌<◌, ◌≤◌, ◌^◌, Bool, decimal, List, [], ◌∷◌, ◌++◌, length, Option, None, IfNone, IfSome},
+  Prelude.{IsTrue, Result, Ok, Err},
 }
 use Rattle.ports_core.specs.{
   FileWriter.WriterState,

@@ -1,7 +1,7 @@
 -- What private calls say: what standard output has of files.
 use Rattle.std.specs.Prelude.{◌≡◌, List, ℕ}
-use Rattle.ports_core.specs.Part.{
-  File, Output, gets_none, gets_bytes, gets_lines, gets_openings, lines_for, openings_for,
+use Rattle.ports_core.specs.{
+  Part.{File, Output, gets_none, gets_bytes, gets_lines, gets_openings, lines_for, openings_for},
 }
 
 -- standard output has just the lines for these files, where files have lines

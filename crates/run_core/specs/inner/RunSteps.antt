@@ -1,8 +1,8 @@
 -- What private calls say: what becomes of an input that is fed to an engine piece by piece, what each step of a run
 -- over its inputs leaves, and what it leaves of these.
-use Rattle.std.specs.Prelude.{
-  ◌≡◌, ℕ, Bool, true, false, List, Result, Ok, Err, ◌&&◌, ◌||◌, ◌∷◌, ◌++◌, length, Option, Some, None, if◌then◌else◌,
-  ◌≤◌, ◌<◌,
+use Rattle.std.specs.{
+  Prelude.{◌≡◌, ℕ, Bool, true, false, List, Result, Ok, Err, ◌&&◌, ◌||◌, ◌∷◌, ◌++◌, length, Option, Some, None},
+  Prelude.{if◌then◌else◌, ◌≤◌, ◌<◌},
 }
 use Rattle.ports_core.specs.{
   Slot.{Slot, is_open, streams},

@@ -1,6 +1,6 @@
 -- What private calls say: a table of sets of a code's numbers: which set a byte leads to.
-use Rattle.std.specs.Prelude.{
-  ◌≡◌, ◌⊎◌, ◌↔◌, ℕ, zero, suc, ◌+◌, ◌*◌, ◌<◌, ◌≤◌, Bool, true, false, IsTrue, List, length, slice_index_or,
+use Rattle.std.specs.{
+  Prelude.{◌≡◌, ◌⊎◌, ◌↔◌, ℕ, zero, suc, ◌+◌, ◌*◌, ◌<◌, ◌≤◌, Bool, true, false, IsTrue, List, length, slice_index_or},
 }
 use Rattle.scan_core.specs.{
   declared.{node.Node.Node, table.{State.State, Table.Table}},

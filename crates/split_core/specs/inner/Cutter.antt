@@ -1,7 +1,7 @@
 -- What private calls say: cutting an input into chunks.
-use Rattle.std.specs.Prelude.{
-  ◌≡◌, ℕ, ◌+◌, ◌-◌, ◌<◌, ◌≤◌, ◌⊎◌, max, min, Bool, true, false, List, ◌++◌, length, take, drop, Option, Some, None,
-  IfNone, Result, Ok, Err, IfErr, IfOk, OnOk,
+use Rattle.std.specs.{
+  Prelude.{◌≡◌, ℕ, ◌+◌, ◌-◌, ◌<◌, ◌≤◌, ◌⊎◌, max, min, Bool, true, false, List, ◌++◌, length, take, drop, Option, Some},
+  Prelude.{None, IfNone, Result, Ok, Err, IfErr, IfOk, OnOk},
 }
 use Rattle.ports_core.specs.{Part.Part, Slot.Slot, Turn.fault_in, Work.{IsNeeded, Work}, declared.fault.Fault.Fault}
 use Rattle.split_core.specs.{

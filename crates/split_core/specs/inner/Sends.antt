@@ -1,6 +1,6 @@
 -- What private calls say: what goes to the files of chunks, or to standard output where one of them goes there.
-use Rattle.std.specs.Prelude.{
-  ◌≡◌, ℕ, Bool, true, false, List, [], ◌∷◌, ◌++◌, length, map, zero, suc, Option, IfNone, IfSome, IsTrue,
+use Rattle.std.specs.{
+  Prelude.{◌≡◌, ℕ, Bool, true, false, List, [], ◌∷◌, ◌++◌, length, map, zero, suc, Option, IfNone, IfSome, IsTrue},
 }
 use Rattle.ports_core.specs.{
   Draft.{Draft, Manner, draft_part, made_of, part_of, share, with_next},

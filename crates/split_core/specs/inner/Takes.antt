@@ -1,6 +1,7 @@
 -- What calls on parts that follow one another do.
-use Rattle.std.specs.Prelude.{
-  ◌≡◌, ℕ, ◌-◌, ◌≤◌, ◌<◌, Bool, false, List, [], ◌++◌, length, take, Option, Some, None, IfNone, IfSome, Result, Ok, Err,
+use Rattle.std.specs.{
+  Prelude.{◌≡◌, ℕ, ◌-◌, ◌≤◌, ◌<◌, Bool, false, List, [], ◌++◌, length, take, Option, Some, None, IfNone, IfSome},
+  Prelude.{Result, Ok, Err},
 }
 use Rattle.ports_core.specs.{
   Draft.{Draft, draft_part, part_of, with_bytes, with_next},

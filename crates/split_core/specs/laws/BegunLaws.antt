@@ -1,22 +1,25 @@
 -- Laws that traits cite: what of a text that goes on begins before a place.
-use Rattle.std.{proofs.lemmas.{Bool.{cases_lt, ltb-true, ltb-false}, List.{append-nil, take_all, length-append, length-drop, length-take, take-append-le, take-append-drop, take-take}}, proofs.Common.{◌≡◌, ℕ, ◌+◌, ◌-◌, ◌<◌, ◌≤◌, max, zero, suc, Bool, true, false, cond, eqb, nat_lt, List, [], ◌∷◌, ◌++◌, ◌⊎◌, length, take, drop, inl, inr, refl, sym, ◌∙◌, ap, subst, arith}, proofs.Math.Seq.take-append-add}
+use Rattle.std.{
+  proofs.lemmas.{
+    Bool.{cases_lt, ltb-true, ltb-false},
+    List.{append-nil, take_all, length-append, length-drop, length-take, take-append-le, take-append-drop, take-take},
+  },
+  proofs.Common.{◌≡◌, ℕ, ◌+◌, ◌-◌, ◌<◌, ◌≤◌, max, zero, suc, Bool, true, false, cond, eqb, nat_lt, List, [], ◌∷◌, ◌++◌},
+  proofs.Common.{◌⊎◌, length, take, drop, inl, inr, refl, sym, ◌∙◌, ap, subst, arith},
+  proofs.Math.Seq.take-append-add,
+}
 use Rattle.seg_core.{
   specs.{Line.{joined, lines_of, delimiters, first_lines}, declared.unit.Unit.{Unit, TheVariants.{Bytes, Lines}}},
   proofs.Delimiters.{delimiters-append, delimiters-le-length},
-  proofs.FirstLines.{
-    first_lines-all, first_lines-append, first_lines-cons, first_lines_then_rest, delimiters-first_lines,
-    length-first_lines-le,
-  },
+  proofs.FirstLines.{first_lines-all, first_lines-append, first_lines-cons, first_lines_then_rest},
+  proofs.FirstLines.{delimiters-first_lines, length-first_lines-le},
   proofs.LineCounts.line_count-le-length,
 }
 use Rattle.ports_core.{
   specs.Part.IsBeginning,
   proofs.{PartLemmas.{begins_itself, begins_more}, AgreedLemmas.beginning_short},
 }
-use Rattle.split_core.specs.{
-  Chunks.{begun_before, open_from},
-  laws.ShareLaws.first_lines_begin,
-}
+use Rattle.split_core.specs.{Chunks.{begun_before, open_from}, laws.ShareLaws.first_lines_begin}
 
 -- What of a text begins before a place
 
@@ -181,29 +184,37 @@ begun_lines delim (suc place) other [] within =
 begun_lines delim (suc place) other (byte ∷ x) within = by (eqb byte delim) refl
     (begun_lines delim (suc place - 1) (other - 1) x (omega (arith, within)))
     (begun_lines delim (max (suc place - 1) 1) (max (other - 1) 1) x (omega (arith, within))) where
-  Early : ℕ → ℕ → List ℕ → Type 0
-  Early at to x = (n : ℕ) × (0 < at → 0 < n)
-      × (begun_before Lines delim at x ≡ first_lines delim n (begun_before Lines delim to x))
+      Early : ℕ → ℕ → List ℕ → Type 0
+      Early at to x = (n : ℕ) × (0 < at → 0 < n)
+          × (begun_before Lines delim at x ≡ first_lines delim n (begun_before Lines delim to x))
 
-  begun : (at : ℕ) → 0 < at → (ends : Bool) → eqb byte delim ≡ ends → begun_before Lines delim at (byte ∷ x)
-      ≡ byte ∷ cond ends (begun_before Lines delim (at - 1) x) (begun_before Lines delim (max (at - 1) 1) x)
-  begun at some ends is = begun_first delim byte at x some ∙ ap (λ ends. byte ∷ cond ends
-      (begun_before Lines delim (at - 1) x) (begun_before Lines delim (max (at - 1) 1) x)) is
+      begun : (at : ℕ) → 0 < at → (ends : Bool) → eqb byte delim ≡ ends → begun_before Lines delim at (byte ∷ x)
+          ≡ byte ∷ cond ends (begun_before Lines delim (at - 1) x) (begun_before Lines delim (max (at - 1) 1) x)
+      begun at some ends is = begun_first delim byte at x some ∙ ap (λ ends. byte ∷ cond ends
+          (begun_before Lines delim (at - 1) x) (begun_before Lines delim (max (at - 1) 1) x)) is
 
-  lines : (n : ℕ) (w : List ℕ) (ends : Bool) → eqb byte delim ≡ ends → first_lines delim (suc n) (byte ∷ w)
-      ≡ byte ∷ cond ends (first_lines delim n w) (first_lines delim (suc n) w)
-  lines n w ends is = first_lines-cons delim byte n w
-      ∙ ap (λ ends. byte ∷ cond ends (first_lines delim n w) (first_lines delim (suc n) w)) is
+      lines : (n : ℕ) (w : List ℕ) (ends : Bool) → eqb byte delim ≡ ends → first_lines delim (suc n) (byte ∷ w)
+          ≡ byte ∷ cond ends (first_lines delim n w) (first_lines delim (suc n) w)
+      lines n w ends is = first_lines-cons delim byte n w
+          ∙ ap (λ ends. byte ∷ cond ends (first_lines delim n w) (first_lines delim (suc n) w)) is
 
-  by : (ends : Bool) → eqb byte delim ≡ ends → Early (suc place - 1) (other - 1) x
-      → Early (max (suc place - 1) 1) (max (other - 1) 1) x → Early (suc place) other (byte ∷ x)
-  by true is (n, some, here) later = (suc n, (λ has. omega arith), begun (suc place) (omega arith) true is
-      ∙ ap (λ more. byte ∷ more) here ∙ sym (ap (first_lines delim (suc n)) (begun other (omega (arith, within)) true is)
-      ∙ lines n (begun_before Lines delim (other - 1) x) true is))
-  by false is here (zero, some, later) = absurd (omega (arith, some (omega arith)))
-  by false is here (suc n, some, later) = (suc n, (λ has. omega arith), begun (suc place) (omega arith) false is
-      ∙ ap (λ more. byte ∷ more) later ∙ sym (ap (first_lines delim (suc n)) (begun other (omega (arith, within)) false is)
-      ∙ lines n (begun_before Lines delim (max (other - 1) 1) x) false is))
+      by : (ends : Bool) → eqb byte delim ≡ ends → Early (suc place - 1) (other - 1) x
+          → Early (max (suc place - 1) 1) (max (other - 1) 1) x → Early (suc place) other (byte ∷ x)
+      by true is (n, some, here) later = (
+        suc n,
+        (λ has. omega arith),
+        begun (suc place) (omega arith) true is
+            ∙ ap (λ more. byte ∷ more) here ∙ sym (ap (first_lines delim (suc n)) (begun other (omega (arith, within)) true is)
+            ∙ lines n (begun_before Lines delim (other - 1) x) true is),
+      )
+      by false is here (zero, some, later) = absurd (omega (arith, some (omega arith)))
+      by false is here (suc n, some, later) = (
+        suc n,
+        (λ has. omega arith),
+        begun (suc place) (omega arith) false is
+            ∙ ap (λ more. byte ∷ more) later ∙ sym (ap (first_lines delim (suc n)) (begun other (omega (arith, within)) false is)
+            ∙ lines n (begun_before Lines delim (max (other - 1) 1) x) false is),
+      )
 
 -- of a text, what begins before a place begins what begins before a later one
 pub begun_monotone : (unit : Unit) (delim : ℕ) {place other : ℕ} (x : List ℕ) → place ≤ other
@@ -215,9 +226,11 @@ begun_monotone Bytes delim {place} {other} x within = (
 )
 begun_monotone Lines delim {place} {other} x within =
     let (n, some, is) = begun_lines delim place other x within in
-    let whole = begun_before Lines delim other x in
-    (joined (drop n (lines_of delim whole)), sym (first_lines_then_rest delim n whole)
-    ∙ ap (λ front. front ++ joined (drop n (lines_of delim whole))) (sym is))
+    let whole = begun_before Lines delim other x in (
+      joined (drop n (lines_of delim whole)),
+      sym (first_lines_then_rest delim n whole)
+          ∙ ap (λ front. front ++ joined (drop n (lines_of delim whole))) (sym is),
+    )
 
 pub begun_begins : (unit : Unit) (delim place : ℕ) (x : List ℕ) → IsBeginning (begun_before unit delim place x) x
 begun_begins unit delim place x =

@@ -1,31 +1,24 @@
 -- Laws that traits cite: laws of chunks: where they begin, and what of a text that goes on is in them.
 use Rattle.std.proofs.{
   lemmas.Bool.{cases_lt, le-leb, lt-leb, leb-true, Decides.nat_tests},
-  lemmas.List.{
-    append-nil, take_all, drop_all, length-take, length-append, take-append-le, length-take-le, drop-append-le,
-  },
+  lemmas.List.{append-nil, take_all, drop_all, length-take, length-append, take-append-le, length-take-le},
+  lemmas.List.drop-append-le,
   lemmas.List.FromFn.{map-range_with_len_more, take-map-range_with_len, length-map-range_with_len},
   lemmas.Nat.{div-add-mod', le-div},
-  Common.{
-    ◌≡◌, ℕ, ◌+◌, ◌-◌, ◌*◌, ◌/◌, ◌%◌, ◌<◌, ◌≤◌, max, zero, suc, Bool, true, false, cond, nat_lt, List, [], ◌∷◌, ◌++◌,
-    ◌⊎◌, length, take, drop, map, replicate, inl, inr, refl, sym, ◌∙◌, ap, subst, arith,
-  },
+  Common.{◌≡◌, ℕ, ◌+◌, ◌-◌, ◌*◌, ◌/◌, ◌%◌, ◌<◌, ◌≤◌, max, zero, suc, Bool, true, false, cond, nat_lt, List, [], ◌∷◌},
+  Common.{◌++◌, ◌⊎◌, length, take, drop, map, replicate, inl, inr, refl, sym, ◌∙◌, ap, subst, arith},
   Math.{Nat.{div-mul-le_self, mod-lt, mul-le-mul_right, mul-le-mul_left}, Seq.drop-append_seam},
 }
 use Rattle.std.specs.List.{filter, range_with_len}
 use Rattle.seg_core.{specs.{Line.joined, declared.cut.Chunks.Chunks}, proofs.FirstLines.joined-append}
 use Rattle.ports_core.{specs.Part.IsBeginning, proofs.{PartLemmas.begins_trans, AgreedLemmas.beginning_short}}
 use Rattle.split_core.specs.{
-  Chunks.{
-    chunk_start, begun_before, before_chunk, chunk_at, open_from, passed, has_ended, ended, chunks_within, chunks_of,
-    pieces_in,
-  },
+  Chunks.{chunk_start, begun_before, before_chunk, chunk_at, open_from, passed, has_ended, ended, chunks_within},
+  Chunks.{chunks_of, pieces_in},
   Parts.CutUp,
   inner.Chunks.HaveEnded,
-  laws.BegunLaws.{
-    begun_again, begun_all, begun_begins, begun_first_place, begun_grows, begun_long, begun_monotone, begun_on,
-    begun_stays, begun_within, open_grows, open_within,
-  },
+  laws.BegunLaws.{begun_again, begun_all, begun_begins, begun_first_place, begun_grows, begun_long, begun_monotone},
+  laws.BegunLaws.{begun_on, begun_stays, begun_within, open_grows, open_within},
 }
 
 -- Where chunks begin

@@ -1,14 +1,10 @@
 -- Laws that traits cite: those of the work on chunks, and of lines dealt in turn of which one file's are written.
 use Rattle.std.{
   proofs.lemmas.Bool.{cases_lt, false≢true, le-leb, leb-true, lt-ltb, ltb-true, Decides.nat_tests},
-  proofs.lemmas.List.{
-    append-nil, append_assoc, drop-append-le, length-append, length-take, map-append, take_all, take-append-le,
-    take-take, Elements.filter-append, FromFn.length-map-range_with_len,
-  },
-  proofs.Common.{
-    ◌≡◌, ℕ, ◌+◌, ◌-◌, ◌<◌, ◌≤◌, max, zero, suc, eqb, nat_le, Bool, true, false, List, [], ◌∷◌, ◌++◌, length, take, drop,
-    map, get_or, Option, Some, None, inl, inr, refl, sym, ◌∙◌, ap, subst, arith,
-  },
+  proofs.lemmas.List.{append-nil, append_assoc, drop-append-le, length-append, length-take, map-append, take_all},
+  proofs.lemmas.List.{take-append-le, take-take, Elements.filter-append, FromFn.length-map-range_with_len},
+  proofs.Common.{◌≡◌, ℕ, ◌+◌, ◌-◌, ◌<◌, ◌≤◌, max, zero, suc, eqb, nat_le, Bool, true, false, List, [], ◌∷◌, ◌++◌},
+  proofs.Common.{length, take, drop, map, get_or, Option, Some, None, inl, inr, refl, sym, ◌∙◌, ap, subst, arith},
   specs.List.range_with_len,
 }
 use Rattle.seg_core.specs.declared.{cut.Chunks.Chunks, unit.Unit.TheVariants.Bytes}
@@ -24,19 +20,16 @@ use Rattle.ports_core.proofs.{
   ShareLemmas.{made_begin, shares_after},
 }
 use Rattle.split_core.specs.{
-  Chunks.{
-    before_chunk, begun_before, chunk_at, chunk_start, chunks_of, chunks_within, decided, ended, has_ended, in_the_end,
-    passed, pieces_in,
-  },
+  Chunks.{before_chunk, begun_before, chunk_at, chunk_start, chunks_of, chunks_within, decided, ended, has_ended},
+  Chunks.{in_the_end, passed, pieces_in},
   ChunkWork.{ChunksPlan, chunk_work, chunks_work, draft_by, files_by, is_written, kept, piece_at, turn_work},
   Parts.{CutUp, uncut, unless_empty},
   Split.{has_bytes, manner_of, share},
   inner.Chunks.{BeginsFirst, GoesOn, HaveEnded},
   laws.BegunLaws.{begun_first_place, begun_grows, begun_within},
-  laws.ChunkLaws.{
-    before_next, before_stays, chunks_are, cut_all, cut_before, decided_grows, ended_after, ended_is, ended_grows,
-    full_stays, goes_on, map_parts, passed_full, passed_grows, rest_none, start_first, take_within,
-  },
+  laws.ChunkLaws.{before_next, before_stays, chunks_are, cut_all, cut_before, decided_grows, ended_after, ended_is},
+  laws.ChunkLaws.{ended_grows, full_stays, goes_on, map_parts, passed_full, passed_grows, rest_none, start_first},
+  laws.ChunkLaws.take_within,
   laws.DealLaws.dealt_append,
   laws.ShareLaws.part_begins,
 }

@@ -5,10 +5,8 @@ use Rattle.std.proofs.{
     Bool.{ltb-true, Decides.nat_tests},
     List.{append-nil, take-append-le, drop-append-le, length-take, length-take-le},
   },
-  Common.{
-    ◌≡◌, ℕ, ◌+◌, ◌<◌, ◌≤◌, zero, suc, List, [], ◌++◌, length, take, Bool, true, false, cond, nat_lt, refl, sym, subst,
-    arith, length-append, length-drop, rules,
-  },
+  Common.{◌≡◌, ℕ, ◌+◌, ◌<◌, ◌≤◌, zero, suc, List, [], ◌++◌, length, take, Bool, true, false, cond, nat_lt, refl, sym},
+  Common.{subst, arith, length-append, length-drop, rules},
 }
 use Rattle.seg_core.{
   specs.{Line.{delimiters, first_lines}, declared.cut.Limit.{Limit, TheVariants.{Lines, Bytes, LineBytes}}, Cut.most},
@@ -18,10 +16,8 @@ use Rattle.seg_core.{
   },
 }
 use Rattle.split_core.specs.{
-  Parts.{
-    whole_lines, open_line, measure, is_full, first_part, after_first, uncut, part_before, cut_within, cut_up,
-    settled_rest, waiting_rest,
-  },
+  Parts.{whole_lines, open_line, measure, is_full, first_part, after_first, uncut, part_before, cut_within, cut_up},
+  Parts.{settled_rest, waiting_rest},
   inner.CutLaws.{Cuts, stops, goes, cut_so},
 }
 

@@ -5,10 +5,8 @@ use Rattle.std.proofs.{
     Bool.{cases_eq, cases_lt, eq-eqb, Decides.nat_tests},
     List.{append-nil, FromFn.{filter_of_map_range_with_len_more, map-range_with_len_more}},
   },
-  Common.{
-    ◌≡◌, ℕ, ◌+◌, ◌%◌, ◌<◌, ◌≤◌, zero, suc, min, Bool, true, false, cond, eqb, List, [], ◌∷◌, ◌++◌, length, map, inl,
-    inr, refl, sym, ◌∙◌, ap, arith, length-append, rules,
-  },
+  Common.{◌≡◌, ℕ, ◌+◌, ◌%◌, ◌<◌, ◌≤◌, zero, suc, min, Bool, true, false, cond, eqb, List, [], ◌∷◌, ◌++◌, length, map},
+  Common.{inl, inr, refl, sym, ◌∙◌, ap, arith, length-append, rules},
   Math.Nat.{mod-eq_of_lt, zero-add},
 }
 use Rattle.std.specs.List.{filter, range_with_len, onto_first}

@@ -1,10 +1,8 @@
 -- Laws that traits cite: laws of what files get: what is written once more came in, and in the end.
 use Rattle.std.proofs.{
   lemmas.{Grind.common_steps, List.{map-append, length-map, take-take}},
-  Common.{
-    ◌≡◌, ℕ, ◌+◌, ◌-◌, ◌<◌, ◌≤◌, zero, suc, List, [], ◌∷◌, ◌++◌, length, map, take, drop, Bool, true, false, ◌⊎◌, inl,
-    inr, refl, sym, ◌∙◌, ap, subst, arith, append_assoc, rules,
-  },
+  Common.{◌≡◌, ℕ, ◌+◌, ◌-◌, ◌<◌, ◌≤◌, zero, suc, List, [], ◌∷◌, ◌++◌, length, map, take, drop, Bool, true, false, ◌⊎◌},
+  Common.{inl, inr, refl, sym, ◌∙◌, ap, subst, arith, append_assoc, rules},
 }
 use Rattle.seg_core.{
   specs.{
@@ -32,10 +30,8 @@ use Rattle.split_core.specs.{
   Parts.{whole_lines, measure, is_full, first_part, after_first, cut_up, unless_empty, parts, settled_rest},
   Split.{Filing, Share, share, manner_of, are_named, output_by, settled_parts},
   inner.{Sharing.file_at, CutLaws.{goes, cut_so, whole_parts, named}},
-  laws.CutLaws.{
-    short_some, full_some, whole_of_lines, whole_of_none, settled_then_waiting, settled_some, cut_on, cut_none,
-    cut_once, cuts_up, rest_short,
-  },
+  laws.CutLaws.{short_some, full_some, whole_of_lines, whole_of_none, settled_then_waiting, settled_some, cut_on},
+  laws.CutLaws.{cut_none, cut_once, cuts_up, rest_short},
 }
 
 -- the files of shares that begin others begin the files of those

@@ -1,10 +1,8 @@
 -- Laws that traits cite: those of the work of `split`, in each way to cut.
 use Rattle.std.{
   proofs.lemmas.{Grind.common_steps, Bool.{false≢true, ltb-true, not-true}, List.{append-nil, length-map}},
-  proofs.Common.{
-    ◌≡◌, ℕ, ◌+◌, ◌≤◌, zero, suc, List, [], ◌∷◌, ◌++◌, map, Bool, true, false, cond, refl, Option, arith, length, sym,
-    ◌∙◌, ap, rules,
-  },
+  proofs.Common.{◌≡◌, ℕ, ◌+◌, ◌≤◌, zero, suc, List, [], ◌∷◌, ◌++◌, map, Bool, true, false, cond, refl, Option, arith},
+  proofs.Common.{length, sym, ◌∙◌, ap, rules},
   specs.List.range_with_len,
 }
 use Rattle.ports_core.{
@@ -22,9 +20,8 @@ use Rattle.split_core.specs.{
   Split.{Filing, share, manner_of, dealt_files, are_named, settled_parts},
   Round.{round_plan, round_work, opened_by},
   laws.DealLaws.{dealt_append, dealt_files_are, opened_by-grows},
-  laws.ShareLaws.{
-    part_begins, told_begins, settled_grow, settled_end, files_settled, files_whole, parts_grow, are_named_more,
-  },
+  laws.ShareLaws.{part_begins, told_begins, settled_grow, settled_end, files_settled, files_whole, parts_grow},
+  laws.ShareLaws.are_named_more,
   laws.ChunkWorkLaws.{chunk_lawful, chunks_lawful, turn_lawful},
   Parts.{cut_up, parts},
   PartsState.{filing_of, parts_work},

@@ -1,9 +1,7 @@
 -- What each step of a run leaves.
 use Rattle.std.specs.{
-  Prelude.{
-    ◌≡◌, ℕ, ◌<◌, zero, suc, Bool, true, false, List, [], ◌∷◌, ◌++◌, length, map, take, Option, Some, None, ◌⊎◌,
-    if◌then◌else◌,
-  },
+  Prelude.{◌≡◌, ℕ, ◌<◌, zero, suc, Bool, true, false, List, [], ◌∷◌, ◌++◌, length, map, take, Option, Some, None, ◌⊎◌},
+  Prelude.if◌then◌else◌,
   List.concat,
 }
 use Rattle.ports_core.specs.{
@@ -11,17 +9,14 @@ use Rattle.ports_core.specs.{
   Source.{Content, Source},
   Text.{Message, message_of},
   Message.SaysAll,
-  declared.{
-    calling.Calling.Calling, on_broken.OnBroken.OnBroken, reason.Reason.Reason, slot.Mode.Mode, fault.Fault.Fault,
-  },
+  declared.{calling.Calling.Calling, on_broken.OnBroken.OnBroken, reason.Reason.Reason, slot.Mode.Mode},
+  declared.fault.Fault.Fault,
   Streams.standard_error,
 }
 use Rattle.tee_core.specs.{
   declared.standing.Standing.{Standing, TheVariants.Sound},
-  Run.{
-    Break, ComesIn, EachFile, FilesLeft, OutputLeft, is_done, is_told, messages_of, output_names, said_before,
-    standing_of, standings_before, stands_as, tee_called,
-  },
+  Run.{Break, ComesIn, EachFile, FilesLeft, OutputLeft, is_done, is_told, messages_of, output_names, said_before},
+  Run.{standing_of, standings_before, stands_as, tee_called},
   TeeState.TeeState,
 }
 

@@ -1,7 +1,7 @@
 use Rattle.ports_core.proofs.{HandedOn.handed_on, FileWriterLemmas.can_count}
 use Rattle.std.proofs.{Common.{◌<◌, ◌^◌, length, arith}, lemmas.Grind.common_steps}
-use Rattle.csplit_core.proofs.CutterLemmas.{
-  all_held, fits_front, empties, empties_short, emptied_went, emptied_window, left_within,
+use Rattle.csplit_core.proofs.{
+  CutterLemmas.{all_held, fits_front, empties, empties_short, emptied_went, emptied_window, left_within},
 }
 use Rattle.csplit_core.proofs.holding.write_front.Goals as goal
 

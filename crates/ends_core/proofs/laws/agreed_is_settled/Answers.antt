@@ -1,5 +1,5 @@
-use Rattle.ends_core.proofs.AgreedLemmas.{
-  head_agreed, head_placed, head_undecided, tail_agreed, tail_placed, tail_undecided,
+use Rattle.ends_core.proofs.{
+  AgreedLemmas.{head_agreed, head_placed, head_undecided, tail_agreed, tail_placed, tail_undecided},
 }
 use Rattle.ends_core.proofs.laws.agreed_is_settled.Goals as goal
 

@@ -3,9 +3,8 @@ use Rattle.seg_core.specs.declared.unit.Unit.TheVariants.{Bytes}
 use Rattle.ends_core.{
   specs.Shown.place_of,
   proofs.AgreedLemmas.{head_agreed, head_undecided, tail_agreed, tail_undecided},
-  proofs.ShownLemmas.{
-    head_shown-placed, tail_shown-placed, verdict-head_shown, verdict-tail_shown, whole-head_shown, whole-tail_shown,
-  },
+  proofs.ShownLemmas.{head_shown-placed, tail_shown-placed, verdict-head_shown, verdict-tail_shown, whole-head_shown},
+  proofs.ShownLemmas.whole-tail_shown,
 }
 use Rattle.ends_core.proofs.laws.shown_is_settled.Goals as goal
 

@@ -1,6 +1,6 @@
 use Rattle.std.proofs.Common.{◌≡◌, ◌+◌, ◌-◌, ◌∙◌, ◌∷◌, [], ap, refl, arith, length, length-append}
-use Rattle.follow_core.proofs.LookedLemmas.{
-  ended, most_made, none_made, one_more, one_stopped, still_made, until_last, until_more, until_some,
+use Rattle.follow_core.proofs.{
+  LookedLemmas.{ended, most_made, none_made, one_more, one_stopped, still_made, until_last, until_more, until_some},
 }
 use Rattle.follow_core.proofs.run.make_looks.Goals as goal
 

@@ -1,9 +1,7 @@
 use Rattle.std.proofs.{Common.{arith, false, drop, sym, ap, ◌∙◌, length, inl, inr}, lemmas.Grind.common_steps}
 use Rattle.follow_core.proofs.{
-  CallGivesLemmas.{
-    all_taken, breaks_at, copied_more, copied_none, copies_all, copies_part, copies_short, found_at, held_many,
-    opened_is, some_read,
-  },
+  CallGivesLemmas.{all_taken, breaks_at, copied_more, copied_none, copies_all, copies_part, copies_short, found_at},
+  CallGivesLemmas.{held_many, opened_is, some_read},
   StartLemmas.contents_same,
 }
 use Rattle.watch_core.specs.{Snapshot.latest, Watched.watched_at}

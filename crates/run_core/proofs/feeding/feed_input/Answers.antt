@@ -1,26 +1,21 @@
 use Rattle.std.proofs.{
   lemmas.{List.{length-take-le, take_at}, Bool.{false≢true, not-false}},
-  Common.{
-    ◌&&◌, not, Err, inl, inr, ◌≡◌, ◌≤◌, drop, length, ◌++◌, ◌∙◌, [], true, false, sym, ap, refl, take, arith,
-    append_assoc, append-nil, length-append,
-  },
+  Common.{◌&&◌, not, Err, inl, inr, ◌≡◌, ◌≤◌, drop, length, ◌++◌, ◌∙◌, [], true, false, sym, ap, refl, take, arith},
+  Common.{append_assoc, append-nil, length-append},
 }
 use Rattle.ports_core.{
   proofs.LoadLemmas.passed_at,
   proofs.SpareLemmas.{complete_used, spare_within, none_spare},
-  proofs.InputsLemmas.{
-    came_broken, came_sound, changed_source, ended_now, sound_at, read_none_more, keeps_again, keeps_others,
-    read_broken, still_readable, read_more, read_failed, read_to_end, asked_again, asked_at_end, broken_now,
-  },
+  proofs.InputsLemmas.{came_broken, came_sound, changed_source, ended_now, sound_at, read_none_more, keeps_again},
+  proofs.InputsLemmas.{keeps_others, read_broken, still_readable, read_more, read_failed, read_to_end, asked_again},
+  proofs.InputsLemmas.{asked_at_end, broken_now},
   specs.{Source.{gets_back, Source, source_at}, Work.{Work, IsSettled}, Engine.{EndsWith, is_verdict}},
 }
 use Rattle.run_core.{
   specs.Feeding.{IsUnread, enough, is_stop, to_end, broke_off},
-  proofs.FeedingLemmas.{
-    OfVerdict, of_more, of_read, read_to_used, told_by_complete, alike_after, alike_itself, judges, goes_on,
-    stopped_feeding, ended, needed_more, piece_within, ends_sound, needed_within, read_used, takes_more, uses_all,
-    uses_judged, uses_part, needed_front,
-  },
+  proofs.FeedingLemmas.{OfVerdict, of_more, of_read, read_to_used, told_by_complete, alike_after, alike_itself, judges},
+  proofs.FeedingLemmas.{goes_on, stopped_feeding, ended, needed_more, piece_within, ends_sound, needed_within},
+  proofs.FeedingLemmas.{read_used, takes_more, uses_all, uses_judged, uses_part, needed_front},
 }
 use Rattle.run_core.proofs.feeding.feed_input.Goals as goal
 

@@ -2,10 +2,8 @@ use Rattle.std.proofs.Common.{ap, Err, inl, inr, refl, rules}
 use Rattle.ports_core.proofs.HandedOn.{handed_on}
 use Rattle.run_core.{
   specs.Feeding.is_stop,
-  proofs.InputLemmas.{
-    of_source_too, shows_something, from_source, part_two, headed, headed_count, stopped_in_header, took_well,
-    took_broken, took_verdict, took_stopped, fed_open, unread_source,
-  },
+  proofs.InputLemmas.{of_source_too, shows_something, from_source, part_two, headed, headed_count, stopped_in_header},
+  proofs.InputLemmas.{took_well, took_broken, took_verdict, took_stopped, fed_open, unread_source},
 }
 use Rattle.run_core.proofs.inputs.take_input.Goals as goal
 

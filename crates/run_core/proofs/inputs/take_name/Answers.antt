@@ -1,6 +1,6 @@
 use Rattle.std.proofs.{Common.{◌∙◌, sym, arith}, lemmas.Grind.common_steps}
-use Rattle.run_core.proofs.InputLemmas.{
-  of_missing, of_no_room, opens_missing, took_opened, took_standard, takes_file, takes_missing,
+use Rattle.run_core.proofs.{
+  InputLemmas.{of_missing, of_no_room, opens_missing, took_opened, took_standard, takes_file, takes_missing},
 }
 use Rattle.run_core.proofs.inputs.take_name.Goals as goal
 

@@ -1,8 +1,8 @@
 use Rattle.std.proofs.{lemmas.{Grind.common_steps, List.length-map}, Common.{◌∙◌, arith, rules}}
 use Rattle.ports_core.proofs.HandedOn.{handed_on}
-use Rattle.run_core.proofs.InputLemmas.{
-  walk_begins, walk_streams, walked_at, walk_goes_on, walk_stops, walk_ends, untouched_on, none_left, walked_error,
-  slots_at, count_more,
+use Rattle.run_core.proofs.{
+  InputLemmas.{walk_begins, walk_streams, walked_at, walk_goes_on, walk_stops, walk_ends, untouched_on, none_left},
+  InputLemmas.{walked_error, slots_at, count_more},
 }
 use Rattle.run_core.proofs.inputs.take_names.Goals as goal
 

@@ -1,5 +1,5 @@
-use Rattle.std.proofs.Common.{
-  ◌≡◌, List, drop, Option, Some, None, Result, Ok, Err, refl, ap, sym, ◌∙◌, subst, IfOk, IfSome,
+use Rattle.std.proofs.{
+  Common.{◌≡◌, List, drop, Option, Some, None, Result, Ok, Err, refl, ap, sym, ◌∙◌, subst, IfOk, IfSome},
 }
 use Rattle.ports_core.specs.{Slot.{Slot, slot_at}, declared.fault.Fault.Fault}
 use Rattle.words_core.specs.declared.settings.Settings.TheVariants.{Tee}

@@ -1,5 +1,5 @@
-use Rattle.std.proofs.Common.{
-  ◌≡◌, List, [], ◌∷◌, map, drop, Option, Some, None, Result, Ok, Err, refl, sym, ◌∙◌, ap, IfOk, IfSome,
+use Rattle.std.proofs.{
+  Common.{◌≡◌, List, [], ◌∷◌, map, drop, Option, Some, None, Result, Ok, Err, refl, sym, ◌∙◌, ap, IfOk, IfSome},
 }
 use Rattle.seg_core.specs.Line.{joined}
 use Rattle.ports_core.specs.{Slot.Slot, declared.fault.Fault.Fault}

@@ -1,6 +1,6 @@
 -- A run of these words is one in the sense of the laws.
-use Rattle.std.proofs.Common.{
-  ◌≡◌, ℕ, true, false, List, [], ◌∷◌, Option, None, Result, Ok, codes, inl, refl, ◌∙◌, ap, subst,
+use Rattle.std.proofs.{
+  Common.{◌≡◌, ℕ, true, false, List, [], ◌∷◌, Option, None, Result, Ok, codes, inl, refl, ◌∙◌, ap, subst},
 }
 use Rattle.ports_core.specs.{
   Slot.Slot,

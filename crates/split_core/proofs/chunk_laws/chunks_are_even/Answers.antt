@@ -1,5 +1,5 @@
-use Rattle.split_core.proofs.ChunkLemmas.{
-  bytes_in_chunk, count_chunks, join_chunks, line_in_chunk, lines_in_chunks, longer_chunk, shorter_chunk,
+use Rattle.split_core.proofs.{
+  ChunkLemmas.{bytes_in_chunk, count_chunks, join_chunks, line_in_chunk, lines_in_chunks, longer_chunk, shorter_chunk},
 }
 use Rattle.split_core.proofs.chunk_laws.chunks_are_even.Goals as goal
 

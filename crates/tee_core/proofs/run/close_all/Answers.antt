@@ -1,6 +1,6 @@
 use Rattle.std.proofs.{Common.{◌+◌, ap, ◌∙◌, inr}, lemmas.List.length-map}
-use Rattle.tee_core.proofs.CopyLemmas.{
-  copies_ready, known_many, closed_next, closing_said, error_no_output, mid_streams,
+use Rattle.tee_core.proofs.{
+  CopyLemmas.{copies_ready, known_many, closed_next, closing_said, error_no_output, mid_streams},
 }
 use Rattle.tee_core.proofs.run.close_all.Goals as goal
 

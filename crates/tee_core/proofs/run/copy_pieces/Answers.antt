@@ -4,18 +4,14 @@ use Rattle.std.proofs.{
 }
 use Rattle.ports_core.{
   specs.Source.{Source, fails, gives, source_at},
-  proofs.InputsLemmas.{
-    asked_again, changed_source, ended_now, keeps_again, keeps_itself, keeps_others, nothing_read, read_more, sound_at,
-    still_readable,
-  },
+  proofs.InputsLemmas.{asked_again, changed_source, ended_now, keeps_again, keeps_itself, keeps_others, nothing_read},
+  proofs.InputsLemmas.{read_more, sound_at, still_readable},
 }
 use Rattle.tee_core.{
   proofs.{
     CopyLemmas.joined_more,
-    EndLemmas.{
-      counted_more, gave_last, gave_none, more_sized, none_sized, reads_copied, reads_more, reads_once, seen_broken,
-      seen_ended, seen_more, seen_so_far,
-    },
+    EndLemmas.{counted_more, gave_last, gave_none, more_sized, none_sized, reads_copied, reads_more, reads_once},
+    EndLemmas.{seen_broken, seen_ended, seen_more, seen_so_far},
   },
   specs.Run.{to_break, to_broken_output, to_end, to_limit},
 }

@@ -4,10 +4,9 @@ use Rattle.split_core.{proofs.ChunkLemmas.line_in_chunk, specs.Chunks.chunks_in}
 use Rattle.tools_core.{
   specs.Promises.{AreChunks, AreDealt, AreLinePieces, ArePieces, AreUncut, KeepLines},
   proofs.ChangedPromises.{chunk_as_shown, cut_as_shown},
-  proofs.SplitPromises.{
-    all_alone, all_turns, by_way, byte_pieces, chunk_files, dealt_lines, even_files, is_split, line_byte_pieces,
-    line_ends, line_pieces, one_line_list, turn_alone, turn_lines, whole_line_files, wrote_alone,
-  },
+  proofs.SplitPromises.{all_alone, all_turns, by_way, byte_pieces, chunk_files, dealt_lines, even_files, is_split},
+  proofs.SplitPromises.{line_byte_pieces, line_ends, line_pieces, one_line_list, turn_alone, turn_lines},
+  proofs.SplitPromises.{whole_line_files, wrote_alone},
 }
 use Rattle.tools_core.proofs.promises.split_loses_nothing.Goals as goal
 

@@ -1,7 +1,7 @@
 use Rattle.std.proofs.Common.{Bor, ℕ, List, map, ◌∙◌, ◌∷◌, [], refl, sym, ap}
 use Rattle.run_core.{specs.Input.has_dash, proofs.InputLemmas.fresh_counts}
-use Rattle.words_core.specs.{
-  CsplitWords.CsplitAsked, SplitWords.SplitAsked, TeeWords.TeeAsked, declared.settings.Settings.Settings,
+use Rattle.words_core.{
+  specs.{CsplitWords.CsplitAsked, SplitWords.SplitAsked, TeeWords.TeeAsked, declared.settings.Settings.Settings},
 }
 use Rattle.tools_core.{specs.Tasks.names_of, proofs.RunLemmas.{ends_names, tee_runs}}
 use Rattle.ports_core.proofs.InputsLemmas.{fresh_asks}

@@ -1,7 +1,6 @@
 use Rattle.std.{
-  proofs.Common.{
-    ◌≡◌, sym, refl, arith, ℕ, zero, suc, Bool, true, false, eqb, if◌then◌else◌, List, [], ◌∷◌, ◌++◌, drop, length,
-  },
+  proofs.Common.{◌≡◌, sym, refl, arith, ℕ, zero, suc, Bool, true, false, eqb, if◌then◌else◌, List, [], ◌∷◌, ◌++◌, drop},
+  proofs.Common.length,
   proofs.lemmas.{Bool.Decides.Decides-eqb, List.Elements.Contains-append_right, Slice.Eq.starts_is},
   specs.List.{Contains, starts_with},
 }

@@ -3,10 +3,8 @@ use Rattle.std.{
     Bool.{and_parts, lt-ltb, Decides.nat_tests},
     List.{append-nil, take-append-drop, Elements.{All-from_recursion, recursion_from_All}, Sums.take_while-cons},
   },
-  proofs.Common.{
-    ◌≡◌, ◌≢◌, ◌<◌, ◌⊎◌, suc, ◌&&◌, ◌||◌, inl, inr, refl, sym, ap, arith, rules, ℕ, Bool, true, false, if◌then◌else◌,
-    List, [], ◌∷◌, ◌++◌, length, codes, Option, Some, None,
-  },
+  proofs.Common.{◌≡◌, ◌≢◌, ◌<◌, ◌⊎◌, suc, ◌&&◌, ◌||◌, inl, inr, refl, sym, ap, arith, rules, ℕ, Bool, true, false},
+  proofs.Common.{if◌then◌else◌, List, [], ◌∷◌, ◌++◌, length, codes, Option, Some, None},
   specs.{Prelude.{⊤, IfSome, filter, nat_lt}, Char.is_ascii_digit, List.{list_all, prefix_len}},
 }
 use Rattle.seg_core.specs.{
@@ -21,9 +19,8 @@ use Rattle.words_core.{
     value.Followed.TheVariants.Descriptor,
   },
   specs.Laws.{HasLetters, IsNumberWithLetters, of_lines, of_unit},
-  specs.Lettered.{
-    are_known, are_of_tail, is_known, is_lettered, is_switch, is_unit, letter_named, unit_of, without_digits,
-  },
+  specs.Lettered.{are_known, are_of_tail, is_known, is_lettered, is_switch, is_unit, letter_named, unit_of},
+  specs.Lettered.without_digits,
   specs.Table.{OptionRow, alone, head_table, is_among, tail_table},
   proofs.LetteredLemmas.{AreOthers, HasParts, IsOther, begins_with_unit, letters_ask, no_digit, no_digit_first, parts},
 }

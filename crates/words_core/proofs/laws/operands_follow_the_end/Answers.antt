@@ -1,6 +1,6 @@
 use Rattle.std.proofs.Common.{◌≡◌, ℕ, ◌+◌, List, [], ◌∷◌, Ok, refl}
-use Rattle.words_core.specs.{
-  declared.spelling.State.TheVariants.OnlyOperands, Table.OptionRow, Spelling.spelled, Laws.as_operands,
+use Rattle.words_core.{
+  specs.{declared.spelling.State.TheVariants.OnlyOperands, Table.OptionRow, Spelling.spelled, Laws.as_operands},
 }
 use Rattle.words_core.proofs.laws.operands_follow_the_end.Goals as goal
 

@@ -8,8 +8,8 @@ use Rattle.words_core.specs.{
   Laws.{appends, drops_sizes, elides_files, ends_with_zero, has, keeps_files, leaves_lines_out, tells_of_files},
   TeeWords.{fresh, tee_by},
 }
-use Rattle.words_core.proofs.ChoiceLemmas.{
-  append_is, csplit-sets, ends-sets, given_anywhere, so_where_given, split-sets, tee-sets,
+use Rattle.words_core.proofs.{
+  ChoiceLemmas.{append_is, csplit-sets, ends-sets, given_anywhere, so_where_given, split-sets, tee-sets},
 }
 use Rattle.words_core.proofs.laws.options_stand_anywhere.Goals as goal
 

@@ -1,7 +1,6 @@
 use Rattle.std.proofs.{
-  Common.{
-    ◌≡◌, ℕ, ◌+◌, ◌⊎◌, List, [], ◌∷◌, ◌++◌, length, Result, Ok, Err, inl, inr, refl, sym, ap, ◌∙◌, arith, append_assoc,
-  },
+  Common.{◌≡◌, ℕ, ◌+◌, ◌⊎◌, List, [], ◌∷◌, ◌++◌, length, Result, Ok, Err, inl, inr, refl, sym, ap, ◌∙◌, arith},
+  Common.append_assoc,
   lemmas.Grind.common_steps,
 }
 use Rattle.ports_core.specs.declared.fault.Fault.{Fault}

@@ -1,9 +1,8 @@
 use Rattle.ports_core.proofs.HandedOn.{handed_on}
 use Rattle.std.proofs.Common.{◌^◌, ◌∙◌, [], inl, inr, refl, sym, take, arith, length-take-le}
 use Rattle.csplit_core.proofs.{
-  TakeLemmas.{
-    found_first, none_there, takes_none, takes_more, takes_stopped, takes_end, takes_fit, takes_fewer, found_next,
-  },
+  TakeLemmas.{found_first, none_there, takes_none, takes_more, takes_stopped, takes_end, takes_fit, takes_fewer},
+  TakeLemmas.found_next,
   LineLemmas.{ends_by, whole_drop},
 }
 use Rattle.csplit_core.proofs.line_cutter.LineCutter.take.Goals as goal

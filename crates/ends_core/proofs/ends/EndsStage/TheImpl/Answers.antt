@@ -5,10 +5,8 @@ use Rattle.std.proofs.{
 use Rattle.ports_core.{specs.{Work.IsSpare, Engine.{EndsWith, MayGet}}, proofs.SlotSteps.written_writable}
 use Rattle.ends_core.{
   specs.{Stage.{terms, work}, inner.Stage.{due, due_at_end}},
-  proofs.EndsLemmas.{
-    ends_cut, ends_met, well_there, on_ok_each, same_work, takes_in, puts_out, cuts_off, lacks_kept, met, went_out,
-    rest_out, loads, full_is, done_is_exact, may_get, spare_here, wants_some,
-  },
+  proofs.EndsLemmas.{ends_cut, ends_met, well_there, on_ok_each, same_work, takes_in, puts_out, cuts_off, lacks_kept},
+  proofs.EndsLemmas.{met, went_out, rest_out, loads, full_is, done_is_exact, may_get, spare_here, wants_some},
 }
 use Rattle.ends_core.proofs.ends.EndsStage.TheImpl.Goals as goal
 

@@ -11,9 +11,8 @@ use Rattle.follow_core.{
     inner.Giving.{Noted, Nothing},
   },
   proofs.CallGivesLemmas.{ends_can, follows_from, follows_stop, header_only, long_at, stops_early, opened_there},
-  proofs.LookGivesLemmas.{
-    first_gave, first_long, first_missing, first_started, first_unopened, gave_fails, gave_through,
-  },
+  proofs.LookGivesLemmas.{first_gave, first_long, first_missing, first_started, first_unopened, gave_fails},
+  proofs.LookGivesLemmas.gave_through,
 }
 use Rattle.follow_core.proofs.visitor.Visitor.first.Goals as goal
 

@@ -4,9 +4,8 @@ use Rattle.split_core.{
   specs.inner.Chunker.EndsAs,
   proofs.{
     ChunkerLemmas.{past_same, said_changed, said_ends, said_stops},
-    chunker.Chunker.finish_said.Goals.{
-      else-self-size-via-then-self-size+else-not-is_past, else-self-size-via-else-self-size,
-    },
+    chunker.Chunker.finish_said.Goals.{else-self-size-via-then-self-size+else-not-is_past},
+    chunker.Chunker.finish_said.Goals.else-self-size-via-else-self-size,
   },
 }
 use Rattle.split_core.proofs.chunker.Chunker.finish_said.Goals as goal

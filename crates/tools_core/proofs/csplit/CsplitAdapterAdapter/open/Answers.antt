@@ -2,8 +2,8 @@ use Rattle.ports_core.proofs.{SlotSteps.swept_none, HandedOn.fault_is, PartLemma
 use Rattle.std.proofs.{Common.{◌∙◌, refl, ap}, lemmas.Result.on_ok_weaker}
 use Rattle.words_core.specs.CsplitWords.{CsplitAsked}
 use Rattle.run_core.proofs.InputLemmas.{shows_something}
-use Rattle.tools_core.proofs.AdapterLemmas.{
-  csplit_halts, no_memory, none_opened, only_looked_none, opened_of, opened_short, some_there,
+use Rattle.tools_core.proofs.{
+  AdapterLemmas.{csplit_halts, no_memory, none_opened, only_looked_none, opened_of, opened_short, some_there},
 }
 use Rattle.csplit_core.specs.Csplit.{csplit_work}
 use Rattle.tools_core.proofs.csplit.CsplitAdapterAdapter.open.Goals as goal
