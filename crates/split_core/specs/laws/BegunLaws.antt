@@ -204,7 +204,8 @@ begun_lines delim (suc place) other (byte ∷ x) within = by (eqb byte delim) re
         suc n,
         (λ has. omega arith),
         begun (suc place) (omega arith) true is
-            ∙ ap (λ more. byte ∷ more) here ∙ sym (ap (first_lines delim (suc n)) (begun other (omega (arith, within)) true is)
+            ∙ ap (λ more. byte ∷ more) here
+            ∙ sym (ap (first_lines delim (suc n)) (begun other (omega (arith, within)) true is)
             ∙ lines n (begun_before Lines delim (other - 1) x) true is),
       )
       by false is here (zero, some, later) = absurd (omega (arith, some (omega arith)))
@@ -212,7 +213,8 @@ begun_lines delim (suc place) other (byte ∷ x) within = by (eqb byte delim) re
         suc n,
         (λ has. omega arith),
         begun (suc place) (omega arith) false is
-            ∙ ap (λ more. byte ∷ more) later ∙ sym (ap (first_lines delim (suc n)) (begun other (omega (arith, within)) false is)
+            ∙ ap (λ more. byte ∷ more) later
+            ∙ sym (ap (first_lines delim (suc n)) (begun other (omega (arith, within)) false is)
             ∙ lines n (begun_before Lines delim (max (other - 1) 1) x) false is),
       )
 
