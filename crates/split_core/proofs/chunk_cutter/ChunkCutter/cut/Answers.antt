@@ -10,19 +10,38 @@ pub stretches-init : goal.stretches-init
 stretches-init g c = away_none c.requires.ready
 
 pub returns-in_err-n : goal.returns-in_err-n
-returns-in_err-n g c = result_is (CutsSo _ _ _ _ _ _ _) _ _ c.from_residual.ensures.1 (rw (c.min-own.ensures, c.saturating_sub.ensures) at (away_stops c.stretches.invariant c.in_err-n.ensures))
+returns-in_err-n g c = result_is (CutsSo _ _ _ _ _ _ _) _ _ c.from_residual.ensures.1
+    (rw (c.min-own.ensures, c.saturating_sub.ensures) at (away_stops c.stretches.invariant c.in_err-n.ensures))
 
 pub stretches-preserved : goal.stretches-preserved
-stretches-preserved g c = away_more c.stretches.invariant c.in_ok-n.ensures (sym c.if-is_past.ensures) (take_rest c.stretches.left.now c.in_ok-n.n)
+stretches-preserved g c = away_more c.stretches.invariant c.in_ok-n.ensures
+    (sym c.if-is_past.ensures) (take_rest c.stretches.left.now c.in_ok-n.n)
 
 pub returns-then-is_past : goal.returns-then-is_past
-returns-then-is_past g c = away_so c.stretches.invariant c.args.text.now c.min-own.result (rw (c.min-own.ensures, c.saturating_sub.ensures) refl) refl refl (inr (sym c.if-is_past.ensures))
+returns-then-is_past g c = away_so c.stretches.invariant c.args.text.now c.min-own.result
+    (rw (c.min-own.ensures, c.saturating_sub.ensures) refl) refl refl (inr (sym c.if-is_past.ensures))
 
 pub returns : goal.returns
-returns g c = let none : _ = eqb-true _ _ (sym c.stretches-test.ensures) in away_so c.stretches.invariant c.args.text.now c.min-own.result (rw (c.min-own.ensures, c.saturating_sub.ensures) refl) refl (omega (arith, none)) (inl none)
+returns g c =
+    let none : _ = eqb-true _ _ (sym c.stretches-test.ensures) in
+    away_so c.stretches.invariant c.args.text.now c.min-own.result
+    (rw (c.min-own.ensures, c.saturating_sub.ensures) refl) refl (omega (arith, none)) (inl none)
 
 pub step-requires-clause-fits : goal.step-requires-clause-fits
-step-requires-clause-fits g c = omega (arith, c.requires.fits, c.stretches.invariant.at, ap length c.stretches.invariant.both, length-append c.stretches.invariant.done c.stretches.left.now, length-take c.min-own.result c.args.text.now)
+step-requires-clause-fits g c = let away = c.stretches.invariant in omega (
+  arith,
+  c.requires.fits,
+  away.at,
+  ap length away.both,
+  length-append away.done c.stretches.left.now,
+  length-take c.min-own.result c.args.text.now,
+)
 
 pub overflow_add-result : goal.overflow_add-result
-overflow_add-result g c = omega (arith, c.requires.fits, ap length c.stretches.invariant.both, length-append c.stretches.invariant.done c.stretches.left.now, length-take c.min-own.result c.args.text.now)
+overflow_add-result g c = let away = c.stretches.invariant in omega (
+  arith,
+  c.requires.fits,
+  ap length away.both,
+  length-append away.done c.stretches.left.now,
+  length-take c.min-own.result c.args.text.now,
+)

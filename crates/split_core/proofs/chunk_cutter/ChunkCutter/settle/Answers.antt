@@ -10,7 +10,9 @@ pub returns-then-not-is_short_of : goal.returns-then-not-is_short_of
 returns-then-not-is_short_of g c = settles_none c.requires.ready (inr c.if-not-is_short_of.ensures)
 
 pub returns-in_err-n : goal.returns-in_err-n
-returns-in_err-n g c = rw (handed_on _ _ c.from_residual.ensures.1) (settles_not _ c.args.end c.if-not-is_short_of.ensures (rw c.bytes.ensures at c.in_err-n.ensures))
+returns-in_err-n g c = rw (handed_on _ _ c.from_residual.ensures.1)
+    (settles_not _ c.args.end c.if-not-is_short_of.ensures (rw c.bytes.ensures at c.in_err-n.ensures))
 
 pub returns : goal.returns
-returns g c = settles_on _ c.args.end c.if-not-is_short_of.ensures (rw c.bytes.ensures at c.in_ok-n.ensures) c.drop_front.ensures
+returns g c = settles_on _ c.args.end c.if-not-is_short_of.ensures
+    (rw c.bytes.ensures at c.in_ok-n.ensures) c.drop_front.ensures
