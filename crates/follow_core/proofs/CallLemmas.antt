@@ -1,7 +1,7 @@
 -- What a call on a name gives, by what the calls in it give: bytes under headers, and lines; the open file, and where the name leads.
 use Rattle.std.proofs.{
   lemmas.{Grind.common_steps, List.{append-nil, take-append-le}},
-  Common.{◌≡◌, ℕ, Bool, List, [], ◌∷◌, ◌++◌, inl, inr, ◌∙◌, ap, subst, ◌+◌, ◌<◌, length, take, true, false, not},
+  Common.{◌≡◌, ℕ, Bool, List, [], ◌∷◌, ◌++◌, inl, inr, ◌∙◌, ap, subst, ◌+◌, length, take, true, false, not},
   Common.{if◌then◌else◌, Some, None, Option, refl, sym, arith, append_assoc, length-append, bytes_eq, is_none, rules},
   Math.{Seq.take-append-add, Bool.and-false},
 }
@@ -74,10 +74,13 @@ no_memory {told} {slots} = no_room 0 (omega arith) (none_written told 0)
 
 pub short_more : {told : Bool} {text : List ℕ} (more : List ℕ) {old new : List Slot} {why : Fault}
     → Short told text old new why → Short told (text ++ more) old new why
-short_more {told} {text} more {old} (short_broke n cut) = short_broke n (record {
-  within = let a : length (text ++ more) ≡ length text + length more = length-append text more in let b : n < length text = cut.within in omega arith;
-  slots = (cut.slots.0, cut.slots.1 ∙ ap (λ bytes. with_broken cut.slots.0 0 (with_written 0 (told_of told bytes) old)) (sym (take-append-le n text more (let b : n < length text = cut.within in omega arith))));
-})
+short_more {told} {text} more {old} (short_broke n cut) =
+    let (why, is) = cut.slots in
+    let same = sym (take-append-le n text more (omega (arith, cut.within))) in
+    short_broke n (record {
+      within = omega (arith, cut.within, length-append text more);
+      slots = (why, is ∙ ap (λ bytes. with_broken why 0 (with_written 0 (told_of told bytes) old)) same);
+    })
 short_more {told} {text} more {old} (no_room n within is) = no_room n (let a : length (text ++ more) ≡ length text + length more = length-append text more in omega (arith, within)) (is ∙ ap (λ bytes. with_written 0 (told_of told bytes) old) (sym (take-append-le n text more within)))
 
 pub short_later : {told : Bool} (first : List ℕ) {text : List ℕ} {old mid new : List Slot} {n : ℕ}

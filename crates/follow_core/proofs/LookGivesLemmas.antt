@@ -216,7 +216,7 @@ broken_now : (place : ℕ) (old : List Watched) {new : List Watched} {fate : Fat
     → watched_at new place
     ≡ record (watched_at old place) { opened = None; failed = failed_by fate None; reason = broke.reason }
 broken_now place old {fate} broke can = ap (λ those. watched_at those place) broke.names
-    ∙ changed_there no_name place (λ watched. record watched { opened = None; failed = failed_by fate None; reason = broke.reason }) old (watchable_within old place can)
+    ∙ changed_there no_name place _ old (watchable_within old place can)
 
 none_there : (failed : Option Broken) → is_none failed ≡ true → failed ≡ None
 none_there None is = refl

@@ -83,7 +83,11 @@ module _ (shown : Option (List ℕ)) (why : Reason) where
       ∙ ap (λ those. set_to those (drop (given - n) (take given bytes) ++ drop given bytes)) (sym (take-take (given - n) given bytes (omega arith)))
       ∙ ap (λ k. set_to (take k (take given bytes)) (drop k (take given bytes) ++ drop given bytes)) (sym at) where
         set_to : List ℕ → List ℕ → Source
-        set_to taken left = record { left = record { bytes = left; breaks_off = breaks_off; shown = shown }; is_open = is_open; is_broken = is_broken; reason = why; asked = asked; taken = taken; reached = reached; last = last - n; ended = ended; reads = reads }
+        set_to taken left =
+            record (seen_as bytes given breaks_off is_open is_broken asked reached (last - n) ended reads) {
+              left = record { bytes = left; breaks_off = breaks_off; shown = shown };
+              taken = taken;
+            }
 
         between : (bytes : List ℕ) (from given : ℕ) → from ≤ given
             → drop from (take given bytes) ++ drop given bytes ≡ drop from bytes

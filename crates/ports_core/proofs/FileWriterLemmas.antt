@@ -292,7 +292,8 @@ unmade_keeps : {told : Bool} {tells : Tells} {names next : Names} {old new : Lis
     → OpensNone told tells names next old new f → KeepsFiled old new
 unmade_keeps (no_memory same) = rw same (record { same = λ place. refl; within = omega arith })
 unmade_keeps {told} {old = old} (no_line n few has cut) = filed_same (made_short told 0 _ old _ _ (short.broke n cut))
-unmade_keeps {told} {tells} {names} {old = old} (no_file slot kept why number few has drew is added) = filed_more why kept (made_write 0 (told_of told (line_next tells names)) old _ refl) added
+unmade_keeps {told} {tells} {names} {old = old} (no_file slot kept why number few has drew is added) =
+    filed_more why kept (made_write 0 (told_of told (line_next tells names)) old _ refl) added
 unmade_keeps {told} {tells} {names} {old = old} (no_number few has same) = filed_same (made_write 0 (told_of told (line_next tells names)) old _ same)
 unmade_keeps (no_name few none same) = rw same (record { same = λ place. refl; within = omega arith })
 

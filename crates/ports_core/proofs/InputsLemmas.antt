@@ -111,16 +111,16 @@ read_none_more content x slot sources new size n read can none is = grind (arith
 pub asked_again : (slot size most n : ℕ) (sources new : List Source) → IsTrue (is_readable sources slot)
     → new ≡ changed_at slot (gives size n) sources → size ≤ most → (source_at sources slot).asked ≤ most
     → (source_at new slot).asked ≤ most
-asked_again slot size most n sources new can is within so_far = rw (ap (λ (source : Source). source.asked) (changed_source slot (gives size n) sources new can is)) (omega (arith, so_far, within))
+asked_again slot size most n sources new can is within so_far = grind (arith, common_steps, changed_source)
 
 pub asked_at_end : (slot size most : ℕ) (sources new : List Source) → IsTrue (is_readable sources slot)
     → ReadFails slot size sources new → size ≤ most → (source_at sources slot).asked ≤ most
     → (source_at new slot).asked ≤ most
-asked_at_end slot size most sources new can (why, is) within so_far = rw (ap (λ (source : Source). source.asked) (changed_source slot (fails why size) sources new can is)) (omega (arith, so_far, within))
+asked_at_end slot size most sources new can (why, is) within so_far = grind (arith, common_steps, changed_source)
 
 pub broken_now : (slot size : ℕ) (sources new : List Source) → IsTrue (is_readable sources slot)
     → ReadFails slot size sources new → (source_at new slot).is_broken ≡ true
-broken_now slot size sources new can (why, is) = ap (λ (source : Source). source.is_broken) (changed_source slot (fails why size) sources new can is)
+broken_now slot size sources new can (why, is) = grind (arith, common_steps, changed_source)
 
 -- the read that gave none, though there was room, told the end
 pub ended_now : (slot size n : ℕ) (sources new : List Source) → IsTrue (is_readable sources slot)

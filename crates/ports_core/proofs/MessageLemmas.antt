@@ -20,8 +20,12 @@ pub prints_on : (told : Bool) {text : List ℕ} {old new : List Slot} (result : 
     → (slot_at old 1).is_broken ≡ false → OnOk result (new ≡ with_written 1 (told_of told text) old)
     → IfErr result (λ at. BrokeAfter told old new 1 text at.written) → PrintsOn told text old new
 prints_on told {text} (Ok u) sound out broke output error since is = grind (arith, common_steps)
-prints_on told {text} (Err at) sound out broke output error since is = let (why, slots) = broke.slots in
-    (breaks why (adds (told_of told (take at.written text)) error), cut (sym (ap (λ slots. (slot_at slots 1).is_broken) is) ∙ sound) at.written why broke.within refl, slots ∙ ap (λ slots. with_broken why 1 (with_written 1 (told_of told (take at.written text)) slots)) is)
+prints_on told {text} (Err at) sound out broke output error since is =
+    let (why, slots) = broke.slots in
+    let part = told_of told (take at.written text) in
+    let was_sound = sym (ap (λ slots. (slot_at slots 1).is_broken) is) ∙ sound in
+    let same = slots ∙ ap (λ slots. with_broken why 1 (with_written 1 part slots)) is in
+    (breaks why (adds part error), cut was_sound at.written why broke.within refl, same)
 
 pub says_on : (told : Bool) {speaker : Speaker} {why : Reason} (message : Message) {said : List ℕ} {old new : List Slot}
     → (said ≡ line_of speaker why message) ⊎ (said ≡ line_of speaker why (message_of Memory []))

@@ -32,7 +32,8 @@ pub opens_none : (told : Bool) (tells : Tells) (names : Names) {next : Names} {n
     → mid ≡ told_next told tells names old → {fault : Fault} → FailsToOpen mid name new fault
     → OpensNone told tells names next old new fault
 opens_none told tells names old named few has drew line (broke slot kept why at is made) =
-    no_file slot kept why (at ∙ ap length line ∙ length-changed_at 0 _ old) few has drew (subst (λ those. (kept ≡ those) ⊎ (kept ≡ [])) named is) (made ∙ ap (λ slots. slots ++ unopened why kept ∷ []) line)
+    no_file slot kept why (at ∙ ap length line ∙ length-changed_at 0 _ old) few has drew
+    (subst (λ those. (kept ≡ those) ⊎ (kept ≡ [])) named is) (made ∙ ap (λ slots. slots ++ unopened why kept ∷ []) line)
 opens_none told tells names old named few has drew line (numberless full same) = no_number few has (same ∙ line)
 
 -- or of which it could not be told

@@ -303,8 +303,9 @@ stopped_in_header {told} {task} is_first name {shown} {content} {so_far} {error}
 stopped_in_header {told} {task} is_first name {shown} {content} {so_far} {error} {old} {new} due unread at (broke n after) =
     let text = header_text task.with_header is_first name in
     let count : length new ≡ length old = ap length after.slots.1 ∙ length-changed_at 0 _ _ ∙ length-changed_at 0 _ old in
-    cut_off (Write 0) _ new (heading content due (unread _ refl refl))
-    (λ _. refl, λ alone. refl, ap (λ those. (slot_at those 0).is_broken) after.slots.1 ∙ broken_at _ 0 _ (writable-written old 0 0 (told_of told (take n text)) ∙ part_writable at))
+    let lost = ap (λ those. (slot_at those 0).is_broken) after.slots.1
+    ∙ broken_at _ 0 _ (writable-written old 0 0 (told_of told (take n text)) ∙ part_writable at) in
+    cut_off (Write 0) _ new (heading content due (unread _ refl refl)) (λ _. refl, λ alone. refl, lost)
     (rw (out_on so_far text) at (out_cut told (streams_with error) so_far old new text n at after))
     (none_to_sweep (task.work shown).clears new (omega (arith, count)))
 
@@ -350,7 +351,8 @@ module _ (told_in told : Bool) (task : Task) (most : ℕ) (is_first failed was_r
   went_badly {why} content part message reached old new done made there swept says =
       let top = adds (told_of told (after_part so_far (after_part (only_out (header_text task.with_header is_first name)) part)).out) standard_output in
       let all = part_after error part (at_after at there) in
-      let said = said_swept told (SaysFor told task.speaker why message) (task.work shown).clears old new count streams_there (rw all.slots at (rw counted at swept)) says in
+      let said = said_swept told (SaysFor told task.speaker why message) (task.work shown).clears old new count
+      streams_there (rw all.slots at (rw counted at swept)) says in
       rw made (took (record { was_read = was_read; is_first = false; failed = true }) said.after (top ∷ said.after ∷ all.since)
       (simp (and-false, or-true)) done (said.after, (why, said.says), refl) (record { standard = lit< tt; since = all.since; slots = refl; files = all.files }) said.swept)
 
@@ -430,7 +432,8 @@ pub ran_into : {told_in told : Bool} {task : Task} {found : List Input} {sources
     → status ≡ status_after fault task.speaker.calling (output_reason mid fault)
     → EndsAs told_in told task found sources new status
 ran_into {told} {task} {mid} {fault} (stopped_at _ before input after error step reached among done untouched is_step stops said stop swept) tells is =
-    let told_so = stop_swept told (Tells told task.speaker (output_reason mid fault) fault (output_named mid fault)) step (task.work input.shown).clears (lit≤ tt)
+    let told_so = stop_swept told (Tells told task.speaker (output_reason mid fault) fault (output_named mid fault))
+    step (task.work input.shown).clears (lit≤ tt)
     (ap is_open (all_said_state told task.speaker (made_by task before).messages standard_error error said)) stop stops swept tells in
     run_stopped fault before input after error told_so.after step told_so.reached among done untouched is_step told_so.why told_so.stop told_so.swept
     said (rw (told_so.named, told_so.reason) told_so.says) (rw told_so.reason is)
@@ -529,10 +532,12 @@ pub of_missing : {told_in told : Bool} {why : Reason} {task : Task} {most : ℕ}
     (λ input. TookInput told_in told task most input (of_input task is_first input) is_first failed
     (was_read || is_dash name) so_far error (length old) after new
     (Ok (record { was_read = was_read; is_first = is_first; failed = true })))
-of_missing {told_in} {told} {why} {task} {most} {is_first} {was_read} {laid} {name} {sources} {new} differs (from.broke slot reason number lies are) cannot at says =
+of_missing {told_in} {told} {why} {task} {most} {is_first} {was_read} {laid} {name} {sources} {new} differs
+    (from.broke slot reason number lies are) cannot at says =
     of_file (world_of laid sources) was_read None _ differs (λ t. ap (λ n. laid n name) (sym number) ∙ lies t) (λ t. refl)
     (let said = said_at at says in
-    took (record { was_read = was_read; is_first = is_first; failed = true }) said.0 new (simp (differs, or-false, and-true, or-true)) (missing_done told_in (task.work None) most reason sources are)
+    took (record { was_read = was_read; is_first = is_first; failed = true }) said.0 new
+    (simp (differs, or-false, and-true, or-true)) (missing_done told_in (task.work None) most reason sources are)
     (said.0, (why, said.1), refl) (subst (λ part. OutputsAt told (streams_with said.0) part new) (sym nothing_after) said.2) refl)
 of_missing differs (from.no_room are) cannot at says = absurd (cc)
 

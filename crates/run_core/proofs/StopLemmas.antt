@@ -192,9 +192,13 @@ module _ (told : Bool) (Change : Slot → Slot → Type 0) where
       (since : List Slot) {mid : List Slot} (new : List Slot) → IsAt fault 2 place count
       → Marks IsName fault (output ∷ error ∷ since) mid → OnError Change mid new
       → (after : Slot) × Change error after × Marks IsName fault (output ∷ after ∷ since) new
-  told_marked IsName (Write zero) place count output {error} since new from marks says = let (within, (why, is)) = marks in let said = says (breaks why output) error since is in (said.0, said.1, (within, (why, said.2)))
+  told_marked IsName (Write zero) place count output {error} since new from marks says =
+      let (within, (why, is)) = marks in
+      let said = says (breaks why output) error since is in (said.0, said.1, (within, (why, said.2)))
   told_marked IsName (Write (suc zero)) place count output since new from marks says = absurd (elim from [ inl is ↦ omega (arith, is) | inr is ↦ omega (arith, is) ])
-  told_marked IsName (Write (suc (suc slot))) place count output {error} since new from marks says = let (within, (why, is)) = marks in let said = says output error (with_broken why slot since) is in (said.0, said.1, (within, (why, said.2)))
+  told_marked IsName (Write (suc (suc slot))) place count output {error} since new from marks says =
+      let (within, (why, is)) = marks in
+      let said = says output error (with_broken why slot since) is in (said.0, said.1, (within, (why, said.2)))
   told_marked IsName (Open slot) place count output {error} since new from marks says =
       let (at, (name, kept, why, due, named, is)) = marks in
       let said = says output error (since ++ unopened why kept ∷ []) is in (said.0, said.1, (at, (name, kept, why, due, named, said.2)))

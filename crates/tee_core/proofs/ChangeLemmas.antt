@@ -226,8 +226,9 @@ pub written_short : (told : Bool) {piece : List ℕ} {place n : ℕ} {old new : 
     → Turns (Gets told piece) (λ other. other ≡ place) old new 1
 written_short told {piece} {place} {n} {old} usable sound broke =
     let (why, slots) = broke.slots in
-    turned_one place (λ slot. breaks why (adds (told_of told (take n piece)) slot)) (open_within old place (usable sound)) sound refl (breaks_off sound n why broke.within)
-    (slots ∙ changed_at-again place (adds (told_of told (take n piece))) (breaks why) old)
+    let takes = adds (told_of told (take n piece)) in
+    turned_one place (λ slot. breaks why (takes slot)) (open_within old place (usable sound)) sound refl
+    (breaks_off sound n why broke.within) (slots ∙ changed_at-again place takes (breaks why) old)
 
 pub not_closed : {place : ℕ} {slots : List Slot} → (slot_at slots place).is_broken ≡ true
     → Turns Closes (λ other. other ≡ place) slots slots 0
@@ -242,7 +243,8 @@ pub closed_short : {place : ℕ} {old new : List Slot} → IsUsable (slot_at old
     → (slot_at old place).is_broken ≡ false → SlotBreaks place (changed_at place closes old) new
     → Turns Closes (λ other. other ≡ place) old new 1
 closed_short {place} {old} usable sound (why, is) =
-    turned_one place (λ slot. breaks why (closes slot)) (open_within old place (usable sound)) sound refl (fails_to_close sound why) (is ∙ changed_at-again place closes (breaks why) old)
+    turned_one place (λ slot. breaks why (closes slot)) (open_within old place (usable sound)) sound refl
+    (fails_to_close sound why) (is ∙ changed_at-again place closes (breaks why) old)
 
 -- standard output, and then the files
 pub fed : (told : Bool) {piece : List ℕ} (tee : TeeState) (broke more : ℕ) {old mid new : List Slot}

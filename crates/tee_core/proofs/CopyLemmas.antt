@@ -66,7 +66,8 @@ seen_next : (n : ℕ) (known : List Standing) (stand : List Standing) (nows : Li
     → n < length known → length stand ≡ length known → SeenTo n known stand nows
     → now ≡ get_or stand n Sound → SeenTo (suc n) known stand (set nows n now)
 seen_next zero (was ∷ known) (one ∷ stand) nows within many so_far sees = rw so_far (sees, refl)
-seen_next (suc n) (was ∷ known) (one ∷ stand) (now ∷ nows) within many so_far sees = (so_far.0, seen_next n known stand nows (omega arith) (omega (arith, many)) so_far.1 sees)
+seen_next (suc n) (was ∷ known) (one ∷ stand) (now ∷ nows) within many so_far sees =
+    (so_far.0, seen_next n known stand nows (omega arith) (omega (arith, many)) so_far.1 sees)
 seen_next (suc n) (was ∷ known) (one ∷ stand) [] within many so_far sees = absurd so_far
 seen_next n known stand nows within many so_far sees = absurd (omega (arith, many))
 
@@ -74,7 +75,8 @@ get_next : (n : ℕ) (known : List Standing) (stand : List Standing) (nows : Lis
     → n < length known → length stand ≡ length known → SeenTo n known stand nows
     → get_or nows n other ≡ get_or known n Sound
 get_next zero (was ∷ known) (one ∷ stand) nows other within many so_far = rw so_far refl
-get_next (suc n) (was ∷ known) (one ∷ stand) (now ∷ nows) other within many so_far = get_next n known stand nows other (omega arith) (omega (arith, many)) so_far.1
+get_next (suc n) (was ∷ known) (one ∷ stand) (now ∷ nows) other within many so_far =
+    get_next n known stand nows other (omega arith) (omega (arith, many)) so_far.1
 get_next (suc n) (was ∷ known) (one ∷ stand) [] other within many so_far = absurd so_far
 get_next n known stand nows other within many so_far = absurd (omega (arith, many))
 
@@ -94,7 +96,9 @@ said_next : (on_broken : OnBroken) (fault : Fault) (names : List (List ℕ)) (kn
 said_next on_broken fault (name ∷ names) (was ∷ known) (one ∷ stand) nows zero now within known_many many so_far =
     rw (so_far, tells_same on_broken was, none_said on_broken fault names known) refl
 said_next on_broken fault (name ∷ names) (was ∷ known) (one ∷ stand) (first ∷ nows) (suc n) now within known_many many so_far =
-    let rest = said_next on_broken fault names known stand nows n now (omega arith) (omega (arith, known_many)) (omega (arith, many)) so_far.1 in grind (arith, nat_tests, rest)
+    let rest = said_next on_broken fault names known stand nows n now (omega arith) (omega (arith, known_many))
+    (omega (arith, many)) so_far.1 in
+    grind (arith, nat_tests, rest)
 said_next on_broken fault (name ∷ names) (was ∷ known) (one ∷ stand) [] (suc n) now within known_many many so_far = absurd so_far
 said_next on_broken fault names known stand nows n now within known_many many so_far = absurd (omega (arith, known_many, many))
 
@@ -108,7 +112,10 @@ standing_at output error files (suc n) = sym (get_or-map stands_as files n no_sl
 
 pub count_standings : {slots : List Slot} {count : ℕ} → HasStreams slots count
     → length (standings_of slots) ≡ count + 1
-count_standings {count} has = ap (λ those. length (standings_of those)) has.are ∙ (let many : length (map stands_as has.files) ≡ length has.files = length-map has.files _ in let same : length has.files ≡ count = has.files_are in let e : suc (length (map stands_as has.files)) ≡ count + 1 = omega arith in e)
+count_standings {count} has =
+    let many = length-map has.files stands_as in
+    let next : suc (length (map stands_as has.files)) ≡ count + 1 = omega (arith, many, has.files_are) in
+    ap (λ those. length (standings_of those)) has.are ∙ next
 
 -- standard error alone is written
 
@@ -122,7 +129,8 @@ says_too told calling messages message now new {why} has so_far says =
 stands_still : (told : Bool) (calling : Calling) (messages : List Message) (output error : Slot) (files now : List Slot)
     (n : ℕ) → SaysTo told calling messages (output ∷ error ∷ files) now
     → stands_as (slot_at now (output_slot n)) ≡ get_or (standings_of (output ∷ error ∷ files)) n Sound
-stands_still told calling messages output error files now n said = ap (λ those. stands_as (slot_at those (output_slot n))) said.2 ∙ standing_at output said.0 files n
+stands_still told calling messages output error files now n said =
+    ap (λ those. stands_as (slot_at those (output_slot n))) said.2 ∙ standing_at output said.0 files n
 
 -- the message for the fault that ended the reading
 pub input_told : (told : Bool) (calling : Calling) {fault : Option Fault} {one : Fault} {count : ℕ}
@@ -177,20 +185,27 @@ tells_next told {calling} {on_broken} {fault} {names} {before} {known} other {n}
       standings_are = count_standings has
 
       here : stands_as (slot_at now (output_slot n)) ≡ get_or (standings_of old) n Sound
-      here = stands_still told calling messages has.output has.error has.files now n (rw has.are at so_far.said) ∙ ap (λ those. get_or (standings_of those) n Sound) (sym has.are)
+      here =
+          stands_still told calling messages has.output has.error has.files now n (rw has.are at so_far.said)
+          ∙ ap (λ those. get_or (standings_of those) n Sound) (sym has.are)
 
       was : get_or known n other ≡ get_or before n Sound
       was = get_next n before (standings_of old) known other within (standings_are ∙ sym many) so_far.seen
 
       step : said_since on_broken fault names before (set known n standing)
           ≡ messages ++ (if tells on_broken (get_or known n other) standing then message_of fault name ∷ [] else [])
-      step = cc (said_next on_broken fault names before (standings_of old) known n standing (omega (arith, names_many, within, many)) (many ∙ sym names_many) (standings_are ∙ sym names_many) so_far.seen, named, was)
+      step =
+          let next = said_next on_broken fault names before (standings_of old) known n standing
+          (omega (arith, names_many, within, many)) (many ∙ sym names_many) (standings_are ∙ sym names_many)
+          so_far.seen in
+          cc (next, named, was)
 
 pub told_all : (told : Bool) {calling : Calling} {on_broken : OnBroken} {fault : Fault} {names : List (List ℕ)}
     {before known : List Standing} {n count : ℕ} {old now : List Slot} → HasStreams old count
     → length before ≡ count + 1 → n ≡ length before → Telling told calling on_broken fault names before n old now known
     → known ≡ standings_of old
-told_all told {before} {known} {old = old} has many all so_far = seen_all before (standings_of old) known (count_standings has ∙ sym many) (rw all at so_far.seen)
+told_all told {before} {known} {old = old} has many all so_far =
+    seen_all before (standings_of old) known (count_standings has ∙ sym many) (rw all at so_far.seen)
 
 pub count_names : (names : List (Bor (List ℕ)))
     → length (output_names (map (λ name. name.now) names)) ≡ length names + 1
@@ -208,7 +223,14 @@ pub record Marks (call : ℕ) (before after : Option Break) (now : Standing) : T
   pub stands : standing_of after ≡ now
 
 pub marked_none : {call : ℕ} → Marks call None None Sound
-marked_none {call} = record { said = λ on_broken. refl; older = λ on_broken other less. refl; sooner = λ other within. refl; then_is = refl; now_is = refl; stands = refl }
+marked_none {call} = record {
+  said = λ on_broken. refl;
+  older = λ on_broken other less. refl;
+  sooner = λ other within. refl;
+  then_is = refl;
+  now_is = refl;
+  stands = refl;
+}
 
 abbrev pub break_now : ℕ → Reason → Break
 break_now call why = record { call = call; why = why }
@@ -319,28 +341,40 @@ output_more : (told : Bool) {pieces : List (List ℕ)} {piece : List ℕ} {first
     → OutputLeft told pieces first old → Gets told piece old new
     → Marked (OutputLeft told (pieces ++ piece ∷ [])) (suc (length pieces)) first new
 output_more told {pieces} {piece} output_whole (gets_all sound) = (None, rw (whole_now told pieces piece standard_output) output_whole, marked_none)
-output_more told {pieces} {piece} output_whole (breaks_off sound n why within) =
-    (Some (break_now (suc (length pieces)) why), rw (begun_now told why pieces piece n standard_output) (output_cut pieces piece [] n refl within), marked_now why)
+output_more told {pieces} {piece} output_whole (breaks_off sound n why within) = (
+  Some (break_now (suc (length pieces)) why),
+  rw (begun_now told why pieces piece n standard_output) (output_cut pieces piece [] n refl within),
+  marked_now why,
+)
 output_more told output_whole (gets_none broken) = absurd (false≢true broken)
 output_more told (output_cut before that after n is within) (gets_all again) = absurd (false≢true (sym again))
 output_more told (output_cut before that after n is within) (breaks_off again m why less) = absurd (false≢true (sym again))
-output_more told {piece} (output_cut {why} before that after n is within) (gets_none broken) =
-    (Some (break_now (suc (length before)) why), output_cut before that (after ++ piece ∷ []) n (still_there before after that piece is) within, marked_before _ (call_before before after that is))
+output_more told {piece} (output_cut {why} before that after n is within) (gets_none broken) = (
+  Some (break_now (suc (length before)) why),
+  output_cut before that (after ++ piece ∷ []) n (still_there before after that piece is) within,
+  marked_before _ (call_before before after that is),
+)
 
 file_more : (told : Bool) {mode : Mode} {pieces : List (List ℕ)} {piece : List ℕ} {name : List ℕ} {first : Option Break}
     {old new : Slot} → FileHas told mode pieces name first old → Gets told piece old new
     → Marked (FileHas told mode (pieces ++ piece ∷ []) name) (suc (length pieces)) first new
 file_more told {mode} {pieces} {piece} {name} has_all (gets_all sound) = (None, rw (whole_now told pieces piece (opened name mode)) has_all, marked_none)
-file_more told {mode} {pieces} {piece} {name} has_all (breaks_off sound n why within) =
-    (Some (break_now (suc (length pieces)) why), rw (begun_now told why pieces piece n (opened name mode)) (has_begun pieces piece [] n refl within), marked_now why)
+file_more told {mode} {pieces} {piece} {name} has_all (breaks_off sound n why within) = (
+  Some (break_now (suc (length pieces)) why),
+  rw (begun_now told why pieces piece n (opened name mode)) (has_begun pieces piece [] n refl within),
+  marked_now why,
+)
 file_more told has_all (gets_none broken) = absurd (false≢true broken)
 file_more told (has_none kept named) (gets_all again) = absurd (false≢true (sym again))
 file_more told (has_none kept named) (breaks_off again m why less) = absurd (false≢true (sym again))
 file_more told (has_none {why} kept named) (gets_none broken) = (Some (break_now 0 why), has_none kept named, marked_before _ (omega arith))
 file_more told (has_begun before that after n is within) (gets_all again) = absurd (false≢true (sym again))
 file_more told (has_begun before that after n is within) (breaks_off again m why less) = absurd (false≢true (sym again))
-file_more told {piece} (has_begun {why} before that after n is within) (gets_none broken) =
-    (Some (break_now (suc (length before)) why), has_begun before that (after ++ piece ∷ []) n (still_there before after that piece is) within, marked_before _ (call_before before after that is))
+file_more told {piece} (has_begun {why} before that after n is within) (gets_none broken) = (
+  Some (break_now (suc (length before)) why),
+  has_begun before that (after ++ piece ∷ []) n (still_there before after that piece is) within,
+  marked_before _ (call_before before after that is),
+)
 
 -- each of the files is changed by the call
 pub files_go : {Is Then : List ℕ → Option Break → Slot → Type 0} {Change : Slot → Slot → Type 0} {call : ℕ}
@@ -356,7 +390,7 @@ files_go go [] many changes (one_file name names first broke old olds one rest) 
 files_go go (new ∷ news) many changes (one_file name names first broke old olds one rest) =
     let here = go name first old new one (changes 0 (omega arith)) in
     let there = files_go go news (omega (arith, many)) (λ n within. changes (suc n) (omega arith)) rest in
-    (here.0 ∷ there.0, one_file name names here.0 there.0 new news here.1 there.1, all_marked first here.0 (stands_as new) broke there.0 (map stands_as news) here.2 there.2)
+    (here.0 ∷ there.0, one_file _ _ _ _ _ _ here.1 there.1, all_marked _ _ _ _ _ _ here.2 there.2)
 
 -- the outputs of a run
 
@@ -598,7 +632,8 @@ module _ (told : Bool) (calling : Calling) (mode : Mode) (on_broken : OnBroken) 
       (suc (length pieces)) copies mid nows
   closed_next {pieces} is copies closes sees =
       called told calling mode on_broken names is copies (suc (length pieces)) closes.count (closes.others 1 (λ file. error_no_output is (inr file)))
-      (λ output here. let same = sym here ∙ closes.others 0 (λ file. let there = file_place 0 is file in omega (arith, there.1)) ∙ ap (λ those. slot_at those 0) copies.are in
+      (λ output here. let same = sym here ∙ closes.others 0 (λ file. omega (arith, (file_place 0 is file).1))
+      ∙ ap (λ those. slot_at those 0) copies.are in
       let left : OutputLeft told pieces copies.first output = rw same copies.output_has in (copies.first, left, output_kept told left))
       closes.each (λ name first old new has ends. file_ends told has ends) sees
 

@@ -169,7 +169,8 @@ pub ends_copied : {told_in : Bool} (told : Bool) {calling : Calling} {mode : Mod
     → HasCopied told calling mode on_broken names pieces fault before slots known
     → EndsAs told_in told calling mode on_broken names content source slots status
 ends_copied {told_in} told {on_broken = on_broken} {content} {source} {pieces} {fault} is read left =
-    copied pieces fault left.first left.broke left.output left.error left.files (subst (λ standings. ComesIn told_in content source (is_done on_broken standings) pieces fault) (sym left.before_are) read) left.goes_on left.output_left left.files_left left.said left.are
+    copied pieces fault left.first left.broke left.output left.error left.files (rw (← left.before_are) at read)
+    left.goes_on left.output_left left.files_left left.said left.are
     (is ∙ ap (λ standings. status_for on_broken standings fault) left.known_are)
 
 -- there was no memory
@@ -198,7 +199,8 @@ pub ends_at_once : {told_in : Bool} (told : Bool) {calling : Calling} {mode : Mo
     × CameFrom told_in content (source_at new_sources 0))
 ends_at_once {told_in} told {calling} {mode} {on_broken} {names} {old} {new_sources} {new = new} {status = status} is fresh at same sources says =
     let unread = ap (λ those. source_at those 0) (sources ∙ fresh.only) in
-    of_content told_in (source_at old 0).left empty (source_at new_sources 0) (λ content. EndsAs told_in told calling mode on_broken names content (source_at new_sources 0) new status)
+    of_content told_in (source_at old 0).left empty (source_at new_sources 0)
+    (λ content. EndsAs told_in told calling mode on_broken names content (source_at new_sources 0) new status)
     (λ _. ends_nowhere told is (same ∙ at) (fresh.standard, unread, λ _. sym (ap (λ those. (source_at those 0).left) fresh.only)) says)
     (λ untold. ends_nowhere told is (same ∙ at) (fresh.standard, unread, λ tells. absurd (false≢true (sym untold ∙ tells))) says)
     (ap (λ (source : Source). source.is_open) unread) (sym (ap (λ (source : Source). source.is_broken) unread))

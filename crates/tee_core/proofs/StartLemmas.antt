@@ -175,7 +175,7 @@ files_start told no_more = ([], no_file, none_marked)
 files_start told (one_more name names file files one rest) =
     let here = file_starts told one in
     let there = files_start told rest in
-    (here.0 ∷ there.0, one_file name names here.0 there.0 file files here.1 there.1, all_marked None here.0 (stands_as file) _ there.0 (map stands_as files) here.2 there.2)
+    (here.0 ∷ there.0, one_file _ _ _ _ _ _ here.1 there.1, all_marked _ _ _ _ _ _ here.2 there.2)
 
 -- standard output, which nothing has broken, and the files
 all_start : (told : Bool) {mode : Mode} {names : List (List ℕ)} {files : List Slot} → OpensEach mode names files
@@ -214,7 +214,9 @@ starts told {calling} on_broken {names} {old} {new} {known} {nows} opens unknown
     let known_is : known ≡ Sound ∷ replicate (length names) Sound = unknown ∙ ap (λ n. replicate n Sound) (let e : length names + 1 ≡ suc (length names) = omega arith in e) in
     let stand : nows ≡ standings_of (standard_output ∷ standard_error ∷ opens.since) = sees ∙ ap standings_of opens.slots in
     let all = all_start told opens.each in
-    let unbroken : known ≡ map standing_of (None ∷ replicate (length names) None) = known_is ∙ sym (ap (λ rest. Sound ∷ rest) (standing_none (length names))) in
+    let known_so = map standing_of (None ∷ replicate (length names) None) in
+    let unbroken : known ≡ known_so = known_is ∙ sym (ap (λ rest. Sound ∷ rest) (standing_none (length names))) in
+    let says_since = said_since on_broken (fault_in 0) (output_names names) in
     record {
       output = standard_output;
       error = says.0;
@@ -224,8 +226,9 @@ starts told {calling} on_broken {names} {old} {new} {known} {nows} opens unknown
       are = says.2 ∙ ap (changed_at 1 (λ _. says.0)) opens.slots;
       output_has = rw (← (adds-nil told standard_output)) output_whole;
       files_have = all.1;
-      said = rw (ap (λ those. said_since on_broken (fault_in 0) (output_names names) those nows) unbroken
-          ∙ ap (said_since on_broken (fault_in 0) (output_names names) (map standing_of (None ∷ replicate (length names) None))) stand ∙ sym (said_marked on_broken (output_names names) all.2) ∙ sym (append-nil _)) at (rw (ap (λ those. slot_at those 1) opens.slots) at says.1);
+      said = rw (ap (λ those. says_since those nows) unbroken ∙ ap (says_since known_so) stand
+          ∙ sym (said_marked on_broken (output_names names) all.2) ∙ sym (append-nil _)) at
+          (rw (ap (λ those. slot_at those 1) opens.slots) at says.1);
       known_are = stand ∙ stand_so all.2;
       goes_on = goes_at_first on_broken all.0;
       are_known = stand_now all.2 ∙ sym stand;

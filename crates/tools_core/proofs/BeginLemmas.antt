@@ -121,7 +121,9 @@ pub marked_at : (IsDue : List ℕ → Type 0) (fault : Fault) (before after : Li
     ⊎ IsMarked fault place before (slot_at after place)
 marked_at IsDue (Write slot) before after place (within, (why, is)) = elim (cases_eq place slot) [
   | inl here ↦ let there : place < length before = omega (arith, here, within) in
-      inr (here, there, (why, ap (λ slots. slot_at slots place) is ∙ ap (λ which. slot_at (changed_at which (breaks why) before) place) (sym here) ∙ slot_at-changed place (breaks why) before there))
+      let moved = ap (λ which. slot_at (changed_at which (breaks why) before) place) (sym here) in
+      let marked = ap (λ slots. slot_at slots place) is ∙ moved ∙ slot_at-changed place (breaks why) before there in
+      inr (here, there, (why, marked))
   | inr differs ↦ inl (ap (λ slots. slot_at slots place) is ∙ slot_at-elsewhere slot place (breaks why) before differs)
 ]
 marked_at IsDue (Open slot) before after place (number, (name, kept, why, due, is, slots)) = elim (one_more_at (unopened why kept) place before) [
@@ -247,7 +249,7 @@ pub begins_whole : {task : Task} {inputs : List Input} {sources : List Source}
     → EndsAs true true task inputs sources new status
     → BeginsAs (slot_at new place) (slot_at (slots_of (made_by task inputs).part) place)
 begins_whole {new} grows differs (as_defined error reached says outputs swept done status_is) = left_begins _ new (part_begins_itself _) differs outputs swept
-begins_whole {task} {new} grows differs (stopped fault before input after said error step reached are done untouched at stops between swept says tells status_is) =
+begins_whole {task} {new} grows differs (stopped _ before input after _ _ _ _ are _ _ at _ between swept _ _ _) =
     stopped_begins (task.work input.shown).clears new (step_in_all before input after grows are at) differs between swept
 begins_whole {place} grows differs (no_room error says slots untouched count status_is) = still_begins place slots (bare_begins error place differs)
 
@@ -340,7 +342,8 @@ call_are : (Line : Message → Type 0) (on_broken : OnBroken) (call : ℕ) (name
 call_are Line on_broken call name None lines tells are = are
 call_are Line on_broken call name (Some broke) lines tells are =
     cond_both (tee.tells_in on_broken call (Some broke)) (message_of (fault_in call) name ∷ lines) lines (All Line)
-    (λ is. All-cons Line _ lines (rw (eqb-true broke.call call (and_parts (broke.call == call) (tee.is_told on_broken (tee.lost_for broke.why)) is).0) at (tells broke refl)) are) (λ differs. are)
+    (λ is. let (same, told) = and_parts (broke.call == call) (tee.is_told on_broken (tee.lost_for broke.why)) is in
+    All-cons Line _ lines (rw (eqb-true broke.call call same) at (tells broke refl)) are) (λ differs. are)
 
 in_call_are : (Line : Message → Type 0) (on_broken : OnBroken) (call : ℕ) (names : List (List ℕ))
     (broke : List (Option Break)) → TellsOutputs Line names broke → All Line (said_in on_broken call names broke)
@@ -651,9 +654,11 @@ pub tee_begins : {calling : Calling} {asked : TeeAsked} {content : Content}
     → tee.EndsAs true true calling asked.mode asked.on_broken asked.names content source new status
     → BeginsAs (slot_at new place) (slot_at (slots_of (tee_made asked content).part) place)
 tee_begins place differs (tee.no_room error says unread slots failed) = still_begins place slots (bare_begins error place differs)
-tee_begins {asked} {content} place differs (tee.copied pieces fault first broke output error files comes going out_left files_left says slots is) = still_begins place slots (at place differs) where
-  at : (place : ℕ) → (place ≡ 1 → ⊥)
-      → BeginsAs (slot_at (output ∷ error ∷ files) place) (slot_at (slots_of (tee_made asked content).part) place)
-  at zero differs = output_begins (read_begins _ comes.read) out_left
-  at (suc zero) differs = absurd (differs refl)
-  at (suc (suc place)) differs = files_begin (read_begins _ comes.read) files_left place
+tee_begins {asked} {content} place differs (tee.copied _ _ _ _ output error files came _ left rest _ slots _) =
+    still_begins place slots (at place differs) where
+      at : (place : ℕ) → (place ≡ 1 → ⊥)
+          → BeginsAs (slot_at (output ∷ error ∷ files) place)
+          (slot_at (slots_of (tee_made asked content).part) place)
+      at zero differs = output_begins (read_begins _ came.read) left
+      at (suc zero) differs = absurd (differs refl)
+      at (suc (suc place)) differs = files_begin (read_begins _ came.read) rest place

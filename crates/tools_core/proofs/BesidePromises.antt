@@ -274,19 +274,23 @@ tee_well calling asked world few = record {
   left : Slot → List Slot
   left error = adds (concat pieces) standard_output ∷ error ∷ map (λ name. closes (adds (concat pieces) (opened name asked.mode))) asked.names
 
+  goes_on : (call : ℕ) → tee.is_done asked.on_broken (tee.standings_before call (None ∷ unbroken asked.names)) ≡ false
+  goes_on call = sound_goes_on asked.on_broken call None (unbroken asked.names) (all_sound asked.names)
+
   ends : tee.EndsAs true true calling asked.mode asked.on_broken asked.names content source
       (left lines.error) (tee.status_of asked.on_broken (None ∷ unbroken asked.names) fault)
   ends = tee.copied pieces fault None (unbroken asked.names) _ lines.error _
       (record {
-        read = rw (sound_goes_on asked.on_broken (suc (length pieces)) None (unbroken asked.names) (all_sound asked.names)) (read_all content.bytes content.breaks_off (LeavesOf true source) (λ told. refl));
+        read = rw (goes_on (suc (length pieces)))
+            (read_all content.bytes content.breaks_off (LeavesOf true source) (λ told. refl));
         sizes = All-map (λ (piece : List ℕ). (0 < length piece) × (length piece ≤ largest_piece)) (λ byte. byte ∷ []) content.bytes (λ k byte within. (omega arith, omega arith));
         few = rw (pieces_are content.bytes) few;
         met = met_or_sound content.breaks_off;
         ended = λ none some. refl;
-        last = λ told vain. absurd (false≢true (sym (sound_goes_on asked.on_broken (suc (length pieces)) None (unbroken asked.names) (all_sound asked.names)) ∙ vain));
-        reads = ap (λ vain. length pieces + cond vain 0 1) (sym (sound_goes_on asked.on_broken (suc (length pieces)) None (unbroken asked.names) (all_sound asked.names)));
+        last = λ told vain. absurd (false≢true (sym (goes_on (suc (length pieces))) ∙ vain));
+        reads = ap (λ vain. length pieces + cond vain 0 1) (sym (goes_on (suc (length pieces))));
       })
-      (sound_goes_on asked.on_broken (length pieces) None (unbroken asked.names) (all_sound asked.names)) tee.output_whole (copies_left asked.mode pieces asked.names)
+      (goes_on (length pieces)) tee.output_whole (copies_left asked.mode pieces asked.names)
       (rw (quiet_outputs asked.on_broken asked.names (None ∷ unbroken asked.names) (length pieces) fault (all_sound asked.names)) lines.says) refl refl
 
   all : (breaks_off : Bool) → tee.status_of asked.on_broken (None ∷ unbroken asked.names) (met_by breaks_off) ≡ 0
@@ -297,9 +301,15 @@ tee_well calling asked world few = record {
 
 does_well : (run : Run) (asked : Settings) → HasOperands asked → (HasLong run asked → ⊥)
     → DoesWell run.calling asked run.world
-does_well run (Head asked) can short = let e = ends_well (head_task run.calling asked) run.world asked.names in record { sources = e.sources; new = e.new; status = e.status; does = e.ends; unstopped = e.unstopped }
-does_well run (Tail asked) can short = let e = ends_well (tail_task run.calling asked.ends) run.world asked.ends.names in record { sources = e.sources; new = e.new; status = e.status; does = e.ends; unstopped = e.unstopped }
-does_well run (Split asked) can short = let e = ends_well (split_task run.calling asked) run.world (asked.input ∷ []) in record { sources = e.sources; new = e.new; status = e.status; does = e.ends; unstopped = e.unstopped }
+does_well run (Head asked) can short =
+    let e = ends_well (head_task run.calling asked) run.world asked.names in
+    record { sources = e.sources; new = e.new; status = e.status; does = e.ends; unstopped = e.unstopped }
+does_well run (Tail asked) can short =
+    let e = ends_well (tail_task run.calling asked.ends) run.world asked.ends.names in
+    record { sources = e.sources; new = e.new; status = e.status; does = e.ends; unstopped = e.unstopped }
+does_well run (Split asked) can short =
+    let e = ends_well (split_task run.calling asked) run.world (asked.input ∷ []) in
+    record { sources = e.sources; new = e.new; status = e.status; does = e.ends; unstopped = e.unstopped }
 does_well run (Csplit asked) (operands, asks) short =
     let e = ends_well (csplit_task run.calling asked operands) run.world (asked.input ∷ []) in
     record { sources = e.sources; new = e.new; status = e.status; does = record { operands = operands; asks = asks; ends = e.ends }; unstopped = e.unstopped }

@@ -220,10 +220,16 @@ pub follows_text : {run : Run} {count : ℕ} {options : EndsAsked} {followed : F
     (paused run followed follows.read.0) count run.seen run.outputs
 follows_text {run} {count} {options} {followed} {name} follows bare named keeps_bytes =
     let ways = ways_of 0 (is_name followed) (start_of options) in
-    let ends = subst (FollowingEndsAt run.calling true true run.words count run.shows run.seen run.watched run.outputs run.status) follows.read.1 follows.ends in
-    let one = subst (λ names. FollowEndsAs true true run.calling ways (has_headers options.headers options.names) names count (paused run followed follows.read.0) streams run.seen run.watched run.outputs run.status) named ends in
-    let headless = subst (λ headers. FollowEndsAs true true run.calling ways headers (name ∷ []) count (paused run followed follows.read.0) streams run.seen run.watched run.outputs run.status) bare one in
-    wrote_text ways name (paused run followed follows.read.0) count run.seen run.watched run.outputs keeps_bytes (subst (FollowEndsAs true true run.calling ways false (name ∷ []) count (paused run followed follows.read.0) streams run.seen run.watched run.outputs) follows.well headless)
+    let shows = paused run followed follows.read.0 in
+    let Ends : Bool → List (List ℕ) → ℕ → Type 0 = λ headers names.
+    FollowEndsAs true true run.calling ways headers names count shows streams run.seen run.watched run.outputs in
+    let ends = subst
+    (FollowingEndsAt run.calling true true run.words count run.shows run.seen run.watched run.outputs run.status)
+    follows.read.1 follows.ends in
+    let one = subst (λ names. Ends (has_headers options.headers options.names) names run.status) named ends in
+    let headless = subst (λ headers. Ends headers (name ∷ []) run.status) bare one in
+    wrote_text ways name shows count run.seen run.watched run.outputs keeps_bytes
+    (subst (Ends false (name ∷ [])) follows.well headless)
 
 pub tells_all : (run : Run) (options : EndsAsked) (followed : Followed) (name came : List ℕ) (file n : ℕ)
     → Follows run (n + 1) options followed → IsBare options → options.names ≡ name ∷ []
@@ -233,20 +239,23 @@ pub tells_all : (run : Run) (options : EndsAsked) (followed : Followed) (name ca
     (is_plus options.count.sign) options.count.amount ((showing run followed 0).holds file) ++ came
 tells_all run options followed name came file n follows bare named grows is =
     let ways = ways_of 0 (is_name followed) (start_of options) in
-    let wrote = follows_text follows bare named (λ saw. rw saw (kept_in (is_name followed) (paused run followed follows.read.0) grows)) in
-    let grew = subst (λ k. OnlyGrows k (paused run followed follows.read.0) name file) (sym wrote.count_is) grows in
-    let made : length wrote.looks ≡ n + 1 = all_made ways (paused run followed follows.read.0) wrote.looks grew wrote.saw wrote.kept wrote.few wrote.full in
+    let shows = paused run followed follows.read.0 in
+    let wrote = follows_text follows bare named (λ saw. rw saw (kept_in (is_name followed) shows grows)) in
+    let grew = subst (λ k. OnlyGrows k shows name file) (sym wrote.count_is) grows in
+    let made : length wrote.looks ≡ n + 1 = all_made ways shows wrote.looks grew wrote.saw wrote.kept
+    wrote.few wrote.full in
     let all : length wrote.looks ≡ suc n = made ∙ (let e : n + 1 ≡ suc n = omega arith in e) in
     wrote.is
-    ∙ ap (λ those. name_text ways.start (entries_of (is_name followed) name those)) (wrote.seen_is ∙ wrote.saw ∙ ap (seen_first (paused run followed follows.read.0)) all)
-    ∙ growing_text (is_name followed) (paused run followed follows.read.0) ways.start came (omega (arith, all)) grew is
+    ∙ ap (λ those. name_text ways.start (entries_of (is_name followed) name those))
+    (wrote.seen_is ∙ wrote.saw ∙ ap (seen_first shows) all)
+    ∙ growing_text (is_name followed) shows ways.start came (omega (arith, all)) grew is
 
 -- A run of the program is a run of one of both kinds, by what its words ask for.
 
 ends_at : (run : Run) {looks : Option ℕ} → IsOfProgram run → looks_at (settings_of run.calling run.words) ≡ looks
     → ProgramEndsAt run.calling true true true run.words run.world.laid
     (source_of run.world.standard ∷ []) run.inputs run.shows run.seen run.watched run.outputs run.status looks
-ends_at run ends is = subst (ProgramEndsAt run.calling true true true run.words run.world.laid (source_of run.world.standard ∷ []) run.inputs run.shows run.seen run.watched run.outputs run.status) is ends
+ends_at run ends is = rw (← is) ends
 
 pub runs_tool : (run : Run) (asked : Settings) → IsOfProgram run → settings_of run.calling run.words ≡ Ok asked
     → follows asked ≡ false → Ran run asked × (run.seen ≡ []) × (run.watched ≡ [])

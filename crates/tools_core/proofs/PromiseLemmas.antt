@@ -229,10 +229,17 @@ BeginsMade asked inputs new = (made : Outcome) × Makes asked inputs made × ((p
 begins_made : (calling : Calling) (asked : Settings) (inputs : List Input)
     (sources : List Source) (new : List Slot) (status : ℕ) → CanRun asked
     → DoesAsked calling true true asked inputs sources new status → BeginsMade asked inputs new
-begins_made calling (Head asked) inputs sources new status can does = (_, refl, λ place differs. begins_whole (λ shown. lawful_grows (head_in_lawful _ _ _ _ shown)) differs does)
-begins_made calling (Tail asked) inputs sources new status can does = (_, refl, λ place differs. begins_whole (λ shown. lawful_grows (tail_in_lawful _ _ _ _ shown)) differs does)
-begins_made calling (Split asked) inputs sources new status can does = (_, refl, λ place differs. begins_whole (λ shown. way_grows asked.way asked.elide (filing_of asked) (option_map length shown) (is_way asked can) (all_have_names asked can.named)) differs does)
-begins_made calling (Csplit asked) inputs sources new status can does = (_, (does.operands, does.asks, refl), λ place differs. begins_whole (λ shown. lawful_grows (csplit_law.lawful asked.style does.operands)) differs does.ends)
+begins_made calling (Head asked) inputs sources new status can does =
+    (_, refl, λ place differs. begins_whole (λ shown. lawful_grows (head_in_lawful _ _ _ _ shown)) differs does)
+begins_made calling (Tail asked) inputs sources new status can does =
+    (_, refl, λ place differs. begins_whole (λ shown. lawful_grows (tail_in_lawful _ _ _ _ shown)) differs does)
+begins_made calling (Split asked) inputs sources new status can does =
+    let grows = λ (shown : Option (List ℕ)). way_grows asked.way asked.elide (filing_of asked) (option_map length shown)
+    (is_way asked can) (all_have_names asked can.named) in
+    (_, refl, λ place differs. begins_whole grows differs does)
+begins_made calling (Csplit asked) inputs sources new status can does =
+    let law = csplit_law.lawful asked.style does.operands in
+    (_, (does.operands, does.asks, refl), λ place differs. begins_whole (λ shown. lawful_grows law) differs does.ends)
 begins_made calling (Tee asked) inputs sources new status can does = (_, (does.content, does.input, refl), λ place differs. tee_begins place differs does.ends)
 begins_made calling (About which topic) inputs sources new status can does = (_, refl, λ place differs. text_begins place differs does)
 

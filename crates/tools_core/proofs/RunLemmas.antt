@@ -215,7 +215,8 @@ module _ (calling : Calling) (told_in told : Bool) (words : List (List ℕ))
     (fresh : IsFresh sources) where
   -- no input was touched by a run of words that mean this
   abbrev pub EndsUnread : Result Settings Fault → Type 0
-  EndsUnread meant = RunsOver told_in (world_of laid sources) (names_at meant) (λ found. RunEndsAt calling told_in told words found sources sources new status meant)
+  EndsUnread meant = RunsOver told_in (world_of laid sources) (names_at meant)
+      (λ found. RunEndsAt calling told_in told words found sources sources new status meant)
 
   -- the words ask for something whose operands can't be read
   operands_refused : (settings : Settings) (fault : Fault) → HasBadOperands settings fault
@@ -301,9 +302,13 @@ pub program_refuses : (calling : Calling) (told_in told_watched : Bool) {told : 
     → seen ≡ [] → watched ≡ [] → IsRefused HasBadOperands (settings_of calling words) fault
     → RefusesFor told words fault new status
     → ProgramEnds calling told_in told_watched told words laid sources sources shows seen watched new status
-program_refuses calling told_in told_watched {told} words laid {sources} shows {seen} {watched} {new} {status} fresh unseen unwatched refused refuses = by (looks_at (settings_of calling words)) where
-  by : (asked : Option ℕ)
-      → ProgramEndsAt calling told_in told_watched told words laid sources sources shows seen watched new
-      status asked
-  by (Some looks) = (refl, refused_words calling told_watched told words looks shows seen watched new status unseen unwatched refused refuses)
-  by None = (unseen, unwatched, refused_or_memory calling told_in told words laid sources new status fresh refused refuses)
+program_refuses calling told_in told_watched {told} words laid {sources} shows {seen} {watched} {new} {status} fresh
+    unseen unwatched refused refuses = by (looks_at (settings_of calling words)) where
+      by : (asked : Option ℕ)
+          → ProgramEndsAt calling told_in told_watched told words laid sources sources shows seen watched new
+          status asked
+      by (Some looks) =
+          (refl, refused_words calling _ _ words looks shows _ _ _ _ unseen unwatched refused refuses)
+      by None =
+          let all = refused_or_memory calling told_in told words laid sources new status fresh refused refuses in
+          (unseen, unwatched, all)

@@ -211,7 +211,8 @@ gone_reason slot Cutters why is = absurd (false≢true is)
 
 quiet_gone : (run : Run) (asked : Settings) (name : List ℕ) (fault : Fault) (calling : Calling)
     → is_quiet fault calling (output_reason run.outputs fault) ≡ true → StopsRun run asked name fault → HasGone run
-quiet_gone run asked name (Write slot) calling is (differs, called, broken, fails) = (slot, differs, broken, gone_reason slot calling (slot_at run.outputs slot).reason is)
+quiet_gone run asked name (Write slot) calling is (differs, called, broken, fails) =
+    (slot, differs, broken, gone_reason slot calling (slot_at run.outputs slot).reason is)
 quiet_gone run asked name fault calling is stops = absurd (false≢true is)
 
 called_so : (run : Run) (task : Task) (asked : Settings) → IsTask run.calling asked task
@@ -258,7 +259,9 @@ ends_or {run} {asked} {task} of (stopped fault before input after said error ste
       broke = stopped_broke asked lines live between swept told;
     }) where
       Loud : Type 0
-      Loud = TellsIf false true task.speaker (output_reason run.outputs fault) (message_of fault (output_named run.outputs fault)) said error → run.status ≡ 1 → IsStop (removes_files asked) run asked
+      Loud = TellsIf false true task.speaker (output_reason run.outputs fault)
+          (message_of fault (output_named run.outputs fault)) said error
+          → run.status ≡ 1 → IsStop (removes_files asked) run asked
 
       by : (quiet : Bool) → quiet ≡ is_quiet fault task.speaker.calling (output_reason run.outputs fault)
           → TellsIf quiet true task.speaker (output_reason run.outputs fault)
@@ -268,7 +271,10 @@ ends_or {run} {asked} {task} of (stopped fault before input after said error ste
           (IsUnstopped
           (stopped fault before input after said error step reached are done untouched at stops between swept_as says
           tells is))
-      by true own same ends stop loud = inr (inr (silent_by run task asked of (quiet_own fault task.speaker.calling (output_reason run.outputs fault) (sym own)) (quiet_gone run asked (output_named run.outputs fault) fault task.speaker.calling (sym own) stop) ends))
+      by true own same ends stop loud =
+          let called = quiet_own fault task.speaker.calling (output_reason run.outputs fault) (sym own) in
+          let gone = quiet_gone run asked (output_named run.outputs fault) fault task.speaker.calling (sym own) stop in
+          inr (inr (silent_by run task asked of called gone ends))
       by false own told_so ends stop loud = inr (inl (loud told_so ends))
 ends_or {run} {asked} {task} of (no_room error says slots untouched count is) = inr (inl (stop_early Memory [] tt (subst (λ which. SaysAll true which (message_of Memory [] ∷ []) standard_error error) (speaker_is run.calling asked task of) says) slots is))
 
@@ -380,39 +386,47 @@ files_gone : {mode : Mode} {pieces names : List (List ℕ)} {broke : List (Optio
     → FilesLeft true mode pieces names broke files → tee.any_is Gone (map tee.standing_of broke) ≡ true
     → (place : ℕ) × IsGoneFor (slot_at files place)
 files_gone tee.no_file gone = absurd (false≢true gone)
-files_gone (tee.one_file name names when broke file files left rest) gone = elim (or_cases (tee.is_same (tee.standing_of when) Gone) (tee.any_is Gone (map tee.standing_of broke)) gone) [
-  | inl here ↦ (0, file_gone left (gone_is (tee.standing_of when) here))
-  | inr later ↦ let (place, is) = files_gone rest later in (suc place, is)
-]
+files_gone (tee.one_file name names when broke file files left rest) gone =
+    elim (or_cases (tee.is_same (tee.standing_of when) Gone) (tee.any_is Gone (map tee.standing_of broke)) gone) [
+      | inl here ↦ (0, file_gone left (gone_is (tee.standing_of when) here))
+      | inr later ↦ let (place, is) = files_gone rest later in (suc place, is)
+    ]
 
 any_gone : (run : Run) {mode : Mode} {pieces names : List (List ℕ)} {first : Option Break} {broke : List (Option Break)}
     {output error : Slot} {files : List Slot} → OutputLeft true pieces first output
     → FilesLeft true mode pieces names broke files → run.outputs ≡ output ∷ error ∷ files
     → tee.any_is Gone (map tee.standing_of (first ∷ broke)) ≡ true → HasGone run
-any_gone run {first = first} {broke} left rest slots gone = elim (or_cases (tee.is_same (tee.standing_of first) Gone) (tee.any_is Gone (map tee.standing_of broke)) gone) [
-  | inl here ↦ let (broken, why) = output_gone left (gone_is (tee.standing_of first) here) in (0, (λ is. omega (arith, is)), rw slots broken, rw slots why)
-  | inr later ↦ let (place, (broken, why)) = files_gone rest later in (suc (suc place), (λ is. omega (arith, is)), rw slots broken, rw slots why)
-]
+any_gone run {first = first} {broke} left rest slots gone =
+    elim (or_cases (tee.is_same (tee.standing_of first) Gone) (tee.any_is Gone (map tee.standing_of broke)) gone) [
+      | inl here ↦ let (broken, why) = output_gone left (gone_is (tee.standing_of first) here) in
+          (0, (λ is. omega (arith, is)), rw slots broken, rw slots why)
+      | inr later ↦ let (place, (broken, why)) = files_gone rest later in
+          (suc (suc place), (λ is. omega (arith, is)), rw slots broken, rw slots why)
+    ]
 
 tee_or : {run : Run} (asked : TeeAsked) {mode : Mode} {names : List (List ℕ)} {content : Content} {source : Source}
     → inputs_at run.world (names_of (Tee asked)) ≡ standard_input content ∷ []
     → (ends : tee.EndsAs true true run.calling mode asked.on_broken names content source run.outputs
     run.status)
     → Unless run (Tee asked) (IsCopied ends)
-tee_or {run} asked {content = content} only (tee.copied pieces fault first broke output error files comes some left rest says slots is) = elim (cases_Bool (tee.is_quiet asked.on_broken)) [
-  | inl quiet ↦ elim (cases_Bool (tee.any_is Gone (map tee.standing_of (first ∷ broke)))) [
-    | inl gone ↦ inr (inr (quiet, any_gone run left rest slots gone))
-    | inr none ↦ loudly (inr none)
-  ]
-  | inr loud ↦ loudly (inl loud)
-] where
-  loudly : IsLoud asked.on_broken (first ∷ broke)
-      → Unless run (Tee asked) ((are_sound (first ∷ broke) ≡ true) × (concat pieces ≡ content.bytes))
-  loudly loud = elim (tee_by asked.on_broken _ fault (are_sound (first ∷ broke)) loud refl (λ many. (standard_input content, content, ([], [], only), refl, many)) (sound_goes_on asked.on_broken (suc (length pieces)) first broke) comes.read left rest
-      (tee_lines asked asked.on_broken fault slots left rest (input_tells run asked _ only comes.read) says) slots is) [
-        | inl whole ↦ inl whole
-        | inr stop ↦ inr (inl stop)
+tee_or {run} asked {content = content} only (tee.copied pieces fault first broke _ _ _ came _ left rest says slots is) =
+    elim (cases_Bool (tee.is_quiet asked.on_broken)) [
+      | inl quiet ↦ elim (cases_Bool (tee.any_is Gone (map tee.standing_of (first ∷ broke)))) [
+        | inl gone ↦ inr (inr (quiet, any_gone run left rest slots gone))
+        | inr none ↦ loudly (inr none)
       ]
+      | inr loud ↦ loudly (inl loud)
+    ] where
+      loudly : IsLoud asked.on_broken (first ∷ broke)
+          → Unless run (Tee asked) ((are_sound (first ∷ broke) ≡ true) × (concat pieces ≡ content.bytes))
+      loudly loud = elim (tee_by asked.on_broken _ fault (are_sound (first ∷ broke)) loud refl
+          (λ many. (standard_input content, content, ([], [], only), refl, many))
+          (sound_goes_on asked.on_broken (suc (length pieces)) first broke) came.read left rest
+          (tee_lines asked asked.on_broken fault slots left rest (input_tells run asked _ only came.read) says)
+          slots is) [
+            | inl whole ↦ inl whole
+            | inr stop ↦ inr (inl stop)
+          ]
 tee_or asked only (tee.no_room error says unread slots is) = inr (inl (stop_early Memory [] tt says slots is))
 
 -- a text about a tool
@@ -451,7 +465,10 @@ about_or {run} {which} {topic} (text_cut n short why error tells slots is) = end
       → TellsIf quiet true (by run.calling which) why
       (message_of (Write 0) (codes "standard output")) standard_error error → run.status ≡ cond quiet 141 1
       → Unless run (About which topic) (run.status ≡ 0)
-  ends true own same is = inr (inr (quiet_own (Write 0) run.calling why (sym own), (0, (λ is. omega (arith, is)), rw slots refl, rw slots (gone_reason 0 run.calling why (sym own))), is))
+  ends true own same is =
+      let called = quiet_own (Write 0) run.calling why (sym own) in
+      let gone = gone_reason 0 run.calling why (sym own) in
+      inr (inr (called, (0, (λ is. omega (arith, is)), rw slots refl, rw slots gone), is))
   ends false own says is = inr (inl (text_stops n (why, says) slots is))
 about_or (no_text error says slots is) = inr (inl (stop_early Memory [] tt (error, says, refl) slots is))
 

@@ -1,7 +1,7 @@
 -- What a run of `tee` leaves, and what ended it.
 use Rattle.std.proofs.{
   Common.{◌≡◌, ◌⊎◌, ◌||◌, ℕ, ◌≤◌, ◌<◌, ◌^◌, ◌+◌, get_or, map, not, zero, suc, Bool, true, false, List, [], ◌∷◌, ◌++◌},
-  Common.{length, take, Option, None, Some, cond, if◌then◌else◌, nat_lt, inl, inr, refl, sym, ◌∙◌, ap, subst, arith},
+  Common.{length, take, Option, None, Some, cond, if◌then◌else◌, nat_lt, inl, inr, refl, sym, ◌∙◌, ap, arith},
   Common.{append-nil, append_assoc, All, length-append},
   lemmas.{Bool.{lt-ltb, not-true, or_parts, false≢true, or_cases, Decides.nat_tests}, List.Folds.concat-append},
   Math.Bool.or-true,
@@ -252,7 +252,8 @@ ends_with_break run asked few (tee.copied pieces fault first broke output error 
       left = unread;
       small = last_small pieces comes.sizes;
       stands = stand_at first broke;
-      outputs = λ place differs within. subst (λ outputs. HasUpTo run asked.on_broken (front_of pieces) (last_of pieces) (stand_at first broke place) (slot_at outputs place)) (sym slots) (at early later place differs (rw slots at within));
+      outputs = λ place differs within. rw (ap (λ those. slot_at those place) slots)
+          (at early later place differs (rw slots at within));
       ended = elim over [
         | inl all ↦ inl all
         | inr vain ↦ inr (ended vain)
@@ -285,7 +286,8 @@ ends_with_break run asked few (tee.no_room error says (there, unread, same) slot
   left = ap (λ (source : Source). source.left.bytes) unread ∙ ap (λ (content : Content). content.bytes) (same refl);
   small = omega arith;
   stands = λ place. Sound;
-  outputs = λ place differs within. subst (λ outputs. HasUpTo run asked.on_broken [] [] Sound (slot_at outputs place)) (sym slots) (at place differs (rw slots at within));
+  outputs = λ place differs within. rw (ap (λ those. slot_at those place) slots)
+      (at place differs (rw slots at within));
   ended = inr (inr (inr (ap (λ (source : Source). source.reads) unread, ([], [], record { are = one_line (TellsMet run (Tee asked)) (message_of Memory []) (Memory, [], inl tt, refl); said = rw slots says }))));
 } where
   at : (place : ℕ) → (place ≡ 1 → ⊥) → place < 2

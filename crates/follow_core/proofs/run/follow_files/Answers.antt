@@ -25,8 +25,10 @@ returns g c =
     let slots = g.O.Outs.slots c.args.outs.now in
     let (most, are, stops) = c.in-Err-make_looks.ensures.stopped in
     let tells = c.tell-in-Err-make_looks.ensures in
-    rw (← c.forgive_by.ensures.shows) (ends_by c.args.limits.process most are (stopped (g.O.Outs.slots c.make_looks.new.outs) c.in-Err-make_looks.fault
-    (stops c.args.calling ways c.args.headers names slots (open_holds c.in-Ok.ensures.ok (c.forgive_by.ensures.watched ∙ c.requires.unwatched))) tells.told tells.status))
+    let holds = open_holds c.in-Ok.ensures.ok (c.forgive_by.ensures.watched ∙ c.requires.unwatched) in
+    rw (← c.forgive_by.ensures.shows) (ends_by c.args.limits.process most are
+    (stopped (g.O.Outs.slots c.make_looks.new.outs) c.in-Err-make_looks.fault
+    (stops c.args.calling ways c.args.headers names slots holds) tells.told tells.status))
 
 pub returns-in-Err : goal.returns-in-Err
 returns-in-Err g c =

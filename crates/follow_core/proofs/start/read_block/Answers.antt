@@ -30,7 +30,8 @@ loop-filled-preserved g c =
 
 pub returns-in-Err-clause-err : goal.returns-in-Err-clause-err
 returns-in-Err-clause-err g c =
-    let l = c.loop-filled in (
-      c.in-Err.ensures.err.0,
-      (c.args.from + l.filled, (c.in-Err.ensures.err.1.0, c.in-Err.ensures.err.1.1 ∙ ap (changed_at c.args.place (breaks c.in-Err.ensures.err.1.0 (λ file. Read file (c.args.from + l.filled)))) l.invariant.filling.watched_same)),
-    )
+    let l = c.loop-filled in
+    let at = c.args.from + l.filled in
+    let (is_read, (why, is)) = c.in-Err.ensures.err in
+    let broke = changed_at c.args.place (breaks why (λ file. Read file at)) in
+    (is_read, (at, (why, is ∙ ap broke l.invariant.filling.watched_same)))

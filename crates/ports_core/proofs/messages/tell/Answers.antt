@@ -5,5 +5,7 @@ use Rattle.ports_core.proofs.messages.tell.Goals as goal
 pub returns : goal.returns
 returns g c =
     let why = c.output_reason-why.ensures in
-    let (told, status) = told_aloud g.O.Outs.told c.args.fault.now (rw why at (sym c.is_quiet.ensures ∙ c.if-is_quiet.false)) (rw why at (rw c.output_name.ensures at (c.print_message.ensures _ _ c.message_for-line.ensures.ok))) in
+    let loud = rw why at (sym c.is_quiet.ensures ∙ c.if-is_quiet.false) in
+    let says = rw (c.output_name.ensures, why) at (c.print_message.ensures _ _ c.message_for-line.ensures.ok) in
+    let (told, status) = told_aloud g.O.Outs.told c.args.fault.now loud says in
     record { told = told; status = status }

@@ -37,7 +37,13 @@ returns-in-Ok-Enough-clause-took g c so_far error opened at =
 pub returns-in-Ok-Broken-clause-took : goal.returns-in-Ok-Broken-clause-took
 returns-in-Ok-Broken-clause-took g c so_far error opened at =
     let (shown, says, fed) = c.in-Ok-Broken.ensures.fed in
-    (shown, says, of_source_too _ _ _ _ _ _ (λ content fed done. took_broken _ _ _ _ _ _ _ _ so_far error _ _ _ _ _ (headed_count g.O.Outs.told _ _ c.in_ok-put_header.ensures.ok) (part_two at) (headed _ at c.in_ok-put_header.ensures.ok) (done refl) c.in-Ok-Broken.field-0-is fed c.say_why.ensures) fed)
+    let ok = c.in_ok-put_header.ensures.ok in (
+      shown,
+      says,
+      of_source_too _ _ _ _ _ _ (λ content fed done. took_broken _ _ _ _ _ _ _ _ so_far error _ _ _ _ _
+          (headed_count g.O.Outs.told _ _ ok) (part_two at) (headed _ at ok) (done refl) c.in-Ok-Broken.field-0-is fed
+          c.say_why.ensures) fed,
+    )
 
 pub returns-in_default : goal.returns-in_default
 returns-in_default g c = record {

@@ -21,5 +21,7 @@ tell_broken-requires-clause-known g c =
 pub returns : goal.returns
 returns g c = record {
   closed = λ mode pieces fault copies.
-      closing_said _ _ mode _ _ copies (closed_next _ _ mode _ _ c.requires.tee copies (c.close.ensures.closes c.requires.tee.live) c.tell_broken.ensures.seen) c.tell_broken.ensures.said;
+      let closes = c.close.ensures.closes c.requires.tee.live in
+      closing_said _ _ mode _ _ copies
+      (closed_next _ _ mode _ _ c.requires.tee copies closes c.tell_broken.ensures.seen) c.tell_broken.ensures.said;
 }

@@ -30,7 +30,9 @@ close_all-requires-clause-copies g c =
 pub returns-clause-copied : goal.returns-clause-copied
 returns-clause-copied g c mode opens =
     let (content, is, (read, breaks)) = c.copy_pieces-fault.ensures.copies mode (starts _ _ opens (length-names c.args.job.now.names.now c.requires.unknown) c.tell_broken.ensures.said c.tell_broken.ensures.seen) in
-    (content, is, (ends_copied _ c.status_for.ensures read.read (c.close_all.ensures.closed mode read.pieces c.copy_pieces-fault.result (copies_said _ _ mode _ _ read.copies c.tell_input.ensures.told)), breaks))
+    let said = copies_said _ _ mode _ _ read.copies c.tell_input.ensures.told in
+    let closed = c.close_all.ensures.closed mode read.pieces c.copy_pieces-fault.result said in
+    (content, is, (ends_copied _ c.status_for.ensures read.read closed, breaks))
 
 pub tell_broken-requires-clause-known : goal.tell_broken-requires-clause-known
 tell_broken-requires-clause-known g c = grind (arith, common_steps)

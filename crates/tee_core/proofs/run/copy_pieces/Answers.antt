@@ -63,7 +63,12 @@ pub returns-in-Err-clause-copies : goal.returns-in-Err-clause-copies
 returns-in-Err-clause-copies g c mode at =
     let so_far = c.pieces.invariant in
     let (content, is, bytes, ended, leaves, breaks) = seen_broken _ _ _ _ _ _ so_far.read so_far.readable c.in-Err.ensures.break_off c.in-Err.ensures.err.1 in
-    let copied = reads_copied _ so_far.joined (sym c.is_done.ensures ∙ c.pieces-test.true) so_far.sized (omega (arith, so_far.counted, so_far.small)) (inl (ap Some c.in-Err.ensures.err.0)) (λ none. absurd (cc)) (λ told vain. absurd (false≢true vain)) (reads_once so_far.pieces so_far.joined so_far.sized (omega (arith, so_far.counted, so_far.small)) so_far.reads (ap (λ (source : Source). source.reads) (changed_source 0 (fails _ _) _ _ so_far.readable c.in-Err.ensures.err.1.1)))
+    let copied = reads_copied _ so_far.joined (sym c.is_done.ensures ∙ c.pieces-test.true) so_far.sized
+    (omega (arith, so_far.counted, so_far.small)) (inl (ap Some c.in-Err.ensures.err.0)) (λ none. absurd (cc))
+    (λ told vain. absurd (false≢true vain))
+    (reads_once so_far.pieces so_far.joined so_far.sized (omega (arith, so_far.counted, so_far.small)) so_far.reads
+    (ap (λ (source : Source). source.reads)
+    (changed_source 0 (fails _ _) _ _ so_far.readable c.in-Err.ensures.err.1.1)))
     (rw c.in-Err.ensures.err.0 (to_break _ bytes ended leaves)) (so_far.copies mode at) in
     (content, is, (copied, breaks))
 

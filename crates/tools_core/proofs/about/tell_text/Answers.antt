@@ -4,4 +4,6 @@ use Rattle.tools_core.proofs.AboutLemmas.{text_broke}
 use Rattle.tools_core.proofs.about.tell_text.Goals as goal
 
 pub returns-in-Err : goal.returns-in-Err
-returns-in-Err g c = text_broke c.args.text.now c.in-Err.cut.written c.requires c.in-Err.ensures.cut (c.from.ensures ∙ ap Write c.in-Err.ensures.slot) c.tell.ensures.told c.tell.ensures.status
+returns-in-Err g c =
+    text_broke c.args.text.now c.in-Err.cut.written c.requires c.in-Err.ensures.cut
+    (c.from.ensures ∙ ap Write c.in-Err.ensures.slot) c.tell.ensures.told c.tell.ensures.status

@@ -12,7 +12,8 @@ returns-then-follows-clause-opened g c = fresh_counts (names_read c.args.calling
 
 pub returns-clause-ends : goal.returns-clause-ends
 returns-clause-ends g c =
-    program_refuses c.args.calling g.I.Inputs.told g.W.Watch.told (map (λ word. word.now) c.args.words.now) (g.I.Inputs.laid c.args.inputs.now) (g.W.Watch.shows c.args.watch.now)
+    program_refuses c.args.calling g.I.Inputs.told g.W.Watch.told (map (λ word. word.now) c.args.words.now)
+    (g.I.Inputs.laid c.args.inputs.now) (g.W.Watch.shows c.args.watch.now)
     c.requires.inputs c.requires.unseen c.requires.unwatched c.in-Err.ensures.err c.refuse_words.ensures
 
 pub returns-clause-opened : goal.returns-clause-opened

@@ -1,4 +1,4 @@
-use Rattle.std.proofs.Common.{◌≤◌, ◌∙◌, sym, ap, subst, arith, option_map}
+use Rattle.std.proofs.Common.{◌≤◌, ◌∙◌, sym, ap, subst, arith}
 use Rattle.ports_core.specs.Source.{Source, gets_back}
 use Rattle.mem_core.proofs.MemInLemmas.{set_back}
 use Rattle.mem_core.proofs.mem_in.MemSource.give_back.Goals as goal
@@ -7,5 +7,5 @@ pub returns : goal.returns
 returns c =
     let s = c.self.inside in
     let few : c.args.count ≤ s.last = subst (λ (those : Source). c.args.count ≤ those.last) (sym c.self.view_is) c.requires in
-    set_back (option_map (λ v. v.items) s.shown) s.reason s.bytes.items s.given c.args.count s.reached s.asked s.last s.reads s.breaks_off s.is_open s.is_broken s.ended (omega (arith, c.self.invariant)) (omega (arith, few, c.self.invariant))
-    ∙ ap (gets_back c.args.count) c.self.view_is
+    set_back _ _ s.bytes.items s.given c.args.count _ _ s.last _ _ _ _ _ (omega (arith, c.self.invariant))
+    (omega (arith, few, c.self.invariant)) ∙ ap (gets_back c.args.count) c.self.view_is

@@ -13,7 +13,8 @@ returns-in_default-room_for-clause-err c = opens_in_vain Other [] _ _ c.self.vie
 
 pub returns-then-fails-clause-err : goal.returns-then-fails-clause-err
 returns-then-fails-clause-err c =
-    opens_unkept [] _ _ c.self.view_is c.in-Some.ensures.next.0 c.in-Some-room_for.ensures.name c.refused.ensures c.in-Some-room_for.ensures.same c.keep.ensures.kept c.keep.ensures.lost
+    opens_unkept [] _ _ c.self.view_is c.in-Some.ensures.next.0 c.in-Some-room_for.ensures.name
+    c.refused.ensures c.in-Some-room_for.ensures.same c.keep.ensures.kept c.keep.ensures.lost
 
 pub returns-clause-err : goal.returns-clause-err
 returns-clause-err c = opens_in_vain Other [] _ _ c.self.view_is c.in-Some.ensures.next.0 (inr refl) (grind (arith, common_steps))

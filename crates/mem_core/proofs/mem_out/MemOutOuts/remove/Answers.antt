@@ -10,7 +10,9 @@ returns-then-fails-clause-err c = (
   refl,
   (
     c.planned-why.result,
-    kept_changes [] _ _ c.self.view_is (omega arith) (λ (slot : Slot). breaks c.planned-why.result (closes slot)) (file_kept [] _ _ c.self.view_is (omega arith) c.requires.1) c.index_mut-out.ensures.value c.close_broken.ensures
+    kept_changes [] _ _ c.self.view_is (omega arith) (λ (slot : Slot). breaks c.planned-why.result (closes slot))
+        (file_kept [] _ _ c.self.view_is (omega arith) c.requires.1) c.index_mut-out.ensures.value
+        c.close_broken.ensures
         ∙ sym (changed_at-again c.args.slot closes (breaks c.planned-why.result) c.args.self.now),
   ),
 )

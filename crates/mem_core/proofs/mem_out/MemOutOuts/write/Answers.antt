@@ -3,10 +3,26 @@ use Rattle.ports_core.{specs.Slot.{breaks, adds}, proofs.SlotLemmas.{kept_change
 use Rattle.mem_core.proofs.mem_out.MemOutOuts.write.Goals as goal
 
 pub returns-then-fails-clause-err : goal.returns-then-fails-clause-err
-returns-then-fails-clause-err c = (refl, (c.planned-why.result, kept_changes [] _ _ c.self.view_is (omega arith) (breaks c.planned-why.result) (writable_kept [] _ _ c.self.view_is (omega arith) c.requires) c.index_mut-out.ensures.value c.break_off.ensures))
+returns-then-fails-clause-err c = (
+  refl,
+  (
+    c.planned-why.result,
+    kept_changes [] _ _ c.self.view_is (omega arith) (breaks c.planned-why.result)
+        (writable_kept [] _ _ c.self.view_is (omega arith) c.requires) c.index_mut-out.ensures.value
+        c.break_off.ensures,
+  ),
+)
 
 pub returns-in_default-clause-err : goal.returns-in_default-clause-err
-returns-in_default-clause-err c = (refl, (c.planned-why.result, kept_changes [] _ _ c.self.view_is (omega arith) (breaks c.planned-why.result) (writable_kept [] _ _ c.self.view_is (omega arith) c.requires) c.index_mut-out.ensures.value c.in_default.ensures.broke))
+returns-in_default-clause-err c = (
+  refl,
+  (
+    c.planned-why.result,
+    kept_changes [] _ _ c.self.view_is (omega arith) (breaks c.planned-why.result)
+        (writable_kept [] _ _ c.self.view_is (omega arith) c.requires) c.index_mut-out.ensures.value
+        c.in_default.ensures.broke,
+  ),
+)
 
 pub returns-clause-ok : goal.returns-clause-ok
 returns-clause-ok c = record {

@@ -3,11 +3,7 @@ use Rattle.mem_core.{
   specs.MemWatchState.{MemWatchState, shown, world_at},
   proofs.MemWatchLemmas.{finds_any, finds_now, may_break},
 }
-use Rattle.ports_core.specs.Slot.{changed_at}
-use Rattle.watch_core.{
-  specs.{declared.watch.Broken.TheVariants.Look, Watched.{breaks, Watched, Finds}},
-  proofs.NameLemmas.names_within,
-}
+use Rattle.watch_core.{specs.Watched.{Watched, Finds}, proofs.NameLemmas.names_within}
 use Rattle.mem_core.proofs.mem_watch.MemWatchWatch.look.Goals as goal
 
 pub index-requires : goal.index-requires
@@ -27,4 +23,5 @@ pub returns-then-refuses-clause-breaks : goal.returns-then-refuses-clause-breaks
 returns-then-refuses-clause-breaks c = may_break c.args.self.now (c.refuses.ensures.forgives c.if-refuses.true)
 
 pub returns-then-refuses-clause-err : goal.returns-then-refuses-clause-err
-returns-then-refuses-clause-err c = (refl, (c.refuses.new.self.why, ap (λ (those : MemWatchState). those.watched) c.break_off.ensures ∙ ap (λ (those : MemWatchState). changed_at c.args.place (breaks c.refuses.new.self.why (λ file. Look)) those.watched) c.refuses.ensures.same))
+returns-then-refuses-clause-err c =
+    (refl, (c.refuses.new.self.why, rw (c.break_off.ensures, c.refuses.ensures.same) refl))

@@ -3,11 +3,7 @@ use Rattle.mem_core.{
   specs.MemWatchState.{MemWatchState, shown, world_at},
   proofs.MemWatchLemmas.{may_break, reopens_now},
 }
-use Rattle.ports_core.specs.Slot.{changed_at}
-use Rattle.watch_core.{
-  specs.{declared.watch.Broken.TheVariants.Open, Watched.{breaks, Watched}},
-  proofs.NameLemmas.{name_there, names_within},
-}
+use Rattle.watch_core.{specs.Watched.Watched, proofs.NameLemmas.{name_there, names_within}}
 use Rattle.mem_core.proofs.mem_watch.MemWatchWatch.reopen.Goals as goal
 
 pub index-requires : goal.index-requires
@@ -28,4 +24,5 @@ pub returns-then-refuses-clause-breaks : goal.returns-then-refuses-clause-breaks
 returns-then-refuses-clause-breaks c = may_break c.args.self.now (c.refuses.ensures.forgives c.if-refuses.true)
 
 pub returns-then-refuses-clause-err : goal.returns-then-refuses-clause-err
-returns-then-refuses-clause-err c = (refl, (c.refuses.new.self.why, ap (λ (those : MemWatchState). those.watched) c.break_off.ensures ∙ ap (λ (those : MemWatchState). changed_at c.args.place (breaks c.refuses.new.self.why (λ file. Open)) those.watched) c.refuses.ensures.same))
+returns-then-refuses-clause-err c =
+    (refl, (c.refuses.new.self.why, rw (c.break_off.ensures, c.refuses.ensures.same) refl))

@@ -7,7 +7,10 @@ use Rattle.watch_core.proofs.dir_watch.DirWatchWatch.open_len.Goals as goal
 
 pub returns-in_default-clause-err : goal.returns-in_default-clause-err
 returns-in_default-clause-err g c =
-    let (why, broke) = c.in_default.ensures.broke in (refl, (why, one_changes _ c.args.place (breaks why (λ file. Len file)) c.self.view_is (readable_watchable _ c.args.place c.requires) c.index_mut-2.ensures.value broke))
+    let (why, broke) = c.in_default.ensures.broke in
+    let change = breaks why Len in
+    let can = readable_watchable _ c.args.place c.requires in
+    (refl, (why, one_changes _ c.args.place change c.self.view_is can c.index_mut-2.ensures.value broke))
 
 pub returns-clause-found : goal.returns-clause-found
 returns-clause-found g c = search (rules, finds_any)

@@ -7,7 +7,9 @@ use Rattle.watch_core.proofs.dir_watch.DirWatchWatch.reopen.Goals as goal
 
 pub returns-in_default-clause-err : goal.returns-in_default-clause-err
 returns-in_default-clause-err g c =
-    let (why, broke) = c.in_default.ensures.broke in (refl, (why, one_changes _ c.args.place (breaks why (λ file. Open)) c.self.view_is c.requires c.index_mut-2.ensures.value broke))
+    let (why, broke) = c.in_default.ensures.broke in
+    let change = breaks why (λ file. Open) in
+    (refl, (why, one_changes _ c.args.place change c.self.view_is c.requires c.index_mut-2.ensures.value broke))
 
 pub returns-clause-ok : goal.returns-clause-ok
 returns-clause-ok g c = opened_some _ c.self.view_is c.requires c.index_mut-2.ensures.value c.in-Ok.ensures.opened c.in-Ok.ensures.found (finds_any c.args.self.now.forgives c.args.self.now.within c.args.self.now.turns _ _)
