@@ -277,7 +277,8 @@ pub ends_short : {told : Bool} {cutter : CutterState} {size : ℕ} {slots : List
     → EndsFull told cutter size slots slots cutter None
 ends_short {told} {cutter} {size} {slots} ready some short = by cutter.is_within refl where
   by : (within : Bool) → cutter.is_within ≡ within → EndsFull told cutter size slots slots cutter None
-  by true is = ends_open ready is (omega (arith, short, start_within cutter.chunks.count size (min (cutter.target.place + 1) cutter.chunks.count) some (omega arith)))
+  by true is = let next = min (cutter.target.place + 1) cutter.chunks.count in
+      ends_open ready is (omega (arith, short, start_within cutter.chunks.count size next some (omega arith)))
   by false is = ends_so (λ within. absurd (false≢true (sym is ∙ within))) (ends_none ready)
       (λ less. subst (λ place. cutter.at < chunk_start cutter.chunks.count size place) (omega (arith, less)) short)
 
