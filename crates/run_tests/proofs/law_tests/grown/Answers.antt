@@ -34,7 +34,17 @@ grown_so : AreRuns → TellAll → (words : List (List ℕ)) (laid : ℕ → Lis
     → ((count : ℕ) → OnlyGrows count shows name file) → (shows n).holds file ≡ (shows 0).holds file ++ came
     → (slot_at outs 0).written ≡ tail_of options.delim options.unit (is_plus options.count.sign) options.count.amount ((shows 0).holds file) ++ came
 grown_so law tells words laid old sources shows seen watched outs status fresh ends well options followed name came file n pause read bare named grows held =
-    let run : Run = record { calling = Cutters; words = words; world = record { laid = laid; standard = unshown [] }; shows = shows; inputs = sources; seen = seen; watched = watched; outputs = outs; status = status } in
+    let run : Run = record {
+      calling = Cutters;
+      words = words;
+      world = record { laid = laid; standard = unshown [] };
+      shows = shows;
+      inputs = sources;
+      seen = seen;
+      watched = watched;
+      outputs = outs;
+      status = status;
+    } in
     let is_of : IsOfProgram run = subst (λ old. ProgramEnds Cutters true true true words laid old sources shows seen watched outs status) fresh ends in
     tells run options followed name came file n (law run options followed (n + 1) is_of (pause, read) well).0 bare named (grows (length seen)) held
 

@@ -22,10 +22,22 @@ abbrev AreRuns : Type 0
 AreRuns = (run : Run) (asked : Settings) → IsOfProgram run → settings_of run.calling run.words ≡ Ok asked → follows asked ≡ false → Ran run asked × (run.seen ≡ []) × (run.watched ≡ [])
 
 ran_so : AreRuns → (words : List (List ℕ)) (asked : Settings) (bytes : List ℕ) (laid : ℕ → List ℕ → Option Content) (old sources : List Source) (shows : ℕ → Snapshot) (seen : List Snapshot) (watched : List Watched) (outs : List Slot) (status : ℕ)
-    → old ≡ source_of (unshown bytes) ∷ [] → ProgramEnds Cutters true true true words laid old sources shows seen watched outs status → settings_of Cutters words ≡ Ok asked → names_of asked ≡ codes "-" ∷ [] → follows asked ≡ false
+    → old ≡ source_of (unshown bytes) ∷ []
+    → ProgramEnds Cutters true true true words laid old sources shows seen watched outs status
+    → settings_of Cutters words ≡ Ok asked → names_of asked ≡ codes "-" ∷ [] → follows asked ≡ false
     → (one : Run) × Ran one asked × HasInput one bytes × (one.calling ≡ Cutters) × (one.words ≡ words) × (one.outputs ≡ outs) × (one.status ≡ status)
 ran_so law words asked bytes laid old sources shows seen watched outs status fresh ends read only none =
-    let one : Run = record { calling = Cutters; words = words; world = record { laid = laid; standard = unshown bytes }; shows = shows; inputs = sources; seen = seen; watched = watched; outputs = outs; status = status } in
+    let one : Run = record {
+      calling = Cutters;
+      words = words;
+      world = record { laid = laid; standard = unshown bytes };
+      shows = shows;
+      inputs = sources;
+      seen = seen;
+      watched = watched;
+      outputs = outs;
+      status = status;
+    } in
     let is_of : IsOfProgram one = subst (λ old. ProgramEnds Cutters true true true words laid old sources shows seen watched outs status) fresh ends in (
       one,
       (law one asked is_of read none).0,
