@@ -97,7 +97,7 @@ module _ {spots_of : List ℕ → ℕ → List Spot} (delim : ℕ) (unit : Count
     differ : (i : ℕ) → length (but_last_of delim unit n x) ≤ i → i < length x
         → spots_of (x ++ []) i ≢ spots_of (x ++ replicate (n + 1) delim) i
     differ i past within same = cuts.apart (length (but_last_of delim unit n x)) i
-        (sym (cuts.before (x ++ replicate (n + 1) delim) i (omega (arith, within, far delim unit n x))) ∙ sym same ∙ ap (λ all. spots_of all i) (append-nil x)
+        (sym (cuts.before (x ++ replicate (n + 1) delim) i (omega (arith, far delim unit n x))) ∙ sym same ∙ ap (λ all. spots_of all i) (append-nil x)
         ∙ cuts.after x i past within)
 
 head_cuts : (delim : ℕ) (unit : Counted) (but_last : Bool) (n : ℕ)
@@ -147,7 +147,7 @@ tail_cuts delim unit from_nth n = record {
   before = tail_nowhere delim unit from_nth n;
   after = λ x i past within. tail_there delim unit from_nth n x i past
       ∙ spot_in 0 (i - length (tail_first delim unit from_nth n x)) (tail_of delim unit from_nth n x) []
-      (omega (arith, past, within, tail_long delim unit from_nth n x));
+      (omega (arith, tail_long delim unit from_nth n x));
   apart = λ k i is. some_spot (spot 0 (i - k)) [] (sym is);
 }
 
@@ -219,7 +219,7 @@ apart {delim} byte {unit} zero {x} = record {
   z = [];
   y_comes = none_comes;
   z_comes = none_comes;
-  nothing_common = λ bytes begins also. (let short = beginning_short bytes _ begins in let none = none_last delim unit (x ++ []) in omega (arith, short, none));
+  nothing_common = λ bytes begins also. (let short = beginning_short bytes _ begins in let none = none_last delim unit (x ++ []) in omega arith);
 }
 apart {delim} byte {unit} (suc k) {x} = record {
   y = delim ∷ replicate (suc k) delim;
@@ -264,7 +264,7 @@ head_stretch delim unit but_last n = record {
   parts = λ x. refl;
   front = λ x. (let all = head_together delim unit but_last n x in (all.0, all.1, tt));
   are = λ x. refl;
-  nowhere = λ x i less. absurd (omega (arith, less));
+  nowhere = λ x i less. absurd (omega arith);
   there = λ x i past. ap (spots_from 0 (head_of delim unit but_last n x ∷ [])) (omega arith);
 }
 

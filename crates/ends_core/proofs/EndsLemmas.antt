@@ -71,7 +71,7 @@ on_means s delim unit n = refl
 
 -- it ends well where nothing is missing
 pub well_there : (ends : Ends) (x : List ℕ) → missing_of ends ≡ 0 → Holds ends x → (work ends).verdict x ≡ None
-well_there ends x none holds = enough_came (least_of ends) x (omega (arith, none, holds.missing))
+well_there ends x none holds = enough_came (least_of ends) x (omega arith)
 
 -- and while bytes come it never ends badly
 pub none_settled : (ends : Ends) (x : List ℕ) {verdict : Verdict} → IsSettled (work ends) x verdict → ⊥
@@ -131,7 +131,7 @@ left_now ends {next} {x} piece same left holds none =
 missing_now : (ends : Ends) {next : Ends} {x : List ℕ} (piece : List ℕ) → SameAsked ends next
     → missing_of next ≡ missing_of ends - length piece → Holds ends x
     → missing_of next ≡ least_of next - length (x ++ piece)
-missing_now ends {x = x} piece same missing holds = omega (arith, missing, same.least, holds.missing, length-append x piece)
+missing_now ends {x = x} piece same missing holds = omega (arith, length-append x piece)
 
 none_lacks : (ends : Ends) → keeps (stretch_of ends) ≡ false → may_lack ends ≡ false
 none_lacks (First count front) none = cc
@@ -216,24 +216,24 @@ met told ends needs Lacks Fails {old = old} {new} {f} room can stops =
 
 pub ends_changed : (told : Bool) {ends : Ends} {missing : ℕ} {slots : List Slot} {f : Fault} → missing_of ends ≡ missing
     → f ≡ fault_is.Verdict Changed → 0 < missing → EndsBadly told ends slots slots f
-ends_changed told are is some = rw is (changed (omega (arith, are, some)) refl)
+ends_changed told are is some = rw is (changed (omega arith) refl)
 
 pub ends_stopped : (told : Bool) {ends : Ends} {kept : Kept} {n : ℕ} {old new : List Slot} {f : Fault}
     → ends ≡ Last kept → n ≡ length (held_of kept) → Stops told false (take n (held_of kept)) old new f
     → EndsBadly told ends old new f
-ends_stopped told {kept = kept} {n} {old} {new} {f} is all stops = rw is (stopped f (subst (λ bytes. Stops told false bytes old new f) (take_all n (held_of kept) (omega (arith, all))) stops))
+ends_stopped told {kept = kept} {n} {old} {new} {f} is all stops = rw is (stopped f (subst (λ bytes. Stops told false bytes old new f) (take_all n (held_of kept) (omega arith)) stops))
 
 pub ends_cut : (told : Bool) (ends : Ends) {old new : List Slot} {f : Fault} → EndsBadly told ends old new f
     → CutsOff terms ends (work ends).whole told old new f
 ends_cut told (First count front) {new = new} (changed some same) before x at = judged refl _ at.outputs same
-ends_cut told (ButLast kept) (changed some same) before x at = absurd (omega (arith, some))
+ends_cut told (ButLast kept) (changed some same) before x at = absurd (omega arith)
 ends_cut told (FromNth count front) (changed some same) before x at = judged refl _ at.outputs same
-ends_cut told (Last kept) (changed some same) before x at = absurd (omega (arith, some))
+ends_cut told (Last kept) (changed some same) before x at = absurd (omega arith)
 ends_cut told ends (stopped f stops) before x at = cuts_off told ends (due_at_end ends) (rest_out ends) stops before x at
 
 pub ends_met : (told : Bool) (ends : Ends) {old new : List Slot} {f : Fault} → IsTrue (is_writable old 0)
     → EndsBadly told ends old new f → IsMetThere terms ends old new f
-ends_met told ends can (changed some same) = λ x holds. fewer_came (least_of ends) x (omega (arith, some, holds.missing))
+ends_met told ends can (changed some same) = λ x holds. fewer_came (least_of ends) x (omega arith)
 ends_met told ends can (stopped f stops) = met told ends (λ means. means.closing) _ (EndsThere terms ends) (λ never. absurd (false≢true never)) can stops
 
 -- what a call owes for its result, from what the call within it gave
@@ -277,7 +277,7 @@ took_in (FromNth count front) {x} fresh none silent = record {
 }
 took_in ends {x} fresh none silent = rw silent (record {
   same = refl;
-  size = omega (arith, none);
+  size = omega arith;
   holds = fresh;
   ready = λ slots is. is;
   owns = λ first slots is. is;
@@ -312,7 +312,7 @@ first_within delim unit n x = omega (arith, sym (length-append (first_of delim u
 first_measures : (delim : ℕ) (unit : Counted) (n : ℕ) (x : List ℕ) → n ≤ measure delim unit x
     → n ≤ measure delim unit (first_of delim unit n x)
 first_measures delim Lines n x full = omega (arith, delimiters-first_lines delim n x full)
-first_measures delim Bytes n x full = omega (arith, length-take n x, full)
+first_measures delim Bytes n x full = omega (arith, length-take n x)
 
 -- of n lines or bytes the last byte is needed
 last_needed : (delim : ℕ) (unit : Counted) (n : ℕ) {k : ℕ} {used : List ℕ} → length used ≡ suc k
@@ -324,7 +324,6 @@ last_needed delim unit n {k} {used} long again = elim (cases_lt (measure delim u
     ap length (sym again ∙ ap (first_of delim unit n) (sym (take-append-drop k used)) ∙ first_of-full delim unit n (take k used) (drop k used) full),
     first_within delim unit n (take k used),
     length-take k used,
-    long,
   ))
 ]
 
@@ -335,7 +334,7 @@ needed_by delim unit n (suc k) {used} long again = inr (
   take k used,
   drop k used,
   sym (take-append-drop k used),
-  omega (arith, length-drop k used, long),
+  omega (arith, length-drop k used),
   lt-leb n (measure delim unit (take k used)) (last_needed delim unit n long again),
 )
 
@@ -370,7 +369,7 @@ needed_whole delim unit n (inr (before, piece, is, few, going)) = ap (first_of d
   with_piece : (piece : List ℕ) → length piece ≤ 1 → first_of delim unit n (before ++ piece) ≡ before ++ piece
   with_piece [] few = ap (first_of delim unit n) (append-nil before) ∙ first_of-short delim unit n short ∙ sym (append-nil before)
   with_piece (byte ∷ []) few = first_of-more delim unit n before byte short
-  with_piece (byte ∷ next ∷ piece) few = absurd (omega (arith, few))
+  with_piece (byte ∷ next ∷ piece) few = absurd (omega arith)
 
 pub written_used : (delim : ℕ) (unit : Counted) (n : ℕ) {used rest : List ℕ}
     → IsNeeded (head_work delim unit false n).is_complete 1 used
@@ -412,14 +411,14 @@ goes_past delim x piece used rest is more = elim (cases_lt (length x) (length us
   | inr short ↦
       let front : used ≡ take (length used) x = sym (take_at used rest (length used) refl) ∙ ap (take (length used)) (sym is)
       ∙ take-append-le (length used) x piece short in
-      absurd (omega (arith, more, ap (delimiters delim) front, delimiters-take-le delim (length used) x))
+      absurd (omega (arith, ap (delimiters delim) front, delimiters-take-le delim (length used) x))
 ]
 
 few_between : (delim : ℕ) (x piece used rest : List ℕ) → x ++ piece ≡ used ++ rest → length x < length used
     → delimiters delim used + length x ≤ delimiters delim x + length used
 few_between delim x piece used rest is past =
     let all : take (length x + (length used - length x)) (x ++ piece) ≡ used
-    = ap (λ k. take k (x ++ piece)) (omega (arith, past)) ∙ ap (take (length used)) is ∙ take_at used rest (length used) refl in
+    = ap (λ k. take k (x ++ piece)) (omega arith) ∙ ap (take (length used)) is ∙ take_at used rest (length used) refl in
     omega (
       arith,
       delimiters-take-add delim (length x) (length used - length x) (x ++ piece),
@@ -427,7 +426,6 @@ few_between delim x piece used rest is past =
       ap (delimiters delim) (take_at x piece (length x) refl),
       delimiters-le-length delim (take (length used - length x) (drop (length x) (x ++ piece))),
       length-take (length used - length x) (drop (length x) (x ++ piece)),
-      past,
     )
 
 few_spare : (delim : ℕ) (unit : Counted) (count : ℕ) {left n : ℕ} (x piece : List ℕ) {work : Work}
@@ -435,15 +433,15 @@ few_spare : (delim : ℕ) (unit : Counted) (count : ℕ) {left n : ℕ} (x piece
     → count ≤ measure delim unit spare.used
     → length piece ≤ piece_for unit left → n ≤ ahead_of unit
 few_spare delim Bytes count x piece spare is going enough within =
-    omega (arith, is, going, enough, within, spare.long, sym (length-append x piece) ∙ ap length spare.joined ∙ length-append spare.used spare.rest)
+    omega (arith, sym (length-append x piece) ∙ ap length spare.joined ∙ length-append spare.used spare.rest)
 few_spare delim Lines count x piece spare is going enough within =
-    let past = goes_past delim x piece spare.used spare.rest spare.joined (omega (arith, going, enough)) in
+    let past = goes_past delim x piece spare.used spare.rest spare.joined (omega arith) in
     let few = few_between delim x piece spare.used spare.rest spare.joined past in
-    omega (arith, is, going, enough, within, past, few, spare.long, sym (length-append x piece) ∙ ap length spare.joined ∙ length-append spare.used spare.rest)
+    omega (arith, sym (length-append x piece) ∙ ap length spare.joined ∙ length-append spare.used spare.rest)
 
 pub may_get : (ends : Ends) → MayGet terms ends (wanted_by ends)
 may_get (First count front) x piece after n holds going within same later spare = elim spare.enough [
-  | inl none ↦ omega (arith, spare.long, ap length none)
+  | inl none ↦ omega (arith, ap length none)
   | inr complete ↦ few_spare front.delim front.unit count x piece spare (holds.left refl) (leb-false count (measure front.delim front.unit x) going) (leb-true count (measure front.delim front.unit spare.used) complete) within
 ]
 may_get ends x piece after n holds going within same later spare = grind (arith, common_steps)

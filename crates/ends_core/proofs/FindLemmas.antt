@@ -43,7 +43,7 @@ lines_and_last delim [] last = search rules
 lines_and_last delim (byte ∷ x) last = count_step (byte == delim) byte (delimiters delim x) (lines_of delim (x ++ last ∷ [])) (lines_and_last delim x last)
 
 lines_and_one : (delim : ℕ) (x y : List ℕ) → length y ≡ 1 → line_count delim (x ++ y) ≡ delimiters delim x + 1
-lines_and_one delim x [] one = omega (arith, one)
+lines_and_one delim x [] one = omega arith
 lines_and_one delim x (last ∷ []) one = lines_and_last delim x last
 lines_and_one delim x (last ∷ next ∷ y) one = cc
 
@@ -71,7 +71,7 @@ pub begins_last : {delim n at : ℕ} (x : List ℕ) → 0 < length x → BeginsA
 begins_last {delim} {n} {at} x some begins =
     let shorter = but_one_shorter x some in
     let within : at ≤ length (but_one x) = begins.within in
-    let front : take at (but_one x) ≡ take at x = take-take at (length x - 1) x (omega (arith, within, shorter)) in
+    let front : take at (but_one x) ≡ take at x = take-take at (length x - 1) x (omega arith) in
     let rest : drop at x ≡ drop at (but_one x) ++ drop (length x - 1) x = ap (drop at) (sym (take-append-drop (length x - 1) x)) ∙ drop-append-le at (but_one x) (drop (length x - 1) x) within in
     let count : line_count delim (drop at x) ≡ n = ap (line_count delim) rest ∙ lines_and_one delim (drop at (but_one x)) (drop (length x - 1) x) (one_left x some) ∙ begins.counted in
     last_are delim (take at x) (ap (ends_with delim) (sym front) ∙ begins.after) count ∙ ap (last_lines delim n) (take-append-drop at x)
@@ -81,7 +81,7 @@ pub few_last : (delim : ℕ) {n : ℕ} (x : List ℕ) → delimiters delim (but_
 few_last delim {n} [] few = grind (arith, common_steps)
 few_last delim {n} (byte ∷ x) few =
     let count = all_lines delim (byte ∷ x) (omega arith) in
-    let none : line_count delim (byte ∷ x) - n ≡ 0 = omega (arith, count, few) in
+    let none : line_count delim (byte ∷ x) - n ≡ 0 = omega arith in
     sym (ap (λ k. after_lines delim k (byte ∷ x)) none ∙ joined-lines_of delim (byte ∷ x))
 
 -- a block of the text is one of the text without its last byte
@@ -89,8 +89,8 @@ block_of : (x : List ℕ) (from size : ℕ) → from + size ≤ length x - 1
     → take size (drop from x) ≡ take size (drop from (but_one x))
 block_of x from size within =
     let more = length x - 1 - from in
-    let all : from + more ≡ length x - 1 = omega (arith, within) in
-    sym (ap (λ k. take size (drop from (take k x))) (sym all) ∙ ap (take size) (drop-take from more x) ∙ take-take size more (drop from x) (omega (arith, within)))
+    let all : from + more ≡ length x - 1 = omega arith in
+    sym (ap (λ k. take size (drop from (take k x))) (sym all) ∙ ap (take size) (drop-take from more x) ∙ take-take size more (drop from x) (omega arith))
 
 pub block_then : (y : List ℕ) (from size : ℕ) → drop from y ≡ take size (drop from y) ++ drop (from + size) y
 block_then y from size = sym (take-append-drop size (drop from y)) ∙ ap (λ rest. take size (drop from y) ++ rest) (drop-drop size from y)
@@ -105,18 +105,18 @@ pub wanted_before : {delim count wanted end : ℕ} (from size : ℕ) {found : �
     → FallsShort delim wanted block found
     → IsWanted delim count (wanted - found) from x
 wanted_before {delim} {end} from size x {block} is place within are short =
-    let here : block ≡ take size (drop from (but_one x)) = are ∙ block_of x from size (omega (arith, place, within)) in
+    let here : block ≡ take size (drop from (but_one x)) = are ∙ block_of x from size (omega arith) in
     let all : delimiters delim (drop from (but_one x)) ≡ delimiters delim block + delimiters delim (drop end (but_one x)) =
     ap (delimiters delim) (block_then (but_one x) from size) ∙ delimiters-append delim (take size (drop from (but_one x))) (drop (from + size) (but_one x))
     ∙ ap (λ those. delimiters delim those + delimiters delim (drop (from + size) (but_one x))) (sym here) ∙ ap (λ k. delimiters delim block + delimiters delim (drop k (but_one x))) place in
-    let counted = short.counted in let fewer = short.fewer in omega (arith, is, all, counted, fewer)
+    let counted = short.counted in let fewer = short.fewer in omega arith
 
 -- the wanted one stands in the block
 pub begins_in : {delim count wanted end : ℕ} (from size : ℕ) {at : ℕ} (x : List ℕ) {block : List ℕ}
     → IsWanted delim count wanted end x → from + size ≡ end → end ≤ length x - 1 → block ≡ take size (drop from x)
     → BeginsAt delim wanted block at → BeginsAt delim count (but_one x) (from + at)
 begins_in {delim} {end} from size {at} x {block} is place within are begins =
-    let here : block ≡ take size (drop from (but_one x)) = are ∙ block_of x from size (omega (arith, place, within)) in
+    let here : block ≡ take size (drop from (but_one x)) = are ∙ block_of x from size (omega arith) in
     let all : drop from (but_one x) ≡ block ++ drop end (but_one x) = block_then (but_one x) from size ∙ ap (λ those. those ++ drop (from + size) (but_one x)) (sym here) ∙ ap (λ k. block ++ drop k (but_one x)) place in
     let inner : at ≤ length block = begins.within in
     let long : length block + length (drop end (but_one x)) ≡ length (but_one x) - from = sym (ap length all ∙ length-append block (drop end (but_one x))) ∙ length-drop from (but_one x) in
@@ -127,14 +127,14 @@ begins_in {delim} {end} from size {at} x {block} is place within are begins =
     let taken : length (take at block) ≡ min at (length block) = length-take at block in
     let after : delimiters delim (drop (from + at) (but_one x)) ≡ delimiters delim (drop at block) + delimiters delim (drop end (but_one x)) = ap (delimiters delim) rest ∙ delimiters-append delim (drop at block) (drop end (but_one x)) in
     let counted = begins.counted in record {
-      within = omega (arith, long, inner, some, taken);
+      within = omega arith;
       after = ap (ends_with delim) front ∙ ends_with-append delim (take from (but_one x)) (take at block) some ∙ begins.after;
-      counted = omega (arith, after, counted, is);
+      counted = omega arith;
     } where
       take_of : (at : ℕ) (block rest : List ℕ) → at ≤ length block → take at (block ++ rest) ≡ take at block
       take_of zero block rest few = refl
-      take_of (suc at) [] rest few = absurd (omega (arith, few))
-      take_of (suc at) (byte ∷ block) rest few = ap (λ those. byte ∷ those) (take_of at block rest (omega (arith, few)))
+      take_of (suc at) [] rest few = absurd (omega arith)
+      take_of (suc at) (byte ∷ block) rest few = ap (λ those. byte ∷ those) (take_of at block rest (omega arith))
 
 -- the walk came to the front
 pub all_wanted : (delim : ℕ) {count wanted : ℕ} (end : ℕ) {x : List ℕ} → IsWanted delim count wanted end x → end ≡ 0
@@ -148,7 +148,7 @@ pub looked_block : {most slot : ℕ} (size : ℕ) (buffer : List ℕ) {old mid n
     → HasLooked most slot old mid → IsTrue (is_readable old slot) → length buffer ≤ most
     → new ≡ changed_at slot (looks (length (take size buffer))) mid
     → HasLooked most slot old new
-looked_block {most} size buffer so_far can few is = looked_again {least = most} so_far (looked_once (looked_readable so_far can) (omega (arith, few, length-take size buffer)) is) (omega arith)
+looked_block {most} size buffer so_far can few is = looked_again {least = most} so_far (looked_once (looked_readable so_far can) (omega (arith, length-take size buffer)) is) (omega arith)
 
 -- What is known of the text that an input shows, of which its end was looked at from a place on: this number of delimiters is
 -- still wanted before it. Where inputs don't tell their bytes, any text with that end is one that it may show.
@@ -172,7 +172,7 @@ seen_none told {left} delim count {len} counted =
       text = text.0;
       shown = text.1;
       long = text.2;
-      still = omega (arith, ap (delimiters delim) (drop_all (len - 1) (but_one text.0) (omega (arith, text.2, length-take (length text.0 - 1) text.0))));
+      still = omega (arith, ap (delimiters delim) (drop_all (len - 1) (but_one text.0) (omega (arith, length-take (length text.0 - 1) text.0))));
     }
 
 -- texts that are as long and the same from a place on are so without their last byte
@@ -180,8 +180,8 @@ but_one_end : {k : ℕ} (x y : List ℕ) → k ≤ length x - 1 → drop k x ≡
     → drop k (but_one x) ≡ drop k (but_one y)
 but_one_end {k} x y within same also =
     let more = length x - 1 - k in
-    ap (λ n. drop k (take n x)) (omega (arith, within)) ∙ drop-take k more x ∙ ap (take more) same ∙ sym (drop-take k more y)
-    ∙ ap (λ n. drop k (take n y)) (omega (arith, within, also))
+    ap (λ n. drop k (take n x)) (omega arith) ∙ drop-take k more x ∙ ap (take more) same ∙ sym (drop-take k more y)
+    ∙ ap (λ n. drop k (take n y)) (omega arith)
 
 -- a look shows a block of the text
 pub block_seen : (told : Bool) {left : Content} {delim count wanted end len : ℕ} (from size : ℕ) {block : List ℕ}
@@ -195,15 +195,15 @@ block_seen true from size {block} seen place within long shows =
     (seen, subst (λ those. block ≡ take (length block) (drop from those)) same there ∙ ap (λ n. take n (drop from seen.text)) long)
 block_seen false {left} {delim} {wanted = wanted} {end} {len} from size {block} seen place within long shows =
     let text = take from seen.text ++ (block ++ drop end seen.text) in
-    let front : length (take from seen.text) ≡ from = omega (arith, length-take from seen.text, seen.long, place, within) in
-    let all : length text ≡ len = omega (arith, length-append (take from seen.text) (block ++ drop end seen.text), length-append block (drop end seen.text), front, long, length-drop end seen.text, seen.long, place, within) in
+    let front : length (take from seen.text) ≡ from = omega (arith, length-take from seen.text) in
+    let all : length text ≡ len = omega (arith, length-append (take from seen.text) (block ++ drop end seen.text), length-append block (drop end seen.text), length-drop end seen.text) in
     let from_there : drop from text ≡ block ++ drop end seen.text = drop_at (take from seen.text) (block ++ drop end seen.text) from front in
     let rest : drop end text ≡ drop end seen.text = ap (λ k. drop k text) (sym place) ∙ sym (drop-drop size from text) ∙ ap (drop size) from_there ∙ drop_at block (drop end seen.text) size long in (
       record {
         text = text;
         shown = λ never. absurd (false≢true never);
         long = sym all;
-        still = seen.still ∙ ap (λ those. wanted + delimiters delim those) (but_one_end seen.text text (omega (arith, within, seen.long)) (sym rest) (sym seen.long ∙ sym all));
+        still = seen.still ∙ ap (λ those. wanted + delimiters delim those) (but_one_end seen.text text (omega arith) (sym rest) (sym seen.long ∙ sym all));
       },
       sym (ap (take size) from_there ∙ take_at block (drop end seen.text) size long),
     )
@@ -211,7 +211,7 @@ block_seen false {left} {delim} {wanted = wanted} {end} {len} from size {block} 
 -- where a part that is so long begins
 place_is : (delim : ℕ) (unit : Counted) (n : ℕ) {at : ℕ} (text : List ℕ) → at ≤ length text
     → drop at text ≡ last_of delim unit n text → at ≡ place_of delim unit n text
-place_is delim unit n {at} text within is = omega (arith, within, sym (ap length is) ∙ length-drop at text)
+place_is delim unit n {at} text within is = omega (arith, sym (ap length is) ∙ length-drop at text)
 
 module _ {told : Bool} {left : Content} {delim count wanted end len : ℕ} where
   -- the wanted delimiter stands in a block
@@ -222,11 +222,11 @@ module _ {told : Bool} {left : Content} {delim count wanted end len : ℕ} where
       let now = block_seen told from size seen place within long shows in
       let text = now.0.text in
       let many = now.0.long in
-      let there = begins_in from size text now.0.still place (omega (arith, within, many)) now.1 begins in
+      let there = begins_in from size text now.0.still place (omega arith) now.1 begins in
       let inside = there.within in record {
         text = text;
         shown = now.0.shown;
-        place = place_is delim Lines count text (omega (arith, inside, length-take (length text - 1) text)) (begins_last text (omega (arith, many, some, within)) there);
+        place = place_is delim Lines count text (omega (arith, length-take (length text - 1) text)) (begins_last text (omega arith) there);
         len = many;
       }
 
@@ -240,7 +240,7 @@ module _ {told : Bool} {left : Content} {delim count wanted end len : ℕ} where
         text = now.0.text;
         shown = now.0.shown;
         long = many;
-        still = wanted_before from size now.0.text now.0.still place (omega (arith, within, many)) now.1 short;
+        still = wanted_before from size now.0.text now.0.still place (omega arith) now.1 short;
       }
 
   -- the walk came to the front: all lines are among the last
@@ -261,7 +261,7 @@ found_none told {left} delim {count} none counted =
     let text = text_shown told left.shown counted in record {
       text = text.0;
       shown = text.1;
-      place = omega (arith, text.2, none_last delim Lines text.0, ap (λ n. length (last_of delim Lines n text.0)) none);
+      place = omega (arith, none_last delim Lines text.0, ap (λ n. length (last_of delim Lines n text.0)) none);
       len = text.2;
     }
 
@@ -273,6 +273,6 @@ found_bytes told {left} delim count {len} counted =
     let text = text_shown told left.shown counted in record {
       text = text.0;
       shown = text.1;
-      place = omega (arith, text.2, length-drop (length text.0 - count) text.0);
+      place = omega (arith, length-drop (length text.0 - count) text.0);
       len = text.2;
     }

@@ -47,7 +47,7 @@ enough_came zero x enough = refl
 enough_came (suc n) x enough = grind (arith, common_steps, le-ltb)
 
 pub fewer_came : (n : ℕ) (x : List ℕ) → length x < n → changed_below n x ≡ Some Changed
-fewer_came zero x few = absurd (omega (arith, few))
+fewer_came zero x few = absurd (omega arith)
 fewer_came (suc n) x few = grind (arith, common_steps, lt-ltb)
 
 -- there are no more lines than bytes
@@ -60,7 +60,7 @@ pub complete_came : (delim : ℕ) (unit : Counted) {least n : ℕ} (x : List ℕ
     → nat_le n (measure delim unit x) ≡ true → changed_below least x ≡ None
 complete_came delim unit {least} {n} x within full =
     let all = leb-true n (measure delim unit x) full in
-    enough_came least x (omega (arith, within, all, measure-le-length delim unit x))
+    enough_came least x (omega (arith, measure-le-length delim unit x))
 
 -- so what its input has changed below stays as it is
 came_stays : (delim : ℕ) (unit : Counted) {least n : ℕ} (x y : List ℕ) → least ≤ n

@@ -9,8 +9,8 @@ returns-then-count-eq0-clause-found g c = found_none g.I.Inputs.told c.args.deli
 pub loop-end-init : goal.loop-end-init
 loop-end-init g c = record {
   seen = rw c.saturating_sub-end.ensures (seen_none g.I.Inputs.told c.args.delim c.args.count c.requires.shown);
-  some = omega (arith, c.if-count-eq0.false);
-  within = omega (arith, c.saturating_sub-end.ensures);
+  some = omega arith;
+  within = omega arith;
   looked = looked_none _ _ _;
   laid = refl;
   room = c.requires.room;
@@ -25,8 +25,8 @@ pub returns-in-Begins-clause-found : goal.returns-in-Begins-clause-found
 returns-in-Begins-clause-found g c =
     let so_far = c.loop-end.invariant in
     let few = c.min-size.ensures in
-    found_in (c.loop-end.end - c.min-size.result) c.min-size.result so_far.seen (omega (arith, few)) c.loop-end-test.true so_far.within
-    (omega (arith, c.read_at.auto.buffer, few, length-take c.min-size.result c.loop-end.buffer))
+    found_in (c.loop-end.end - c.min-size.result) c.min-size.result so_far.seen (omega arith) c.loop-end-test.true so_far.within
+    (omega (arith, length-take c.min-size.result c.loop-end.buffer))
     (λ told. rw (← (ap (λ (source : Source). source.left) so_far.looked.looked)) (c.read_at.ensures.shows c.if-not-read_at.false told)) c.in-Begins.ensures
 
 pub returns-in-Begins-clause-looked : goal.returns-in-Begins-clause-looked
@@ -39,20 +39,20 @@ loop-end-preserved g c =
     let few = c.min-size.ensures in
     let more = c.loop-end-test.true in
     let room = so_far.room in
-    let long : length c.read_at.new.buffer ≡ c.min-size.result = omega (arith, c.read_at.auto.buffer, few, length-take c.min-size.result c.loop-end.buffer) in
+    let long : length c.read_at.new.buffer ≡ c.min-size.result = omega (arith, length-take c.min-size.result c.loop-end.buffer) in
     let all = length-append c.read_at.new.buffer (drop c.min-size.result c.loop-end.buffer) in record {
-      seen = seen_more (c.loop-end.end - c.min-size.result) c.min-size.result so_far.seen (omega (arith, few)) so_far.within long
+      seen = seen_more (c.loop-end.end - c.min-size.result) c.min-size.result so_far.seen (omega arith) so_far.within long
           (λ told. rw (← (ap (λ (source : Source). source.left) so_far.looked.looked)) (c.read_at.ensures.shows c.if-not-read_at.false told)) c.in-Short.ensures;
-      some = let fewer = c.in-Short.ensures.fewer in omega (arith, fewer);
-      within = omega (arith, so_far.within);
+      some = let fewer = c.in-Short.ensures.fewer in omega arith;
+      within = omega arith;
       looked = looked_block c.min-size.result c.loop-end.buffer so_far.looked c.requires.input so_far.size c.read_at.ensures.rest;
       laid = c.read_at.ensures.kept ∙ so_far.laid;
-      room = omega (arith, all, long, few, more, room);
-      size = omega (arith, all, long, few, so_far.size, length-drop c.min-size.result c.loop-end.buffer);
+      room = omega arith;
+      size = omega (arith, length-drop c.min-size.result c.loop-end.buffer);
     }
 
 pub returns-clause-found : goal.returns-clause-found
 returns-clause-found g c =
     let so_far = c.loop-end.invariant in
     let front = c.loop-end-test.false in
-    found_all so_far.seen (omega (arith, front)) so_far.some
+    found_all so_far.seen (omega arith) so_far.some

@@ -13,4 +13,4 @@ returns-then-not-pass_over-clause-passes g c = rw (← c.shown.ensures.same) (pa
 
 pub returns-clause-passes : goal.returns-clause-passes
 returns-clause-passes g c = rw (← c.shown.ensures.same, c.saturating_sub-self.ensures) (passes_so _ (passes_by _ c.pass_over.result c.if-not-pass_over.false c.pass_over.ensures.passes)
-    (λ x long so. fewer_left c.args.self.now c.min-count.result x (omega (arith, c.min-count.ensures)) (sym long)))
+    (λ x long so. fewer_left c.args.self.now c.min-count.result x (omega arith) (sym long)))
