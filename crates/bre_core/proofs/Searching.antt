@@ -18,26 +18,26 @@ use borrow.Author.Tests.{ltb-true}
 pub parts_stay : (Part : ℕ → ℕ → Type 0) (places : ℕ)
     → ((from to : ℕ) → from ≤ places → Part from to → (from ≤ to) × (to ≤ places)) → (count from to : ℕ) → from ≤ places
     → Parts Part count from to → (from ≤ to) × (to ≤ places)
-parts_stay Part places stay zero from to h p = (omega (arith, p), omega (arith, p, h))
+parts_stay Part places stay zero from to h p = (omega arith, omega arith)
 parts_stay Part places stay (suc count) from to h p =
     let one = parts_stay Part places stay count from p.0 h p.1 in
     let other = stay p.0 to one.1 p.2 in
-    (omega (arith, one.0, other.0), other.1)
+    (omega arith, other.1)
 
 mutual
   pub stays : (pattern : Pattern) (line : List ℕ) (from to : ℕ) → from ≤ length line → Matches pattern line from to
       → (from ≤ to) × (to ≤ length line)
-  stays nothing line from to h m = (omega (arith, m), omega (arith, m, h))
+  stays nothing line from to h m = (omega arith, omega arith)
   stays (append pattern item) line from to h m =
       let one = stays pattern line from m.0 h m.1 in
       let other = item_stays item line m.0 to one.1 m.2 in
-      (omega (arith, one.0, other.0), other.1)
+      (omega arith, other.1)
 
   pub item_stays : (item : Item) (line : List ℕ) (from to : ℕ) → from ≤ length line → MatchesItem item line from to
       → (from ≤ to) × (to ≤ length line)
-  item_stays (set bytes) line from to h m = (omega (arith, m.0), omega (arith, m.0, m.1))
-  item_stays front line from to h m = (omega (arith, m.0), omega (arith, m.1))
-  item_stays end line from to h m = (omega (arith, m.0, m.1), omega (arith, m.1))
+  item_stays (set bytes) line from to h m = (omega arith, omega arith)
+  item_stays front line from to h m = (omega arith, omega arith)
+  item_stays end line from to h m = (omega arith, omega arith)
   item_stays (group pattern) line from to h m = stays pattern line from to h m
   item_stays (repeat item low high) line from to h m =
       parts_stay (MatchesItem item line) (length line) (λ f t k p. item_stays item line f t k p) m.0 from to h m.3
@@ -50,15 +50,15 @@ any_found (suc bound) test e = side (λ f. any_found bound test f) (or_cases (an
     side : (any_below bound test ≡ true → (number : ℕ) × (number < bound) × (test number ≡ true))
         → (any_below bound test ≡ true) ⊎ (test bound ≡ true)
         → (number : ℕ) × (number < suc bound) × (test number ≡ true)
-    side before (inl f) = let n = before f in (n.0, omega (arith, n.1), n.2)
+    side before (inl f) = let n = before f in (n.0, omega arith, n.2)
     side before (inr f) = (bound, omega arith, f)
 
 any_there : (bound : ℕ) (test : ℕ → Bool) (number : ℕ) → number < bound → test number ≡ true
     → any_below bound test ≡ true
-any_there zero test number h e = absurd (omega (arith, h))
+any_there zero test number h e = absurd (omega arith)
 any_there (suc bound) test number h e = elim (cases_eq number bound) [
   | inl same ↦ or_right (any_below bound test) (test bound) (ap test (sym same) ∙ e)
-  | inr other ↦ or_left (any_below bound test) (test bound) (any_there bound test number (omega (arith, h, other)) e)
+  | inr other ↦ or_left (any_below bound test) (test bound) (any_there bound test number (omega arith) e)
 ]
 
 -- a truth value of two places that says what a relation says
@@ -69,8 +69,8 @@ record Tells (test : ℕ → ℕ → Bool) (Kind : ℕ → ℕ → Type 0) : Typ
 
 parts_forward : (Kind : ℕ → ℕ → Type 0) → ((from to : ℕ) → Kind from to → from ≤ to) → (count from to : ℕ)
     → Parts Kind count from to → from ≤ to
-parts_forward Kind f zero from to p = omega (arith, p)
-parts_forward Kind f (suc count) from to p = let one = parts_forward Kind f count from p.0 p.1 in let other = f p.0 to p.2 in omega (arith, one, other)
+parts_forward Kind f zero from to p = omega arith
+parts_forward Kind f (suc count) from to p = let one = parts_forward Kind f count from p.0 p.1 in let other = f p.0 to p.2 in omega arith
 
 parts_tell : {test : ℕ → ℕ → Bool} (Kind : ℕ → ℕ → Type 0) → Tells test Kind → (count : ℕ)
     → Tells (has_parts test count) (Parts Kind count)
@@ -82,7 +82,7 @@ parts_tell {test} Kind t (suc count) = let before = parts_tell Kind t count in r
       (found.0, before.yes from found.0 both.0, t.yes found.0 to both.1);
   no = λ from to p.
       let small = t.forward p.0 to p.2 in
-      any_there (suc to) (λ middle. has_parts test count from middle && test middle to) p.0 (omega (arith, small))
+      any_there (suc to) (λ middle. has_parts test count from middle && test middle to) p.0 (omega arith)
       (and_from (has_parts test count from p.0) (test p.0 to) (before.no from p.0 p.1) (t.no p.0 to p.2));
   forward = λ from to p. parts_forward Kind t.forward (suc count) from to p;
 }
@@ -90,15 +90,15 @@ parts_tell {test} Kind t (suc count) = let before = parts_tell Kind t count in r
 -- among more parts than the stretch is long there is an empty one, which can go
 fewer : (Kind : ℕ → ℕ → Type 0) → ((from to : ℕ) → Kind from to → from ≤ to) → (count from to : ℕ) → to ≤ from + count
     → Parts Kind (suc count) from to → Parts Kind count from to
-fewer Kind f zero from to h p = let first : from ≡ p.0 = p.1 in let step = f p.0 to p.2 in let e : from ≡ to = omega (arith, first, step, h) in e
+fewer Kind f zero from to h p = let first : from ≡ p.0 = p.1 in let step = f p.0 to p.2 in let e : from ≡ to = omega arith in e
 fewer Kind f (suc count) from to h p = elim (cases_eq p.0 to) [
   | inl same ↦ subst (λ m. Parts Kind (suc count) from m) same p.1
-  | inr other ↦ let step = f p.0 to p.2 in (p.0, fewer Kind f count from p.0 (omega (arith, h, step, other)) p.1, p.2)
+  | inr other ↦ let step = f p.0 to p.2 in (p.0, fewer Kind f count from p.0 (omega arith) p.1, p.2)
 ]
 
 at_most_less : (high : Option ℕ) (count : ℕ) → IsAtMost high (suc count) → IsAtMost high count
 at_most_less None count h = tt
-at_most_less (Some high) count h = omega (arith, h)
+at_most_less (Some high) count h = omega arith
 
 few_parts : (Kind : ℕ → ℕ → Type 0) → ((from to : ℕ) → Kind from to → from ≤ to)
     → (low : ℕ) (high : Option ℕ) (count from to : ℕ) → low ≤ count → IsAtMost high count → Parts Kind count from to
@@ -106,7 +106,7 @@ few_parts : (Kind : ℕ → ℕ → Type 0) → ((from to : ℕ) → Kind from t
 few_parts Kind f low high zero from to l h p = (0, omega arith, l, h, p)
 few_parts Kind f low high (suc count) from to l h p = elim (cases_lt (suc count) (suc (low + to))) [
   | inl small ↦ (suc count, small, l, h, p)
-  | inr large ↦ few_parts Kind f low high count from to (omega (arith, large)) (at_most_less high count h) (fewer Kind f count from to (omega (arith, large)) p)
+  | inr large ↦ few_parts Kind f low high count from to (omega arith) (at_most_less high count h) (fewer Kind f count from to (omega arith) p)
 ]
 
 at_most_tells : (high : Option ℕ) (count : ℕ) → (is_at_most high count ≡ true) ↔ IsAtMost high count
@@ -123,9 +123,9 @@ mutual
         (found.0, one.yes from found.0 both.0, other.yes found.0 to both.1);
     no = λ from to m.
         let small = other.forward m.0 to m.2 in
-        any_there (suc to) (λ middle. matches pattern line from middle && matches_item item line middle to) m.0 (omega (arith, small))
+        any_there (suc to) (λ middle. matches pattern line from middle && matches_item item line middle to) m.0 (omega arith)
         (and_from (matches pattern line from m.0) (matches_item item line m.0 to) (one.no from m.0 m.1) (other.no m.0 to m.2));
-    forward = λ from to m. let first = one.forward from m.0 m.1 in let second = other.forward m.0 to m.2 in omega (arith, first, second);
+    forward = λ from to m. let first = one.forward from m.0 m.1 in let second = other.forward m.0 to m.2 in omega arith;
   }
 
   item_tells : (item : Item) (line : List ℕ) → Tells (matches_item item line) (MatchesItem item line)
@@ -151,9 +151,9 @@ contains_tells pattern line = let t = tells pattern line in (
   λ e.
       let to = any_found (suc (length line)) (λ to. any_below (suc to) (λ from. matches pattern line from to)) e in
       let from = any_found (suc to.0) (λ from. matches pattern line from to.0) to.2 in
-      (from.0, to.0, omega (arith, from.1), omega (arith, to.1), t.yes from.0 to.0 from.2),
-  λ c. any_there (suc (length line)) (λ to. any_below (suc to) (λ from. matches pattern line from to)) c.1 (omega (arith, c.3))
-      (any_there (suc c.1) (λ from. matches pattern line from c.1) c.0 (omega (arith, c.2)) (t.no c.0 c.1 c.4)),
+      (from.0, to.0, omega arith, omega arith, t.yes from.0 to.0 from.2),
+  λ c. any_there (suc (length line)) (λ to. any_below (suc to) (λ from. matches pattern line from to)) c.1 (omega arith)
+      (any_there (suc c.1) (λ from. matches pattern line from c.1) c.0 (omega arith) (t.no c.0 c.1 c.4)),
 )
 
 -- two truth values of one fact are the same

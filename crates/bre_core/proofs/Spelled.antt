@@ -108,7 +108,7 @@ number_found {text} number {rest} e =
     let found = cond_some _ (number_from 0 text) (number, rest) e in
     let tests = and_parts (begins_with_digit text) (nat_le (number_from 0 text).0 255) found.0 in
     let within = leb-true (number_from 0 text).0 255 tests.1 in
-    front_some text number tests.0 found.1 (omega (arith, within, ap (λ f. f.0) found.1))
+    front_some text number tests.0 found.1 (omega (arith, ap (λ f. f.0) found.1))
 
 closed : (text : List ℕ) {rest : List ℕ} → after_close text ≡ Some rest → text ≡ close rest
 closed (byte ∷ brace ∷ text) {rest} e = search rules

@@ -66,9 +66,9 @@ module _ (shown : Option (List ℕ)) (why : Reason) where
       ≡ gives size n (seen_as bytes given breaks_off is_open is_broken asked reached last ended reads)
   read_on bytes given n size {most} {now} reached asked last breaks_off is_open is_broken ended {ends} reads {count} within greatest is ending once =
       goes_on bytes given n now most n count breaks_off is_open is_broken ends ∙ ap (λ asks. record (skips n (seen_as bytes given breaks_off is_open is_broken asks now n ends count)) { last = n }) greatest
-      ∙ ap (λ those. record (skips n (seen_as bytes given breaks_off is_open is_broken (max asked size) now n ends count)) { last = those }) (sym (omega (arith, within, length-take n (drop given bytes), length-drop given bytes)))
+      ∙ ap (λ those. record (skips n (seen_as bytes given breaks_off is_open is_broken (max asked size) now n ends count)) { last = those }) (sym (omega (arith, length-take n (drop given bytes), length-drop given bytes)))
       ∙ ap (λ far. record (gives size n (seen_as bytes given breaks_off is_open is_broken asked reached last ended reads)) { reached = far; ended = ends; reads = count })
-      (is ∙ ap (max reached) (sym (ap length (sym (both_taken bytes given n)) ∙ omega (arith, within, length-take (given + n) bytes))))
+      (is ∙ ap (max reached) (sym (ap length (sym (both_taken bytes given n)) ∙ omega (arith, length-take (given + n) bytes))))
       ∙ ap (λ ends. record (gives size n (seen_as bytes given breaks_off is_open is_broken asked reached last ended reads)) { ended = ends; reads = count }) ending
       ∙ ap (λ count. record (gives size n (seen_as bytes given breaks_off is_open is_broken asked reached last ended reads)) { reads = count }) once
 
@@ -77,7 +77,7 @@ module _ (shown : Option (List ℕ)) (why : Reason) where
       → seen_as bytes (given - n) breaks_off is_open is_broken asked reached (last - n) ended reads
       ≡ gets_back n (seen_as bytes given breaks_off is_open is_broken asked reached last ended reads)
   set_back bytes given n reached asked last reads breaks_off is_open is_broken ended within few =
-      let at : length (take given bytes) - n ≡ given - n = omega (arith, within, length-take given bytes) in
+      let at : length (take given bytes) - n ≡ given - n = omega (arith, length-take given bytes) in
       let joined : drop (given - n) (take given bytes) ++ drop given bytes ≡ drop (given - n) bytes = between bytes (given - n) given (omega arith) in
       ap (set_to (take (given - n) bytes)) (sym joined)
       ∙ ap (λ those. set_to those (drop (given - n) (take given bytes) ++ drop given bytes)) (sym (take-take (given - n) given bytes (omega arith)))
@@ -92,7 +92,7 @@ module _ (shown : Option (List ℕ)) (why : Reason) where
         between : (bytes : List ℕ) (from given : ℕ) → from ≤ given
             → drop from (take given bytes) ++ drop given bytes ≡ drop from bytes
         between bytes from given less =
-            let more : from + (given - from) ≡ given = omega (arith, less) in
+            let more : from + (given - from) ≡ given = omega arith in
             ap (λ k. drop from (take k bytes) ++ drop k bytes) (sym more)
             ∙ ap (λ those. those ++ drop (from + (given - from)) bytes) (drop-take from (given - from) bytes)
             ∙ ap (λ those. take (given - from) (drop from bytes) ++ those) (rest_left bytes from (given - from))

@@ -147,7 +147,7 @@ pub forgives_none : {watch : MemWatchState} {worlds : List World} (turns : ℕ) 
     ≡ watch
     → seen watch ≡ [] → seen_by now within worlds turns ≡ seen watch
 forgives_none zero now is unseen = sym unseen
-forgives_none {watch} {worlds} (suc turns) {forgives} {within} now is unseen = absurd (let count : length (seen watch) ≡ suc turns = ap (λ (those : MemWatchState). length (seen those)) (sym is) ∙ length-seen forgives within worlds (suc turns) in let none = ap length unseen in omega (arith, count, none))
+forgives_none {watch} {worlds} (suc turns) {forgives} {within} now is unseen = absurd (let count : length (seen watch) ≡ suc turns = ap (λ (those : MemWatchState). length (seen those)) (sym is) ∙ length-seen forgives within worlds (suc turns) in let none = ap length unseen in omega arith)
 
 -- what is so of the files of the last turn is so of the last look
 module _ {watch : MemWatchState} {worlds : List World} (turns : ℕ) {names : List Watched} {world : World}
@@ -196,7 +196,7 @@ pub at_last : (worlds : List World) (n m : ℕ) → 0 < length worlds → m ≡ 
 at_last worlds n m some is = by (cases_lt n (length worlds)) where
   by : (n < length worlds) ⊎ (length worlds ≤ n) → world_at worlds m ≡ world_at worlds n
   by (inl within) = ap (world_at worlds) (let same : m ≡ n = grind (arith, common_steps) in same)
-  by (inr past) = world_past worlds m (grind (arith, common_steps)) ∙ sym (world_past worlds n (omega (arith, past)))
+  by (inr past) = world_past worlds m (grind (arith, common_steps)) ∙ sym (world_past worlds n (omega arith))
 
 -- the processes that are gone before the next look
 pub gone_next : {watch : MemWatchState} {worlds : List World} {turns next : ℕ} {names : List Watched} {world : World}
@@ -206,7 +206,7 @@ pub gone_next : {watch : MemWatchState} {worlds : List World} {turns next : ℕ}
     → world ≡ world_at worlds next → gone ≡ is_one process world.ended
     → gone ≡ (shows watch (length (seen watch))).lacks process
 gone_next {worlds} {turns} {next} {forgives} {within} process is inside at there gone = gone ∙ ap (λ (those : World). is_one process those.ended)
-    (there ∙ at_last worlds (turns + 1) next (omega (arith, inside)) at ∙ ap (λ n. world_at worlds (n + 1)) (sym (length-seen forgives within worlds turns)))
+    (there ∙ at_last worlds (turns + 1) next (omega arith) at ∙ ap (λ n. world_at worlds (n + 1)) (sym (length-seen forgives within worlds turns)))
     ∙ shown_lacks forgives (world_at worlds (length (seen_by forgives within worlds turns) + 1)) process
     ∙ ap (λ (those : MemWatchState). (shows those (length (seen those))).lacks process) is
 
@@ -236,4 +236,4 @@ pub holds_more : (worlds : List World) {new : List World} (world : World) (turns
     → (n < length new) × (world_at new 0 ≡ empty_world)
 holds_more worlds world turns n within empty is few =
     let longer : length (worlds ++ world ∷ []) ≡ length worlds + 1 = length-append worlds (world ∷ []) in
-    subst (λ those. (n < length those) × (world_at those 0 ≡ empty_world)) (sym is) (omega (arith, longer, within, few), world_before worlds world 0 (omega (arith, within)) ∙ empty)
+    subst (λ those. (n < length those) × (world_at those 0 ≡ empty_world)) (sym is) (omega arith, world_before worlds world 0 (omega arith) ∙ empty)

@@ -36,7 +36,7 @@ last_of last place (Some further) = Some (place + further)
 
 within_next : (count : ℕ) (here : Bool) (rest : Option ℕ) → IfSome rest (λ place. place < count)
     → IfSome (elim rest [ Some place ↦ Some (suc place) | None ↦ cond here (Some 0) None ]) (λ place. place < suc count)
-within_next count here (Some place) less = omega (arith, less)
+within_next count here (Some place) less = omega arith
 within_next count true None less = omega arith
 within_next count false None less = tt
 
@@ -136,7 +136,7 @@ stays_now depth (token ∷ tokens) stays = stays_now depth tokens stays
 
 within : {most : ℕ} (depth : ℕ) {n : ℕ} (first rest : List Token) → Stays most depth (first ++ rest)
     → depth_after depth first ≡ Some n → n ≤ most
-within depth {n} [] rest stays is = let now = stays_now depth rest stays in let e : depth ≡ n = cc in omega (arith, now, e)
+within depth {n} [] rest stays is = let now = stays_now depth rest stays in let e : depth ≡ n = cc in omega arith
 within depth (Open ∷ first) rest stays is = within (suc depth) first rest stays.1 is
 within zero (Close ∷ first) rest stays is = cc
 within (suc depth) (Close ∷ first) rest stays is = within depth first rest stays.1 is
@@ -148,7 +148,7 @@ mutual
   stays_written nothing depth tokens few stays = stays
   stays_written (append pattern item) {most} depth tokens few stays =
       subst (Stays most depth) (sym (append_assoc (written pattern) (written_item item) tokens))
-      (stays_written pattern depth (written_item item ++ tokens) (omega (arith, few)) (stays_written_item item most depth tokens (omega (arith, few)) stays))
+      (stays_written pattern depth (written_item item ++ tokens) (omega arith) (stays_written_item item most depth tokens (omega arith) stays))
 
   stays_written_item : (item : Item) (most depth : ℕ) (tokens : List Token) → depth + depth_of_item item ≤ most
       → Stays most depth tokens → Stays most depth (written_item item ++ tokens)
@@ -156,9 +156,9 @@ mutual
   stays_written_item front most depth tokens few stays = stays
   stays_written_item end most depth tokens few stays = stays
   stays_written_item (group pattern) most depth tokens few stays = (
-    omega (arith, few),
+    omega arith,
     subst (Stays most (suc depth)) (sym (append_assoc (written pattern) (Close ∷ []) tokens))
-        (stays_written pattern {most = most} (suc depth) (Close ∷ tokens) (omega (arith, few)) (omega (arith, few), stays)),
+        (stays_written pattern {most = most} (suc depth) (Close ∷ tokens) (omega arith) (omega arith, stays)),
   )
   stays_written_item (repeat item low high) most depth tokens few stays =
       subst (Stays most depth) (sym (append_assoc (written_item item) (Repeat low high ∷ []) tokens))
@@ -166,9 +166,9 @@ mutual
 
 pub read_or_too_large : {text : List ℕ} {pattern : Pattern} → IsPattern text pattern → IsTooLarge text → ⊥
 read_or_too_large {text} {pattern} is (inl large) =
-    let same = ap positions_of (one_tree_alone text pattern large.pattern is.reads large.reads) in omega (arith, same, large.positions, is.size)
+    let same = ap positions_of (one_tree_alone text pattern large.pattern is.reads large.reads) in omega arith
 read_or_too_large {text} {pattern} is (inr opens) =
     let left = left_of_way ReadsToken tokens_decided (Opening, text) (opens.context, opens.rest) (is.reads.tokens.0, []) opens.tokens (written pattern) opens.way is.reads.tokens.1 (end_stuck is.reads.tokens.0) in
-    let all : Stays 255 0 (written pattern ++ []) = stays_written pattern 0 [] (let few = is.groups in omega (arith, few)) (omega arith) in
+    let all : Stays 255 0 (written pattern ++ []) = stays_written pattern 0 [] (let few = is.groups in omega arith) (omega arith) in
     let many : 256 ≤ 255 = within 0 opens.tokens left.0 (subst (Stays 255 0) left.1 (subst (Stays 255 0) (append-nil (written pattern)) all)) opens.depth in
-    omega (arith, many)
+    omega arith

@@ -64,7 +64,7 @@ agreed_as {outputs = outputs} {whole} {x} few y begin few_come come no_more shor
     y,
     come,
     come,
-    λ front is also. (let few = beginning_short front (get_or (outputs (whole (x ++ y))) place []) is in let most = short place less in omega (arith, few, most)),
+    λ front is also. (let few = beginning_short front (get_or (outputs (whole (x ++ y))) place []) is in let most = short place less in omega arith),
   );
 }
 
@@ -74,7 +74,7 @@ pub nothing_waits : {A G : Type 0} {comes : List A → Type 0} {goes : List A �
 nothing_waits {x = x} same = record {
   before = x;
   are_last = sym (append-nil x);
-  differ = λ i past within. absurd (omega (arith, past, within));
+  differ = λ i past within. absurd (omega arith);
   decided = λ i less y z can also. same i less y z;
 }
 
@@ -120,8 +120,8 @@ pub none_before : (from i place offset : ℕ) (outputs : List (List ℕ)) → pl
     → spots_from from outputs i ≡ spot place offset ∷ [] → ⊥
 none_before from i place offset [] before is = grind (arith, common_steps)
 none_before from i place offset (bytes ∷ outputs) before is = elim (cases_lt i (length bytes)) [
-  | inl within ↦ (omega (arith, before, ap (λ those. (get_or those 0 (spot from i)).place) (sym (spot_in from i bytes outputs within) ∙ is)))
-  | inr past ↦ none_before (from + 1) (i - length bytes) place offset outputs (omega (arith, before)) (sym (spot_past from i bytes outputs past) ∙ is)
+  | inl within ↦ (omega (arith, ap (λ those. (get_or those 0 (spot from i)).place) (sym (spot_in from i bytes outputs within) ∙ is)))
+  | inr past ↦ none_before (from + 1) (i - length bytes) place offset outputs (omega arith) (sym (spot_past from i bytes outputs past) ∙ is)
 ]
 
 -- Outputs that are, one after another, a stretch of their input: their spots are right.
@@ -178,7 +178,7 @@ goes_in place (bytes ∷ outputs) i {at} goes = elim (cases_lt i (length bytes))
   | inl less ↦ (let is = only_spot (subst (GoesTo at) (spot_in place i bytes outputs less) goes) in
       rw is (record { k = 0; there = omega arith; within = less; is = omega arith }))
   | inr past ↦ (let rest = goes_in (place + 1) outputs (i - length bytes) (subst (GoesTo at) (spot_past place i bytes outputs past) goes) in
-      record { k = suc rest.k; there = omega (arith, rest.there); within = rest.within; is = omega (arith, rest.is, past) })
+      record { k = suc rest.k; there = omega arith; within = rest.within; is = omega arith })
 ]
 
 -- the outputs from a place on are a stretch of the input, and those before it are empty
@@ -216,11 +216,11 @@ module _ (work : Work) {spots_of : List ℕ → ℕ → List Spot} (place : ℕ)
   filled : (x : List ℕ) (at : Spot) → at.offset < length (output_at (work.whole x) at.place)
       → (i : ℕ) × (i < length x) × GoesTo at (spots_of x i)
   filled x at less = elim (cases_lt at.place place) [
-    | inl before ↦ absurd (omega (arith, less, ap length (ap (λ those. get_or those at.place []) (stretch.are x) ∙ empty_before place at.place (outputs x) before)))
+    | inl before ↦ absurd (omega (arith, ap length (ap (λ those. get_or those at.place []) (stretch.are x) ∙ empty_before place at.place (outputs x) before)))
     | inr past ↦ (
         let k = at.place - place in
-        let there : at.place ≡ place + k = omega (arith, past) in
-        let within : at.offset < length (get_or (outputs x) k []) = omega (arith, less, ap length (output_is x k there)) in
+        let there : at.place ≡ place + k = omega arith in
+        let within : at.offset < length (get_or (outputs x) k []) = omega (arith, ap length (output_is x k there)) in
         let i = length (stretch.before x) + (bytes_of k (outputs x) + at.offset) in
         let after : i - length (stretch.before x) ≡ bytes_of k (outputs x) + at.offset = omega arith in (
           i,
@@ -232,14 +232,14 @@ module _ (work : Work) {spots_of : List ℕ → ℕ → List Spot} (place : ℕ)
   pub stretch_placed : ArePlaced work spots_of
   stretch_placed = record {
     stands = λ x i at less goes. (let one = stretched x i goes in let has = output_is x one.1.k one.1.there in (
-      omega (arith, one.1.within, ap length has),
+      omega (arith, ap length has),
       ap (λ those. get_or those at.offset 0) has ∙ byte_at (outputs x) (stretch.rest x) one.1.k at.offset (stretch.front x) one.1.within
           ∙ sym (ap (λ those. get_or those i 0) (stretch.parts x) ∙ get_or-append_right (stretch.before x) (stretch.rest x) i 0 one.0 ∙ ap (λ n. get_or (stretch.rest x) n 0) one.1.is),
     ));
     filled = filled;
     apart = λ x i j at goes also. (let one = stretched x i goes in let two = stretched x j also in
-        let same : one.1.k ≡ two.1.k = omega (arith, one.1.there, two.1.there) in
-        omega (arith, one.0, two.0, one.1.is, two.1.is, ap (λ k. bytes_of k (outputs x)) same));
+        let same : one.1.k ≡ two.1.k = omega arith in
+        omega (arith, ap (λ k. bytes_of k (outputs x)) same));
   }
 
 -- There is one list of outputs that all continuations agree on, and one stretch of bytes that is undecided.
@@ -253,7 +253,7 @@ lists_same : {A : Type 0} (one other : List (List A)) → length one ≡ length 
     → ((place : ℕ) → place < length one → get_or one place [] ≡ get_or other place []) → one ≡ other
 lists_same [] [] count same = refl
 lists_same (bytes ∷ one) (those ∷ other) count same =
-    ap (λ first. first ∷ one) (same zero (omega arith)) ∙ ap (λ rest. those ∷ rest) (lists_same one other (omega (arith, count)) (λ place less. same (suc place) (omega (arith, less))))
+    ap (λ first. first ∷ one) (same zero (omega arith)) ∙ ap (λ rest. those ∷ rest) (lists_same one other (omega arith) (λ place less. same (suc place) (omega arith)))
 lists_same one other count same = cc
 
 files_at : (low high : List File) (place : ℕ) → FilesBegin low high
@@ -263,7 +263,7 @@ files_at : (low high : List File) (place : ℕ) → FilesBegin low high
 files_at [] high place begins less = search rules
 files_at (file ∷ low) [] place begins less = absurd begins
 files_at (file ∷ low) (whole ∷ high) zero begins less = begins.4
-files_at (file ∷ low) (whole ∷ high) (suc place) begins less = files_at low high place begins.5 (omega (arith, less))
+files_at (file ∷ low) (whole ∷ high) (suc place) begins less = files_at low high place begins.5 (omega arith)
 
 outputs_fewer : {low high : Part} → Begins low high → length (outputs_of low) ≤ length (outputs_of high)
 outputs_fewer {low} {high} begins = grind (arith, common_steps, no_fewer, length-map)
@@ -271,7 +271,7 @@ outputs_fewer {low} {high} begins = grind (arith, common_steps, no_fewer, length
 begins_at : {low high : Part} (place : ℕ) → Begins low high → place < length (outputs_of low)
     → IsBeginning (output_at low place) (output_at high place)
 begins_at zero begins less = begins.out
-begins_at {low} {high} (suc place) begins less = files_at low.files high.files place begins.files (omega (arith, less))
+begins_at {low} {high} (suc place) begins less = files_at low.files high.files place begins.files (omega arith)
 
 -- as many outputs
 no_more : (work : Work) {x : List ℕ} (one other : Part) → IsAgreed work x one → IsAgreed work x other
@@ -289,19 +289,19 @@ no_longer work one other place agreed also less within =
 pub one_is_agreed : (work : Work) (x : List ℕ) (one other : Part) → IsAgreed work x one → IsAgreed work x other
     → outputs_of one ≡ outputs_of other
 one_is_agreed work x one other agreed also =
-    let count : length (outputs_of one) ≡ length (outputs_of other) = (let few = no_more work one other agreed also in omega (arith, few, no_more work other one also agreed)) in
+    let count : length (outputs_of one) ≡ length (outputs_of other) = (let few = no_more work one other agreed also in omega (arith, no_more work other one also agreed)) in
     lists_same (outputs_of one) (outputs_of other) count (λ place less.
     let within : place < length (outputs_of other) = rw count at less in
     beginnings_same (output_at one place) (output_at other place) (output_at (work.whole (x ++ [])) place)
     (begins_at place (agreed.common [] none_comes) less) (begins_at place (also.common [] none_comes) within)
-    (let short = no_longer work one other place agreed also less within in omega (arith, short, no_longer work other one place also agreed within less)))
+    (let short = no_longer work one other place agreed also less within in omega (arith, no_longer work other one place also agreed within less)))
 
 module _ {A G : Type 0} {comes : List A → Type 0} (goes : List A → ℕ → G) (x : List A) where
   begins_no_later : (one other : List A) (here : DifferOn comes goes x one) (there : DifferOn comes goes x other)
       → length here.before ≤ length there.before
   begins_no_later one other here there = elim (cases_lt (length there.before) (length here.before)) [
     | inl less ↦ (let long : length x ≡ length here.before + length one = ap length here.are_last ∙ length-append here.before one in
-        let two = there.differ (length there.before) (omega arith) (omega (arith, less, long)) in
+        let two = there.differ (length there.before) (omega arith) (omega arith) in
         absurd (two.4 (here.decided (length there.before) less two.0 two.1 two.2 two.3)))
     | inr within ↦ within
   ]
@@ -310,5 +310,5 @@ module _ {A G : Type 0} {comes : List A → Type 0} (goes : List A → ℕ → G
   one_is_undecided one other here there =
       let low = begins_no_later one other here there in let high = begins_no_later other one there here in
       sym (ap (drop (length here.before)) here.are_last ∙ drop-append_seam here.before one)
-      ∙ ap (λ n. drop n x) (let same : length here.before ≡ length there.before = omega (arith, low, high) in same)
+      ∙ ap (λ n. drop n x) (let same : length here.before ≡ length there.before = omega arith in same)
       ∙ ap (drop (length there.before)) there.are_last ∙ drop-append_seam there.before other

@@ -48,7 +48,7 @@ fills_more n digits ten fills (suc width) small =
 
 pub fills : (width n : ℕ) → 0 < width → n < 10 ^ width → n < 2 ^ 64
     → zero_filled width (decimal n) ≡ written Digits width n
-fills zero n some small least = absurd (omega (arith, some))
+fills zero n some small least = absurd (omega arith)
 fills (suc width) n some small least = decimal_by_steps Fills fills_one fills_more n least width small
 
 -- it has as many digits as it needs, and one for 0

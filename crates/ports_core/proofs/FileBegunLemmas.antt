@@ -87,8 +87,8 @@ due_named : {manner : Manner} {writer : WriterState} {draft : Draft} (next : Dra
     → Unwritten draft next → Writes manner writer draft → IsTrue (has_next writer.names)
     → AreNamed manner (suc (length next.ended))
 due_named {manner} {writer} {draft} next few so writes has = subst (λ ended. AreNamed manner (suc (length ended))) (sym so.same) (λ place less. elim (cases_lt place (length draft.ended)) [
-  | inl before ↦ writes.named place (omega (arith, before, unmade_shares draft so.none))
-  | inr past ↦ (let e : place ≡ length draft.ended = omega (arith, past, less) in ap manner.has_name e ∙ sym (due_has few so.none writes) ∙ has)
+  | inl before ↦ writes.named place (omega (arith, unmade_shares draft so.none))
+  | inr past ↦ (let e : place ≡ length draft.ended = omega arith in ap manner.has_name e ∙ sym (due_has few so.none writes) ∙ has)
 ])
 
 made_size : {writer next : WriterState} {slot : ℕ} {old new : List Slot} → Made writer old new next slot
@@ -98,10 +98,10 @@ made_size {writer} {old = old} made = ap length made.added ∙ length-append old
 made_ready : {writer next : WriterState} {slot : ℕ} {old new : List Slot} → IsReady writer old
     → Made writer old new next slot → IsReady next new
 made_ready {writer} {next} {slot} {old} {new} ready made = record {
-  streams = (let two = ready.streams in omega (arith, two, made_size made));
-  output = subst (λ tells. CanTell tells new) (sym (ap (λ (w : WriterState). w.tells) made.same)) (can_tell writer.tells old new (writable_before old new 0 (opened (next_name writer.names) Fresh) (let two = ready.streams in omega (arith, two)) made.added) ready.output);
+  streams = (let two = ready.streams in omega (arith, made_size made));
+  output = subst (λ tells. CanTell tells new) (sym (ap (λ (w : WriterState). w.tells) made.same)) (can_tell writer.tells old new (writable_before old new 0 (opened (next_name writer.names) Fresh) (let two = ready.streams in omega arith) made.added) ready.output);
   files = (owned_opened ready.streams made).there ready.files;
-  current = subst (λ current. IsOpenAt current new) (sym (ap (λ (w : WriterState). w.current) made.same)) (let two = ready.streams in omega (arith, two, made.place), opened_writable old new slot (next_name writer.names) Fresh made.place made.added);
+  current = subst (λ current. IsOpenAt current new) (sym (ap (λ (w : WriterState). w.current) made.same)) (let two = ready.streams in omega arith, opened_writable old new slot (next_name writer.names) Fresh made.place made.added);
 }
 
 made_leaves : {writer next : WriterState} {slot : ℕ} {old new : List Slot} → IsReady writer old
@@ -113,7 +113,7 @@ made_leaves {writer} {next} {slot} {old} {new} ready made = record {
   open_alone = λ alone. ap (λ (w : WriterState). w.files) made.same ∙ ap (λ keeps. files_with keeps writer.files slot) alone;
   owns = owned_opened ready.streams made;
   slots = keeps_open _ old new made.added;
-  output = writable_before old new 0 (opened (next_name writer.names) Fresh) (let two = ready.streams in omega (arith, two)) made.added;
+  output = writable_before old new 0 (opened (next_name writer.names) Fresh) (let two = ready.streams in omega arith) made.added;
   ready = made_ready ready made;
 }
 
@@ -215,7 +215,7 @@ module _ {told : Bool} {writer next : WriterState} {change : Draft → Draft} {o
     reaches = λ manner draft writes. let so = of draft writes.current in
         reaches_as (none_part manner draft so.none) refl (reaches_by (unmade_leaves ready.output makes).owns (λ first last. opens_not (ended_files manner draft)
         (ap (λ output. told_before output (next_name writer.names)) writes.same.output) (closed_files manner 0 draft.ended) (unmade_begins manner draft so) (unmade_due manner draft so writes)
-        (stops_opening (let two = ready.streams in omega (arith, two)) makes.none)));
+        (stops_opening (let two = ready.streams in omega arith) makes.none)));
     short = unmade_short;
     writes = tt;
   }
@@ -244,7 +244,7 @@ goes_made {told} {writer} {made} {next} {change} {slot} bytes {old} {mid} {new} 
             let was : writer.keeps ≡ All = sym (ap (λ (w : WriterState). w.keeps) appends.same ∙ ap (λ (w : WriterState). w.keeps) makes.same) ∙ all in
             ap (λ (w : WriterState). length w.files) appends.same ∙ ap (λ (w : WriterState). length w.files) makes.same ∙ ap (λ keeps. length (files_with keeps writer.files slot)) was
             ∙ length-append writer.files (slot ∷ []) ∙ ap (λ n. n + 1) (writes.kept was ∙ unmade_shares draft so.none) ∙ sym count;
-        named = λ place less. due_named (change draft) makes.few so writes makes.named place (omega (arith, less, made_count (change draft) so.makes));
+        named = λ place less. due_named (change draft) makes.few so writes makes.named place (omega (arith, made_count (change draft) so.makes));
         current = rw current.1 (so.makes, subst (λ tells. IsCounted tells (change draft).bytes current.0) (sym (ap (λ (w : WriterState). w.tells) appends.same)) (rw are (counted_on made.tells [] bytes 0 current.0 (none_counted made.tells) current.2)));
       });
 } where
@@ -349,7 +349,7 @@ file_closed keeps = owned_same refl refl (λ first last. tt) keeps
 
 closed_can : (slot : ℕ) (old new : List Slot) → 2 ≤ slot → new ≡ changed_at slot closes old → IsTrue (is_writable old 0)
     → IsTrue (is_writable new 0)
-closed_can slot old new two closed can = writable_elsewhere old new 0 slot closes (λ same. omega (arith, two, same)) closed can
+closed_can slot old new two closed can = writable_elsewhere old new 0 slot closes (λ same. omega arith) closed can
 
 closed_leaves : {writer : WriterState} (slot size : ℕ) {old new : List Slot} → writer.current ≡ File slot size
     → IsReady writer old → new ≡ changed_at slot closes old → Leaves writer (paused writer) old new None
@@ -364,7 +364,7 @@ closed_leaves {writer} slot size {old} {new} is ready closed =
       slots = keeps_close slot old new closed;
       output = closed_can slot old new at.0 closed;
       ready = record {
-        streams = (let two = ready.streams in omega (arith, two, made.size));
+        streams = (let two = ready.streams in omega arith);
         output = can_tell writer.tells old new (closed_can slot old new at.0 closed) ready.output;
         files = there_same writer.files made ready.files;
         current = tt;
@@ -394,7 +394,7 @@ pub close_not : {told : Bool} {writer : WriterState} (slot size : ℕ) {old new 
     → SlotBreaks slot (changed_at slot closes old) new
     → Goes told writer (with_next Never) old new (paused writer) (Some f)
 close_not {told} {writer} slot size {old} {new} is ready which broken = subst (λ f. Goes told writer (with_next Never) old new (paused writer) (Some f)) (sym which) (record {
-  leaves = record { naming = refl; tells = refl; keeps = refl; open_alone = λ alone. refl; owns = owns; slots = (let at = at_file is ready in (λ none. absurd (omega (arith, at.0, none)), close_rose slot old new at.1 (writable_within slot old at.1) broken)); output = tt; ready = tt };
+  leaves = record { naming = refl; tells = refl; keeps = refl; open_alone = λ alone. refl; owns = owns; slots = (let at = at_file is ready in (λ none. absurd (omega arith), close_rose slot old new at.1 (writable_within slot old at.1) broken)); output = tt; ready = tt };
   reaches = λ manner draft writes. let now = now_is is writes in let named = file_named now.0 writes in
       reaches_as (open_part manner draft named now.0) (closed_part manner draft named now.0)
       (reaches_by owns (λ first last. falls_wider (closes_not manner.output told (ended_files manner draft) (name_after manner draft) draft.bytes old
@@ -465,7 +465,7 @@ end_told {told} {writer} slot size {old} {mid} {new} {fault} is ready closed tel
       (close_begins _ (ended_files manner draft) (name_after manner draft) draft.bytes)
       (closes_last manner.output told _ (ended_files manner draft) (name_after manner draft) draft.bytes old (last_file writer old is last).1 closed)
       (tells_file writer.tells manner.output told (length draft.bytes) (ended_files manner draft) (file_of (name_after manner draft) draft.bytes state.Closed) mid fault writes.same.output refl refl (closed_files manner 0 draft.ended)
-      (let two = paused_now.streams in omega (arith, two)) (is_size writer.tells draft.bytes size now.1 told mid new fault tells))));
+      (let two = paused_now.streams in omega arith) (is_size writer.tells draft.bytes size now.1 told mid new fault tells))));
   short = told_short _ told writer.tells size mid new fault tells;
   writes = in_any fault (λ manner draft writes. file_ends slot size is writes);
 } where

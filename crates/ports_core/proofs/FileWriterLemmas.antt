@@ -69,7 +69,7 @@ module _ (line : PartFile → List ℕ) (told : Bool) (front : List PartFile) (f
   tells_line old None closed some wrote = out_added told (line file) old wrote
   tells_line old (Some _) closed some (short.broke n cut) =
       becomes_again (line_begins (take n (line file))) (out_added told (take n (line file)) old refl) (halts_here (record { out = take_begins_after n (lines_for line front) (line file); files = files_begin_themselves (front ++ file ∷ []) })
-      (turn_last front file (length front) refl closed) (cut_short n (with_last (lines_for line front ++ line file) front file)) (let size : length (with_written 0 (told_of told (take n (line file))) old) ≡ length old = length-changed_at 0 _ old in omega (arith, some), cut.slots) (λ before at. inl refl))
+      (turn_last front file (length front) refl closed) (cut_short n (with_last (lines_for line front ++ line file) front file)) (let size : length (with_written 0 (told_of told (take n (line file))) old) ≡ length old = length-changed_at 0 _ old in omega arith, cut.slots) (λ before at. inl refl))
 
 -- a `?` handed a fault on
 pub stop_is : {T : Type 0} (P : Option Fault → Type 0) (result : Result T Fault) (fault : Fault)
@@ -127,7 +127,7 @@ made_count draft makes = ap (λ made. length (map (share state.Closed) draft.end
 -- with an open file, those that ended and this one have names
 named_last : (manner : Manner) (draft : Draft) → AreNamed manner (length (shares_of draft))
     → made_of draft.opening draft.bytes ≡ draft.bytes ∷ [] → AreNamed manner (suc (length draft.ended))
-named_last manner draft named makes place less = named place (omega (arith, less, made_count draft makes))
+named_last manner draft named makes place less = named place (omega (arith, made_count draft makes))
 
 pub lacks_memory : {told : Bool} (manner : Manner) (draft : Draft) {slots : List Slot} {writer next : WriterState}
     → AreNamed manner (length (shares_of draft))
@@ -256,7 +256,7 @@ there_more [] slots name at two are = grind (arith, common_steps)
 there_more (place ∷ files) slots name {slot} at two are =
     let within : place < length slots = (grind (arith, common_steps)) in (
       (are.0.0, subst IsTrue (sym (file_before slots (opened name Fresh) place within)) are.0.1),
-      among_more place slot files ∙ ap (λ b. b || eqb place slot) are.1 ∙ ne_eqb place slot (λ same. omega (arith, within, at, same)),
+      among_more place slot files ∙ ap (λ b. b || eqb place slot) are.1 ∙ ne_eqb place slot (λ same. omega arith),
       there_more files slots name at two are.2,
     )
 
@@ -274,11 +274,11 @@ opened_by : (keeps : Keeps) {writer : WriterState} {slot : ℕ} {old new : List 
 opened_by OpenOne {writer} {slot} {old} {new} name two is at added = record {
   owns = λ first owns. record {
     streams = owns.streams;
-    within = (let e : length new ≡ length old + 1 = ap length added ∙ length-append old _ in omega (arith, owns.within, e));
+    within = (let e : length new ≡ length old + 1 = ap length added ∙ length-append old _ in omega arith);
     from = owns.from;
     own = λ all. absurd (let same : OpenOne ≡ All = sym is ∙ all in cc);
     there = there_before writer.files old (opened name Fresh) added owns.there;
-    last = (omega (arith, at, owns.within), (let e : length new ≡ length old + 1 = ap length added ∙ length-append old _ in omega (arith, at, e)));
+    last = (omega arith, (let e : length new ≡ length old + 1 = ap length added ∙ length-append old _ in omega arith));
   };
   there = there_before writer.files old (opened name Fresh) added;
 }
@@ -317,8 +317,8 @@ breaks_as old new fault same breaks = breaks
 -- standard output breaks where it is told anything alone
 line_rose : (told : Bool) (tells : Tells) (names : Names) (n : ℕ) {old new : List Slot} → CanTell tells old
     → BrokeAfter told old new 0 (line_next tells names) n → (writes (output_of tells) ≡ true) × Rose 0 old new
-line_rose told Nothing names n can cut = absurd (omega (arith, cut.within))
-line_rose told Sizes names n can cut = absurd (omega (arith, cut.within))
+line_rose told Nothing names n can cut = absurd (omega arith)
+line_rose told Sizes names n can cut = absurd (omega arith)
 line_rose told Openings names n {old} {new} can cut = (refl, write_rose told 0 (line_next Openings names) n old new can cut)
 
 pub make_breaks : (told : Bool) (tells : Tells) {names next : Names} {old new : List Slot} {f : Fault}
@@ -409,7 +409,7 @@ wrote_slots : (told : Bool) (manner : Manner) (slot : ℕ) (bytes : List ℕ) (o
     → (2 ≤ slot) × IsTrue (is_writable old slot) → Wrote told slot bytes old new fault
     → KeepsOrBreaks manner old new fault
 wrote_slots told manner slot bytes old new None at wrote = keeps_write slot _ old new wrote
-wrote_slots told manner slot bytes old new (Some _) at (short.broke n cut) = (λ none. absurd (omega (arith, at.0, none)), write_rose told slot bytes n old new at.1 cut)
+wrote_slots told manner slot bytes old new (Some _) at (short.broke n cut) = (λ none. absurd (omega arith), write_rose told slot bytes n old new at.1 cut)
 
 -- a write never wants for names
 pub never_short : (P : Type 0) (told : Bool) (slot : ℕ) (bytes : List ℕ) (old new : List Slot) (fault : Option Fault)

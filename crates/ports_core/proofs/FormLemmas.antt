@@ -39,7 +39,7 @@ least_up_to alphabet number (suc bound) count small =
       | inl less ↦ less
       | inr reached ↦
           let some : 0 < radix alphabet = omega (arith, many_characters alphabet) in
-          absurd (omega (arith, small, ltb-false _ _ more, pow-le-pow_right some reached))
+          absurd (omega (arith, ltb-false _ _ more, pow-le-pow_right some reached))
     ])
 
 -- a number is below the power of its own
@@ -47,7 +47,7 @@ below_power : (alphabet : Alphabet) (number : ℕ) → number < radix alphabet ^
 below_power alphabet zero = power_positive alphabet 0
 below_power alphabet (suc number) =
     let half : suc number * 2 ≤ radix alphabet ^ number * radix alphabet = mul-le-mul (below_power alphabet number) (omega (arith, many_characters alphabet)) in
-    rw pow-suc (omega (arith, half))
+    rw pow-suc (omega arith)
 
 pub digits_enough : (alphabet : Alphabet) (number : ℕ) → number < radix alphabet ^ digit_count alphabet number
 digits_enough alphabet number = enough_up_to alphabet number number (below_power alphabet number)
@@ -62,8 +62,8 @@ counted alphabet {number} {log} least most is =
     let some : 0 < radix alphabet = omega (arith, many_characters alphabet) in
     let few : digit_count alphabet number ≤ suc log = digits_needed alphabet number (suc log) (rw (pow-succ' (radix alphabet) log) most) in
     elim (cases_lt log (digit_count alphabet number)) [
-      | inl less ↦ omega (arith, few, less, is)
-      | inr reached ↦ absurd (omega (arith, least, digits_enough alphabet number, pow-le-pow_right some reached))
+      | inl less ↦ omega arith
+      | inr reached ↦ absurd (omega (arith, digits_enough alphabet number, pow-le-pow_right some reached))
     ]
 
 -- more digits are enough too
@@ -71,7 +71,7 @@ pub below_more : (alphabet : Alphabet) {number few count : ℕ} → number < rad
     → number < radix alphabet ^ count
 below_more alphabet {number} {few} {count} small more =
     let some : 0 < radix alphabet = omega (arith, many_characters alphabet) in
-    omega (arith, small, pow-le-pow_right some more)
+    omega (arith, pow-le-pow_right some more)
 
 -- what is written of a number
 
@@ -98,14 +98,14 @@ pub blanks_before : (form : Form) (number : ℕ) {size blanks : ℕ} (old : List
     → new ≡ old ++ formatted form number
 blanks_before form number old filling size blanks front all =
     all ∙ ap (λ text. text ++ marked form number) front ∙ append_assoc old _ (marked form number)
-    ∙ ap (λ text. old ++ text) (sym (before form.width (marked form number) filling (omega (arith, blanks, size, length_marked form number))))
+    ∙ ap (λ text. old ++ text) (sym (before form.width (marked form number) filling (omega (arith, length_marked form number))))
 
 pub blanks_after : (form : Form) (number : ℕ) {size blank : ℕ} (old : List ℕ) {middle new : List ℕ}
     → form.filling ≡ BlanksAfter → size ≡ length (mark_of form number) + digits_written form number
     → blank ≡ form.width - size → middle ≡ old ++ marked form number → new ≡ middle ++ replicate blank 32
     → new ≡ old ++ formatted form number
 blanks_after form number {blank} old filling size blanks front all =
-    let count : blank ≡ form.width - length (marked form number) = omega (arith, blanks, size, length_marked form number) in
+    let count : blank ≡ form.width - length (marked form number) = omega (arith, length_marked form number) in
     all ∙ ap (λ text. text ++ replicate blank 32) front ∙ append_assoc old (marked form number) _
     ∙ ap (λ text. old ++ text) (sym (after form.width (marked form number) filling count))
 
@@ -133,7 +133,7 @@ written_value : (alphabet : Alphabet) → IsDigit alphabet → (width number fro
     → digits_value_after (radix alphabet) front (filter is_shown (written alphabet width number))
     ≡ front * radix alphabet ^ width + number
 written_value alphabet digits zero number front small =
-    let none : number ≡ 0 = omega (arith, small, pow-zero (radix alphabet)) in
+    let none : number ≡ 0 = omega (arith, pow-zero (radix alphabet)) in
     rw (none, pow-zero (radix alphabet)) (omega arith)
 written_value alphabet digits (suc width) number front small =
     let r : ℕ = radix alphabet in let p : ℕ = r ^ width in let top : ℕ = number / p in

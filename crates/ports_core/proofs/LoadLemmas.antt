@@ -48,7 +48,7 @@ pub looked_again : {least most slot : ℕ} {old mid new : List Source} → HasLo
     → HasLooked least slot mid new → least ≤ most → HasLooked most slot old new
 looked_again {slot = slot} {old} {mid} {new} first next few = record {
   size = max first.size next.size;
-  within = omega (arith, first.within, next.within, few);
+  within = omega arith;
   looked = next.looked ∙ ap (looks next.size) first.looked ∙ ap (λ asked. record (source_at old slot) { asked = asked }) (omega arith);
   others = keeps_again slot old mid new first.others next.others;
 }
@@ -130,7 +130,7 @@ module _ {S : Type 0} (terms : Terms S) where
   took_none : {stage : S} → terms.Holds stage [] → terms.size stage ≡ 0 → TookIn terms stage stage []
   took_none fresh none = record {
     same = refl;
-    size = omega (arith, none);
+    size = omega arith;
     holds = fresh;
     ready = λ slots is. is;
     owns = λ first slots is. is;

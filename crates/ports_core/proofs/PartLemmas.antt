@@ -132,7 +132,7 @@ out_cut told before part old new more n at broke = record {
   from = inl refl;
 } where
   there : 0 < length (with_written 0 (told_of told (take n more)) old)
-  there = rw (length-changed_at 0 _ old) (omega (arith, at.standard, outputs_count told before part old at))
+  there = rw (length-changed_at 0 _ old) (omega (arith, outputs_count told before part old at))
 
 -- a fault that came before anything was written, and from no output
 pub stopped_here : (output : Output) (told : Bool) (before : List Slot) (low high : Part) (fault : Fault)

@@ -158,7 +158,7 @@ module _ (output : Output) (told : Bool) (out : List ℕ) (front : List File) wh
       → OutputsAt told before (with_last out front file) old → slot ≡ length before + length front
   last_place file {before} {old} last at =
       let all : length old ≡ length before + length (front ++ file ∷ []) = outputs_count told before (with_last out front file) old at in
-      omega (arith, last, length-append front (file ∷ []))
+      omega (arith, length-append front (file ∷ []))
 
   -- a file is opened
   pub opens : (name : List ℕ) {old new : List Slot} → new ≡ old ++ opened name Fresh ∷ []
@@ -196,7 +196,7 @@ module _ (output : Output) (told : Bool) (front : List File) (name bytes : List 
   writes_to more {slot} old (Some _) closed last (short.broke n cut) =
       becomes_again (bytes_more _ front name bytes (take n more)) (bytes_added output told _ front name bytes (take n more) old last refl) (halts_here (taken_more _ front name bytes more n)
       (turn_last front (file_of name (bytes ++ take n more) state.Open) (length front) refl closed) (lines_of_last output front (file_of name (bytes ++ take n more) state.Open) _ (fault.Write slot) tt)
-      (let size : length (with_written slot (told_of told (take n more)) old) ≡ length old = length-changed_at slot _ old in omega (arith, last), cut.slots)
+      (let size : length (with_written slot (told_of told (take n more)) old) ≡ length old = length-changed_at slot _ old in omega arith, cut.slots)
       (λ before at. inr (last_place output told _ front (file_of name (bytes ++ take n more) state.Open) (last ∙ sym (length-changed_at slot _ old)) at)))
 
   pub closes_not : {slot : ℕ} (old : List Slot) {new : List Slot} → AllClosed front → suc slot ≡ length old
@@ -206,5 +206,5 @@ module _ (output : Output) (told : Bool) (front : List File) (name bytes : List 
       (Some (fault.Write slot))
   closes_not {slot} old closed last is =
       becomes_again (close_begins _ front name bytes) (closes_last output told _ front name bytes old last refl) (halts_here (part_begins_itself _)
-      (turn_last front (file_of name bytes state.Closed) (length front) refl closed) (lines_of_last output front (file_of name bytes state.Closed) _ (fault.Write slot) tt) (omega (arith, last, length-changed_at slot closes old), is)
+      (turn_last front (file_of name bytes state.Closed) (length front) refl closed) (lines_of_last output front (file_of name bytes state.Closed) _ (fault.Write slot) tt) (omega (arith, length-changed_at slot closes old), is)
       (λ before at. inr (last_place output told _ front (file_of name bytes state.Closed) (last ∙ sym (length-changed_at slot closes old)) at)))

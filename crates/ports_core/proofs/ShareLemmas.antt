@@ -157,7 +157,7 @@ files_on manner place [] rest named = search rules
 files_on manner place (one ∷ front) rest named = cc (
   named place (omega arith),
   one_on place (length front),
-  files_on manner (place + 1) front rest (λ other less. named other (omega (arith, less))),
+  files_on manner (place + 1) front rest (λ other less. named other (omega arith)),
 )
 
 -- where the place after these has no name, more of them make no file

@@ -50,7 +50,7 @@ keeps_open one old new is place sound = grind (arith, common_steps)
 
 pub broken_there : (why : Reason) (place : ℕ) (slots : List Slot) → place < length slots
     → (slot_at (with_broken why place slots) place).is_broken ≡ true
-broken_there why place [] within = absurd (omega (arith, within))
+broken_there why place [] within = absurd (omega arith)
 broken_there why zero (slot ∷ slots) within = refl
 broken_there why (suc place) (slot ∷ slots) within = broken_there why place slots (omega arith)
 
@@ -174,13 +174,13 @@ pub record KeepsFiled (old new : List Slot) : Type 0 where
   pub within : length old ≤ length new
 
 pub filed_same : {old new : List Slot} → KeepsMade old new → KeepsFiled old new
-filed_same made = record { same = made.same; within = omega (arith, made.size) }
+filed_same made = record { same = made.same; within = omega arith }
 
 pub filed_more : {old mid new : List Slot} (why : Reason) (kept : List ℕ) → KeepsMade old mid
     → new ≡ mid ++ unopened why kept ∷ [] → KeepsFiled old new
 filed_more {old} {mid} {new} why kept made added = record {
   same = λ place. ap (λ slots. has_file (slot_at slots place).state) added ∙ still place ∙ made.same place;
-  within = omega (arith, made.size, ap length added, length-append mid (unopened why kept ∷ []));
+  within = omega (arith, ap length added, length-append mid (unopened why kept ∷ []));
 } where
   still : (place : ℕ) → has_file (slot_at (mid ++ unopened why kept ∷ []) place).state
       ≡ has_file (slot_at mid place).state

@@ -25,12 +25,12 @@ complete_used work x n spare done = grind (arith, common_steps)
 -- no more is spare than what came last, before which the output was not complete
 pub spare_within : (work : Work) (most n : ℕ) (x : List ℕ) → IsLawful work → IsNeeded work.is_complete most x
     → IsSpare work x n → n ≤ most
-spare_within work most n x lawful (inl none) spare = omega (arith, ap length none, ap length spare.joined ∙ length-append spare.used spare.rest, spare.long)
+spare_within work most n x lawful (inl none) spare = omega (arith, ap length none, ap length spare.joined ∙ length-append spare.used spare.rest)
 spare_within work most n x lawful (inr (before, piece, is, few, going)) spare = by (cases_lt (length before) (length spare.used)) spare.enough where
   by : (length before < length spare.used) ⊎ (length spare.used ≤ length before)
       → (spare.rest ≡ []) ⊎ (work.is_complete spare.used ≡ true) → n ≤ most
-  by over (inl none) = omega (arith, ap length none, spare.long)
-  by (inl over) (inr complete) = omega (arith, over, few, spare.long, ap length is ∙ length-append before piece, ap length spare.joined ∙ length-append spare.used spare.rest)
+  by over (inl none) = omega (arith, ap length none)
+  by (inl over) (inr complete) = omega (arith, ap length is ∙ length-append before piece, ap length spare.joined ∙ length-append spare.used spare.rest)
   by (inr short) (inr complete) =
       let used : take (length spare.used) before ≡ spare.used = sym (take-append-le (length spare.used) before piece short) ∙ ap (take (length spare.used)) (sym is ∙ spare.joined) ∙ take_at spare.used spare.rest (length spare.used) refl in
       let all : spare.used ++ drop (length spare.used) before ≡ before = ap (λ those. those ++ drop (length spare.used) before) (sym used) ∙ take-append-drop (length spare.used) before in

@@ -96,13 +96,13 @@ one_tried : {files now next kept : List ℕ} {place left few : ℕ} {old mid : L
     → take few next ≡ take left now ++ kept → Tries file change kept
     → Sweeping files next (place + 1) few old (changed_at file change mid)
 one_tried {files} {now} {next} {kept} {place} {left} {few} {old} {mid} {file} {change} so_far within file_is size fits rest front_is tries =
-    let less : place < length files = omega (arith, within, so_far.size) in
+    let less : place < length files = omega arith in
     let front = sym (drop-cons now place 0 within) ∙ so_far.rest ∙ drop-cons files place 0 less in
     let same : file ≡ get_or files place 0 = file_is ∙ ap (λ those. get_or those 0 0) front in
     let are = rw (drop-cons files place 0 less ∙ ap (λ one. one ∷ drop (suc place) files) (sym same)) at so_far.are in
     rw (← (let e : suc place ≡ place + 1 = omega arith in e)) (record {
       size = size ∙ so_far.size;
-      few = omega (arith, fits, so_far.few);
+      few = omega arith;
       tried = rw (front_is, take-suc files place 0 less, ← same) (tried_more file kept so_far.tried
           (rw (append-nil kept) at (tried file [] kept [] change mid _ tries (all_tried _))));
       rest = rest ∙ ap (drop 1) front;
@@ -126,7 +126,7 @@ sweep_past (Ok done) so_far within file_is failed stuck_so = search rules
 sweep_past {files} {now} {place} {left} {file} {old} {mid} {new} (Err f) so_far within file_is failed (is, (why, stuck_so)) =
     rw (← (let e : suc left ≡ left + 1 = omega arith in e))
     (rw (stuck_so, changed_at-again file closes (breaks why) mid) (one_tried so_far within file_is (length-set now left file) (omega arith)
-    (drop-set-lt (suc place) now left file (omega (arith, so_far.few))) (take-suc-set now left file (omega (arith, so_far.few, within))) (stays why)))
+    (drop-set-lt (suc place) now left file (omega arith)) (take-suc-set now left file (omega arith)) (stays why)))
 
 -- What was removed, slot by slot
 

@@ -185,7 +185,7 @@ module _ {S : Type 0} (terms : Terms S) where
   stopped_feeding laws told {now = now} next WasRead {x} piece rest {before = before} so_far own at is within going read passes kept cleared =
       let why = rw so_far.holds.count at (rw so_far.holds.live at passes.met) in
       rw (← so_far.same) (short_of_piece WasRead piece rest (laws now.stage) is within going read (passes.cut before x (stands told so_far own at))
-      (λ unjudged. stops (terms.work now.stage) (x ++ piece) ((terms.work now.stage).settled x) ((terms.work now.stage).settled (x ++ piece)) false 0 _ (EndsWith terms piece now.stage) unjudged (λ long. let size : length (x ++ piece) ≡ length x + length piece = length-append x piece in omega (arith, long)) why)
+      (λ unjudged. stops (terms.work now.stage) (x ++ piece) ((terms.work now.stage).settled x) ((terms.work now.stage).settled (x ++ piece)) false 0 _ (EndsWith terms piece now.stage) unjudged (λ long. let size : length (x ++ piece) ≡ length x + length piece = length-append x piece in omega arith) why)
       (λ judging. let (verdict, is, ends) = judges (terms.work now.stage).means _ (EndsWith terms piece now.stage) judging passes.met in (verdict, is, ends x so_far.holds.within))
       kept
       (λ unjudged. rw passes.same at (cleared unjudged (length before) (passes.owns (length before) (so_far.owns (length before) own)))))
@@ -205,7 +205,7 @@ module _ {S : Type 0} (terms : Terms S) where
   ended laws told {now} WasRead {x} {z} {before} {fed} so_far own at got all alike needed read (fell_short fault next reached finishes kept cleared) =
       let why = rw so_far.holds.live at finishes.met in
       rw (← so_far.same) (short_of_end WasRead fed (laws now.stage) got all alike needed read (finishes.cut before x (stands told so_far own at))
-      (λ unjudged. stops (terms.work now.stage) z ((terms.work now.stage).settled z) ((terms.work now.stage).whole z) (not ((terms.work now.stage).is_complete z)) (if (terms.work now.stage).is_complete z then (terms.work now.stage).ahead else 0) (Unit {0}) (EndsThere terms now.stage) unjudged (λ long. absurd (let bound : now.fed < 2 ^ 63 = so_far.bound in omega (arith, bound, long))) why)
+      (λ unjudged. stops (terms.work now.stage) z ((terms.work now.stage).settled z) ((terms.work now.stage).whole z) (not ((terms.work now.stage).is_complete z)) (if (terms.work now.stage).is_complete z then (terms.work now.stage).ahead else 0) (Unit {0}) (EndsThere terms now.stage) unjudged (λ long. absurd (let bound : now.fed < 2 ^ 63 = so_far.bound in omega arith)) why)
       (λ judging. let (verdict, is, ends) = judges (terms.work now.stage).means (Unit {0}) (EndsThere terms now.stage) judging finishes.met in (verdict, is, ends x so_far.holds.within))
       kept (λ unjudged. rw finishes.same at (cleared unjudged (length before) (finishes.owns (length before) (so_far.owns (length before) own)))))
 
@@ -307,7 +307,7 @@ back_at : {taken : List ℕ} (start used : List ℕ) {rest : List ℕ} {n : ℕ}
     → length rest ≡ n → drop (length taken - n) taken ≡ rest
 back_at {taken} start used {rest} {n} is long =
     let all : taken ≡ (start ++ used) ++ rest = is ∙ sym (append_assoc start used rest) in
-    let at : length taken - n ≡ length (start ++ used) = omega (arith, ap length all ∙ length-append (start ++ used) rest, long) in
+    let at : length taken - n ≡ length (start ++ used) = omega (arith, ap length all ∙ length-append (start ++ used) rest) in
     ap (λ k. drop k taken) at ∙ ap (drop (length (start ++ used))) all ∙ drop_at (start ++ used) rest (length (start ++ used)) refl
 
 pub read_used : {work : Work} {content : Content} {x : List ℕ} {slot n : ℕ} {start sources new : List Source}
@@ -348,7 +348,7 @@ pub read_to_used : {work : Work} {x : List ℕ} {slot n : ℕ} {start sources ne
     → IsTrue (is_readable sources slot) → new ≡ changed_at slot (gets_back n) sources → slot ≡ 0
     → (source_at new slot).reached ≤ length spare.used + work.ahead
 read_to_used {slot} {n} {sources} {new} spare few took unread can is standard =
-    omega (arith, few standard, took.far unread, ap length spare.joined ∙ length-append spare.used spare.rest, spare.long, ap (λ (source : Source). source.reached) (changed_source slot (gets_back n) sources new can is))
+    omega (arith, few standard, took.far unread, ap length spare.joined ∙ length-append spare.used spare.rest, ap (λ (source : Source). source.reached) (changed_source slot (gets_back n) sources new can is))
 
 -- the output was complete, and what it doesn't use was given back
 pub uses_part : {work : Work} {most slot n : ℕ} {there : Content} {x : List ℕ} {start sources new : List Source}

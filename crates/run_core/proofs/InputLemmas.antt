@@ -77,7 +77,7 @@ left_unread told slot sources can unread there sound step none going = (
     ended = λ ends. absurd (false≢true (sym going ∙ ends));
     joined = λ t. there t ∙ sym (ap (λ read. read ++ (source_at sources slot).left.bytes) none);
   },
-  λ t standard. omega (arith, unread.1),
+  λ t standard. omega arith,
 )
 
 pub unread_source : (told : Bool) (source : Option ℕ) (sources : List Source) (Q : Content → Type 0)
@@ -138,7 +138,7 @@ count_more count [] = omega arith
 count_more count (name ∷ names) = let rest : next_slot count name ≤ count_after (next_slot count name) names = count_more (next_slot count name) names in at_least (is_dash name) (count_after (next_slot count name) names) rest where
   at_least : (dash : Bool) (most : ℕ) → (if dash then count else count + 1) ≤ most → count ≤ most
   at_least true most less = less
-  at_least false most less = omega (arith, less)
+  at_least false most less = omega arith
 
 -- what taking a name leaves
 
@@ -227,7 +227,7 @@ pub rest_untouched : (world : World) (was_read : Bool) (slot : ℕ) (names : Lis
     → AreUntouched (inputs_from world was_read slot names) sources
 rest_untouched world was_read slot [] sources unread few = tt
 rest_untouched world was_read slot (name ∷ names) sources unread few =
-    (by_name was_read (is_dash name) unread, rest_untouched world (was_read || is_dash name) (next_slot slot name) names sources (λ none. unread (or_parts was_read (is_dash name) none).0) (let more : slot ≤ next_slot slot name = count_more slot (name ∷ []) in omega (arith, few, more))) where
+    (by_name was_read (is_dash name) unread, rest_untouched world (was_read || is_dash name) (next_slot slot name) names sources (λ none. unread (or_parts was_read (is_dash name) none).0) (let more : slot ≤ next_slot slot name = count_more slot (name ∷ []) in omega arith)) where
       by_name : (was dash : Bool) → (was ≡ false → source_at sources 0 ≡ source_of world.standard)
           → (let input = input_of world was slot name dash in IsUntouched input.slot input.content sources)
       by_name true true at_first = tt
@@ -307,7 +307,7 @@ stopped_in_header {told} {task} is_first name {shown} {content} {so_far} {error}
     ∙ broken_at _ 0 _ (writable-written old 0 0 (told_of told (take n text)) ∙ part_writable at) in
     cut_off (Write 0) _ new (heading content due (unread _ refl refl)) (λ _. refl, λ alone. refl, lost)
     (rw (out_on so_far text) at (out_cut told (streams_with error) so_far old new text n at after))
-    (none_to_sweep (task.work shown).clears new (omega (arith, count)))
+    (none_to_sweep (task.work shown).clears new (omega arith))
 
 -- the engine's part of an input, after the header
 module _ (told_in told : Bool) (task : Task) (most : ℕ) (is_first failed was_read : Bool) (name : List ℕ)
@@ -674,7 +674,7 @@ taken_alone : {clears : Bool} {name : List ℕ} {left : List (List ℕ)} (slots 
     → (left ≡ []) × (length slots ≡ 2)
 taken_alone {left} slots alone is = elim (alone is) [
   | inl none ↦ absurd (cc)
-  | inr few ↦ (nil_from_length left (omega (arith, few.0)), few.1)
+  | inr few ↦ (nil_from_length left (omega arith), few.1)
 ]
 
 abbrev pub Takes : Bool → Bool → Task → ℕ → Progress → (ℕ → List ℕ → Option Content) → List Source → List Source
@@ -709,7 +709,7 @@ walk_goes_on {told_in} {told} {task} {world} {names} {name} {left} {progress} {n
       says = says_after told task.speaker walked.made.messages one.messages standard_error walked.error after walked.says says;
       failed = rw (is, walked.failed);
       alone = λ shown clears. inl (taken_alone slots (walked.alone shown) clears).0;
-      unswept = λ some. sweeps_one ∙ false_from_ne_true one.sweeps (λ sweeps. omega (arith, some, ap length (only sweeps).0));
+      unswept = λ some. sweeps_one ∙ false_from_ne_true one.sweeps (λ sweeps. omega (arith, ap length (only sweeps).0));
       first = rw (is, walked.first, and_push are_missing (λ (one : Input). is_missing one.content) refl (λ one inputs. refl) walked.done input);
       rest_made = λ rest. ap (of_inputs task true) (append_assoc walked.done (input ∷ []) rest) ∙ walked.rest_made (input ∷ rest)
           ∙ (simp (append_assoc, or_assoc))
@@ -722,7 +722,7 @@ walk_goes_on {told_in} {told} {task} {world} {names} {name} {left} {progress} {n
           ∙ walked.rest_there t;
       laid_same = same ∙ walked.laid_same;
       standard = λ unread. let both = or_parts progress.was_read (is_dash name) (sym was ∙ unread) in leaves.unasked both.1 ∙ walked.standard both.0;
-      some = omega (arith, walked.some, leaves.grown);
+      some = omega arith;
       known = rw was (done_more told_in task.work largest_piece (progress.was_read || is_dash name) walked.done input new_sources
           (still_done told_in task.work largest_piece walked.done (λ had. ap (λ (b : Bool). b || is_dash name) had) leaves walked.known)
           (done_with told_in (task.work input.shown) largest_piece progress.was_read name new_sources is_for walked.some is_done));
@@ -801,7 +801,7 @@ none_touched {laid} {sources} {names} fresh =
 
 pub fresh_counts : {sources : List Source} (names : List (List ℕ)) → IsFresh sources
     → length sources ≤ count_after 1 names
-fresh_counts names fresh = let more : 1 ≤ count_after 1 names = count_more 1 names in omega (arith, ap length fresh.only, more)
+fresh_counts names fresh = let more : 1 ≤ count_after 1 names = count_more 1 names in omega (arith, ap length fresh.only)
 
 -- what a loop over names has left of standard input
 pub record Untouched (names left : List (List ℕ)) (start now : List Source) : Type 0 where

@@ -62,7 +62,7 @@ at_after {told} {base} {first} {part} {mid} one two = record {
 from_after : (fault : Fault) (base : ℕ) {mid : ℕ} (place count : ℕ) (first : ℕ) → mid ≡ base + first
     → IsAt fault mid place count → IsAt fault base (first + place) (first + count)
 from_after (Write slot) base place count first is (inl here) = inl here
-from_after (Write slot) base place count first is (inr there) = inr (omega (arith, is, there))
+from_after (Write slot) base place count first is (inr there) = inr (omega arith)
 from_after (Open slot) base place count first is at = ap (λ n. first + n) at
 from_after fault base place count first is at = tt
 
@@ -138,7 +138,7 @@ stop_after {output} {told} {base} {first} {low} {high} {fault} {mid} {now} at st
 
 pub none_to_sweep : (clears : Bool) {first : ℕ} (slots : List Slot) → length slots ≤ first
     → Swept clears first slots slots
-none_to_sweep clears {first} slots past = swept_none clears first slots (λ place above. none_past slots place (omega (arith, past, above)))
+none_to_sweep clears {first} slots past = swept_none clears first slots (λ place above. none_past slots place (omega arith))
 
 -- the same from another place, where it matters
 pub swept_from : (clears : Bool) {first other : ℕ} (old new : List Slot) → (clears ≡ true → first ≡ other)
@@ -195,7 +195,7 @@ module _ (told : Bool) (Change : Slot → Slot → Type 0) where
   told_marked IsName (Write zero) place count output {error} since new from marks says =
       let (within, (why, is)) = marks in
       let said = says (breaks why output) error since is in (said.0, said.1, (within, (why, said.2)))
-  told_marked IsName (Write (suc zero)) place count output since new from marks says = absurd (elim from [ inl is ↦ omega (arith, is) | inr is ↦ omega (arith, is) ])
+  told_marked IsName (Write (suc zero)) place count output since new from marks says = absurd (elim from [ inl is ↦ omega arith | inr is ↦ omega arith ])
   told_marked IsName (Write (suc (suc slot))) place count output {error} since new from marks says =
       let (within, (why, is)) = marks in
       let said = says output error (with_broken why slot since) is in (said.0, said.1, (within, (why, said.2)))
@@ -251,20 +251,20 @@ swept_streams {output} {after} {since} {now} {first} past swept = record { size 
   cleared_still : (place : ℕ) → first ≤ place
       → Cleared (slot_at (output ∷ after ∷ since) place) (slot_at (output ∷ after ∷ now) place)
   cleared_still (suc (suc place)) above = swept.cleared (suc (suc place)) above
-  cleared_still place above = absurd (omega (arith, past, above))
+  cleared_still place above = absurd (omega arith)
 
 -- outputs that were swept have the same streams
 pub swept_error : (clears : Bool) {first : ℕ} (old new : List Slot) → 2 ≤ first → Swept clears first old new
     → slot_at new 1 ≡ slot_at old 1
 swept_error false old new past same = ap (λ slots. slot_at slots 1) same
-swept_error true old new past swept = swept.before 1 (omega (arith, past))
+swept_error true old new past swept = swept.before 1 (omega arith)
 
 streams_left : {output error : Slot} {since : List Slot} (mid : List Slot) {first : ℕ} → 2 ≤ first
     → SweptFrom first (output ∷ error ∷ since) mid → (now : List Slot) × (mid ≡ output ∷ error ∷ now)
-streams_left {since} [] past swept = absurd (let none : 0 ≡ suc (suc (length since)) = swept.size in omega (arith, none))
-streams_left {since} (one ∷ []) past swept = absurd (let few : 1 ≡ suc (suc (length since)) = swept.size in omega (arith, few))
+streams_left {since} [] past swept = absurd (let none : 0 ≡ suc (suc (length since)) = swept.size in omega arith)
+streams_left {since} (one ∷ []) past swept = absurd (let few : 1 ≡ suc (suc (length since)) = swept.size in omega arith)
 streams_left {output} (one ∷ two ∷ now) past swept =
-    (now, ap (λ slot. slot ∷ two ∷ now) (swept.before 0 (omega (arith, past))) ∙ ap (λ slot. output ∷ slot ∷ now) (swept.before 1 (omega (arith, past))))
+    (now, ap (λ slot. slot ∷ two ∷ now) (swept.before 0 (omega arith)) ∙ ap (λ slot. output ∷ slot ∷ now) (swept.before 1 (omega arith)))
 
 -- a fault is of no output that has messages
 abbrev IsBeside : Fault → Type 0
@@ -275,8 +275,8 @@ IsBeside fault = Unit {0}
 marked_beside : (IsName : List ℕ → Type 0) (fault : Fault) (place count : ℕ) (output error : Slot) (since : List Slot)
     (now : List Slot) → IsAt fault 2 place count → Marks IsName fault (output ∷ error ∷ since) now → IsBeside fault
 marked_beside IsName (Write slot) place count output error since now from marks = λ is.
-    elim from [ inl first ↦ omega (arith, is, first) | inr file ↦ omega (arith, is, file) ]
-marked_beside IsName (Open slot) place count output error since now from marks = λ is. omega (arith, is, marks.0)
+    elim from [ inl first ↦ omega arith | inr file ↦ omega arith ]
+marked_beside IsName (Open slot) place count output error since now from marks = λ is. omega arith
 marked_beside IsName fault place count output error since now from marks = tt
 
 -- so its name and its reason are the same where only that output differs

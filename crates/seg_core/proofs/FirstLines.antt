@@ -125,7 +125,7 @@ EndsAt_counted {delim} {n} {x} i h few counted =
 
 -- a text has the n lines that end in it
 pub EndsAt-enough : (delim n : ℕ) (x : List ℕ) (end : ℕ) → EndsAt delim n x end → n ≤ delimiters delim x
-EndsAt-enough delim n x end ends = omega (arith, ends.complete, delimiters-take-le delim end x)
+EndsAt-enough delim n x end ends = omega (arith, delimiters-take-le delim end x)
 
 AreLines-take : (delim k : ℕ) (lines : List (List ℕ)) → AreLines delim lines → AreLines delim (take k lines)
 AreLines-take delim zero lines each = tt

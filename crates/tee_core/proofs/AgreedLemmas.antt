@@ -42,37 +42,37 @@ each_goes : (place : ℕ) (names : List (List ℕ)) {i : ℕ} (at : Spot) → Go
     → (at.offset ≡ i) × (place ≤ at.place) × (at.place < place + length names)
 each_goes place [] at goes = absurd goes
 each_goes place (name ∷ names) at (inl is) = (ap (λ those. those.offset) is, (omega (arith, ap (λ those. those.place) is)), (omega (arith, ap (λ those. those.place) is)))
-each_goes place (name ∷ names) at (inr goes) = (let rest = each_goes (place + 1) names at goes in (rest.0, (omega (arith, rest.1)), (omega (arith, rest.2))))
+each_goes place (name ∷ names) at (inr goes) = (let rest = each_goes (place + 1) names at goes in (rest.0, (omega arith), (omega arith)))
 
 tee_goes : (names : List (List ℕ)) (x : List ℕ) {i : ℕ} (at : Spot) → GoesTo at (tee_spots names x i)
     → (at.offset ≡ i) × (at.place < 1 + length names)
 tee_goes names x {i} at goes =
     cond_both (nat_lt i (length x)) (spots_each 0 ([] ∷ names) i) [] (λ those. GoesTo at those → (at.offset ≡ i) × (at.place < 1 + length names))
-    (λ is goes. let each = each_goes 0 ([] ∷ names) at goes in (each.0, omega (arith, each.2))) (λ is goes. absurd goes) goes
+    (λ is goes. let each = each_goes 0 ([] ∷ names) at goes in (each.0, omega arith)) (λ is goes. absurd goes) goes
 
 file_has : (mode : Mode) (names : List (List ℕ)) {x : List ℕ} (place : ℕ) → place < length names
     → get_or (map (λ (file : File). file.bytes) (map (copy_in mode Closed x) names)) place [] ≡ x
-file_has mode [] place less = absurd (omega (arith, less))
+file_has mode [] place less = absurd (omega arith)
 file_has mode (name ∷ names) zero less = refl
-file_has mode (name ∷ names) (suc place) less = file_has mode names place (omega (arith, less))
+file_has mode (name ∷ names) (suc place) less = file_has mode names place (omega arith)
 
 output_has : (mode : Mode) (names : List (List ℕ)) {x : List ℕ} (place : ℕ) → place < 1 + length names
     → output_at ((tee_work mode names).whole x) place ≡ x
 output_has mode names zero less = refl
-output_has mode names (suc place) less = file_has mode names place (omega (arith, less))
+output_has mode names (suc place) less = file_has mode names place (omega arith)
 
 no_output : (mode : Mode) (names : List (List ℕ)) (x : List ℕ) (place offset : ℕ)
     → offset < length (get_or (map (λ (file : File). file.bytes) (map (copy_in mode Closed x) names)) place [])
     → place < length names
-no_output mode [] x place offset less = absurd (omega (arith, less))
+no_output mode [] x place offset less = absurd (omega arith)
 no_output mode (name ∷ names) x zero offset less = omega arith
 no_output mode (name ∷ names) x (suc place) offset less = (omega (arith, no_output mode names x place offset less))
 
 goes_to_each : (from : ℕ) (names : List (List ℕ)) (i k : ℕ) → k < length names
     → GoesTo (spot (from + k) i) (spots_each from names i)
-goes_to_each from [] i k less = absurd (omega (arith, less))
+goes_to_each from [] i k less = absurd (omega arith)
 goes_to_each from (name ∷ names) i zero less = inl (ap (λ place. spot place i) (let e : from + 0 ≡ from = omega arith in e))
-goes_to_each from (name ∷ names) i (suc k) less = inr (rw (let e : from + 1 + k ≡ from + suc k = omega arith in e) at (goes_to_each (from + 1) names i k (omega (arith, less))))
+goes_to_each from (name ∷ names) i (suc k) less = inr (rw (let e : from + 1 + k ≡ from + suc k = omega arith in e) at (goes_to_each (from + 1) names i k (omega arith)))
 
 tee_filled : (mode : Mode) (names : List (List ℕ)) (x : List ℕ) (place offset : ℕ)
     → offset < length (output_at ((tee_work mode names).whole x) place)
@@ -89,7 +89,7 @@ tee_filled mode names x (suc place) offset less =
 pub tee_placed : (mode : Mode) (names : List (List ℕ)) → ArePlaced (tee_work mode names) (tee_spots names)
 tee_placed mode names = record {
   stands = λ x i at less goes. (let one = tee_goes names x at goes in let has = output_has mode names at.place one.1 in
-      (rw has (omega (arith, one.0, less)), ap (λ those. get_or those at.offset 0) has ∙ ap (λ k. get_or x k 0) one.0));
+      (rw has (omega arith), ap (λ those. get_or those at.offset 0) has ∙ ap (λ k. get_or x k 0) one.0));
   filled = λ x at less. tee_filled mode names x at.place at.offset less;
   apart = λ x i j at goes also. sym (tee_goes names x at goes).0 ∙ (tee_goes names x at also).0;
 }

@@ -44,10 +44,10 @@ stay_broken {Change} {IsOne} {old} {new} stays decides changes = λ place broken
 
 pub is_between : (first end place : ℕ) → ((first ≤ place) × (place < end)) ⊎ ((first ≤ place) × (place < end) → ⊥)
 is_between first end place = elim (cases_lt place first) [
-  | inl before ↦ inr (λ is. omega (arith, before, is.0))
+  | inl before ↦ inr (λ is. omega arith)
   | inr from ↦ elim (cases_lt place end) [
     | inl within ↦ inl (from, within)
-    | inr past ↦ inr (λ is. omega (arith, past, is.1))
+    | inr past ↦ inr (λ is. omega arith)
   ]
 ]
 
@@ -74,8 +74,8 @@ pub newly_in_two : (old mid new : List Slot) → length mid ≡ length old → l
     → StayBroken mid new → newly_broken old new ≡ newly_broken old mid + newly_broken mid new
 newly_in_two [] [] [] count_mid count_new first second = refl
 newly_in_two (o ∷ olds) (m ∷ mids) (n ∷ news) count_mid count_new first second =
-    omega (arith, in_two (first 0) (second 0), newly_in_two olds mids news (omega (arith, count_mid)) (omega (arith, count_new)) (λ place broken. first (suc place) broken) (λ place broken. second (suc place) broken))
-newly_in_two old mid new count_mid count_new first second = absurd (omega (arith, count_new, count_mid))
+    omega (arith, in_two (first 0) (second 0), newly_in_two olds mids news (omega arith) (omega arith) (λ place broken. first (suc place) broken) (λ place broken. second (suc place) broken))
+newly_in_two old mid new count_mid count_new first second = absurd (omega arith)
 
 pub turned_none : {Change : Slot → Slot → Type 0} {IsOne : ℕ → Type 0} {slots : List Slot}
     → ((place : ℕ) → IsOne place → ⊥) → Turns Change IsOne slots slots 0
@@ -133,7 +133,7 @@ pub record InTurn (Change : Slot → Slot → Type 0) (first n : ℕ) (old now :
   pub few : broke ≤ n
 
 pub none_in_turn : {Change : Slot → Slot → Type 0} {first : ℕ} {slots : List Slot} → InTurn Change first 0 slots slots 0
-none_in_turn = record { turned = turned_none (λ place is. omega (arith, is.0, is.1)); few = omega arith }
+none_in_turn = record { turned = turned_none (λ place is. omega arith); few = omega arith }
 
 pub next_in_turn : {Change : Slot → Slot → Type 0} (first n broke more : ℕ) (old now new : List Slot)
     → ((before after : Slot) → Change before after → before.is_broken ≡ true → after.is_broken ≡ true)
@@ -141,19 +141,19 @@ pub next_in_turn : {Change : Slot → Slot → Type 0} (first n broke more : ℕ
     → InTurn Change first (n + 1) old new (broke + more)
 next_in_turn first n broke more old now new stays so_far turned one = record {
   turned = turned_both broke more stays (is_between first (first + n)) (λ place. cases_eq place (first + n))
-      (λ place is other. omega (arith, is.1, other)) to from so_far.turned turned;
-  few = omega (arith, so_far.few);
+      (λ place is other. omega arith) to from so_far.turned turned;
+  few = omega arith;
 } where
   to : (place : ℕ) → ((first ≤ place) × (place < first + n)) ⊎ (place ≡ first + n)
       → (first ≤ place) × (place < first + (n + 1))
-  to place (inl is) = (is.0, omega (arith, is.1))
-  to place (inr is) = (omega (arith, is), omega (arith, is))
+  to place (inl is) = (is.0, omega arith)
+  to place (inr is) = (omega arith, omega arith)
 
   from : (place : ℕ) → (first ≤ place) × (place < first + (n + 1))
       → ((first ≤ place) × (place < first + n)) ⊎ (place ≡ first + n)
   from place is = elim (cases_lt place (first + n)) [
     | inl within ↦ inl (is.0, within)
-    | inr past ↦ inr (omega (arith, past, is.1))
+    | inr past ↦ inr (omega arith)
   ]
 
 -- one output
@@ -163,13 +163,13 @@ pub gets_more : (told : Bool) {x y : List ℕ} {old mid new : Slot} → Gets tol
 gets_more told {x} {y} {old} (gets_all sound) (gets_all again) = rw (adds_both told x y old) (gets_all sound)
 gets_more told {x} {y} {old} (gets_all sound) (breaks_off again n why within) =
     rw (← (ap (λ bytes. breaks why (adds (told_of told bytes) old)) (take-append-add x y n) ∙ sym (ap (breaks why) (adds_both told x (take n y) old))))
-    (breaks_off sound (length x + n) why (omega (arith, within, length-append x y)))
+    (breaks_off sound (length x + n) why (omega (arith, length-append x y)))
 gets_more told (gets_all sound) (gets_none broken) = absurd (false≢true (sym sound ∙ broken))
 gets_more told (breaks_off sound n why within) (gets_all again) = absurd (false≢true (sym again))
 gets_more told (breaks_off sound n why within) (breaks_off again m _ less) = absurd (false≢true (sym again))
 gets_more told {x} {y} {old} (breaks_off sound n why within) (gets_none broken) =
-    rw (← (ap (λ bytes. breaks why (adds (told_of told bytes) old)) (take-append-le n x y (omega (arith, within)))))
-    (breaks_off sound n why (omega (arith, within, length-append x y)))
+    rw (← (ap (λ bytes. breaks why (adds (told_of told bytes) old)) (take-append-le n x y (omega arith))))
+    (breaks_off sound n why (omega (arith, length-append x y)))
 gets_more told (gets_none broken) (gets_all again) = absurd (false≢true (sym again ∙ broken))
 gets_more told (gets_none broken) (breaks_off again m why less) = absurd (false≢true (sym again ∙ broken))
 gets_more told (gets_none broken) (gets_none again) = gets_none broken
@@ -252,4 +252,4 @@ pub fed : (told : Bool) {piece : List ℕ} (tee : TeeState) (broke more : ℕ) {
     → Turns (Gets told piece) (IsFile tee) mid new more → Turns (Gets told piece) (IsOutput tee) old new (broke + more)
 fed told tee broke more streams first second =
     turned_both broke more (still_broken told) (λ place. cases_eq place 0) (is_between tee.first (tee.first + tee.count))
-    (λ place is file. omega (arith, is, file.0, streams (omega (arith, file.0, file.1)))) (λ place is. is) (λ place is. is) first second
+    (λ place is file. omega (arith, streams (omega (arith, file.0, file.1)))) (λ place is. is) (λ place is. is) first second

@@ -67,25 +67,25 @@ seen_next : (n : ℕ) (known : List Standing) (stand : List Standing) (nows : Li
     → now ≡ get_or stand n Sound → SeenTo (suc n) known stand (set nows n now)
 seen_next zero (was ∷ known) (one ∷ stand) nows within many so_far sees = rw so_far (sees, refl)
 seen_next (suc n) (was ∷ known) (one ∷ stand) (now ∷ nows) within many so_far sees =
-    (so_far.0, seen_next n known stand nows (omega arith) (omega (arith, many)) so_far.1 sees)
+    (so_far.0, seen_next n known stand nows (omega arith) (omega arith) so_far.1 sees)
 seen_next (suc n) (was ∷ known) (one ∷ stand) [] within many so_far sees = absurd so_far
-seen_next n known stand nows within many so_far sees = absurd (omega (arith, many))
+seen_next n known stand nows within many so_far sees = absurd (omega arith)
 
 get_next : (n : ℕ) (known : List Standing) (stand : List Standing) (nows : List Standing) (other : Standing)
     → n < length known → length stand ≡ length known → SeenTo n known stand nows
     → get_or nows n other ≡ get_or known n Sound
 get_next zero (was ∷ known) (one ∷ stand) nows other within many so_far = rw so_far refl
 get_next (suc n) (was ∷ known) (one ∷ stand) (now ∷ nows) other within many so_far =
-    get_next n known stand nows other (omega arith) (omega (arith, many)) so_far.1
+    get_next n known stand nows other (omega arith) (omega arith) so_far.1
 get_next (suc n) (was ∷ known) (one ∷ stand) [] other within many so_far = absurd so_far
-get_next n known stand nows other within many so_far = absurd (omega (arith, many))
+get_next n known stand nows other within many so_far = absurd (omega arith)
 
 pub seen_all : (known : List Standing) (stand : List Standing) (nows : List Standing) → length stand ≡ length known
     → SeenTo (length known) known stand nows → nows ≡ stand
 seen_all [] [] nows many so_far = so_far
-seen_all (was ∷ known) (one ∷ stand) (now ∷ nows) many so_far = cc (so_far.0, seen_all known stand nows (omega (arith, many)) so_far.1)
+seen_all (was ∷ known) (one ∷ stand) (now ∷ nows) many so_far = cc (so_far.0, seen_all known stand nows (omega arith) so_far.1)
 seen_all (was ∷ known) (one ∷ stand) [] many so_far = absurd so_far
-seen_all known stand nows many so_far = absurd (omega (arith, many))
+seen_all known stand nows many so_far = absurd (omega arith)
 
 said_next : (on_broken : OnBroken) (fault : Fault) (names : List (List ℕ)) (known stand : List Standing)
     (nows : List Standing) (n : ℕ) (now : Standing) → n < length names → length known ≡ length names
@@ -96,11 +96,11 @@ said_next : (on_broken : OnBroken) (fault : Fault) (names : List (List ℕ)) (kn
 said_next on_broken fault (name ∷ names) (was ∷ known) (one ∷ stand) nows zero now within known_many many so_far =
     rw (so_far, tells_same on_broken was, none_said on_broken fault names known) refl
 said_next on_broken fault (name ∷ names) (was ∷ known) (one ∷ stand) (first ∷ nows) (suc n) now within known_many many so_far =
-    let rest = said_next on_broken fault names known stand nows n now (omega arith) (omega (arith, known_many))
-    (omega (arith, many)) so_far.1 in
+    let rest = said_next on_broken fault names known stand nows n now (omega arith) (omega arith)
+    (omega arith) so_far.1 in
     grind (arith, nat_tests, rest)
 said_next on_broken fault (name ∷ names) (was ∷ known) (one ∷ stand) [] (suc n) now within known_many many so_far = absurd so_far
-said_next on_broken fault names known stand nows n now within known_many many so_far = absurd (omega (arith, known_many, many))
+said_next on_broken fault names known stand nows n now within known_many many so_far = absurd (omega arith)
 
 -- where outputs stand
 
@@ -114,7 +114,7 @@ pub count_standings : {slots : List Slot} {count : ℕ} → HasStreams slots cou
     → length (standings_of slots) ≡ count + 1
 count_standings {count} has =
     let many = length-map has.files stands_as in
-    let next : suc (length (map stands_as has.files)) ≡ count + 1 = omega (arith, many, has.files_are) in
+    let next : suc (length (map stands_as has.files)) ≡ count + 1 = omega arith in
     ap (λ those. length (standings_of those)) has.are ∙ next
 
 -- standard error alone is written
@@ -196,7 +196,7 @@ tells_next told {calling} {on_broken} {fault} {names} {before} {known} other {n}
           ≡ messages ++ (if tells on_broken (get_or known n other) standing then message_of fault name ∷ [] else [])
       step =
           let next = said_next on_broken fault names before (standings_of old) known n standing
-          (omega (arith, names_many, within, many)) (many ∙ sym names_many) (standings_are ∙ sym names_many)
+          (omega arith) (many ∙ sym names_many) (standings_are ∙ sym names_many)
           so_far.seen in
           cc (next, named, was)
 
@@ -242,7 +242,7 @@ not_in on_broken call broke differs = grind (arith, nat_tests, differs)
 pub marked_now : {call : ℕ} (why : Reason) → Marks call None (Some (break_now call why)) (lost_for why)
 marked_now {call} why = record {
   said = λ on_broken. grind (arith, nat_tests);
-  older = λ on_broken other less. not_in on_broken other (break_now call why) (λ same. omega (arith, same, less));
+  older = λ on_broken other less. not_in on_broken other (break_now call why) (λ same. omega arith);
   sooner = λ other within. grind (arith, nat_tests, within);
   then_is = grind (arith, nat_tests);
   now_is = grind (arith, nat_tests);
@@ -252,7 +252,7 @@ marked_now {call} why = record {
 marked_before : {call : ℕ} (broke : Break) → broke.call < call
     → Marks call (Some broke) (Some broke) (lost_for broke.why)
 marked_before {call} broke less = record {
-  said = λ on_broken. not_in on_broken call broke (λ same. omega (arith, same, less)) ∙ sym (tells_known on_broken broke.why (lost_for broke.why));
+  said = λ on_broken. not_in on_broken call broke (λ same. omega arith) ∙ sym (tells_known on_broken broke.why (lost_for broke.why));
   older = λ on_broken other sooner. refl;
   sooner = λ other within. refl;
   then_is = grind (arith, nat_tests, less);
@@ -385,11 +385,11 @@ pub files_go : {Is Then : List ℕ → Option Break → Slot → Type 0} {Change
     → ((n : ℕ) → n < length olds → Change (slot_at olds n) (slot_at news n)) → EachFile Is names broke olds
     → (after : List (Option Break)) × EachFile Then names after news × AllMark call broke after (map stands_as news)
 files_go go [] many changes no_file = ([], no_file, none_marked)
-files_go go (new ∷ news) many changes no_file = absurd (omega (arith, many))
-files_go go [] many changes (one_file name names first broke old olds one rest) = absurd (omega (arith, many))
+files_go go (new ∷ news) many changes no_file = absurd (omega arith)
+files_go go [] many changes (one_file name names first broke old olds one rest) = absurd (omega arith)
 files_go go (new ∷ news) many changes (one_file name names first broke old olds one rest) =
     let here = go name first old new one (changes 0 (omega arith)) in
-    let there = files_go go news (omega (arith, many)) (λ n within. changes (suc n) (omega arith)) rest in
+    let there = files_go go news (omega arith) (λ n within. changes (suc n) (omega arith)) rest in
     (here.0 ∷ there.0, one_file _ _ _ _ _ _ here.1 there.1, all_marked _ _ _ _ _ _ here.2 there.2)
 
 -- the outputs of a run
@@ -425,17 +425,17 @@ files_usable told (suc n) within (one_file name names first broke file files one
 -- a file's place, counted from the first file
 pub file_place : {names : List (List ℕ)} {tee : TeeState} (place : ℕ) → IsTeeOf names tee → IsFile tee place
     → (n : ℕ) × (place ≡ suc (suc n)) × (n < length names)
-file_place {tee} zero is file = absurd (omega (arith, file.0, is.first (omega (arith, file.0, file.1))))
-file_place {tee} (suc zero) is file = absurd (omega (arith, file.0, is.first (omega (arith, file.0, file.1))))
-file_place {names} {tee} (suc (suc n)) is file = let first : tee.first ≡ 2 = is.first (omega (arith, file.0, file.1)) in let count : tee.count ≡ length names = is.count in (n, refl, omega (arith, file.1, first, count))
+file_place {tee} zero is file = absurd (omega (arith, is.first (omega (arith, file.0, file.1))))
+file_place {tee} (suc zero) is file = absurd (omega (arith, is.first (omega (arith, file.0, file.1))))
+file_place {names} {tee} (suc (suc n)) is file = let first : tee.first ≡ 2 = is.first (omega arith) in let count : tee.count ≡ length names = is.count in (n, refl, omega arith)
 
 pub place_file : {names : List (List ℕ)} {tee : TeeState} (n : ℕ) → IsTeeOf names tee → n < length names
     → IsFile tee (suc (suc n))
 place_file {names} {tee} n is within = grind (arith, common_steps)
 
 pub error_no_output : {names : List (List ℕ)} {tee : TeeState} → IsTeeOf names tee → IsOutput tee 1 → ⊥
-error_no_output is (inl here) = omega (arith, here)
-error_no_output is (inr file) = let there = file_place 1 is file in omega (arith, there.1)
+error_no_output is (inl here) = omega arith
+error_no_output is (inr file) = let there = file_place 1 is file in omega arith
 
 module _ (told : Bool) (calling : Calling) (mode : Mode) (on_broken : OnBroken) (names : List (List ℕ)) where
   pub copies_ready : {pieces : List (List ℕ)} {messages : List Message} {slots : List Slot} {known : List Standing}
@@ -446,7 +446,7 @@ module _ (told : Bool) (calling : Calling) (mode : Mode) (on_broken : OnBroken) 
     by (inl here) = rw here (output_usable told copies.output_has)
     by (inr file) =
         let there = file_place place is file in
-        rw there.1 (files_usable told there.0 (omega (arith, there.2, length-files copies.files_have)) copies.files_have)
+        rw there.1 (files_usable told there.0 (omega (arith, length-files copies.files_have)) copies.files_have)
 
   -- the outputs after a call, before anything is said of it, where they stand so now
   pub record After (OutputIs : Option Break → Slot → Type 0) (FileIs : List ℕ → Option Break → Slot → Type 0)
@@ -474,14 +474,14 @@ module _ (told : Bool) (calling : Calling) (mode : Mode) (on_broken : OnBroken) 
       → nows ≡ standings_of mid → After OutputIs FileIs call copies mid nows
   called {OutputIs} {FileIs} {Change} {mid = mid} is copies call count error one changes go sees = rw sees (by mid refl) where
     by : (those : List Slot) → mid ≡ those → After OutputIs FileIs call copies mid (standings_of those)
-    by [] short = absurd (omega (arith, ap length short, count, ap length copies.are))
-    by (output ∷ []) short = absurd (omega (arith, ap length short, count, ap length copies.are))
+    by [] short = absurd (omega (arith, ap length short, ap length copies.are))
+    by (output ∷ []) short = absurd (omega (arith, ap length short, ap length copies.are))
     by (output ∷ other ∷ files) are =
         let same : other ≡ copies.error = sym (ap (λ those. slot_at those 1) are) ∙ error ∙ ap (λ those. slot_at those 1) copies.are in
         let here = one output (ap (λ those. slot_at those 0) are) in let many = length-files copies.files_have in
-        let rest = files_go go files (omega (arith, ap length are, count, ap length copies.are))
+        let rest = files_go go files (omega (arith, ap length are, ap length copies.are))
         (λ n within. rw (ap (λ those. slot_at those (suc (suc n))) are) at (rw (ap (λ those. slot_at those (suc (suc n))) copies.are) at
-        (changes (suc (suc n)) (place_file n is (omega (arith, within, many)))))) copies.files_have in
+        (changes (suc (suc n)) (place_file n is (omega arith))))) copies.files_have in
         record {
           output = output;
           files = files;
@@ -571,14 +571,14 @@ module _ (told : Bool) (calling : Calling) (mode : Mode) (on_broken : OnBroken) 
   pub mid_streams : {pieces : List (List ℕ)} {messages : List Message} {old mid : List Slot} {known : List Standing}
       → Copies told calling mode on_broken names pieces messages old known → length mid ≡ length old
       → slot_at mid 1 ≡ slot_at old 1 → HasStreams mid (length names)
-  mid_streams {mid = []} copies count error = absurd (omega (arith, count, ap length copies.are))
-  mid_streams {mid = output ∷ []} copies count error = absurd (omega (arith, count, ap length copies.are))
+  mid_streams {mid = []} copies count error = absurd (omega (arith, ap length copies.are))
+  mid_streams {mid = output ∷ []} copies count error = absurd (omega (arith, ap length copies.are))
   mid_streams {mid = output ∷ other ∷ files} copies count error =
-      streams_after copies (ap (λ slot. output ∷ slot ∷ files) (error ∙ ap (λ those. slot_at those 1) copies.are)) (omega (arith, count, ap length copies.are, length-files copies.files_have))
+      streams_after copies (ap (λ slot. output ∷ slot ∷ files) (error ∙ ap (λ those. slot_at those 1) copies.are)) (omega (arith, ap length copies.are, length-files copies.files_have))
 
   pub known_many : {pieces : List (List ℕ)} {messages : List Message} {slots : List Slot} {known : List Standing}
       → Copies told calling mode on_broken names pieces messages slots known → length known ≡ length names + 1
-  known_many copies = let count = ap length copies.known_are ∙ length-map (copies.first ∷ copies.broke) standing_of in omega (arith, count, length-broke copies.files_have)
+  known_many copies = let count = ap length copies.known_are ∙ length-map (copies.first ∷ copies.broke) standing_of in omega (arith, length-broke copies.files_have)
 
 -- an output that isn't closed
 output_kept : (told : Bool) {pieces : List (List ℕ)} {first : Option Break} {output : Slot}

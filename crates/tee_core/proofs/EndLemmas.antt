@@ -101,7 +101,7 @@ seen_more told there x size sources new {old_buffer} {buffer} {n} read can gave 
 
 pub counted_more : (x buffer : List ℕ) {fed : ℕ} (n : ℕ) {sum : ℕ} → fed ≡ length x → n ≤ length buffer → sum ≡ fed + n
     → sum ≡ length (x ++ take n buffer)
-counted_more x buffer n counted within is = omega (arith, counted, within, is, length-append x (take n buffer), length-take n buffer)
+counted_more x buffer n counted within is = omega (arith, length-append x (take n buffer), length-take n buffer)
 
 -- the pieces
 
@@ -109,7 +109,7 @@ abbrev pub AreSized : List (List ℕ) → Type 0
 AreSized pieces = All (λ (piece : List ℕ). (0 < length piece) × (length piece ≤ largest_piece)) pieces
 
 pub none_sized : AreSized []
-none_sized k d low = absurd (omega (arith, low))
+none_sized k d low = absurd (omega arith)
 
 pub more_sized : (pieces : List (List ℕ)) (buffer : List ℕ) {n : ℕ} → AreSized pieces → (n ≡ 0 → ⊥) → n ≤ length buffer
     → length buffer ≤ largest_piece → AreSized (pieces ++ take n buffer ∷ [])
@@ -137,7 +137,7 @@ few_pieces : (pieces : List (List ℕ)) → AreSized pieces → length pieces �
 few_pieces [] sized = omega arith
 few_pieces (piece ∷ pieces) sized =
     let rest = few_pieces pieces (λ k byte within. sized (suc k) byte (omega arith)) in
-    let some = (sized 0 piece (omega arith)).0 in omega (arith, rest, some, length-append piece (concat pieces))
+    let some = (sized 0 piece (omega arith)).0 in omega (arith, length-append piece (concat pieces))
 
 pub reads_once : {x : List ℕ} (pieces : List (List ℕ)) {was now : ℕ} → x ≡ concat pieces → AreSized pieces
     → length x < 2 ^ 63 → was ≡ length pieces → now ≡ counted was → now ≡ length pieces + 1
@@ -146,7 +146,7 @@ reads_once {x} pieces {was} joined sized few so_far is = let most = few_pieces p
 pub reads_more : {x : List ℕ} (pieces : List (List ℕ)) (piece : List ℕ) {was now : ℕ} → x ≡ concat pieces
     → AreSized pieces → length x < 2 ^ 63 → was ≡ length pieces → now ≡ counted was
     → now ≡ length (pieces ++ piece ∷ [])
-reads_more pieces piece joined sized few so_far is = let once = reads_once pieces joined sized few so_far is in omega (arith, once, length-append pieces (piece ∷ []))
+reads_more pieces piece joined sized few so_far is = let once = reads_once pieces joined sized few so_far is in omega (arith, length-append pieces (piece ∷ []))
 
 pub reads_copied : {told_in : Bool} (told : Bool) {calling : Calling} {mode : Mode} {on_broken : OnBroken}
     {names : List (List ℕ)} {content : Content} {source : Source} {slots : List Slot} {known : List Standing}
@@ -264,7 +264,7 @@ pub all_sound_if : {told : Bool} {mode : Mode} {pieces names : List (List ℕ)} 
     → FilesLeft told mode pieces names broke files → new ≡ output ∷ error ∷ files → AreSound new
     → are_sound (first ∷ broke) ≡ true
 all_sound_if left rest is whole =
-    let those = rw is at whole in rw (output_sound (those 0 (λ same. omega (arith, same))) left) (files_sound (λ place. those (suc (suc place)) (λ same. omega (arith, same))) rest)
+    let those = rw is at whole in rw (output_sound (those 0 (λ same. omega arith)) left) (files_sound (λ place. those (suc (suc place)) (λ same. omega arith)) rest)
 
 -- where it is no fault that one is gone, and none failed, nothing broke
 pub sound_if : (broke : List (Option Break)) → any_is Broken (map standing_of broke) ≡ false
@@ -278,11 +278,11 @@ sound_if (Some one ∷ broke) whole left = by one.why whole left where
   by why none left = absurd (false≢true (sym none))
 
 gone_fails : (on_broken : OnBroken) (failed : Bool) → forgives on_broken ≡ false → gone_status on_broken failed ≡ 0 → ⊥
-gone_fails Warn failed strict zero_is = omega (arith, zero_is)
-gone_fails Exit failed strict zero_is = omega (arith, zero_is)
+gone_fails Warn failed strict zero_is = omega arith
+gone_fails Exit failed strict zero_is = omega arith
 gone_fails WarnNoPipe failed strict zero_is = false≢true (sym strict)
 gone_fails ExitNoPipe failed strict zero_is = false≢true (sym strict)
-gone_fails Signal failed strict zero_is = omega (arith, zero_is)
+gone_fails Signal failed strict zero_is = omega arith
 
 status_zero : (on_broken : OnBroken) (broke : List (Option Break)) (fault : Option Fault) → forgives on_broken ≡ false
     → status_of on_broken broke fault ≡ 0 → (is_none fault ≡ true) × (are_sound broke ≡ true)
@@ -292,8 +292,8 @@ status_zero on_broken broke fault strict = by (any_is Gone (map standing_of brok
       → (if gone then gone_status on_broken (not ended || broken) else if not ended || broken then 1 else 0) ≡ 0
       → (ended ≡ true) × (are_sound broke ≡ true)
   by true broken ended is_gone is_broken is_ended zero_is = absurd (gone_fails on_broken (not ended || broken) strict zero_is)
-  by false true true is_gone is_broken is_ended zero_is = absurd (omega (arith, zero_is))
-  by false broken false is_gone is_broken is_ended zero_is = absurd (omega (arith, zero_is))
+  by false true true is_gone is_broken is_ended zero_is = absurd (omega arith)
+  by false broken false is_gone is_broken is_ended zero_is = absurd (omega arith)
   by false false true is_gone is_broken is_ended zero_is = (refl, sound_if broke is_broken is_gone)
 
 read_whole : {content : Content} (Leaves : List ℕ → Type 0) {is_vain : Bool} {x : List ℕ} {fault : Option Fault}
@@ -330,7 +330,7 @@ sound_status on_broken broke fault sound = rw (none_lost Gone refl broke sound, 
 
 none_faulty : (ended : Bool) → ◌≡◌ {A = ℕ} (if ended then 0 else 1) 0 → ended ≡ true
 none_faulty true is = refl
-none_faulty false is = absurd (omega (arith, is))
+none_faulty false is = absurd (omega arith)
 
 -- a run with the status 0 met no fault, and nothing broke, where that is so of one that forgives
 pub well_of : {told : Bool} {mode : Mode} (on_broken : OnBroken) {pieces names : List (List ℕ)} (fault : Option Fault)
@@ -348,7 +348,7 @@ pub whole_if : {told_in : Bool} (told : Bool) {calling : Calling} {mode : Mode}
     → status ≡ 0 → (forgives on_broken ≡ true → AreSound new)
     → EndsAs told_in told calling mode on_broken names content source new status
     → new ≡ all_copied told mode names content.bytes
-whole_if told zero_is sound (no_room error said left at one) = absurd (omega (arith, zero_is, one))
+whole_if told zero_is sound (no_room error said left at one) = absurd (omega arith)
 whole_if told {mode = mode} {on_broken} {names} zero_is sound (copied pieces fault first broke output error files read some output_left files_left said at is) =
     let good = well_of on_broken fault output_left files_left at sound (sym is ∙ zero_is) in let sounds = sound_first first (are_sound broke) good.1 in
     let silent = quiet fault (length pieces) (first ∷ broke) good.0 good.1 in

@@ -91,7 +91,7 @@ pub opens_more : {mode : Mode} {names : List (List ℕ)} {name : List ℕ} {left
 opens_more {names} {left} {old} {now} so_far number small one = record {
   whole = λ last opens. so_far.whole last (opens_next one opens);
   some = λ last opens. so_far.some last (some_next one opens);
-  counts = omega (arith, so_far.counts, length-one one);
+  counts = omega (arith, length-one one);
   small = omega (arith, length-one one);
 }
 
@@ -119,10 +119,10 @@ ready_to_go {names} {old} {new} tee some standard opens count first place is = b
   by : IsOutput tee place → IsUsable (slot_at new place)
   by (inl here) = λ sound. ap (λ at. is_open (slot_at new at).state) here ∙ ap (λ those. is_open (slot_at those 0).state) opens.slots ∙ ap (λ (slot : Slot). is_open slot.state) (get_or_append_left old opens.since no_slot 0 some) ∙ standard
   by (inr file) =
-      let start = first (omega (arith, file.0, file.1)) in let many = length-since names opens.since opens.each in
-      let there : place ≡ length old + (place - length old) = omega (arith, start, file.0) in
+      let start = first (omega arith) in let many = length-since names opens.since opens.each in
+      let there : place ≡ length old + (place - length old) = omega arith in
       rw (ap (λ at. slot_at new at) there ∙ ap (λ those. slot_at those (length old + (place - length old))) opens.slots ∙ get_or-append-add old opens.since (place - length old) no_slot)
-      (since_usable names opens.since (place - length old) opens.each (omega (arith, start, file.0, file.1, many, count)))
+      (since_usable names opens.since (place - length old) opens.each (omega arith))
 
 -- the same of names as the code has them
 

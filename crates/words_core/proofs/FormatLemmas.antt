@@ -42,8 +42,8 @@ too_many flags width digits base many = no_form (go_with base flags && (nat_le w
 width_clipped : (flags : List ℕ) (width : ℕ) (precision : Option ℕ) (base : Base)
     → form_of flags (min width (2 ^ 64 - 1)) precision (Some base) ≡ form_of flags width precision (Some base)
 width_clipped flags width precision base = elim (cases_lt 255 width) [
-  | inl wide ↦ too_wide flags (min width (2 ^ 64 - 1)) precision base (omega (arith, wide)) ∙ sym (too_wide flags width precision base wide)
-  | inr within ↦ ap (λ width. form_of flags width precision (Some base)) (let same : min width (2 ^ 64 - 1) ≡ width = omega (arith, within) in same)
+  | inl wide ↦ too_wide flags (min width (2 ^ 64 - 1)) precision base (omega arith) ∙ sym (too_wide flags width precision base wide)
+  | inr within ↦ ap (λ width. form_of flags width precision (Some base)) (let same : min width (2 ^ 64 - 1) ≡ width = omega arith in same)
 ]
 
 form_clipped : (flags : List ℕ) (width : ℕ) (precision : Option ℕ) (base : Option Base)
@@ -52,8 +52,8 @@ form_clipped : (flags : List ℕ) (width : ℕ) (precision : Option ℕ) (base :
 form_clipped flags width precision None = refl
 form_clipped flags width None (Some base) = width_clipped flags width None base
 form_clipped flags width (Some digits) (Some base) = width_clipped flags width (Some (min digits (2 ^ 64 - 1))) base ∙ elim (cases_lt 255 digits) [
-  | inl many ↦ too_many flags width (min digits (2 ^ 64 - 1)) base (omega (arith, many)) ∙ sym (too_many flags width digits base many)
-  | inr within ↦ ap (λ digits. form_of flags width (Some digits) (Some base)) (let same : min digits (2 ^ 64 - 1) ≡ digits = omega (arith, within) in same)
+  | inl many ↦ too_many flags width (min digits (2 ^ 64 - 1)) base (omega arith) ∙ sym (too_many flags width digits base many)
+  | inr within ↦ ap (λ digits. form_of flags width (Some digits) (Some base)) (let same : min digits (2 ^ 64 - 1) ≡ digits = omega arith in same)
 ]
 
 pub letter_clipped : (flags : List ℕ) (width : ℕ) (precision : Option ℕ) (text : List ℕ)
@@ -83,8 +83,8 @@ letter_ends : {text rest : List ℕ} → IsUtf8 text → AfterLetter text rest
 letter_ends {text} {rest} utf8 (front, letter, ascii, is) =
     let size : length text ≡ length front + suc (length rest) = ap length is ∙ length-append front (letter ∷ rest) in
     let at : get_or text (length front) 0 ≡ letter = ap (λ text. get_or text (length front) 0) is ∙ get_or-append_seam front letter rest 0 in
-    let place : length text - length rest ≡ length front + 1 = omega (arith, size) in
-    (omega (arith, size), rw place (IsCharBoundary-after_ascii text (length front) utf8 (omega (arith, size)) (omega (arith, at, ascii))))
+    let place : length text - length rest ≡ length front + 1 = omega arith in
+    (omega arith, rw place (IsCharBoundary-after_ascii text (length front) utf8 (omega arith) (omega arith)))
 
 -- in words of slices
 
@@ -137,15 +137,15 @@ boundary_at text front [] is begins =
 boundary_at text front (byte ∷ rest) is begins =
     let size : length text ≡ length front + suc (length rest) = ap length is ∙ length-append front (byte ∷ rest) in
     let at : get_or text (length front) 0 ≡ byte = ap (λ text. get_or text (length front) 0) is ∙ get_or-append_seam front byte rest 0 in
-    IsCharBoundary-before_ascii text (length front) (omega (arith, size)) (omega (arith, at, begins))
+    IsCharBoundary-before_ascii text (length front) (omega arith) (omega arith)
 
 pub conversion_begins : (text : List ℕ)
     → (length (after_text text) ≤ length text) × IsCharBoundary text (length text - length (after_text text))
 conversion_begins text =
     let (front, is, begins) = is_end text in
     let size : length text ≡ length front + length (after_text text) = ap length is ∙ length-append front (after_text text) in
-    let place : length text - length (after_text text) ≡ length front = omega (arith, size) in
-    (omega (arith, size), rw place (boundary_at text front (after_text text) is begins))
+    let place : length text - length (after_text text) ≡ length front = omega arith in
+    (omega arith, rw place (boundary_at text front (after_text text) is begins))
 
 -- what was read is the format of a text
 
@@ -157,7 +157,7 @@ drop_past front letter rest =
 letter_rest : {text rest : List ℕ} → AfterLetter text rest → drop (length text - length rest) text ≡ rest
 letter_rest {text} {rest} (front, letter, ascii, is) =
     let size : length text ≡ length front + suc (length rest) = ap length is ∙ length-append front (letter ∷ rest) in
-    let place : length text - length rest ≡ length front + 1 = omega (arith, size) in
+    let place : length text - length rest ≡ length front + 1 = omega arith in
     ap (λ n. drop n text) place ∙ ap (drop (length front + 1)) is ∙ drop_past front letter rest
 
 after_conversion : (text : List ℕ) {rest : List ℕ} → AfterLetter (after_text text) rest → AfterLetter text rest
@@ -184,8 +184,8 @@ pub is_format : (text : List ℕ) {bytes conversion rest front back : List ℕ} 
 is_format text {bytes} {conversion} {rest} {front} {back} {form} same is ends read none first last =
     let conv : conversion ≡ after_text text = is ∙ ap after_text same in
     let size : length bytes ≡ length text = ap length same in
-    let before : front ≡ before_it text = first ∙ ap (λ n. take n text) (let n : length bytes - length conversion - 0 ≡ length text - length (after_text text) = omega (arith, size, ap length conv) in n) in
-    let after : back ≡ rest = last ∙ ap (λ n. drop n text) (let n : length bytes - length rest ≡ length text - length rest = omega (arith, size) in n) ∙ ends.2 in
+    let before : front ≡ before_it text = first ∙ ap (λ n. take n text) (let n : length bytes - length conversion - 0 ≡ length text - length (after_text text) = omega (arith, ap length conv) in n) in
+    let after : back ≡ rest = last ∙ ap (λ n. drop n text) (let n : length bytes - length rest ≡ length text - length rest = omega arith in n) ∙ ends.2 in
     let made : List ℕ → List ℕ → Format = λ front back. record { before = plain_text front; form = form; after = plain_text back } in
     ap (λ front. Some (made front back)) before ∙ ap (λ back. Some (made (before_it text) back)) after
     ∙ sym (ap (around (before_it text)) (ap conversion_in (sym conv) ∙ sym read) ∙ ap (λ empty. cond empty (Some (made (before_it text) rest)) None) none)
@@ -214,7 +214,7 @@ plain_percent byte (next ∷ rest) is =
 
 pub percent_at : (text : List ℕ) → position_or_len is_percent text < length text
     → plain_text text ≡ before_first is_percent text ++ 37 ∷ plain_text (without_percent (after_first is_percent text))
-percent_at [] some = absurd (omega (arith, some))
+percent_at [] some = absurd (omega arith)
 percent_at (byte ∷ text) some = by (is_percent byte) refl some (percent_at text) where
   at : ℕ
   at = position_or_len is_percent text
@@ -230,7 +230,7 @@ percent_at (byte ∷ text) some = by (is_percent byte) refl some (percent_at tex
   by false is some more =
       let next : suc at ≡ 1 + at = omega arith in
       let after : suc (at + 1) ≡ suc at + 1 = omega arith in
-      subst Is next (plain_other byte text is ∙ ap (λ rest. byte ∷ rest) (more (omega (arith, some))) ∙ ap (λ n. byte ∷ take at text ++ 37 ∷ plain_text (without_percent (drop n (byte ∷ text)))) after)
+      subst Is next (plain_other byte text is ∙ ap (λ rest. byte ∷ rest) (more (omega arith)) ∙ ap (λ n. byte ∷ take at text ++ 37 ∷ plain_text (without_percent (drop n (byte ∷ text)))) after)
 
 pub no_percent : (text : List ℕ) → position_or_len is_percent text ≡ length text → plain_text text ≡ text
 no_percent [] none = refl

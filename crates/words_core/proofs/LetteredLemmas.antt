@@ -97,7 +97,7 @@ digits_in [] rest all none = none
 digits_in (digit ∷ digits) rest all none =
     let both = and_parts (is_ascii_digit digit) _ all in
     let more = digits_in digits rest both.1 none in
-    rw (both.0) (omega (arith, more))
+    rw (both.0) (omega arith)
 
 pub not_empty : (digits : List ℕ) → is_number digits ≡ true → (length digits == 0) ≡ false
 not_empty [] is = absurd (cc)

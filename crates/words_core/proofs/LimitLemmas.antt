@@ -126,18 +126,18 @@ wide_enough-can : (alphabet : Alphabet) (count width : ℕ) → 1 ≤ width → 
 wide_enough-can alphabet count width some most = search rules
 
 all_writes : (alphabet : Alphabet) {count : ℕ} → count ≤ 10 ^ 20 → count ≤ name_count alphabet 23
-all_writes Letters few = omega (arith, few)
-all_writes Digits few = omega (arith, few)
-all_writes Hex few = omega (arith, few)
-all_writes Capitals few = omega (arith, few)
-all_writes Octal few = omega (arith, few)
+all_writes Letters few = omega arith
+all_writes Digits few = omega arith
+all_writes Hex few = omega arith
+all_writes Capitals few = omega arith
+all_writes Octal few = omega arith
 
 least-can : (alphabet : Alphabet) {count : ℕ} → count ≤ 10 ^ 20
     → (count ≤ name_count alphabet (least_width alphabet count)) × IsWidth (least_width alphabet count)
 unfolding least_width
 least-can alphabet {count} few =
     let within = least_within alphabet count 21 2 in
-    (least_writes alphabet count 21 2 (all_writes alphabet few), (omega (arith, within.0), omega (arith, within.1)))
+    (least_writes alphabet count 21 2 (all_writes alphabet few), (omega arith, omega arith))
 
 some_if : (width : ℕ) → (width == 0) ≡ false → 1 ≤ width
 some_if zero given = absurd (cc)
@@ -157,9 +157,9 @@ all-can alphabet count width few most = grind (arith, common_steps, cond_both, l
 suffix-can : (way : Way) (alphabet : Alphabet) (from : Option ℕ) (width : ℕ) → IsInLimits way → width ≤ 255
     → first_number from ≤ 2 ^ 63 - 1 → IfOk (suffix_for way alphabet from width) (Serves way alphabet from)
 suffix-can (way.Cut (cut.Round files delim)) alphabet from width few most least =
-    all-can alphabet (first_number from + files) width (omega (arith, few.1, least)) most
+    all-can alphabet (first_number from + files) width (omega arith) most
 suffix-can (way.Chunks chunks) alphabet from width few most least =
-    all-can alphabet (first_number from + chunks.count) width (omega (arith, few.1, least)) most
+    all-can alphabet (first_number from + chunks.count) width (omega arith) most
 suffix-can (way.Cut (cut.Parts limit)) alphabet (Some from) width is most least = grind (arith, common_steps)
 suffix-can (way.Cut (cut.Parts limit)) alphabet None width is most least =
     (some_names alphabet _, free-wide width most)

@@ -50,7 +50,7 @@ place_of_equals [] rest none here = here
 place_of_equals (byte ∷ front) rest none here =
     let both = or_parts (byte == 61) (list_any is_equals front) none in
     let past = place_of_equals front rest both.1 here in
-    ap (λ test. cond (not test) (1 + position_or_len is_equals (front ++ rest)) 0) both.0 ∙ omega (arith, past)
+    ap (λ test. cond (not test) (1 + position_or_len is_equals (front ++ rest)) 0) both.0 ∙ omega arith
 
 no_place : (front : List ℕ) → list_any is_equals front ≡ false → position_or_len is_equals front ≡ length front
 no_place front none = cc (append-nil front, place_of_equals front [] none refl)

@@ -19,7 +19,7 @@ pub least_within : (alphabet : Alphabet) (count more width : ℕ)
 least_within alphabet count zero width = (omega arith, omega arith)
 least_within alphabet count (suc more) width = cond_both (names_all alphabet count width) width (least_from alphabet count more (width + 1)) (λ found. (width ≤ found) × (found ≤ width + suc more))
     (λ _. (omega arith, omega arith))
-    (λ _. let rest = least_within alphabet count more (width + 1) in (omega (arith, rest.0), omega (arith, rest.1)))
+    (λ _. let rest = least_within alphabet count more (width + 1) in (omega arith, omega arith))
 
 pub least_writes : (alphabet : Alphabet) (count more width : ℕ) → count ≤ name_count alphabet (width + more)
     → count ≤ name_count alphabet (least_from alphabet count more width)

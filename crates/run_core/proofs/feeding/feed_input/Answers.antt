@@ -32,24 +32,24 @@ pieces-init g c =
         holds = record { live = c.load.ensures.live; count = c.load.ensures.fed ∙ loads.long; within = took.holds };
         owns = λ first own. took.owns first _ own;
         outputs = λ before own at. rw took.same (rw took.idle at);
-        bound = omega (arith, c.load.ensures.fed, loads.few);
+        bound = omega arith;
       };
       readable = rw (passed, c.requires.input);
       others = keeps_others _ _ _ _ loads.passed;
       read = λ told. record { bytes = loads.there told; breaks_off = rw passed };
       took = λ told. record {
         taken = rw (passed, loads.there told, loads.long, take_at loads.front _ (length loads.front) refl);
-        far = λ unread. omega (arith, ap (λ (source : Source). source.reached) passed, unread.1);
+        far = λ unread. omega (arith, ap (λ (source : Source). source.reached) passed);
       };
       last = λ told. needed_front took.going;
       -- of what is taken in without a read all is used
       few = λ standard n spare. elim took.going [
-        | inl none ↦ omega (arith, ap length none, ap length spare.joined ∙ length-append spare.used spare.rest, spare.long)
+        | inl none ↦ omega (arith, ap length none, ap length spare.joined ∙ length-append spare.used spare.rest)
         | inr going ↦ omega (arith, none_spare _ loads.front n (g.met.S.Stage.lawful _) going spare)
       ];
       room = refl;
       needed = needed_front took.going;
-      asked = λ within. omega (arith, ap (λ (source : Source). source.asked) passed, within);
+      asked = λ within. omega (arith, ap (λ (source : Source). source.asked) passed);
       laid = c.load.ensures.laid;
       ready = took.ready _ c.requires.output;
     }
@@ -75,7 +75,7 @@ returns-in-Err g c =
           (ap (λ (source : Source). source.left.bytes) (changed_source _ _ _ _ so_far.readable failed.1) ∙ (c.in-Err.ensures.break_off told).no_more)
           so_far.needed (ap (λ (work : Work). work.is_complete so_far.fed) (sym so_far.feeds.same) ∙ going)
           (rw (ap (λ (source : Source). source.reached) (changed_source _ _ _ _ so_far.readable failed.1)) ((so_far.took told).far unread));
-      asked = λ within. asked_at_end _ _ _ _ _ so_far.readable c.in-Err.ensures.err (omega (arith, c.piece_size-size.ensures.within, so_far.room)) (so_far.asked within);
+      asked = λ within. asked_at_end _ _ _ _ _ so_far.readable c.in-Err.ensures.err (omega arith) (so_far.asked within);
       broke = λ is. broken_now _ _ _ _ so_far.readable c.in-Err.ensures.err;
       laid = c.read_part.ensures.kept ∙ so_far.laid;
     }
@@ -92,7 +92,7 @@ returns-then-n-eq0 g c =
     = λ told unread. rw (ap (λ more. so_far.fed ++ more) nothing ∙ append-nil so_far.fed) at ((takes_more _ (so_far.took told) so_far.readable (c.in-Ok.ensures.bytes told) c.in-Ok.ensures.rest).far unread) in record {
       ends = λ before opening own at.
           of_read g.I.Inputs.told _ so_far.fed false _ _
-          (λ told. let at_end = (c.in-Ok.ensures.bytes told).ended c.if-n-eq0.true (omega (arith, c.requires.room, so_far.room)) in let all = read_to_end _ _ _ _ (so_far.read told) at_end.0 at_end.1 in (all.1, all.0))
+          (λ told. let at_end = (c.in-Ok.ensures.bytes told).ended c.if-n-eq0.true (omega arith) in let all = read_to_end _ _ _ _ (so_far.read told) at_end.0 at_end.1 in (all.1, all.0))
           (λ content. came_sound g.I.Inputs.told _ c.args.slot (still_readable _ _ _ _ c.in-Ok.n c.in-Ok.ensures.rest so_far.readable))
           (λ content is bytes sound came. (
             ended _ g.met.S.Stage.lawful _ _ so_far.feeds own at (sound, going, bytes) (to_end sound bytes) (alike_itself)
@@ -112,13 +112,13 @@ returns-then-n-eq0 g c =
       reads = λ told. (so_far.fed, so_far.needed, read_none_more _ _ _ _ _ _ c.in-Ok.n (so_far.read told) so_far.readable c.if-n-eq0.true c.in-Ok.ensures.rest);
       used = λ told ends unread.
           let gave = c.in-Ok.ensures.bytes told in
-          let none = (gave.ended c.if-n-eq0.true (omega (arith, c.requires.room, so_far.room))).0 in
+          let none = (gave.ended c.if-n-eq0.true (omega arith)).0 in
           let after = changed_source _ _ _ _ so_far.readable c.in-Ok.ensures.rest in
           uses_all (read_none_more _ _ _ _ _ _ c.in-Ok.n (so_far.read told) so_far.readable c.if-n-eq0.true c.in-Ok.ensures.rest)
           (ap (λ (source : Source). source.left.bytes) after ∙ ap (drop c.in-Ok.n) none ∙ ap (λ k. drop k []) c.if-n-eq0.true)
           so_far.needed (ap (λ (work : Work). work.is_complete so_far.fed) (sym so_far.feeds.same) ∙ going)
           (far told unread);
-      asked = λ within. asked_again _ _ _ _ _ _ so_far.readable c.in-Ok.ensures.rest (omega (arith, c.piece_size-size.ensures.within, so_far.room)) (so_far.asked within);
+      asked = λ within. asked_again _ _ _ _ _ _ so_far.readable c.in-Ok.ensures.rest (omega arith) (so_far.asked within);
       broke = ends_sound _ _ _ (inl refl) c.end.ensures;
       laid = c.read_part.ensures.kept ∙ so_far.laid;
     }
@@ -143,7 +143,7 @@ pieces-preserved g c =
           (rw so_far.feeds.same spare));
       room = c.read_part.ensures.room ∙ so_far.room;
       needed = needed_more so_far.fed c.read_part.new.buffer (ap (λ (work : Work). work.is_complete so_far.fed) (sym so_far.feeds.same) ∙ sym (c.done.ensures.complete so_far.fed so_far.feeds.holds) ∙ c.pieces-test.true) (omega (arith, c.in-Ok.ensures.bound, c.piece_size-size.ensures.within, c.pieces.invariant.room));
-      asked = λ within. asked_again _ _ _ _ _ _ so_far.readable c.in-Ok.ensures.rest (omega (arith, c.piece_size-size.ensures.within, so_far.room)) (so_far.asked within);
+      asked = λ within. asked_again _ _ _ _ _ _ so_far.readable c.in-Ok.ensures.rest (omega arith) (so_far.asked within);
       laid = c.read_part.ensures.kept ∙ so_far.laid;
       ready = c.in-Ok-feed.ensures.passes.ready;
     }
@@ -186,7 +186,7 @@ returns-in-Err-feed g c =
           (read_more _ _ _ _ _ _ _ _ _ (so_far.read told) so_far.readable gave c.in-Ok.ensures.rest).bytes
           (needed_more so_far.fed c.read_part.new.buffer going (omega (arith, c.in-Ok.ensures.bound, c.piece_size-size.ensures.within, so_far.room)))
           (settles ends).2 ((takes_more _ (so_far.took told) so_far.readable gave c.in-Ok.ensures.rest).far unread));
-      asked = λ within. asked_again _ _ _ _ _ _ so_far.readable c.in-Ok.ensures.rest (omega (arith, c.piece_size-size.ensures.within, so_far.room)) (so_far.asked within);
+      asked = λ within. asked_again _ _ _ _ _ _ so_far.readable c.in-Ok.ensures.rest (omega arith) (so_far.asked within);
       broke = tt;
       laid = c.read_part.ensures.kept ∙ so_far.laid;
     }

@@ -11,7 +11,7 @@ range-requires-clause-end_boundary c = grind (arith, common_steps, conversion_be
 pub overflow_sub-bytes-2 : goal.overflow_sub-bytes-2
 overflow_sub-bytes-2 c =
     let ends = rest_ends c.args.text.now c.as_bytes-bytes.ensures.value c.after_text-conversion.ensures c.utf8.text c.in_ok-form.ensures.after in
-    omega (arith, ends.0, c.as_bytes-bytes.ensures.len)
+    omega arith
 
 pub range_from-requires : goal.range_from-requires
 range_from-requires c =

@@ -34,7 +34,7 @@ module _ (rows : List OptionRow) (kind : UsageKind) (word : ℕ) where
       → ((state : State) → Awaits least state → rest state ≡ Err (Usage kind word) → least ≤ word)
       → onward rest meant ≡ Err (Usage kind word) → least ≤ word
   goes_after least {place} front rest (Ok meaning) within stands later is = later meaning.next (awaits_later least place meaning.next within stands.2) (of_more meaning.given (rest meaning.next) is)
-  goes_after least front rest (Err (Usage other at)) within stands later is = let same : at ≡ word = cc in omega (arith, within, stands, same)
+  goes_after least front rest (Err (Usage other at)) within stands later is = let same : at ≡ word = cc in omega arith
   goes_after least front rest (Err fault) within stands later is = absurd (cc)
 
   fault_after : (words : List (List ℕ)) (least place : ℕ) (state : State) → least ≤ place → Awaits least state
@@ -42,7 +42,7 @@ module _ (rows : List OptionRow) (kind : UsageKind) (word : ℕ) where
   fault_after [] least place state within awaits is = ends_after least state kind word awaits is
   fault_after (front ∷ words) least place state within awaits is =
       goes_after least front (spelled rows words (place + 1)) (meaning_of rows state place front) within (meaning-gives rows place state front)
-      (λ next awaited. fault_after words least (place + 1) next (omega (arith, within)) awaited) is
+      (λ next awaited. fault_after words least (place + 1) next (omega arith) awaited) is
 
   well_end : (state : State) {given : Given} (least : ℕ) → ended state ≡ Ok given → Awaits least state
   well_end (Awaiting awaited option) least is = absurd (cc)
@@ -63,9 +63,9 @@ module _ (rows : List OptionRow) (kind : UsageKind) (word : ℕ) where
   stands_later : (first more : List (List ℕ)) (place : ℕ) (state : State) (given : Given)
       → spelled rows first place state ≡ Ok given → spelled rows (first ++ more) place state ≡ Err (Usage kind word)
       → place + length first ≤ word
-  stands_later [] more place state given well is = let least = fault_after more place place state (omega arith) (well_end state place well) is in omega (arith, least)
+  stands_later [] more place state given well is = let least = fault_after more place place state (omega arith) (well_end state place well) is in omega arith
   stands_later (front ∷ first) more place state given well is =
-      let least = later_by first more place (meaning_of rows state place front) (λ next rest. stands_later first more (place + 1) next rest) well is in omega (arith, least)
+      let least = later_by first more place (meaning_of rows state place front) (λ next rest. stands_later first more (place + 1) next rest) well is in omega arith
 
 pub returns : goal.returns
 returns c = record {

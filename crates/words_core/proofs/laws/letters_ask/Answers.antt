@@ -79,7 +79,7 @@ module _ (rows : List OptionRow) where
         → is_known rows letter ≡ true → length (filter is_unit (letter ∷ letters)) < 1
         → (length (filter is_unit letters) < 1 → AreOthers rows letters)
         → AreOthers rows (letter ∷ letters)
-    more_others letter letters (Some unit) is known few more = absurd (let none : suc (length (filter is_unit letters)) < 1 = rw is at few in omega (arith, none))
+    more_others letter letters (Some unit) is known few more = absurd (let none : suc (length (filter is_unit letters)) < 1 = rw is at few in omega arith)
     more_others letter letters None is known few more = (known_other letter is known, more (rw is at few))
 
     no_more : (letters : List ℕ) → are_known rows letters ≡ true → length (filter is_unit letters) < 1
@@ -94,7 +94,7 @@ module _ (rows : List OptionRow) where
         → (length (filter is_unit letters) < 2 → HasShape letters) → HasShape (letter ∷ letters)
     one_more letter letters (Some unit) is known are few more =
         let fewer : suc (length (filter is_unit letters)) < 2 = rw is at few in
-        inr (record { before = []; letter = letter; after = letters; unit = unit; says = is; letters_are = refl; others = no_more letters are (omega (arith, fewer)) })
+        inr (record { before = []; letter = letter; after = letters; unit = unit; says = is; letters_are = refl; others = no_more letters are (omega arith) })
     one_more letter letters None is known are few more = elim (more (rw is at few)) [
       | inl others ↦ inl (known_other letter is known, others)
       | inr with ↦ inr (record {

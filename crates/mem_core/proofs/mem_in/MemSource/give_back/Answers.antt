@@ -7,5 +7,5 @@ pub returns : goal.returns
 returns c =
     let s = c.self.inside in
     let few : c.args.count ≤ s.last = subst (λ (those : Source). c.args.count ≤ those.last) (sym c.self.view_is) c.requires in
-    set_back _ _ s.bytes.items s.given c.args.count _ _ s.last _ _ _ _ _ (omega (arith, c.self.invariant))
-    (omega (arith, few, c.self.invariant)) ∙ ap (gets_back c.args.count) c.self.view_is
+    set_back _ _ s.bytes.items s.given c.args.count _ _ s.last _ _ _ _ _ (omega arith)
+    (omega arith) ∙ ap (gets_back c.args.count) c.self.view_is
