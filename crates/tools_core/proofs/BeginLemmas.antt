@@ -121,21 +121,19 @@ pub marked_at : (IsDue : List ℕ → Type 0) (fault : Fault) (before after : Li
     ⊎ IsMarked fault place before (slot_at after place)
 marked_at IsDue (Write slot) before after place (within, (why, is)) = elim (cases_eq place slot) [
   | inl here ↦ let there : place < length before = omega (arith, here, within) in
-      let moved = ap (λ which. slot_at (changed_at which (breaks why) before) place) (sym here) in
-      let marked = ap (λ slots. slot_at slots place) is ∙ moved ∙ slot_at-changed place (breaks why) before there in
-      inr (here, there, (why, marked))
-  | inr differs ↦ inl (ap (λ slots. slot_at slots place) is ∙ slot_at-elsewhere slot place (breaks why) before differs)
+      inr (here, there, (why, rw (is, ← here) (slot_at-changed place (breaks why) before there)))
+  | inr differs ↦ inl (rw is (slot_at-elsewhere slot place (breaks why) before differs))
 ]
 marked_at IsDue (Open slot) before after place (number, (name, kept, why, due, is, slots)) = elim (one_more_at (unopened why kept) place before) [
-  | inl same ↦ inl (ap (λ those. slot_at those place) slots ∙ same)
-  | inr (here, is) ↦ inr (here ∙ sym number, (kept, why, ap (λ those. slot_at those place) slots ∙ is))
+  | inl same ↦ inl (rw slots same)
+  | inr (here, is) ↦ inr (here ∙ sym number, (kept, why, rw slots is))
 ]
-marked_at IsDue fault before after place marks = inl (ap (λ slots. slot_at slots place) marks)
+marked_at IsDue fault before after place marks = inl (rw marks)
 
 mark_begins : (fault : Fault) (place : ℕ) (before : List Slot) {new other : Slot} → IsMarked fault place before new
     → BeginsAs (slot_at before place) other → BeginsAs new other
 mark_begins (Write slot) place before marked begins = grind (arith, common_steps)
-mark_begins (Open slot) place before (here, (kept, why, is)) begins = empty_begins (ap (λ (slot : Slot). slot.written) is)
+mark_begins (Open slot) place before (here, (kept, why, is)) begins = empty_begins (rw is)
 mark_begins fault place before marked begins = absurd marked
 
 -- The outputs of a part that begins another
@@ -577,8 +575,8 @@ pub tee_lines : {run : Run} (asked : TeeAsked) (on_broken : OnBroken) {mode : Mo
     → SaysLines run (Tee asked) (messages_of on_broken names (first ∷ broke) (length pieces) fault)
 tee_lines {run} asked on_broken {pieces = pieces} {names} {first} {broke} {output} {error} {files} fault slots left rest of_input says = record {
   are = lines_are (TellsMet run (Tee asked)) on_broken names (first ∷ broke) (length pieces) fault (
-    output_tells asked (suc (length pieces)) (codes "standard output") first 0 (ap (λ those. slot_at those 0) slots) (λ is. omega (arith, is)) (output_broke refl left),
-    files_tell run asked (λ at. suc (suc at)) (λ at. ap (λ those. slot_at those (suc (suc at))) slots) (λ at is. omega (arith, is)) rest,
+    output_tells asked (suc (length pieces)) (codes "standard output") {output = output} first 0 (rw slots) (λ is. omega (arith, is)) (output_broke refl left),
+    files_tell run asked (λ at. suc (suc at)) (λ at. rw slots) (λ at is. omega (arith, is)) rest,
   )
       of_input;
   said = rw slots says;
@@ -629,7 +627,7 @@ cut_begins : {pieces : List (List ℕ)} (before : List (List ℕ)) (piece : List
     → pieces ≡ before ++ piece ∷ after → IsBeginning (concat before ++ take n piece) (concat pieces)
 cut_begins before piece after n is =
     begins_trans _ (concat before ++ piece) _ (take_begins_after n (concat before) piece)
-    (concat after, ap concat is ∙ concat-append before (piece ∷ after) ∙ sym (append_assoc (concat before) piece (concat after)))
+    (concat after, rw (is, concat-append before (piece ∷ after), append_assoc))
 
 output_begins : {pieces : List (List ℕ)} {bytes : List ℕ} {first : Option Break} {output : Slot}
     → IsBeginning (concat pieces) bytes → OutputLeft true pieces first output

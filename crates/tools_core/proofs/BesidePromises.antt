@@ -67,7 +67,7 @@ front_from : (work : Work) (x rest : List ℕ) → IsNeeded work.is_complete 1 x
 front_from work x [] needed = record { read = x; rest = []; joined = refl; needed = needed; enough = inl refl }
 front_from work x (byte ∷ rest) needed = elim (cases_Bool (work.is_complete x)) [
   | inl complete ↦ record { read = x; rest = byte ∷ rest; joined = refl; needed = needed; enough = inr complete }
-  | inr going ↦ subst (Front work) (append_assoc x (byte ∷ []) rest) (front_from work (x ++ byte ∷ []) rest (inr (x, byte ∷ [], refl, omega arith, going)))
+  | inr going ↦ rw append_assoc at (front_from work (x ++ byte ∷ []) rest (inr (x, byte ∷ [], refl, omega arith, going)))
 ]
 
 -- an open source that tells its bytes, whatever it holds
@@ -131,8 +131,10 @@ name_done : (dash : Bool) (work : Option (List ℕ) → Work) (world : World) (w
     ((left_for work (world.laid slot name)).source ∷ files_for work world (slot + 1) names))
 name_done true work world true slot name names more is again = (tt, again true slot more is)
 name_done true work world false slot name names more is again = ((omega arith, (left_for work (Some world.standard)).is 0), again true slot more is)
-name_done false work world true slot name names more is again = file_done work world true slot name names more is again
-name_done false work world false slot name names more is again = file_done work world false slot name names more is again
+name_done false work world true slot name names more is again =
+    file_done work world true slot name names more is again
+name_done false work world false slot name names more is again =
+    file_done work world false slot name names more is again
 
 all_done : (work : Option (List ℕ) → Work) (world : World) (names : List (List ℕ)) → AreDoneFrom work world names
 all_done work world [] = λ was_read slot more is. tt
@@ -153,7 +155,7 @@ took_lines speaker (message ∷ lines) old sound =
 
 files_are : (files : List File) → map file_of (map slot_of files) ≡ map (told_file true) files
 files_are [] = refl
-files_are (file ∷ files) = ap (λ rest. file ∷ rest) (files_are files)
+files_are (file ∷ files) = rw (files_are files)
 
 at_part : (part : Part) (error : Slot) → OutputsAt true (streams_with error) part (outputs_of part error)
 at_part part error = record { standard = lit< tt; since = map slot_of part.files; slots = refl; files = files_are part.files }
@@ -214,7 +216,7 @@ pieces_of bytes = map (λ byte. byte ∷ []) bytes
 
 pieces_are : (bytes : List ℕ) → concat (pieces_of bytes) ≡ bytes
 pieces_are [] = refl
-pieces_are (byte ∷ bytes) = ap (λ rest. byte ∷ rest) (pieces_are bytes)
+pieces_are (byte ∷ bytes) = rw (pieces_are bytes)
 
 abbrev unbroken : List (List ℕ) → List (Option Break)
 unbroken names = map (λ name. None) names
@@ -288,7 +290,7 @@ tee_well calling asked world few = record {
         met = met_or_sound content.breaks_off;
         ended = λ none some. refl;
         last = λ told vain. absurd (false≢true (sym (goes_on (suc (length pieces))) ∙ vain));
-        reads = ap (λ vain. length pieces + cond vain 0 1) (sym (goes_on (suc (length pieces))));
+        reads = rw (goes_on (suc (length pieces))) refl;
       })
       (goes_on (length pieces)) tee.output_whole (copies_left asked.mode pieces asked.names)
       (rw (quiet_outputs asked.on_broken asked.names (None ∷ unbroken asked.names) (length pieces) fault (all_sound asked.names)) lines.says) refl refl

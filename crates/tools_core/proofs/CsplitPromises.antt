@@ -192,7 +192,7 @@ sections_kept suppress operands lines keep =
 
 all_bytes : (lines : List (List ℕ)) → map (λ (line : Line). line.text) (map marked lines) ≡ lines
 all_bytes [] = refl
-all_bytes (text ∷ lines) = ap (λ rest. text ∷ rest) (all_bytes lines)
+all_bytes (text ∷ lines) = rw (all_bytes lines)
 
 -- what the files have
 
@@ -200,15 +200,13 @@ shares_have : (style : Style) (sections : List Section)
     → map (λ (one : Share). one.bytes) (shares_in style sections) ≡ flat_map (file_in style) sections
 shares_have style [] = refl
 shares_have style (section ∷ sections) =
-    map-append (λ (one : Share). one.bytes) (map (share (state_in section)) (file_in style section)) (shares_in style sections)
-    ∙ ap (λ front. front ++ map (λ (one : Share). one.bytes) (shares_in style sections)) (bytes_of_shares (state_in section) (file_in style section))
-    ∙ ap (λ rest. file_in style section ++ rest) (shares_have style sections)
+    rw (map-append (λ (one : Share). one.bytes) (map (share (state_in section)) (file_in style section)) (shares_in style sections), bytes_of_shares (state_in section) (file_in style section), shares_have style sections)
 
 files_have : (style : Style) (place : ℕ) (shares : List Share)
     → map (λ (file : File). file.bytes) (files_from (manner_of style) place shares)
     ≡ map (λ (one : Share). one.bytes) shares
 files_have style place [] = refl
-files_have style place (one ∷ shares) = ap (λ rest. one.bytes ∷ rest) (files_have style (place + 1) shares)
+files_have style place (one ∷ shares) = rw (files_have style (place + 1) shares)
 
 -- a section that is kept makes no file only where it is empty
 file_joined : (elide kept : Bool) (bytes : List ℕ) → kept ≡ true
@@ -222,9 +220,7 @@ files_joined : (style : Style) (sections : List Section) → AllKept sections
     → joined (flat_map (file_in style) sections) ≡ bytes_of (lines_in sections)
 files_joined style [] kept = refl
 files_joined style (section ∷ sections) kept =
-    joined-append (file_in style section) (flat_map (file_in style) sections)
-    ∙ ap (λ front. front ++ joined (flat_map (file_in style) sections)) (file_joined style.elide section.is_kept (bytes_of section.lines) kept.0)
-    ∙ ap (λ rest. bytes_of section.lines ++ rest) (files_joined style sections kept.1) ∙ sym (bytes-append section.lines (lines_in sections))
+    rw (joined-append (file_in style section) (flat_map (file_in style) sections), file_joined style.elide section.is_kept (bytes_of section.lines) kept.0, files_joined style sections kept.1, bytes-append section.lines (lines_in sections))
 
 -- Their names
 
@@ -265,7 +261,7 @@ is_csplit {run} {asked} {input} does has =
       asks = asks;
       well = ends_well _ made.unjudged;
       files = files;
-      contents = ap (map (λ (file : Slot). file.written)) files ∙ bytes_written _ ∙ files_have asked.style 0 (shares_in asked.style sections) ∙ shares_have asked.style sections;
+      contents = rw files (bytes_written _ ∙ files_have asked.style 0 (shares_in asked.style sections) ∙ shares_have asked.style sections);
     }
 
 pub are_numbered : (run : Run) (asked : CsplitAsked) (input : List ℕ) → Does run (Csplit asked) → HasInput run input

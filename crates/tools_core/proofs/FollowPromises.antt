@@ -45,11 +45,11 @@ looks_from shows start (suc n) = shows start ∷ looks_from shows (suc start) n
 one_more : (shows : ℕ → Snapshot) {start : ℕ} (n : ℕ)
     → looks_from shows start n ++ shows (start + n) ∷ [] ≡ looks_from shows start (suc n)
 one_more shows zero = search rules
-one_more shows {start} (suc n) = ap (λ rest. shows start ∷ rest) (ap (λ k. looks_from shows (suc start) n ++ shows k ∷ []) (let e : start + suc n ≡ suc start + n = omega arith in e) ∙ one_more shows n)
+one_more shows {start} (suc n) = rw (let e : start + suc n ≡ suc start + n = omega arith in e) (ap (λ rest. shows start ∷ rest) (one_more shows n))
 
 pub seen_are : (shows : ℕ → Snapshot) (n : ℕ) → seen_first shows n ≡ looks_from shows 0 n
 seen_are shows zero = refl
-seen_are shows (suc n) = ap (λ front. front ++ shows n ∷ []) (seen_are shows n) ∙ ap (λ k. looks_from shows 0 n ++ shows k ∷ []) (omega arith) ∙ one_more shows n
+seen_are shows (suc n) = rw (seen_are shows n) (ap (λ k. looks_from shows 0 n ++ shows k ∷ []) (omega arith) ∙ one_more shows n)
 
 -- the versions of its file
 abbrev pub versions : (ℕ → Snapshot) → ℕ → ℕ → ℕ → List Entry
@@ -67,9 +67,7 @@ later_are : (by_name : Bool) {name : List ℕ} (shows : ℕ → Snapshot) {file 
 later_are by_name shows start zero within grows = refl
 later_are true {name} shows {file} start (suc n) within grows =
     let leads = grows.0 start (omega (arith, within)) in
-    later_by true name (shows start) leads
-    ∙ ap (λ opened. version_in (shows start) file ∷ entries_later true name opened (looks_from shows (suc start) n)) leads
-    ∙ ap (λ rest. version_in (shows start) file ∷ rest) (later_are true shows (suc start) n (omega (arith, within)) grows)
+    later_by true name (shows start) leads ∙ rw (leads, later_are true shows (suc start) n (omega (arith, within)) grows)
 later_are false shows start (suc n) within grows = rw (later_are false shows (suc start) n (omega (arith, within)) grows)
 
 entries_are : (by_name : Bool) {name : List ℕ} (shows : ℕ → Snapshot) {file count : ℕ} (n : ℕ) → n ≤ count
@@ -85,7 +83,7 @@ versions_kept shows start (suc (suc n)) within grows = ((λ goes. grows.1 start 
 
 pub kept_in : (by_name : Bool) {name : List ℕ} (shows : ℕ → Snapshot) {file count : ℕ} → OnlyGrows count shows name file
     → AreKept (entries_of by_name name (seen_first shows count))
-kept_in by_name {name} shows {count} grows = rw (ap (entries_of by_name name) (seen_are shows count) ∙ entries_are by_name shows count (omega arith) grows) (versions_kept shows 0 count (omega arith) grows)
+kept_in by_name {name} shows {count} grows = rw (seen_are shows count, entries_are by_name shows count (omega arith) grows) (versions_kept shows 0 count (omega arith) grows)
 
 -- what they gain is what came
 holds_later : (shows : ℕ → Snapshot) {name : List ℕ} {file count : ℕ} (start n : ℕ) → start + n < count
@@ -260,7 +258,7 @@ ends_at run ends is = rw (← is) ends
 pub runs_tool : (run : Run) (asked : Settings) → IsOfProgram run → settings_of run.calling run.words ≡ Ok asked
     → follows asked ≡ false → Ran run asked × (run.seen ≡ []) × (run.watched ≡ [])
 runs_tool run asked ends read none =
-    let (unseen, unwatched, ran) = ends_at run ends (ap looks_at read ∙ ap (λ is. cond is (Some (looks asked)) None) none) in (record { read = read; ends = ran }, unseen, unwatched)
+    let (unseen, unwatched, ran) = ends_at run {looks = None} ends (rw (read, none)) in (record { read = read; ends = ran }, unseen, unwatched)
 
 pub runs_following : (run : Run) (options : EndsAsked) (followed : Followed) (looks : ℕ) → IsOfProgram run
     → AsksToFollow run options followed looks → run.status ≡ 0

@@ -92,11 +92,11 @@ HasLine line lines = (before : List Message) × (after : List Message) × (lines
 
 pub has_after : {line : Message} (front : List Message) {back : List Message} → HasLine line back
     → HasLine line (front ++ back)
-has_after {line} front (before, after, is) = (front ++ before, after, ap (λ those. front ++ those) is ∙ sym (append_assoc front before (line ∷ after)))
+has_after front (before, after, is) = (front ++ before, after, rw (is, append_assoc))
 
 pub has_before : {line : Message} {front : List Message} (back : List Message) → HasLine line front
     → HasLine line (front ++ back)
-has_before {line} back (before, after, is) = (before, after ++ back, ap (λ those. those ++ back) is ∙ append_assoc before (line ∷ after) back)
+has_before back (before, after, is) = (before, after ++ back, rw (is, append_assoc))
 
 -- it is said, where all are
 abbrev pub SaysLine : Run → Settings → Message → Type 0
@@ -290,7 +290,7 @@ fits_joined {Line} first next one other = record {
     | inl failed ↦ let (line, tells, has) = one.tells failed in (line, tells, has_before next.messages has)
     | inr failed ↦ let (line, tells, has) = other.tells failed in (line, tells, has_after first.messages has)
   ];
-  quiet = λ is. let both = or_parts first.failed next.failed is in ap (λ texts. texts ++ next.messages) (one.quiet both.0) ∙ other.quiet both.1;
+  quiet = λ is. let both = or_parts first.failed next.failed is in rw (one.quiet both.0) (other.quiet both.1);
   sweeps = λ is. elim (or_cases first.sweeps next.sweeps is) [
     | inl sweeps ↦ let why = one.sweeps sweeps in (why.0, or_left first.failed next.failed why.1)
     | inr sweeps ↦ let why = other.sweeps sweeps in (why.0, or_right first.failed next.failed why.1)
@@ -350,28 +350,25 @@ inputs_fit task is_first [] tells living = search rules
 inputs_fit {Line} task is_first (input ∷ inputs) tells living =
     let P = TellsAt Line task in
     fits_joined (of_input task is_first input) (of_inputs task (is_first && is_missing input.content) inputs)
-    (subst (λ clears. Fits Line clears (of_input task is_first input)) (living.clears_all input.shown) (content_fits task (task.work input.shown) is_first input.name input.content (All-head P input inputs tells) (living.each input.shown)))
+    (rw (← living.clears_all input.shown)
+    (content_fits task (task.work input.shown) is_first input.name input.content (All-head P input inputs tells) (living.each input.shown)))
     (inputs_fit task (is_first && is_missing input.content) inputs (All-tail P input inputs tells) living)
 
 -- what a run found is told so
 
 pub speaker_is : (calling : Calling) (asked : Settings) (task : Task) → IsTask calling asked task
     → task.speaker ≡ speaker_of calling asked
-speaker_is calling (Head asked) task is = ap (λ (task : Task). task.speaker) is
-speaker_is calling (Tail asked) task is = ap (λ (task : Task). task.speaker) is
-speaker_is calling (Split asked) task is = ap (λ (task : Task). task.speaker) is
-speaker_is calling (Csplit asked) task (operands, asks, is) = ap (λ (task : Task). task.speaker) is
+speaker_is calling (Csplit asked) task (operands, asks, is) = rw is
 speaker_is calling (Tee asked) task is = absurd is
 speaker_is calling (About which topic) task is = absurd is
+speaker_is calling asked task is = rw is
 
 one_task : (calling : Calling) (asked : Settings) (one other : Task) → IsTask calling asked one
     → IsTask calling asked other → one ≡ other
 one_task calling (Csplit asked) one other (operands, asks, is) (operands_too, asks_too, is_too) = rw (is, asks_once asked.operands operands operands_too asks asks_too, is_too)
-one_task calling (Head asked) one other is is_too = is ∙ sym is_too
-one_task calling (Tail asked) one other is is_too = is ∙ sym is_too
-one_task calling (Split asked) one other is is_too = is ∙ sym is_too
 one_task calling (Tee asked) one other is is_too = absurd is
 one_task calling (About which topic) one other is is_too = absurd is
+one_task calling asked one other is is_too = is ∙ sym is_too
 
 found_tells : {run : Run} (asked : Settings) {task : Task} (input : Input) → IsTask run.calling asked task
     → IsFound run asked input → TellsAt (TellsMet run asked) task input
@@ -432,11 +429,11 @@ outputs_live part error (suc (suc place)) live differs =
 
 slots_again : (since : List Slot) → map slot_of (map file_of since) ≡ since
 slots_again [] = refl
-slots_again (slot ∷ since) = ap (λ those. slot ∷ those) (slots_again since)
+slots_again (slot ∷ since) = rw (slots_again since)
 
 told_again : (files : List File) → map (told_file true) files ≡ files
 told_again [] = refl
-told_again (file ∷ files) = ap (λ those. file ∷ those) (told_again files)
+told_again (file ∷ files) = rw (told_again files)
 
 pub slots_at : {part : Part} {error : Slot} {now : List Slot} → OutputsAt true (streams_with error) part now
     → now ≡ outputs_of part error
@@ -482,7 +479,7 @@ cleared_kept place {old} (swept_so.removed has) = record {
   name = refl;
   mode = refl;
   written = refl;
-  left = λ sound. sym (ap (λ there. cond there (removes old) old) has);
+  left = λ sound. rw has;
   still = λ broken. broken;
   fails = λ at. sym (failing_file old.state has);
   broke = λ sound broken. absurd (false≢true (sym sound ∙ broken));
@@ -496,11 +493,11 @@ cleared_kept place {old} (swept_so.stuck why has) = record {
   fails = λ at. sym (failing_file old.state has);
   broke = λ sound broken. (refl, refl);
 }
-cleared_kept place {old} (swept_so.none lacks) = kept_same true (suc (suc place)) (ap (λ there. cond there (removes old) old) lacks) refl
+cleared_kept place {old} (swept_so.none lacks) = kept_same true (suc (suc place)) (rw lacks) refl
 
 pub swept_kept : (sweeps : Bool) (old new : List Slot) → Swept sweeps 2 old new → (place : ℕ)
     → Kept sweeps place (slot_at old place) (slot_at new place)
-swept_kept false old new swept place = kept_same false place refl (ap (λ slots. slot_at slots place) swept)
+swept_kept false old new swept place = kept_same false place refl (rw swept)
 swept_kept true old new swept (suc (suc place)) = cleared_kept place (swept.cleared (suc (suc place)) (omega arith))
 swept_kept true old new swept zero = kept_same true 0 refl (swept.before 0 (omega arith))
 swept_kept true old new swept (suc zero) = kept_same true 1 refl (swept.before 1 (omega arith))
@@ -578,17 +575,16 @@ pub copies_are : (mode : Mode) (bytes : List ℕ) (names : List (List ℕ))
 copies_are mode bytes [] = refl
 copies_are mode bytes (name ∷ names) = rw (copies_are mode bytes names)
 
+copies_live : (mode : Mode) (bytes : List ℕ) (names : List (List ℕ))
+    → AreLive (map (λ name. file_of (copy mode bytes name)) names)
+copies_live mode bytes names =
+    All-map (λ (file : File). IsLive (slot_of file)) (λ name. file_of (copy mode bytes name)) names (λ k name within. (refl, refl))
+
 tee_fits : {Line : Message → Type 0} (asked : TeeAsked) (bytes : List ℕ) (breaks_off : Bool) (shown : Option (List ℕ))
     → (breaks_off ≡ true → Line (message_of (Read 0) (codes "standard input")))
     → Fits Line false (tee_made asked (record { bytes = bytes; breaks_off = breaks_off; shown = shown }))
-tee_fits {Line} asked bytes breaks_off shown tells = by breaks_off tells where
-  live : AreLive (map (λ name. file_of (copy asked.mode bytes name)) asked.names)
-  live = All-map (λ (file : File). IsLive (slot_of file)) (λ name. file_of (copy asked.mode bytes name)) asked.names (λ k name within. (refl, refl))
-
-  by : (breaks_off : Bool) → (breaks_off ≡ true → Line (message_of (Read 0) (codes "standard input")))
-      → Fits Line false (tee_made asked (record { bytes = bytes; breaks_off = breaks_off; shown = shown }))
-  by true tells = fits_fault _ false (tells refl) (λ is. is) live
-  by false tells = fits_well _ false refl live
+tee_fits asked bytes true shown tells = fits_fault _ false (tells refl) (λ is. is) (copies_live asked.mode bytes asked.names)
+tee_fits asked bytes false shown tells = fits_well _ false refl (copies_live asked.mode bytes asked.names)
 
 met_is : {content : Content} (Leaves : List ℕ → Type 0) {is_vain : Bool} {x : List ℕ} {fault : Option Fault}
     → is_vain ≡ false → x ≡ content.bytes → length x < 2 ^ 63 → IsRead content Leaves is_vain x fault
@@ -596,7 +592,7 @@ met_is : {content : Content} (Leaves : List ℕ → Type 0) {is_vain : Bool} {x 
 met_is Leaves left same few (tee.to_end x is ended leaves) = sym (ap met_by ended)
 met_is Leaves left same few (tee.to_break x is breaks leaves) = sym (ap met_by breaks)
 met_is Leaves left same few (tee.to_limit x piece rest is many within leaves) =
-    let long = length-append x piece in let all = length-append (x ++ piece) rest in let size = ap length (same ∙ is) in absurd (omega (arith, long, all, size, many, few))
+    absurd (omega (arith, simp length-append at (ap length (same ∙ is)), length-append x piece, many, few))
 met_is Leaves left same few (tee.to_broken_output x rest is leaves) = absurd (false≢true (sym left))
 
 met_status : (breaks_off : Bool) → ◌≡◌ {A = ℕ} (cond (is_none (met_by breaks_off)) 0 1) (cond breaks_off 1 0)
@@ -697,7 +693,7 @@ ends_left {run} {asked} {task} of makes (as_defined error reached says outputs s
       made = made_by task found;
       of = makes;
       fits = inputs_fit task true found (all_tell run asked task [] found [] of (sym (append-nil found))) (task_lives run.calling asked task of);
-      left = record { error = error; says = subst (λ which. SaysAll true which (made_by task found).messages standard_error error) (speaker_is run.calling asked task of) says; swept = rw (slots_at outputs) at swept; is = is };
+      left = record { error = error; says = rw (speaker_is run.calling asked task of) at says; swept = rw (slots_at outputs) at swept; is = is };
     }
 ends_left of makes ends unstopped = absurd unstopped
 
@@ -718,10 +714,14 @@ does_left : (run : Run) (asked : Settings)
     (inputs_at run.world (names_of asked)) run.inputs run.outputs run.status)
     → Unstopped run.calling asked
     (inputs_at run.world (names_of asked)) run.inputs run.outputs run.status does → LeftBy run asked
-does_left run (Head asked) does unstopped = ends_left {asked = Head asked} refl (made_so run (head_task run.calling asked) asked.names) does unstopped
-does_left run (Tail asked) does unstopped = ends_left {asked = Tail asked} refl (made_so run (tail_task run.calling asked.ends) asked.ends.names) does unstopped
-does_left run (Split asked) does unstopped = ends_left {asked = Split asked} refl (made_so run (split_task run.calling asked) (asked.input ∷ [])) does unstopped
-does_left run (Csplit asked) does unstopped = ends_left {asked = Csplit asked} (does.operands, does.asks, refl) (does.operands, does.asks, made_so run (csplit_task run.calling asked does.operands) (asked.input ∷ [])) does.ends unstopped
+does_left run (Head asked) does unstopped =
+    ends_left {asked = Head asked} refl (made_so run (head_task run.calling asked) asked.names) does unstopped
+does_left run (Tail asked) does unstopped =
+    ends_left {asked = Tail asked} refl (made_so run (tail_task run.calling asked.ends) asked.ends.names) does unstopped
+does_left run (Split asked) does unstopped =
+    ends_left {asked = Split asked} refl (made_so run (split_task run.calling asked) (asked.input ∷ [])) does unstopped
+does_left run (Csplit asked) does unstopped = ends_left {asked = Csplit asked} (does.operands, does.asks, refl)
+    (does.operands, does.asks, made_so run (csplit_task run.calling asked does.operands) (asked.input ∷ [])) does.ends unstopped
 does_left run (Tee asked) does unstopped = record {
   made = tee_made asked does.content;
   of = (does.content, does.input, refl);
@@ -729,7 +729,7 @@ does_left run (Tee asked) does unstopped = record {
       (λ breaks. (Read 0, codes "standard input", inr (broken_off (standard_input does.content) does.content ([], [], does.input) refl breaks (λ task of. absurd of)), refl));
   left = tee_left does.ends unstopped;
 }
-does_left run (About which topic) does unstopped = record { made = _; of = refl; fits = fits_well _ false refl (All-nil (λ (file : File). IsLive (slot_of file))); left = text_left does unstopped }
+does_left run (About which topic) does unstopped = record { made = _; of = refl; fits = fits_well _ false refl no_live; left = text_left does unstopped }
 
 pub completes_left : {run : Run} {asked : Settings} → Completes run asked → LeftBy run asked
 completes_left {run} {asked} whole = does_left run asked whole.does whole.unstopped

@@ -60,7 +60,8 @@ pub leave_same : (one other : Run) (asked : Settings) → Does one asked → Doe
 leave_same one other asked does does_too same =
     let here = completes_left (completes does) in
     let there = completes_left (completes does_too) in
-    (left_whole here.fits here.left does.well).slots ∙ ap (λ (made : Outcome). slots_of made.part) (sym (same_made one other does.ran.read does_too.ran.read same here.of there.of)) ∙ sym (left_whole there.fits there.left does_too.well).slots
+    rw ((left_whole here.fits here.left does.well).slots, ← same_made one other does.ran.read does_too.ran.read same here.of there.of)
+    (sym (left_whole there.fits there.left does_too.well).slots)
 
 -- One input, which ends
 
@@ -89,7 +90,7 @@ one_gives {run} {bytes} has =
       is = there;
       bytes_are = refl;
       ends = refl;
-      steady = subst (λ shown. IsSteady shown bytes) (sym (shows_all run.world has.name (is_dash has.name) ∙ ap shown_of there)) has.steady;
+      steady = rw (shows_all run.world has.name (is_dash has.name), there) has.steady;
     }
 
 pub has_one : {run : Run} {asked : Settings} {bytes : List ℕ} → Ran run asked → HasInput run bytes
@@ -97,7 +98,7 @@ pub has_one : {run : Run} {asked : Settings} {bytes : List ℕ} → Ran run aske
 has_one {run} ran has = record {
   input = input_of run.world false 1 has.name (is_dash has.name);
   gives = one_gives has;
-  only = ap (inputs_at run.world) (sym (ap names_at ran.read) ∙ has.only);
+  only = let only = rw ran.read at has.only in rw only;
 }
 
 -- what was made of it
@@ -130,7 +131,7 @@ made_one task name bytes is sound slots = grind (arith, common_steps)
 pub one_made : {run : Run} {asked : Settings} {bytes : List ℕ} (one : DidOne run asked bytes) (task : Task)
     → KnowsNoMore task.work → one.made ≡ made_by task (one.input ∷ []) → IsMade task one.input.name bytes run.outputs
 one_made {bytes} one task knows is = made_one task one.input.name bytes
-    (is ∙ ap (λ made. joined made no_outcome) (steady_made task knows true one.input.name bytes one.input refl one.gives)) one.sound one.slots
+    (is ∙ rw (steady_made task knows true one.input.name bytes one.input refl one.gives)) one.sound one.slots
 
 -- What `head` and `tail` leave of one input.
 
@@ -138,10 +139,7 @@ one_made {bytes} one task knows is = made_one task one.input.name bytes
 bare_output : (task : Task) (name input : List ℕ) (work : Work) {new : List Slot} → task.with_header ≡ false
     → task.work None ≡ work → new ≡ slots_of (part_of task name input)
     → (slot_at new 0).written ≡ (work.whole input).out
-bare_output task name input work bare is left =
-    ap (λ slots. (slot_at slots 0).written) left
-    ∙ ap (λ b. header_text b true name ++ ((task.work None).whole input).out) bare
-    ∙ ap (λ (work : Work). (work.whole input).out) is
+bare_output task name input work bare is left = rw (left, bare, is)
 
 head_output : {run : Run} (options : EndsAsked) {sign : Sign} {n : ℕ} {input : List ℕ} → IsBare options
     → IsHead run options sign n → HasInput run input
@@ -164,7 +162,7 @@ tail_output options {sign} {n} {input} bare (looks, pause, process, does) has =
 -- lines alone have a delimiter
 tail_of-alike : (unit : Counted) (one other : ℕ) (from_nth : Bool) (n : ℕ) (x : List ℕ) → (unit ≡ Lines → one ≡ other)
     → tail_of one unit from_nth n x ≡ tail_of other unit from_nth n x
-tail_of-alike Lines one other from_nth n x delim = ap (λ d. tail_of d Lines from_nth n x) (delim refl)
+tail_of-alike Lines one other from_nth n x delim = rw (delim refl)
 tail_of-alike Bytes one other false n x delim = refl
 tail_of-alike Bytes one other true n x delim = refl
 
@@ -172,19 +170,15 @@ tail_alike : {run : Run} {first rest : EndsAsked} {sign : Sign} {n : ℕ} {input
     → IsTail run rest sign n → HasInput run input
     → output_of run ≡ tail_of first.delim first.unit (is_plus sign) n input
 tail_alike {first} {rest} {sign} {n} {input} alike does has =
-    tail_output rest alike.bare.1 does has
-    ∙ ap (λ unit. tail_of rest.delim unit (is_plus sign) n input) (sym alike.unit)
-    ∙ tail_of-alike first.unit rest.delim first.delim (is_plus sign) n input (λ lines. sym (alike.delim lines))
+    rw (tail_output rest alike.bare.1 does has, ← alike.unit)
+    (tail_of-alike first.unit rest.delim first.delim (is_plus sign) n input (λ lines. sym (alike.delim lines)))
 
 pub first_meet : (head tail : Run) (first rest : EndsAsked) (n : ℕ) (input : List ℕ) → CountAlike first rest
     → IsHead head first Plain n → IsTail tail rest Plus (n + 1) → HasInput head input → HasInput tail input
     → output_of head ++ output_of tail ≡ input
 first_meet head tail first rest n input alike one other has has_too =
-    ap (λ front. front ++ output_of tail) (head_output first alike.bare.0 one has)
-    ∙ ap (λ back. first_of first.delim first.unit n input ++ back) (tail_alike alike other has_too ∙ ap (λ k. after_of first.delim first.unit k input) (same n))
-    ∙ first_then_after first.delim first.unit n input where
-      same : (k : ℕ) → k + 1 - 1 ≡ k
-      same k = omega arith
+    let same : n + 1 - 1 ≡ n = omega arith in
+    rw (head_output first alike.bare.0 one has, tail_alike alike other has_too, same) (first_then_after first.delim first.unit n input)
 
 pub last_meet : (head tail : Run) (first rest : EndsAsked) (n : ℕ) (input : List ℕ) → CountAlike first rest
     → IsHead head first Minus n → IsTail tail rest Plain n → HasInput head input → HasInput tail input

@@ -98,7 +98,7 @@ marked_here : (IsDue : List ℕ → Type 0) (slot : ℕ) (before reached : List 
     → (slot_at reached slot).is_broken ≡ true → IsSoundAt before slot → (fault : Fault)
     → Marks IsDue fault before reached → IsMarked fault slot before (slot_at reached slot)
 marked_here IsDue slot before reached broken sound fault marks = elim (marked_at IsDue fault before reached slot marks) [
-  | inl same ↦ absurd (false≢true (sym sound.0 ∙ sym (ap (λ (output : Slot). output.is_broken) same) ∙ broken))
+  | inl same ↦ absurd (false≢true (sym sound.0 ∙ rw same at broken))
   | inr marked ↦ marked
 ]
 
@@ -120,7 +120,7 @@ stops_run run asked IsDue step clears place count before reached (Write slot) lo
 stops_run run asked IsDue step clears place count before reached (Open slot) long sound two from stops (number, (name, kept, reason, due, is, slots)) swept =
     let differs : slot ≡ 1 → ⊥ = λ one. omega (arith, number, two, one) in
     broke_at run IsDue clears slot before reached (Open slot) differs
-    (ap (λ (output : Slot). output.is_broken) (ap (λ those. slot_at those slot) slots ∙ get_or_push before (unopened reason kept) no_slot slot (sym number)))
+    (rw (slots, get_or_push before (unopened reason kept) no_slot slot (sym number)))
     (sound slot differs) (number, (name, kept, reason, due, is, slots)) swept
 stops_run run asked IsDue step clears place count before reached Memory long sound two from stops marks swept = tt
 stops_run run asked IsDue step clears place count before reached TooLong long sound two from stops marks swept = long stops
@@ -128,8 +128,12 @@ stops_run run asked IsDue step clears place count before reached fault long soun
 
 -- Why an output is broken: it was told by its name, or the output was to be removed.
 
+abbrev IsToldIn : Run → Settings → List Slot → ℕ → Type 0
+IsToldIn run asked slots place = (name : List ℕ) × IsCalled (slot_at slots place) name
+    × Tells run asked (failing place (slot_at slots place).state) name
+
 abbrev IsToldOf : Run → Settings → ℕ → Type 0
-IsToldOf run asked place = (name : List ℕ) × IsCalled (slot_at run.outputs place) name × Tells run asked (failing place (slot_at run.outputs place).state) name
+IsToldOf run asked place = IsToldIn run asked run.outputs place
 
 abbrev IsStuck : Bool → List Slot → ℕ → Type 0
 IsStuck clears new place = (clears ≡ true) × ((slot_at new place).state ≡ state.Closed) × ((other : ℕ) → 2 ≤ other → IsGone (slot_at new other))
@@ -161,8 +165,7 @@ stop_early {run = run} {asked = asked} fault name {error} stops says slots is = 
   name = name;
   stops = stops;
   line = ([], [], record { are = one_line (TellsMet run asked) (message_of fault name) (fault, name, inl stops, refl); said = rw slots says });
-  broke = λ place differs broken.
-      absurd (false≢true (sym (streams_sound place error differs) ∙ sym (ap (λ those. (slot_at those place).is_broken) slots) ∙ broken));
+  broke = λ place differs broken. absurd (false≢true (sym (streams_sound place error differs) ∙ rw slots at broken));
 }
 
 -- Standard error stays the slot after the first.
@@ -177,7 +180,7 @@ sound_before : {output : Output} {error : Slot} {low high : Part} {fault : Fault
     → AreLive high.files → (between : StoppedBetween output true (streams_with error) low high fault reached)
     → (place : ℕ) → (place ≡ 1 → ⊥) → IsSoundAt between.reached place
 sound_before {error} {high} live between place differs =
-    subst (λ slots. IsSoundAt slots place) (sym (slots_at between.outputs)) (outputs_live between.part error place (live_begin between.part.files high.files between.below.files live) differs)
+    rw (slots_at between.outputs) (outputs_live between.part error place (live_begin between.part.files high.files between.below.files live) differs)
 
 stopped_broke : {output : Output} {clears : Bool} {run : Run} (asked : Settings) {error : Slot} {low high : Part}
     {fault : Fault} {reached : List Slot} (lines : List Message) → AreLive high.files
@@ -192,7 +195,7 @@ stopped_broke {clears} {run} asked {error} {high} {fault} {reached} lines live b
     elim (cases_Bool (slot_at reached place).is_broken) [
       | inr was ↦ let (is, closed) = kept.broke was broken in inr (is, closed, swept_gone clears reached new is swept)
       | inl was ↦ let why = blamed fault place between.reached sound (marked_here (IsNext between.part high) place between.reached reached was sound fault between.marks) in
-          inl ((slot_at new place).name, inl refl, (lines, [], rw (ap (λ what. message_of what (slot_at new place).name) (kept.fails place ∙ why.is) ∙ ap (message_of fault) (why.named new)) says))
+          inl ((slot_at new place).name, inl refl, (lines, [], rw (kept.fails place ∙ why.is, why.named new) says))
     ]
 
 -- nothing is said by a tool's own name alone
@@ -217,17 +220,14 @@ quiet_gone run asked name fault calling is stops = absurd (false≢true is)
 
 called_so : (run : Run) (task : Task) (asked : Settings) → IsTask run.calling asked task
     → task.speaker.calling ≡ OwnName → run.calling ≡ OwnName
-called_so run task asked of own = ap (λ (speaker : Speaker). speaker.calling) (sym (speaker_is run.calling asked task of)) ∙ own
+called_so run task asked of own = rw (speaker_is run.calling asked task of) at own
 
 -- a run that ended by a reader that is gone, and said nothing of it
 silent_by : (run : Run) (task : Task) (asked : Settings) → IsTask run.calling asked task
     → task.speaker.calling ≡ OwnName → HasGone run → run.status ≡ 141 → IsSilent run asked
 silent_by run task (Tee asked) of own gone is = absurd of
 silent_by run task (About which topic) of own gone is = absurd of
-silent_by run task (Head asked) of own gone is = (called_so run task (Head asked) of own, gone, is)
-silent_by run task (Tail asked) of own gone is = (called_so run task (Tail asked) of own, gone, is)
-silent_by run task (Split asked) of own gone is = (called_so run task (Split asked) of own, gone, is)
-silent_by run task (Csplit asked) of own gone is = (called_so run task (Csplit asked) of own, gone, is)
+silent_by run task asked of own gone is = (called_so run task asked of own, gone, is)
 
 -- nothing stopped it, or something did, or nothing is said
 abbrev Unless : Run → Settings → Type 0 → Type 0
@@ -250,7 +250,7 @@ ends_or {run} {asked} {task} of (stopped fault before input after said error ste
     by (is_quiet fault task.speaker.calling (output_reason run.outputs fault)) refl tells is stop (λ told_so ends.
     let all = says_more true task.speaker lines (message_of fault name) standard_error said error says (output_reason run.outputs fault, told_so) in
     let told : SaysLines run asked (lines ++ message_of fault name ∷ []) =
-    record { are = All-append (TellsMet run asked) lines _ fits.are (one_line (TellsMet run asked) (message_of fault name) (fault, name, inl stop, refl)); said = rw (stopped_error (removes_files asked) run.outputs between swept) (subst (λ which. SaysAll true which (lines ++ message_of fault name ∷ []) standard_error error) (speaker_is run.calling asked task of) all) } in record {
+    record { are = All-append (TellsMet run asked) lines _ fits.are (one_line (TellsMet run asked) (message_of fault name) (fault, name, inl stop, refl)); said = rw (stopped_error (removes_files asked) run.outputs between swept) (rw (speaker_is run.calling asked task of) at all) } in record {
       failed = ends;
       why = fault;
       name = name;
@@ -276,7 +276,7 @@ ends_or {run} {asked} {task} of (stopped fault before input after said error ste
           let gone = quiet_gone run asked (output_named run.outputs fault) fault task.speaker.calling (sym own) stop in
           inr (inr (silent_by run task asked of called gone ends))
       by false own told_so ends stop loud = inr (inl (loud told_so ends))
-ends_or {run} {asked} {task} of (no_room error says slots untouched count is) = inr (inl (stop_early Memory [] tt (subst (λ which. SaysAll true which (message_of Memory [] ∷ []) standard_error error) (speaker_is run.calling asked task of) says) slots is))
+ends_or {run} {asked} {task} of (no_room error says slots untouched count is) = inr (inl (stop_early Memory [] tt (rw (speaker_is run.calling asked task of) at says) slots is))
 
 -- `tee`
 
@@ -303,7 +303,7 @@ tee_stop {run} {asked} on_broken {error = error} fault loud left rest says slots
   stops = stops;
   line = line;
   broke = λ place differs broken. let (name, called, has) = tee_tells on_broken error fault place loud left rest differs (rw slots at broken) in
-      inl (subst (λ those. (name : List ℕ) × IsCalled (slot_at those place) name × Tells run (Tee asked) (failing place (slot_at those place).state) name) (sym slots) (name, called, says_line has says));
+      inl (subst (λ those. IsToldIn run (Tee asked) those place) (sym slots) (name, called, says_line has says));
 }
 
 -- what is told of the input was met
@@ -452,7 +452,7 @@ text_stops {run} {which} {topic} n {error} says slots is = record {
 
   broke : (place : ℕ) → (place ≡ 1 → ⊥) → (slot_at run.outputs place).is_broken ≡ true
       → IsToldOf run (About which topic) place ⊎ IsStuck false run.outputs place
-  broke zero differs broken = inl (subst (λ those. (name : List ℕ) × IsCalled (slot_at those 0) name × Tells run (About which topic) (failing 0 (slot_at those 0).state) name) (sym slots) (codes "standard output", inl refl, line))
+  broke zero differs broken = inl (subst (λ those. IsToldIn run (About which topic) those 0) (sym slots) (codes "standard output", inl refl, line))
   broke (suc zero) differs broken = absurd (differs refl)
   broke (suc (suc place)) differs broken = absurd (false≢true (rw slots at broken))
 
@@ -480,12 +480,10 @@ does_or : {run : Run} (asked : Settings)
     → Unless run asked
     (Unstopped run.calling asked
     (inputs_at run.world (names_of asked)) run.inputs run.outputs run.status does)
-does_or (Head asked) does = ends_or {asked = Head asked} refl does
-does_or (Tail asked) does = ends_or {asked = Tail asked} refl does
-does_or (Split asked) does = ends_or {asked = Split asked} refl does
 does_or (Csplit asked) does = ends_or {asked = Csplit asked} (does.operands, does.asks, refl) does.ends
 does_or (Tee asked) does = tee_or asked does.input does.ends
 does_or (About which topic) does = about_or does
+does_or asked does = ends_or {asked = asked} refl does
 
 -- operands that are wrong
 
@@ -542,11 +540,7 @@ silent_completes {run} (Tee asked) does silent = elim (ran_over does.ran) [
   | inl did ↦ record { read = does.ran.read; does = did; unstopped = whole_copied run asked did.ends does.well does.unforgiven }
   | inr (fault, bad, refuses) ↦ absurd bad
 ]
-silent_completes (Head asked) does silent = absurd (omega (arith, does.well, silent.2))
-silent_completes (Tail asked) does silent = absurd (omega (arith, does.well, silent.2))
-silent_completes (Split asked) does silent = absurd (omega (arith, does.well, silent.2))
-silent_completes (Csplit asked) does silent = absurd (omega (arith, does.well, silent.2))
-silent_completes (About which topic) does silent = absurd (omega (arith, does.well, silent.2))
+silent_completes asked does silent = absurd (omega (arith, does.well, silent.2))
 
 pub completes_or : (run : Run) (asked : Settings) → Ran run asked
     → Completes run asked ⊎ IsStopped run asked ⊎ IsSilent run asked
@@ -561,7 +555,7 @@ told_one : {run : Run} {asked : Settings} {line : Message} {lines : List Message
     → HasLine line lines → SaysWhy run asked
 told_one {run} {asked} {line} {lines} says (before, after, is) =
     let has : HasLine line lines = (before, after, is) in
-    let (fault, name, met, same) = subst (TellsMet run asked) (ap (λ those. get_or those (length before) line) is ∙ get_or-append_seam before line after line) (says.are (length before) line (omega (arith, ap length is, length-append before (line ∷ after)))) in
+    let (fault, name, met, same) = rw (is, get_or-append_seam before line after line) at (says.are (length before) line (omega (arith, ap length is, length-append before (line ∷ after)))) in
     (fault, name, met, says_line (rw same at has) says)
 
 -- a `tee` that keeps back what is gone tells what else failed
@@ -574,16 +568,14 @@ quiet_line on_broken {pieces = pieces} {names} {first} {broke} (Some fault) left
     (message_of fault (codes "standard input"), has_before (said_in on_broken (suc (length pieces)) (output_names names) (first ∷ broke)) (has_after (said_before on_broken (suc (length pieces)) (output_names names) (first ∷ broke)) ([], [], refl)))
 quiet_line on_broken {names = names} {first} {broke} None left rest quiet one = elim (cases_Bool (tee.any_is Broken (map tee.standing_of (first ∷ broke)))) [
   | inl broken ↦ broken_tells on_broken None left rest broken
-  | inr unbroken ↦ absurd (by on_broken (tee.any_is Gone (map tee.standing_of (first ∷ broke))) quiet (subst (λ some. cond (tee.any_is Gone (map tee.standing_of (first ∷ broke))) (tee.gone_status on_broken some) (cond some 1 0) ≡ 1) unbroken one))
+  | inr unbroken ↦ absurd (by on_broken (tee.any_is Gone (map tee.standing_of (first ∷ broke))) quiet (rw unbroken at one))
 ] where
   by : (on_broken : OnBroken) (gone : Bool) → tee.is_quiet on_broken ≡ true
       → cond gone (tee.gone_status on_broken false) 0 ≡ 1 → ⊥
   by on_broken false quiet one = omega (arith, one)
   by Warn true quiet one = false≢true quiet
   by Exit true quiet one = false≢true quiet
-  by WarnNoPipe true quiet one = omega (arith, one)
-  by ExitNoPipe true quiet one = omega (arith, one)
-  by Signal true quiet one = omega (arith, one)
+  by on_broken true quiet one = omega (arith, one)
 
 tee_why : (run : Run) (asked : TeeAsked) {mode : Mode} {names : List (List ℕ)} {content : Content} {source : Source}
     → inputs_at run.world (names_of (Tee asked)) ≡ standard_input content ∷ [] → tee.is_quiet asked.on_broken ≡ true
@@ -599,11 +591,7 @@ silent_says run (Tee asked) ran silent one = elim (ran_over ran) [
   | inl did ↦ tee_why run asked did.input silent.0 did.ends one
   | inr (fault, bad, refuses) ↦ absurd bad
 ]
-silent_says run (Head asked) ran silent one = absurd (omega (arith, one, silent.2))
-silent_says run (Tail asked) ran silent one = absurd (omega (arith, one, silent.2))
-silent_says run (Split asked) ran silent one = absurd (omega (arith, one, silent.2))
-silent_says run (Csplit asked) ran silent one = absurd (omega (arith, one, silent.2))
-silent_says run (About which topic) ran silent one = absurd (omega (arith, one, silent.2))
+silent_says run asked ran silent one = absurd (omega (arith, one, silent.2))
 
 pub says_why : (run : Run) (asked : Settings) → Ran run asked → run.status ≡ 1 → SaysWhy run asked
 says_why run asked ran one = elim (ran_so ran) [
@@ -620,7 +608,7 @@ left_broke : (run : Run) (asked : Settings) {place : ℕ} → LeftBy run asked �
 left_broke run asked {place} all differs broken =
     let (sweeps, closed) = (left_at all.left place differs).broke (outputs_live all.made.part standard_error place all.fits.live differs).0 broken in
     let (clears, failed) = all.fits.sweeps sweeps in
-    (all.left.is ∙ ap (λ flag. cond flag 1 0) failed, (clears, closed, swept_gone all.made.sweeps _ _ sweeps all.left.swept))
+    (rw failed at all.left.is, (clears, closed, swept_gone all.made.sweeps _ _ sweeps all.left.swept))
 
 why_broken : {run : Run} {asked : Settings} {place : ℕ}
     → IsToldOf run asked place ⊎ IsStuck (removes_files asked) run.outputs place → WhyBroken run asked place

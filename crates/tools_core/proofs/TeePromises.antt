@@ -95,13 +95,13 @@ last_of (piece ∷ next ∷ pieces) = last_of (next ∷ pieces)
 all_are : (pieces : List (List ℕ)) → concat pieces ≡ front_of pieces ++ last_of pieces
 all_are [] = refl
 all_are (piece ∷ []) = append-nil piece
-all_are (piece ∷ next ∷ pieces) = ap (λ rest. piece ++ rest) (all_are (next ∷ pieces)) ∙ sym (append_assoc piece (front_of (next ∷ pieces)) (last_of (next ∷ pieces)))
+all_are (piece ∷ next ∷ pieces) = rw (all_are (next ∷ pieces), append_assoc)
 
 front_is : (before : List (List ℕ)) (piece : List ℕ)
     → (front_of (before ++ piece ∷ []) ≡ concat before) × (last_of (before ++ piece ∷ []) ≡ piece)
 front_is [] piece = (refl, refl)
 front_is (first ∷ []) piece = (refl, refl)
-front_is (first ∷ next ∷ before) piece = let (front, last) = front_is (next ∷ before) piece in (ap (λ rest. first ++ rest) front, last)
+front_is (first ∷ next ∷ before) piece = let (front, last) = front_is (next ∷ before) piece in (rw front, last)
 
 last_small : (pieces : List (List ℕ))
     → All (λ (piece : List ℕ). (0 < length piece) × (length piece ≤ largest_piece)) pieces
@@ -139,14 +139,14 @@ module _ (run : Run) (on_broken : OnBroken) (pieces : List (List ℕ)) where
       → IsUpTo (lost_for why) output
   has_cut before piece after n why output is late has stands opened = record {
     stands = stands;
-    no_more = rw has (begins_trans _ _ _ (take_begins_after n (concat before) piece) (rw (sym (all_are pieces) ∙ ap concat is ∙ concat-append before (piece ∷ after) ∙ sym (append_assoc (concat before) piece (concat after))) (begins_more _ _)));
+    no_more = rw has (begins_trans _ _ _ (take_begins_after n (concat before) piece) (rw (← all_are pieces, is, concat-append before (piece ∷ after), ← append_assoc (concat before) piece (concat after)) (begins_more _ _)));
     sound = λ sound. absurd (never_sound why sound);
     some = λ ends. last_one after is (ends_now on_broken (length pieces) (suc (length before)) why late ends);
     unopened = λ ends unopened. absurd (opened unopened);
   } where
     last_one : (after : List (List ℕ)) → pieces ≡ before ++ piece ∷ after
         → nat_lt (suc (length before)) (length pieces) ≡ false → IsBeginning (front_of pieces) output.written
-    last_one [] is late = (take n piece, has ∙ ap (λ front. front ++ take n piece) (sym (ap front_of is ∙ (front_is before piece).0)))
+    last_one [] is late = (take n piece, rw (has, is, (front_is before piece).0))
     last_one (next ∷ after) is late = let size = ap length is ∙ length-append before (piece ∷ next ∷ after) in absurd (grind (arith, nat_tests, size, late))
 
   output_up_to : {when : Option Break} {output : Slot} → Ends on_broken (length pieces) when ≡ false
@@ -236,7 +236,7 @@ none_read : {pieces : List (List ℕ)} {reads : ℕ} (on_broken : OnBroken) (fir
     ≡ length pieces + (if is_done on_broken (standings_before (suc (length pieces)) (first ∷ broke)) then 0 else 1)
     → some_end on_broken (suc (length pieces)) (first ∷ broke) ≡ true → pieces ≡ [] → reads ≡ 0
 none_read {pieces} on_broken first broke is ends none =
-    is ∙ ap (λ ends. length pieces + cond (ends || not (any_is Sound (standings_before (suc (length pieces)) (first ∷ broke)))) 0 1) ends ∙ ap (λ (those : List (List ℕ)). length those + 0) none
+    is ∙ rw (ends, none)
 
 ends_with_break : (run : Run) (asked : TeeAsked) {mode : Mode} {names : List (List ℕ)}
     → length run.world.standard.bytes < 2 ^ 63
