@@ -1,16 +1,11 @@
 -- Lemmas on inputs that give what they show before they are read: what is made of them is what is made of those that show nothing.
 use Rattle.std.proofs.{
-  Common.{◌≡◌, ℕ, ◌&&◌, ◌||◌, if◌then◌else◌, Bool, true, false, is_some, List, [], ◌∷◌, Option, Some, None, inl, inr},
+  Common.{◌≡◌, ℕ, ◌&&◌, Bool, true, false, List, [], ◌∷◌, Option, Some, None, inl, inr},
   Common.{refl, sym, ◌∙◌, ap, length, option_map},
   Math.Bool.or-true,
   lemmas.Bool.eq-eqb,
 }
-use Rattle.ports_core.specs.{
-  Part.{Part, only_out},
-  Source.unshown,
-  Work.{IsLawful, Work},
-  declared.verdict.Verdict.{Verdict, TheVariants.Changed},
-}
+use Rattle.ports_core.specs.{Source.unshown, Work.{IsLawful, Work}}
 use Rattle.seg_core.specs.declared.{unit.Unit.Unit as Counted, cut.Way.Way}
 use Rattle.ends_core.{
   specs.{Shown.{head_in, tail_in}, Head.head_work, Tail.tail_work, laws.WorkLaws.{head_lawful, tail_lawful}},
@@ -18,10 +13,7 @@ use Rattle.ends_core.{
   proofs.ShownLemmas.whole-tail_shown,
 }
 use Rattle.split_core.specs.{Chunks.is_as_said, ChunkWork.{is_written, way_work}, Split.Filing}
-use Rattle.run_core.specs.{
-  Input.Input,
-  Task.{Task, Outcome, after_part, header_text, is_missing, joined, of_content, of_input, of_inputs, verdict_messages},
-}
+use Rattle.run_core.specs.{Input.Input, Task.{Task, Outcome, is_missing, joined, of_content, of_input, of_inputs}}
 use Rattle.tools_core.specs.Promises.{AllAlike, AreAlike, GivesBytes, IsSteady, are_same, give_same}
 use Rattle.seg_core.specs.declared.cut.Way.TheVariants as way
 
@@ -82,13 +74,12 @@ pub way_knows : (way : Way) (elide : Bool) (filing : Filing)
 way_knows (way.Cut cut) elide filing = record { whole = λ text. refl; verdict = λ text. refl; clears = λ text. refl }
 way_knows (way.Chunks chunks) elide filing = record {
   whole = λ text. refl;
-  verdict = λ text. ap (λ (b : Bool). if b then None else Some Changed) (said_so text);
+  verdict = λ text. rw (said_so text);
   clears = λ text. refl;
 }
 way_knows (way.Chunk place chunks) elide filing = record {
   whole = λ text. refl;
-  verdict = λ text. ap (λ (b : Bool). if is_written place chunks (Some (length text)) text || b then None else Some Changed) (said_so text)
-      ∙ ap (λ (b : Bool). if b then None else Some Changed) (or-true (is_written place chunks (Some (length text)) text));
+  verdict = λ text. rw (said_so text, or-true (is_written place chunks (Some (length text)) text));
   clears = λ text. refl;
 }
 way_knows (way.Turn place count delim) elide filing = record { whole = λ text. refl; verdict = λ text. refl; clears = λ text. refl }
@@ -132,8 +123,8 @@ all_made_alike task knows is_first (one ∷ ones) [] alike = absurd alike
 all_made_alike task knows is_first [] (other ∷ others) alike = absurd alike
 all_made_alike task knows is_first (one ∷ ones) (other ∷ others) alike =
     ap (λ made. joined made (of_inputs task (is_first && is_missing one.content) ones)) (alike_made task knows is_first one other alike.0)
-    ∙ ap (joined (of_input task is_first other)) (ap (λ b. of_inputs task (is_first && b) ones) (missing_alike one other alike.0)
-    ∙ all_made_alike task knows (is_first && is_missing other.content) ones others alike.1)
+    ∙ ap (joined (of_input task is_first other)) (rw (missing_alike one other alike.0)
+    (all_made_alike task knows (is_first && is_missing other.content) ones others alike.1))
 
 -- inputs are as themselves
 pub all_alike : (inputs : List Input) → AllAlike inputs inputs
