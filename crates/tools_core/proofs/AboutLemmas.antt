@@ -1,8 +1,8 @@
 -- How a run ends that is asked for a text about a tool.
-use Rattle.std.proofs.Common.{◌≡◌, ℕ, Bool, List, [], ◌∷◌, codes, ◌∙◌, ap, take}
+use Rattle.std.proofs.Common.{◌≡◌, ℕ, Bool, List, [], ◌∷◌, codes, take}
 use Rattle.ports_core.specs.{
   Message.{TellsOn, output_named, output_reason},
-  Slot.{Slot, adds, breaks, streams, told_of, with_broken, with_written},
+  Slot.{Slot, adds, breaks, streams, told_of},
   Streams.{standard_error, standard_output},
   Text.status_after,
   declared.{calling.Speaker.Speaker, reason.Reason.TheVariants.Other, fault.Fault.{Fault, TheVariants.{Memory, Write}}},
@@ -18,10 +18,10 @@ pub text_broke : {told : Bool} {speaker : Speaker} {status : ℕ} (text : List �
 text_broke {told} text n {mid = mid} fresh broke is tells ends =
     let (why, slots) = broke.slots in
     let output = breaks why (adds (told_of told (take n text)) standard_output) in
-    let there : mid ≡ output ∷ standard_error ∷ [] = slots ∙ ap (λ slots. with_broken why 0 (with_written 0 (told_of told (take n text)) slots)) fresh in
+    let there : mid ≡ output ∷ standard_error ∷ [] = rw fresh at slots in
     let (after, says, are) = tells output standard_error [] there in
-    let name : output_named mid (Write 0) ≡ codes "standard output" = ap (λ slots. output_named slots (Write 0)) there in
-    let reason : output_reason mid (Write 0) ≡ why = ap (λ slots. output_reason slots (Write 0)) there in
+    let name : output_named mid (Write 0) ≡ codes "standard output" = rw there in
+    let reason : output_reason mid (Write 0) ≡ why = rw there in
     text_cut n broke.within why after (rw (reason, name) at (rw is at says)) are (rw reason at (rw is at ends))
 
 -- there was no memory for it

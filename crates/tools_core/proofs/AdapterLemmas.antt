@@ -1,6 +1,6 @@
 -- Lemmas on opening a tool's engine.
 use Rattle.std.proofs.{
-  lemmas.{Grind.common_steps, List.length-replicate, Bool.false≢true},
+  lemmas.{Grind.common_steps, List.length-replicate},
   Common.{◌≡◌, ℕ, ◌-◌, ◌<◌, ◌≤◌, ◌^◌, zero, suc, Bool, true, false, IsTrue, if◌then◌else◌, List, [], length, Result},
   Common.{Ok, Err, IfOk, IfErr, IsErr, OnOk, refl, sym, ◌∙◌, ap, arith, Option, Some, None, option_map, replicate, inl},
   Common.inr,
@@ -61,7 +61,7 @@ after_of-nil delim unit n = refl
 
 tail_begins : (delim : ℕ) (from_nth : Bool) (unit : Counted) (n : ℕ)
     → (if from_nth then only_out (tail_of delim unit true n []) else nothing) ≡ nothing
-tail_begins delim true unit n = ap only_out (after_of-nil delim unit (n - 1))
+tail_begins delim true unit n = rw (after_of-nil delim unit (n - 1))
 tail_begins delim false unit n = refl
 
 -- nothing is written before a byte came in
@@ -131,9 +131,9 @@ pub csplit_halts : (style : Style) (operands : List Operand) (old new : List Slo
     (call_of (csplit_work style operands) (record { memory = true; files = true }) [] nothing
     ((csplit_work style operands).settled [])) new fault
 csplit_halts style operands old new Memory breaks = (refl, refl)
-csplit_halts style operands old new (Write slot) breaks = (refl, (breaks.0, λ none. absurd (false≢true (sym none)), breaks.1.1))
+csplit_halts style operands old new (Write slot) breaks = (refl, (breaks.0, λ none. absurd (cc), breaks.1.1))
 csplit_halts style operands old new (Open slot) breaks = (refl, (refl, refl))
-csplit_halts style operands old new (Verdict Suffixes) breaks = absurd (false≢true (sym breaks.2))
+csplit_halts style operands old new (Verdict Suffixes) breaks = absurd (cc)
 csplit_halts style operands old new fault breaks = absurd breaks
 
 -- the work that is asked of `split`
@@ -145,8 +145,7 @@ pub split_asked : (those asked : SplitAsked) (shown : Option (List ℕ)) {naming
     → work_by those.way those.elide naming tells said ≡ (split_task Cutters asked).work shown
 split_asked those asked shown {naming} {tells} said is named told says =
     says those.elide (record { names = naming; verbose = is_verbose tells })
-    ∙ rw (named, told, is) (ap (λ verbose. way_work asked.way asked.elide (record { names = naming_of asked; verbose = verbose })
-    (option_map length shown)) (verbose_is asked.verbose))
+    ∙ rw (named, told, is, verbose_is asked.verbose)
 
 -- why the work of `split` can't be begun
 pub split_halts : (way : Way) (elide : Bool) (names : Naming) (tells : Tells) (said : Option ℕ) (old new : List Slot)
@@ -160,9 +159,7 @@ split_halts (way.Cut cut) elide names tells said old new fault (inl is) = rw is 
 split_halts (way.Cut cut) elide names tells said old new fault (inr (inl (told, is, rose))) =
     rw is (refl, ((λ at. rw told refl), (λ none. refl), rose.1), refl)
 split_halts (way.Cut cut) elide names tells said old new fault (inr (inr (slot, is, rose))) = rw is (refl, (refl, refl), refl)
-split_halts (way.Chunks chunks) elide names tells said old new fault is = rw is (refl, refl, refl)
-split_halts (way.Chunk place chunks) elide names tells said old new fault is = rw is (refl, refl, refl)
-split_halts (way.Turn place count delim) elide names tells said old new fault is = rw is (refl, refl, refl)
+split_halts way elide names tells said old new fault is = rw is (refl, refl, refl)
 
 -- what wasn't opened is nothing
 pub none_opened : {E : Type 0} (P : E → Type 0) (result : Result E Fault) → IsErr result → IfOk result P
@@ -192,12 +189,12 @@ opened_still told old (Err fault) is fresh does bound ready at = tt
 pub head_by : (shown : Option (List ℕ)) {those asked : EndsAsked} {minus : Bool} → those ≡ asked
     → is_minus those.count.sign ≡ minus
     → head_in those.delim those.unit minus those.count.amount shown ≡ (head_task Cutters asked).work shown
-head_by shown {those} is signed = ap (λ b. head_in those.delim those.unit b those.count.amount shown) (sym signed) ∙ ap (λ (asked : EndsAsked). (head_task Cutters asked).work shown) is
+head_by shown is signed = rw (← signed, is)
 
 pub tail_by : (shown : Option (List ℕ)) {those asked : EndsAsked} {plus : Bool} → those ≡ asked
     → is_plus those.count.sign ≡ plus
     → tail_in those.delim those.unit plus those.count.amount shown ≡ (tail_task Cutters asked).work shown
-tail_by shown {those} is signed = ap (λ b. tail_in those.delim those.unit b those.count.amount shown) (sym signed) ∙ ap (λ (asked : EndsAsked). (tail_task Cutters asked).work shown) is
+tail_by shown is signed = rw (← signed, is)
 
 -- opening it may need memory, where the input shows nothing
 
@@ -215,18 +212,18 @@ pub length_matters : (asked : Way) → ((chunks : Chunks) → asked ≡ way.Chun
     → ((place : ℕ) (chunks : Chunks) → asked ≡ way.Chunk place chunks → ⊥)
     → (one other : Option ℕ) (elide : Bool) (filing : Filing)
     → way_work asked elide filing one ≡ way_work asked elide filing other
-length_matters (way.Cut cut) to_files to_output one other elide filing = refl
 length_matters (way.Chunks chunks) to_files to_output one other elide filing = absurd (to_files chunks refl)
 length_matters (way.Chunk place chunks) to_files to_output one other elide filing = absurd (to_output place chunks refl)
-length_matters (way.Turn place count delim) to_files to_output one other elide filing = refl
+length_matters asked to_files to_output one other elide filing = refl
 
 -- the length that an input says by what it shows: of some text, where inputs don't tell theirs
 pub said_shown : (told : Bool) (slot : ℕ) (sources : List Source) {size : Option ℕ}
     → (told ≡ true → size ≡ count_shown (source_at sources slot).left)
     → (shown : Option (List ℕ)) × IsShown told (Some slot) sources shown × (size ≡ option_map length shown)
 said_shown true slot sources counts = ((source_at sources slot).left.shown, λ t. refl, counts refl)
-said_shown false slot sources {size = None} counts = (None, λ t. absurd (false≢true t), refl)
-said_shown false slot sources {size = Some n} counts = (Some (replicate n 0), λ t. absurd (false≢true t), ap Some (sym (length-replicate n 0)))
+said_shown false slot sources {size = None} counts = (None, λ t. absurd (cc), refl)
+said_shown false slot sources {size = Some n} counts =
+    (Some (replicate n 0), λ t. absurd (cc), ap Some (sym (length-replicate n 0)))
 
 -- no look was made
 pub only_looked_none : (most : ℕ) (source : Option ℕ) (sources : List Source) → OnlyLooked most source sources sources

@@ -8,7 +8,7 @@ use Rattle.std.{
   },
   proofs.Common.{◌≡◌, ℕ, ◌+◌, ◌≤◌, ◌<◌, zero, suc, Bool, true, false, List, [], ◌∷◌, ◌++◌, length, map, Option, Some},
   proofs.Common.{inl, inr, ◌⊎◌, refl, sym, ◌∙◌, ap, arith, append-nil, rules, cond, take, None, subst, append_assoc},
-  proofs.Common.{codes, All, not, ◌&&◌, ◌==◌, ◌||◌},
+  proofs.Common.{codes, All, not, ◌&&◌, ◌||◌},
   proofs.Math.Bool.{and_assoc, or-true},
   specs.List.concat,
 }
@@ -20,7 +20,7 @@ use Rattle.ports_core.specs.{
     calling.{Calling.Calling, Speaker.Speaker},
     on_broken.OnBroken.OnBroken,
   },
-  Slot.{Slot, breaks, changed_at, slot_at, unopened, adds},
+  Slot.{Slot, breaks, slot_at, unopened, adds},
   Source.{Content, Source, unshown},
   Streams.{streams_with, standard_error, standard_output},
   Part.{Begins, File, FilesBegin, Marks, Output, OutputsAt, Part, StoppedBetween, only_out, IsBeginning, file_of},
@@ -121,21 +121,19 @@ pub marked_at : (IsDue : List ℕ → Type 0) (fault : Fault) (before after : Li
     ⊎ IsMarked fault place before (slot_at after place)
 marked_at IsDue (Write slot) before after place (within, (why, is)) = elim (cases_eq place slot) [
   | inl here ↦ let there : place < length before = omega (arith, here, within) in
-      let moved = ap (λ which. slot_at (changed_at which (breaks why) before) place) (sym here) in
-      let marked = ap (λ slots. slot_at slots place) is ∙ moved ∙ slot_at-changed place (breaks why) before there in
-      inr (here, there, (why, marked))
-  | inr differs ↦ inl (ap (λ slots. slot_at slots place) is ∙ slot_at-elsewhere slot place (breaks why) before differs)
+      inr (here, there, (why, rw (is, ← here) (slot_at-changed place (breaks why) before there)))
+  | inr differs ↦ inl (rw is (slot_at-elsewhere slot place (breaks why) before differs))
 ]
 marked_at IsDue (Open slot) before after place (number, (name, kept, why, due, is, slots)) = elim (one_more_at (unopened why kept) place before) [
-  | inl same ↦ inl (ap (λ those. slot_at those place) slots ∙ same)
-  | inr (here, is) ↦ inr (here ∙ sym number, (kept, why, ap (λ those. slot_at those place) slots ∙ is))
+  | inl same ↦ inl (rw slots same)
+  | inr (here, is) ↦ inr (here ∙ sym number, (kept, why, rw slots is))
 ]
-marked_at IsDue fault before after place marks = inl (ap (λ slots. slot_at slots place) marks)
+marked_at IsDue fault before after place marks = inl (rw marks)
 
 mark_begins : (fault : Fault) (place : ℕ) (before : List Slot) {new other : Slot} → IsMarked fault place before new
     → BeginsAs (slot_at before place) other → BeginsAs new other
 mark_begins (Write slot) place before marked begins = grind (arith, common_steps)
-mark_begins (Open slot) place before (here, (kept, why, is)) begins = empty_begins (ap (λ (slot : Slot). slot.written) is)
+mark_begins (Open slot) place before (here, (kept, why, is)) begins = empty_begins (rw is)
 mark_begins fault place before marked begins = absurd marked
 
 -- The outputs of a part that begins another
@@ -203,10 +201,10 @@ step_begins : {task : Task} {shown : Option (List ℕ)} (is_first : Bool) (name 
     → ((content : Content) → IsGrowing (task.work shown) content)
     → RunStep true task shown largest_piece so_far (header_text task.with_header is_first name) slot sources there step
     → Begins step.high (after_part so_far (of_content task (task.work shown) is_first name there).part)
-step_begins {task} {shown} is_first name {so_far} grows (unopened_step content place at past) = begins_more so_far (of_content task (task.work shown) is_first name content).part
-step_begins {task} {shown} is_first name {so_far} grows (unheaded content headed leaves) = begins_more so_far (of_content task (task.work shown) is_first name (Some content)).part
-step_begins {task} {shown} is_first name {so_far} grows (heading content headed leaves) = begins_after so_far (begins_more (only_out (header_text task.with_header is_first name)) (made_of (task.work shown) content))
-step_begins {task} {shown} is_first name {so_far} grows (call_step content call is leaves) =
+step_begins is_first name {so_far} grows (unopened_step content place at past) = begins_more so_far _
+step_begins is_first name {so_far} grows (unheaded content headed leaves) = begins_more so_far _
+step_begins is_first name {so_far} grows (heading content headed leaves) = begins_after so_far (begins_more _ _)
+step_begins {task} is_first name {so_far} grows (call_step content call is leaves) =
     let header = only_out (header_text task.with_header is_first name) in
     rw (after_assoc so_far header call.high) (begins_after so_far (begins_after header (call_begins (grows content) is)))
 
@@ -342,7 +340,7 @@ call_are : (Line : Message → Type 0) (on_broken : OnBroken) (call : ℕ) (name
 call_are Line on_broken call name None lines tells are = are
 call_are Line on_broken call name (Some broke) lines tells are =
     cond_both (tee.tells_in on_broken call (Some broke)) (message_of (fault_in call) name ∷ lines) lines (All Line)
-    (λ is. let (same, told) = and_parts (broke.call == call) (tee.is_told on_broken (tee.lost_for broke.why)) is in
+    (λ is. let (same, told) = and_parts _ _ is in
     All-cons Line _ lines (rw (eqb-true broke.call call same) at (tells broke refl)) are) (λ differs. are)
 
 in_call_are : (Line : Message → Type 0) (on_broken : OnBroken) (call : ℕ) (names : List (List ℕ))
@@ -411,7 +409,7 @@ loud_here on_broken one broke (inl loud) = told_loud on_broken one.why loud
 loud_here on_broken one broke (inr none) = by one.why none where
   by : (why : Reason) → (tee.is_same (tee.lost_for why) Gone || tee.any_is Gone (map tee.standing_of broke)) ≡ false
       → tee.is_told on_broken (tee.lost_for why) ≡ true
-  by reason.Gone none = absurd (false≢true (sym none))
+  by reason.Gone none = absurd (cc)
   by why none = refl
 
 loud_rest : (on_broken : OnBroken) (first : Option Break) (broke : List (Option Break))
@@ -420,19 +418,20 @@ loud_rest on_broken first broke (inl loud) = inl loud
 loud_rest on_broken first broke (inr none) = inr (by (tee.is_same (tee.standing_of first) Gone) none) where
   by : (is : Bool) → (is || tee.any_is Gone (map tee.standing_of broke)) ≡ false
       → tee.any_is Gone (map tee.standing_of broke) ≡ false
-  by true none = absurd (false≢true (sym none))
+  by true none = absurd (cc)
   by false none = none
 
 said_here : {name : List ℕ} {names : List (List ℕ)} {broke : List (Option Break)} {last place : ℕ} {output : Slot}
     (on_broken : OnBroken) (when : Option Break) → IsLoud on_broken (when ∷ broke) → Broke last name output when
     → output.is_broken ≡ true → HasSaid on_broken (name ∷ names) (when ∷ broke) last output place
-said_here on_broken None loud sound broken = absurd (false≢true (sym sound ∙ broken))
+said_here on_broken None loud sound broken = absurd (cc)
 said_here {name} {names} {broke} {place} on_broken (Some one) loud (within, called, same, is) broken = record {
   name = name;
   called = called;
   call = one.call;
   within = within;
-  line = rw (eq-eqb one.call one.call refl, loud_here on_broken one broke loud) ([], said_in on_broken one.call names broke, ap (λ line. line ∷ said_in on_broken one.call names broke) (same place));
+  line = rw (eq-eqb one.call one.call refl, loud_here on_broken one broke loud)
+      ([], said_in on_broken one.call names broke, rw (same place));
 }
 
 said_by : (is : Bool) {line : Message} (other : Message) {lines : List Message} → HasLine line lines
@@ -453,17 +452,6 @@ files_said : {on_broken : OnBroken} {mode : Mode} {pieces names : List (List ℕ
 files_said at loud tee.no_file broken = absurd (cc)
 files_said {on_broken} zero loud (tee.one_file name names when broke file files left rest) broken = said_here on_broken when loud (file_broke left) broken
 files_said {on_broken} (suc at) loud (tee.one_file name names when broke file files left rest) broken = said_past (files_said at (loud_rest on_broken when broke loud) rest broken)
-
-outputs_said : {on_broken : OnBroken} {mode : Mode} {pieces names : List (List ℕ)} {first : Option Break}
-    {broke : List (Option Break)} {output : Slot} (error : Slot) {files : List Slot} (place : ℕ)
-    → IsLoud on_broken (first ∷ broke) → OutputLeft true pieces first output
-    → FilesLeft true mode pieces names broke files
-    → (place ≡ 1 → ⊥) → (slot_at (output ∷ error ∷ files) place).is_broken ≡ true
-    → HasSaid on_broken (output_names names) (first ∷ broke) (suc (length pieces))
-    (slot_at (output ∷ error ∷ files) place) place
-outputs_said {on_broken} {first = first} error zero loud left rest differs broken = said_here on_broken first loud (output_broke refl left) broken
-outputs_said error (suc zero) loud left rest differs broken = absurd (differs refl)
-outputs_said {on_broken} {first = first} {broke} error (suc (suc at)) loud left rest differs broken = said_past (files_said at (loud_rest on_broken first broke loud) rest broken)
 
 before_line : {line : Message} (on_broken : OnBroken) (last : ℕ) {call : ℕ} (names : List (List ℕ))
     (broke : List (Option Break)) → call < last → HasLine line (said_in on_broken call names broke)
@@ -514,7 +502,7 @@ line_or on_broken name names (Some one) broke {last} output (within, called, sam
 files_line : (on_broken : OnBroken) {mode : Mode} {pieces names : List (List ℕ)} {broke : List (Option Break)}
     {files : List Slot} → FilesLeft true mode pieces names broke files
     → tee.any_is Broken (map tee.standing_of broke) ≡ true → LineOf on_broken names broke (suc (length pieces))
-files_line on_broken tee.no_file is = absurd (false≢true is)
+files_line on_broken tee.no_file is = absurd (cc)
 files_line on_broken (tee.one_file name names when broke file files left rest) is = line_or on_broken name names when broke file (file_broke left) (λ others. files_line on_broken rest others) is
 
 pub broken_tells : (on_broken : OnBroken) {mode : Mode} {pieces names : List (List ℕ)} {first : Option Break}
@@ -525,18 +513,27 @@ pub broken_tells : (on_broken : OnBroken) {mode : Mode} {pieces names : List (Li
 broken_tells on_broken {names = names} {first} {broke} {output} fault left rest is =
     let (call, line, within, has) = line_or on_broken (codes "standard output") names first broke output (output_broke refl left) (λ others. files_line on_broken rest others) is in (line, call_line on_broken names (first ∷ broke) fault within has)
 
--- the line of an output that is broken is one of those that are due
-pub tee_tells : (on_broken : OnBroken) {mode : Mode} {pieces names : List (List ℕ)} {first : Option Break}
-    {broke : List (Option Break)} {output : Slot} (error : Slot) {files : List Slot} (fault : Option Fault) (place : ℕ)
-    → IsLoud on_broken (first ∷ broke) → OutputLeft true pieces first output
-    → FilesLeft true mode pieces names broke files
-    → (place ≡ 1 → ⊥) → (slot_at (output ∷ error ∷ files) place).is_broken ≡ true
-    → (name : List ℕ) × IsCalled (slot_at (output ∷ error ∷ files) place) name
-    × HasLine (message_of (failing place (slot_at (output ∷ error ∷ files) place).state) name)
-    (messages_of on_broken names (first ∷ broke) (length pieces) fault)
-tee_tells on_broken {names = names} {first} {broke} error fault place loud left rest differs broken =
-    let said = outputs_said error place loud left rest differs broken in
-    (said.name, said.called, call_line on_broken names (first ∷ broke) fault said.within said.line)
+-- an output that is broken has its line, which is one of those that are due
+module _ (on_broken : OnBroken) {mode : Mode} {pieces names : List (List ℕ)} {first : Option Break}
+    {broke : List (Option Break)} {output : Slot} (error : Slot) {files : List Slot}
+    (loud : IsLoud on_broken (first ∷ broke)) (left : OutputLeft true pieces first output)
+    (rest : FilesLeft true mode pieces names broke files) where
+  outputs_said : (place : ℕ) → (place ≡ 1 → ⊥) → (slot_at (output ∷ error ∷ files) place).is_broken ≡ true
+      → HasSaid on_broken (output_names names) (first ∷ broke) (suc (length pieces))
+      (slot_at (output ∷ error ∷ files) place) place
+  outputs_said zero differs broken = said_here on_broken first loud (output_broke refl left) broken
+  outputs_said (suc zero) differs broken = absurd (differs refl)
+  outputs_said (suc (suc at)) differs broken =
+      said_past (files_said at (loud_rest on_broken first broke loud) rest broken)
+
+  pub tee_tells : (fault : Option Fault) (place : ℕ) → (place ≡ 1 → ⊥)
+      → (slot_at (output ∷ error ∷ files) place).is_broken ≡ true
+      → (name : List ℕ) × IsCalled (slot_at (output ∷ error ∷ files) place) name
+      × HasLine (message_of (failing place (slot_at (output ∷ error ∷ files) place).state) name)
+      (messages_of on_broken names (first ∷ broke) (length pieces) fault)
+  tee_tells fault place differs broken =
+      let said = outputs_said place differs broken in
+      (said.name, said.called, call_line on_broken names (first ∷ broke) fault said.within said.line)
 
 -- Each line that tells of an output that broke tells a fault that the run met.
 
@@ -577,8 +574,9 @@ pub tee_lines : {run : Run} (asked : TeeAsked) (on_broken : OnBroken) {mode : Mo
     → SaysLines run (Tee asked) (messages_of on_broken names (first ∷ broke) (length pieces) fault)
 tee_lines {run} asked on_broken {pieces = pieces} {names} {first} {broke} {output} {error} {files} fault slots left rest of_input says = record {
   are = lines_are (TellsMet run (Tee asked)) on_broken names (first ∷ broke) (length pieces) fault (
-    output_tells asked (suc (length pieces)) (codes "standard output") first 0 (ap (λ those. slot_at those 0) slots) (λ is. omega (arith, is)) (output_broke refl left),
-    files_tell run asked (λ at. suc (suc at)) (λ at. ap (λ those. slot_at those (suc (suc at))) slots) (λ at is. omega (arith, is)) rest,
+    output_tells asked (suc (length pieces)) (codes "standard output") {output = output} first 0 (rw slots)
+        (λ is. omega (arith, is)) (output_broke refl left),
+    files_tell run asked (λ at. suc (suc at)) (λ at. rw slots) (λ at is. omega (arith, is)) rest,
   )
       of_input;
   said = rw slots says;
@@ -629,7 +627,7 @@ cut_begins : {pieces : List (List ℕ)} (before : List (List ℕ)) (piece : List
     → pieces ≡ before ++ piece ∷ after → IsBeginning (concat before ++ take n piece) (concat pieces)
 cut_begins before piece after n is =
     begins_trans _ (concat before ++ piece) _ (take_begins_after n (concat before) piece)
-    (concat after, ap concat is ∙ concat-append before (piece ∷ after) ∙ sym (append_assoc (concat before) piece (concat after)))
+    (concat after, rw (is, concat-append before (piece ∷ after), append_assoc))
 
 output_begins : {pieces : List (List ℕ)} {bytes : List ℕ} {first : Option Break} {output : Slot}
     → IsBeginning (concat pieces) bytes → OutputLeft true pieces first output

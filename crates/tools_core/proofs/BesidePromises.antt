@@ -1,7 +1,7 @@
 -- Over the inputs that any run found there is a run that no fault stops.
 use Rattle.std.{
   proofs.Common.{◌≡◌, ℕ, ◌+◌, ◌≤◌, ◌<◌, ◌^◌, suc, zero, Bool, true, false, ◌||◌, cond, List, [], ◌∷◌, ◌++◌, length},
-  proofs.Common.{map, Option, Some, None, inl, inr, ◌⊎◌, refl, sym, ◌∙◌, ap, subst, arith, lit<, append_assoc},
+  proofs.Common.{map, Option, Some, None, inl, inr, ◌⊎◌, refl, sym, ◌∙◌, ap, arith, lit<, append_assoc},
   proofs.Common.length-append,
   proofs.Math.Seq.get_or-append_seam,
   proofs.lemmas.{Bool.{cases_Bool, cases_lt, false≢true}, List.{length-map, Elements.All-map}},
@@ -67,12 +67,13 @@ front_from : (work : Work) (x rest : List ℕ) → IsNeeded work.is_complete 1 x
 front_from work x [] needed = record { read = x; rest = []; joined = refl; needed = needed; enough = inl refl }
 front_from work x (byte ∷ rest) needed = elim (cases_Bool (work.is_complete x)) [
   | inl complete ↦ record { read = x; rest = byte ∷ rest; joined = refl; needed = needed; enough = inr complete }
-  | inr going ↦ subst (Front work) (append_assoc x (byte ∷ []) rest) (front_from work (x ++ byte ∷ []) rest (inr (x, byte ∷ [], refl, omega arith, going)))
+  | inr going ↦ rw append_assoc at
+      (front_from work (x ++ byte ∷ []) rest (inr (x, byte ∷ [], refl, omega arith, going)))
 ]
 
 -- an open source that tells its bytes, whatever it holds
 came_from : {content : Content} (source : Source) → source.is_open ≡ true → CameFrom true content source
-came_from source is = record { was_open = is; breaks = λ untold. absurd (false≢true (sym untold)) }
+came_from source is = record { was_open = is; breaks = λ untold. absurd (cc) }
 
 -- such a reader leaves this of an input, or of one that is missing
 record LeftFor (work : Work) (there : Option Content) : Type 0 where
@@ -119,7 +120,8 @@ file_done work world was_read slot name names more is again =
     let all = length-append more (here.source ∷ rest) in
     let next = length-append more (here.source ∷ []) in (
       (omega (arith, is, all), rw at_slot (here.is slot)),
-      subst (AreDone true work largest_piece (inputs_from world was_read (slot + 1) names)) (append_assoc (first ∷ more) (here.source ∷ []) rest) (again was_read (slot + 1) (more ++ here.source ∷ []) (omega (arith, is, next))),
+      rw (append_assoc more (here.source ∷ []) rest) at
+          (again was_read (slot + 1) (more ++ here.source ∷ []) (omega (arith, is, next))),
     )
 
 name_done : (dash : Bool) (work : Option (List ℕ) → Work) (world : World) (was_read : Bool) (slot : ℕ) (name : List ℕ)
@@ -131,8 +133,10 @@ name_done : (dash : Bool) (work : Option (List ℕ) → Work) (world : World) (w
     ((left_for work (world.laid slot name)).source ∷ files_for work world (slot + 1) names))
 name_done true work world true slot name names more is again = (tt, again true slot more is)
 name_done true work world false slot name names more is again = ((omega arith, (left_for work (Some world.standard)).is 0), again true slot more is)
-name_done false work world true slot name names more is again = file_done work world true slot name names more is again
-name_done false work world false slot name names more is again = file_done work world false slot name names more is again
+name_done false work world true slot name names more is again =
+    file_done work world true slot name names more is again
+name_done false work world false slot name names more is again =
+    file_done work world false slot name names more is again
 
 all_done : (work : Option (List ℕ) → Work) (world : World) (names : List (List ℕ)) → AreDoneFrom work world names
 all_done work world [] = λ was_read slot more is. tt
@@ -153,7 +157,7 @@ took_lines speaker (message ∷ lines) old sound =
 
 files_are : (files : List File) → map file_of (map slot_of files) ≡ map (told_file true) files
 files_are [] = refl
-files_are (file ∷ files) = ap (λ rest. file ∷ rest) (files_are files)
+files_are (file ∷ files) = rw (files_are files)
 
 at_part : (part : Part) (error : Slot) → OutputsAt true (streams_with error) part (outputs_of part error)
 at_part part error = record { standard = lit< tt; since = map slot_of part.files; slots = refl; files = files_are part.files }
@@ -187,15 +191,16 @@ cleans true output error files = record { new = output ∷ error ∷ map gone fi
 
 -- So a run over any inputs can end well.
 
-record EndsWell (task : Task) (world : World) (names : List (List ℕ)) : Type 0 where
+record Well (Does : List Source → List Slot → ℕ → Type 0)
+    (Whole : (sources : List Source) (new : List Slot) (status : ℕ) → Does sources new status → Type 0) : Type 0 where
   pub sources : List Source
   pub new : List Slot
   pub status : ℕ
-  pub ends : EndsAs true true task (inputs_at world names) sources new status
-  pub unstopped : IsUnstopped ends
+  pub does : Does sources new status
+  pub unstopped : Whole sources new status does
 
 ends_well : (task : Task) (world : World) (names : List (List ℕ))
-    → EndsWell task world names
+    → Well (EndsAs true true task (inputs_at world names)) (λ sources new status ends. IsUnstopped ends)
 ends_well task world names =
     let made = made_by task (inputs_at world names) in
     let lines = took_lines task.speaker made.messages standard_error refl in
@@ -203,7 +208,8 @@ ends_well task world names =
       sources = sources_for task.work world [] 1 names;
       new = left.new;
       status = status_of made;
-      ends = as_defined lines.error (outputs_of made.part lines.error) lines.says (at_part made.part lines.error) left.swept (all_done task.work world names false 1 [] refl) refl;
+      does = as_defined lines.error (outputs_of made.part lines.error) lines.says (at_part made.part lines.error)
+          left.swept (all_done task.work world names false 1 [] refl) refl;
       unstopped = tt;
     }
 
@@ -214,7 +220,7 @@ pieces_of bytes = map (λ byte. byte ∷ []) bytes
 
 pieces_are : (bytes : List ℕ) → concat (pieces_of bytes) ≡ bytes
 pieces_are [] = refl
-pieces_are (byte ∷ bytes) = ap (λ rest. byte ∷ rest) (pieces_are bytes)
+pieces_are (byte ∷ bytes) = rw (pieces_are bytes)
 
 abbrev unbroken : List (List ℕ) → List (Option Break)
 unbroken names = map (λ name. None) names
@@ -230,12 +236,10 @@ copies_left mode pieces [] = tee.no_file
 copies_left mode pieces (name ∷ names) = tee.one_file name names None (unbroken names) _ _ tee.file_whole (copies_left mode pieces names)
 
 -- what settings ask for was done
-record DoesWell (calling : Calling) (asked : Settings) (world : World) : Type 0 where
-  pub sources : List Source
-  pub new : List Slot
-  pub status : ℕ
-  pub does : DoesAsked calling true true asked (inputs_at world (names_of asked)) sources new status
-  pub unstopped : Unstopped calling asked (inputs_at world (names_of asked)) sources new status does
+abbrev DoesWell : Calling → Settings → World → Type 0
+DoesWell calling asked world =
+    Well (DoesAsked calling true true asked (inputs_at world (names_of asked)))
+    (Unstopped calling asked (inputs_at world (names_of asked)))
 
 read_all : (bytes : List ℕ) (breaks_off : Bool) {shown : Option (List ℕ)} (Leaves : List ℕ → Type 0) → Leaves []
     → IsRead (record { bytes = bytes; breaks_off = breaks_off; shown = shown }) Leaves false (concat (pieces_of bytes))
@@ -288,7 +292,7 @@ tee_well calling asked world few = record {
         met = met_or_sound content.breaks_off;
         ended = λ none some. refl;
         last = λ told vain. absurd (false≢true (sym (goes_on (suc (length pieces))) ∙ vain));
-        reads = ap (λ vain. length pieces + cond vain 0 1) (sym (goes_on (suc (length pieces))));
+        reads = rw (goes_on (suc (length pieces))) refl;
       })
       (goes_on (length pieces)) tee.output_whole (copies_left asked.mode pieces asked.names)
       (rw (quiet_outputs asked.on_broken asked.names (None ∷ unbroken asked.names) (length pieces) fault (all_sound asked.names)) lines.says) refl refl
@@ -297,22 +301,23 @@ tee_well calling asked world few = record {
       → left (took_lines (tee_called calling) (said_of_input (met_by breaks_off)) standard_error refl).error
       ≡ tee.all_copied true asked.mode asked.names content.bytes
   all true well = absurd (let is : 1 ≡ 0 = sym (sound_status asked.on_broken (None ∷ unbroken asked.names) (Some (Read 0)) (all_sound asked.names)) ∙ well in omega (arith, is))
-  all false well = ap left (took_lines (tee_called calling) (said_of_input (met_by false)) standard_error refl).says ∙ ap (λ those. adds those standard_output ∷ standard_error ∷ map (λ name. closes (adds those (opened name asked.mode))) asked.names) (pieces_are content.bytes)
+  all false well = ap left (took_lines (tee_called calling) (said_of_input (met_by false)) standard_error refl).says
+      ∙ rw (pieces_are content.bytes)
 
 does_well : (run : Run) (asked : Settings) → HasOperands asked → (HasLong run asked → ⊥)
     → DoesWell run.calling asked run.world
-does_well run (Head asked) can short =
-    let e = ends_well (head_task run.calling asked) run.world asked.names in
-    record { sources = e.sources; new = e.new; status = e.status; does = e.ends; unstopped = e.unstopped }
-does_well run (Tail asked) can short =
-    let e = ends_well (tail_task run.calling asked.ends) run.world asked.ends.names in
-    record { sources = e.sources; new = e.new; status = e.status; does = e.ends; unstopped = e.unstopped }
-does_well run (Split asked) can short =
-    let e = ends_well (split_task run.calling asked) run.world (asked.input ∷ []) in
-    record { sources = e.sources; new = e.new; status = e.status; does = e.ends; unstopped = e.unstopped }
+does_well run (Head asked) can short = ends_well (head_task run.calling asked) run.world asked.names
+does_well run (Tail asked) can short = ends_well (tail_task run.calling asked.ends) run.world asked.ends.names
+does_well run (Split asked) can short = ends_well (split_task run.calling asked) run.world (asked.input ∷ [])
 does_well run (Csplit asked) (operands, asks) short =
     let e = ends_well (csplit_task run.calling asked operands) run.world (asked.input ∷ []) in
-    record { sources = e.sources; new = e.new; status = e.status; does = record { operands = operands; asks = asks; ends = e.ends }; unstopped = e.unstopped }
+    record {
+      sources = e.sources;
+      new = e.new;
+      status = e.status;
+      does = record { operands = operands; asks = asks; ends = e.does };
+      unstopped = e.unstopped;
+    }
 does_well run (About which topic) can short = record { sources = []; new = _; status = 0; does = text_whole refl refl; unstopped = refl }
 does_well run (Tee asked) can short = elim (cases_lt (length run.world.standard.bytes) (2 ^ 63)) [
   | inl few ↦ tee_well run.calling asked run.world few

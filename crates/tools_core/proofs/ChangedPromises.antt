@@ -1,16 +1,15 @@
 -- What `split` leaves of an input that gives fewer or more bytes than it showed before.
 use Rattle.std.proofs.{
-  Common.{◌≡◌, ℕ, ◌<◌, true, false, List, [], ◌∷◌, length, map, drop, Option, Some, None, is_some, refl, sym, ◌∙◌, ap},
-  Common.{subst, append-nil},
+  Common.{◌≡◌, ℕ, ◌<◌, true, false, List, [], ◌∷◌, length, map, Option, Some, None, is_some, refl, ◌∙◌, ap, subst},
+  Common.append-nil,
 }
 use Rattle.ports_core.specs.{
   Part.Part,
-  Slot.{Slot, slot_at},
   Source.Content,
   Work.Work,
   declared.{calling.Calling.TheVariants.Cutters, verdict.Verdict.{Verdict, TheVariants.Changed}},
 }
-use Rattle.seg_core.specs.{Line.joined as joined_texts, declared.cut.{Chunks.Chunks, Way.Way}}
+use Rattle.seg_core.specs.{declared.cut.{Chunks.Chunks, Way.Way}}
 use Rattle.split_core.{
   specs.{ChunkWork.{ChunksPlan, HasAllNames, chunk_work, chunks_work, way_work}, Chunks.has_ended},
   proofs.{ChunkAgreedLemmas.whole_files, ChunkMadeLemmas.{changed_all, changed_alone, changed_told}},
@@ -25,7 +24,6 @@ use Rattle.words_core.specs.{
 }
 use Rattle.tools_core.{
   specs.{
-    Outcome.names_at,
     Promises.{Completes, GivesOther, IsChunkAsShown, IsCutAsShown, Run, TellsMet, contents_of, removes_files},
     Tasks.{filing_of, naming_of, names_of, speaker_of, split_task},
   },
@@ -79,26 +77,22 @@ module _ {split : Run} {asked : SplitAsked} {input : Input} {shown bytes : List 
     content = record { bytes = bytes; breaks_off = false; shown = Some shown }
 
     only : inputs_at split.world (names_of (Split asked)) ≡ input ∷ []
-    only = ap (inputs_at split.world) (sym (ap names_at whole.read)) ∙ gives.only
+    only = rw whole.read at gives.only
 
     made : all.made ≡ made_at task input.name (work.whole bytes) verdict
-    made = all.of ∙ ap (made_by task) only
-        ∙ ap (λ outcome. joined outcome no_outcome)
-        (ap (λ shown. of_content task (task.work shown) true input.name input.content) gives.showed
-        ∙ ap (of_content task (task.work (Some shown)) true input.name) gives.gave
-        ∙ ap (λ work. of_content task work true input.name (Some content)) is)
-        ∙ judged_made task work input.name content verdict refl judged stay refl
+    made = all.of ∙ ap (made_by task) only ∙ rw (gives.showed, gives.gave, is)
+        (judged_made task work input.name content verdict refl judged stay refl)
 
   -- by the way that was asked for
   way_is : {way : Way} → asked.way ≡ way → way_work asked.way asked.elide (filing_of asked) (Some (length shown))
       ≡ way_work way asked.elide (filing_of asked) (Some (length shown))
-  way_is is = ap (λ way. way_work way asked.elide (filing_of asked) (Some (length shown))) is
+  way_is is = rw is
 
   pub cut_as_shown : {chunks : Chunks} → asked.way ≡ way.Chunks chunks
       → IsCutAsShown split asked chunks input.name shown bytes
   cut_as_shown {chunks} is = record {
     files = written ∙ whole_files plan (Some size) bytes some named;
-    all = ap joined_texts written ∙ changed_all plan size bytes some named;
+    all = rw written (changed_all plan size bytes some named);
     told = ([], [], left_says left.0 left.1);
     failed = left.1.is;
   } where
@@ -124,13 +118,12 @@ module _ {split : Run} {asked : SplitAsked} {input : Input} {shown bytes : List 
     left = left_so (chunks_work plan (Some size)) (Some Changed) (way_is is) refl (changed_told plan size bytes gives.other)
 
     written : contents_of split ≡ map (λ file. file.bytes) ((chunks_work plan (Some size)).whole bytes).files
-    written = ap (λ slots. map (λ (file : Slot). file.written) (drop 2 slots)) left.1.swept
-        ∙ bytes_written ((chunks_work plan (Some size)).whole bytes).files
+    written = rw left.1.swept (bytes_written ((chunks_work plan (Some size)).whole bytes).files)
 
   pub chunk_as_shown : {place : ℕ} {chunks : Chunks} → asked.way ≡ way.Chunk place chunks
       → IsChunkAsShown split asked place chunks input.name shown bytes
   chunk_as_shown {place} {chunks} is = record {
-    out = ap (λ slots. (slot_at slots 0).written) (left_so work (work.verdict bytes) (way_is is) refl refl).1.swept;
+    out = rw (left_so work (work.verdict bytes) (way_is is) refl refl).1.swept;
     told = λ short. let left = changed short in ([], [], left_says left.0 left.1);
     failed = λ short. (changed short).1.is;
   } where

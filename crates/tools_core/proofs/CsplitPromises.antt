@@ -192,7 +192,7 @@ sections_kept suppress operands lines keep =
 
 all_bytes : (lines : List (List ℕ)) → map (λ (line : Line). line.text) (map marked lines) ≡ lines
 all_bytes [] = refl
-all_bytes (text ∷ lines) = ap (λ rest. text ∷ rest) (all_bytes lines)
+all_bytes (text ∷ lines) = rw (all_bytes lines)
 
 -- what the files have
 
@@ -200,20 +200,23 @@ shares_have : (style : Style) (sections : List Section)
     → map (λ (one : Share). one.bytes) (shares_in style sections) ≡ flat_map (file_in style) sections
 shares_have style [] = refl
 shares_have style (section ∷ sections) =
-    map-append (λ (one : Share). one.bytes) (map (share (state_in section)) (file_in style section)) (shares_in style sections)
-    ∙ ap (λ front. front ++ map (λ (one : Share). one.bytes) (shares_in style sections)) (bytes_of_shares (state_in section) (file_in style section))
-    ∙ ap (λ rest. file_in style section ++ rest) (shares_have style sections)
+    rw (
+      map-append (λ (one : Share). one.bytes) (map (share (state_in section)) (file_in style section))
+          (shares_in style sections),
+      bytes_of_shares (state_in section) (file_in style section),
+      shares_have style sections,
+    )
 
 files_have : (style : Style) (place : ℕ) (shares : List Share)
     → map (λ (file : File). file.bytes) (files_from (manner_of style) place shares)
     ≡ map (λ (one : Share). one.bytes) shares
 files_have style place [] = refl
-files_have style place (one ∷ shares) = ap (λ rest. one.bytes ∷ rest) (files_have style (place + 1) shares)
+files_have style place (one ∷ shares) = rw (files_have style (place + 1) shares)
 
 -- a section that is kept makes no file only where it is empty
 file_joined : (elide kept : Bool) (bytes : List ℕ) → kept ≡ true
     → joined (made_of (cond kept (cond elide Late AtOnce) Never) bytes) ≡ bytes
-file_joined elide false bytes kept = absurd (false≢true kept)
+file_joined elide false bytes kept = absurd (cc)
 file_joined true true [] kept = refl
 file_joined true true (byte ∷ bytes) kept = append-nil (byte ∷ bytes)
 file_joined false true bytes kept = append-nil bytes
@@ -222,9 +225,12 @@ files_joined : (style : Style) (sections : List Section) → AllKept sections
     → joined (flat_map (file_in style) sections) ≡ bytes_of (lines_in sections)
 files_joined style [] kept = refl
 files_joined style (section ∷ sections) kept =
-    joined-append (file_in style section) (flat_map (file_in style) sections)
-    ∙ ap (λ front. front ++ joined (flat_map (file_in style) sections)) (file_joined style.elide section.is_kept (bytes_of section.lines) kept.0)
-    ∙ ap (λ rest. bytes_of section.lines ++ rest) (files_joined style sections kept.1) ∙ sym (bytes-append section.lines (lines_in sections))
+    rw (
+      joined-append (file_in style section) (flat_map (file_in style) sections),
+      file_joined style.elide section.is_kept (bytes_of section.lines) kept.0,
+      files_joined style sections kept.1,
+      bytes-append section.lines (lines_in sections),
+    )
 
 -- Their names
 
@@ -265,7 +271,8 @@ is_csplit {run} {asked} {input} does has =
       asks = asks;
       well = ends_well _ made.unjudged;
       files = files;
-      contents = ap (map (λ (file : Slot). file.written)) files ∙ bytes_written _ ∙ files_have asked.style 0 (shares_in asked.style sections) ∙ shares_have asked.style sections;
+      contents = rw files (bytes_written _ ∙ files_have asked.style 0 (shares_in asked.style sections) ∙ shares_have
+          asked.style sections);
     }
 
 pub are_numbered : (run : Run) (asked : CsplitAsked) (input : List ℕ) → Does run (Csplit asked) → HasInput run input
@@ -298,11 +305,18 @@ none_is_lost run asked input does has whole none =
     let split = is_csplit does has in
     let lines = all_lines input in
     let keep = read_keep (words_of asked.operands).operands split.operands (all_keep asked.operands none) split.asks.read in
-    ap joined split.contents
-    ∙ files_joined asked.style (whole_sections lines (plan asked.style.suppress split.operands lines)) (sections_kept asked.style.suppress split.operands lines keep)
-    ∙ ap (λ suppress. bytes_of (lines_in (whole_sections lines (plan suppress split.operands lines)))) whole
-    ∙ ap bytes_of (none_lost_at_end split.operands lines (subst (λ suppress. is_final (plan suppress split.operands lines).ending ≡ false) whole split.well))
-    ∙ ap joined (all_bytes (lines_of newline input)) ∙ joined-lines_of newline input
+    rw (
+      split.contents,
+      files_joined asked.style (whole_sections lines (plan asked.style.suppress split.operands lines))
+          (sections_kept asked.style.suppress split.operands lines keep),
+    )
+    (ap (λ suppress. bytes_of (lines_in (whole_sections lines (plan suppress split.operands lines)))) whole
+    ∙ rw (
+      none_lost_at_end split.operands lines
+          (subst (λ suppress. is_final (plan suppress split.operands lines).ending ≡ false) whole split.well),
+      all_bytes (lines_of newline input),
+    )
+    (joined-lines_of newline input))
 
 -- Each line in its turn
 
@@ -321,9 +335,8 @@ all_in_turn : {suppress : Bool} {lines : List Line} {first : State} {steps : Lis
 all_in_turn {suppress} {lines} (cuts state operand operands matched cut steps' last' ending' is at from within rest) some =
     let low : 1 ≤ cut = omega (arith, some, from) in
     let step = step_of state operand matched cut in
-    ap (λ those. lines_between state.current cut lines ++ (left_out suppress lines step ++ those)) (all_in_turn rest (past_cut suppress low))
-    ∙ ap (λ those. lines_between state.current cut lines ++ those) (cut_rest suppress lines step low)
-    ∙ between_rest state.current cut lines some from
+    rw (all_in_turn rest (past_cut suppress low), cut_rest suppress lines step low)
+    (between_rest state.current cut lines some from)
 all_in_turn run some = refl
 
 none_missing : (suppress : Bool) (operands : List Operand) {lines : List Line}

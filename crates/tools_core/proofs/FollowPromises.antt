@@ -45,11 +45,13 @@ looks_from shows start (suc n) = shows start ∷ looks_from shows (suc start) n
 one_more : (shows : ℕ → Snapshot) {start : ℕ} (n : ℕ)
     → looks_from shows start n ++ shows (start + n) ∷ [] ≡ looks_from shows start (suc n)
 one_more shows zero = search rules
-one_more shows {start} (suc n) = ap (λ rest. shows start ∷ rest) (ap (λ k. looks_from shows (suc start) n ++ shows k ∷ []) (let e : start + suc n ≡ suc start + n = omega arith in e) ∙ one_more shows n)
+one_more shows {start} (suc n) =
+    rw (let e : start + suc n ≡ suc start + n = omega arith in e) (ap (λ rest. shows start ∷ rest) (one_more shows n))
 
 pub seen_are : (shows : ℕ → Snapshot) (n : ℕ) → seen_first shows n ≡ looks_from shows 0 n
 seen_are shows zero = refl
-seen_are shows (suc n) = ap (λ front. front ++ shows n ∷ []) (seen_are shows n) ∙ ap (λ k. looks_from shows 0 n ++ shows k ∷ []) (omega arith) ∙ one_more shows n
+seen_are shows (suc n) = rw (seen_are shows n)
+    (ap (λ k. looks_from shows 0 n ++ shows k ∷ []) (omega arith) ∙ one_more shows n)
 
 -- the versions of its file
 abbrev pub versions : (ℕ → Snapshot) → ℕ → ℕ → ℕ → List Entry
@@ -67,9 +69,8 @@ later_are : (by_name : Bool) {name : List ℕ} (shows : ℕ → Snapshot) {file 
 later_are by_name shows start zero within grows = refl
 later_are true {name} shows {file} start (suc n) within grows =
     let leads = grows.0 start (omega (arith, within)) in
-    later_by true name (shows start) leads
-    ∙ ap (λ opened. version_in (shows start) file ∷ entries_later true name opened (looks_from shows (suc start) n)) leads
-    ∙ ap (λ rest. version_in (shows start) file ∷ rest) (later_are true shows (suc start) n (omega (arith, within)) grows)
+    later_by true name (shows start) leads ∙ rw
+    (leads, later_are true shows (suc start) n (omega (arith, within)) grows)
 later_are false shows start (suc n) within grows = rw (later_are false shows (suc start) n (omega (arith, within)) grows)
 
 entries_are : (by_name : Bool) {name : List ℕ} (shows : ℕ → Snapshot) {file count : ℕ} (n : ℕ) → n ≤ count
@@ -85,7 +86,9 @@ versions_kept shows start (suc (suc n)) within grows = ((λ goes. grows.1 start 
 
 pub kept_in : (by_name : Bool) {name : List ℕ} (shows : ℕ → Snapshot) {file count : ℕ} → OnlyGrows count shows name file
     → AreKept (entries_of by_name name (seen_first shows count))
-kept_in by_name {name} shows {count} grows = rw (ap (entries_of by_name name) (seen_are shows count) ∙ entries_are by_name shows count (omega arith) grows) (versions_kept shows 0 count (omega arith) grows)
+kept_in by_name {name} shows {count} grows =
+    rw (seen_are shows count, entries_are by_name shows count (omega arith) grows)
+    (versions_kept shows 0 count (omega arith) grows)
 
 -- what they gain is what came
 holds_later : (shows : ℕ → Snapshot) {name : List ℕ} {file count : ℕ} (start n : ℕ) → start + n < count
@@ -96,9 +99,13 @@ holds_later shows {file} start zero within grows = ap (λ k. (shows k).holds fil
 holds_later shows {file} start (suc n) within grows =
     let (piece, next) = grows.1 start (omega (arith, within)) in
     let front = (shows start).holds file in
-    let later = gains_later (version_in (shows (suc start)) file) (versions shows file (suc (suc start)) n) in
-    ap (λ k. (shows k).holds file) (let e : start + suc n ≡ suc start + n = omega arith in e) ∙ holds_later shows (suc start) n (omega (arith, within)) grows
-    ∙ ap (λ those. those ++ later) next ∙ append_assoc front piece later ∙ ap (λ gained. front ++ (gained ++ later)) (sym (grown file front next))
+    rw (
+      grown file front next,
+      let e : start + suc n ≡ suc start + n = omega arith in e,
+      holds_later shows (suc start) n (omega (arith, within)) grows,
+      next,
+      append_assoc,
+    )
 
 gains_are : (shows : ℕ → Snapshot) {name : List ℕ} {file count n : ℕ} {came : List ℕ} → n < count
     → OnlyGrows count shows name file → (shows n).holds file ≡ (shows 0).holds file ++ came
@@ -245,10 +252,8 @@ tells_all run options followed name came file n follows bare named grows is =
     let made : length wrote.looks ≡ n + 1 = all_made ways shows wrote.looks grew wrote.saw wrote.kept
     wrote.few wrote.full in
     let all : length wrote.looks ≡ suc n = made ∙ (let e : n + 1 ≡ suc n = omega arith in e) in
-    wrote.is
-    ∙ ap (λ those. name_text ways.start (entries_of (is_name followed) name those))
-    (wrote.seen_is ∙ wrote.saw ∙ ap (seen_first shows) all)
-    ∙ growing_text (is_name followed) shows ways.start came (omega (arith, all)) grew is
+    rw (wrote.is, wrote.seen_is ∙ wrote.saw, all)
+    (growing_text (is_name followed) shows ways.start came (omega (arith, all)) grew is)
 
 -- A run of the program is a run of one of both kinds, by what its words ask for.
 
@@ -260,7 +265,8 @@ ends_at run ends is = rw (← is) ends
 pub runs_tool : (run : Run) (asked : Settings) → IsOfProgram run → settings_of run.calling run.words ≡ Ok asked
     → follows asked ≡ false → Ran run asked × (run.seen ≡ []) × (run.watched ≡ [])
 runs_tool run asked ends read none =
-    let (unseen, unwatched, ran) = ends_at run ends (ap looks_at read ∙ ap (λ is. cond is (Some (looks asked)) None) none) in (record { read = read; ends = ran }, unseen, unwatched)
+    let (unseen, unwatched, ran) = ends_at run {looks = None} ends (rw (read, none)) in
+    (record { read = read; ends = ran }, unseen, unwatched)
 
 pub runs_following : (run : Run) (options : EndsAsked) (followed : Followed) (looks : ℕ) → IsOfProgram run
     → AsksToFollow run options followed looks → run.status ≡ 0

@@ -7,8 +7,8 @@ use Rattle.std.proofs.{
     List.Elements.{All-append, All-cons, All-head, All-map, All-nil, All-tail},
   },
   Common.{◌≡◌, ℕ, ◌+◌, ◌<◌, zero, suc, Bool, true, false, ◌&&◌, cond, is_some, List, [], ◌∷◌, ◌++◌, length, map},
-  Common.{Option, Some, None, inl, inr, ◌⊎◌, refl, sym, ◌∙◌, ap, arith, append_assoc, append-nil, not, subst, All},
-  Common.{rules, ◌≤◌, ◌^◌, is_none, Ok, codes, length-append, option_map},
+  Common.{Option, Some, None, inl, inr, ◌⊎◌, refl, sym, ◌∙◌, ap, arith, append_assoc, append-nil, All, rules, ◌≤◌, ◌^◌},
+  Common.{is_none, Ok, codes, length-append, option_map},
 }
 use Rattle.ports_core.specs.{
   Slot.{Slot, adds, has_file, slot_at, closes, opened, removes},
@@ -92,11 +92,11 @@ HasLine line lines = (before : List Message) × (after : List Message) × (lines
 
 pub has_after : {line : Message} (front : List Message) {back : List Message} → HasLine line back
     → HasLine line (front ++ back)
-has_after {line} front (before, after, is) = (front ++ before, after, ap (λ those. front ++ those) is ∙ sym (append_assoc front before (line ∷ after)))
+has_after front (before, after, is) = (front ++ before, after, rw (is, append_assoc))
 
 pub has_before : {line : Message} {front : List Message} (back : List Message) → HasLine line front
     → HasLine line (front ++ back)
-has_before {line} back (before, after, is) = (before, after ++ back, ap (λ those. those ++ back) is ∙ append_assoc before (line ∷ after) back)
+has_before back (before, after, is) = (before, after ++ back, rw (is, append_assoc))
 
 -- it is said, where all are
 abbrev pub SaysLine : Run → Settings → Message → Type 0
@@ -159,15 +159,15 @@ pub named_each : (P : File → Type 0) (filing : Filing) (place : ℕ) (shares :
     → All (λ share. (place : ℕ) → P (file_at filing place share)) shares → All P (named filing place shares)
 named_each P filing place [] all = All-nil P
 named_each P filing place (share ∷ shares) all =
-    let Q = λ (share : Share). (place : ℕ) → P (file_at filing place share) in
-    step_each P _ _ [] (has_name filing.names place) (All-head Q share shares all place) (named_each P filing (place + 1) shares (All-tail Q share shares all)) (All-nil P)
+    step_each P _ _ [] (has_name filing.names place) (all 0 share (omega arith) place)
+    (named_each P filing (place + 1) shares (λ k one within. all (suc k) one (omega (arith, within)))) (All-nil P)
 
 pub each_made : (P : File → Type 0) (manner : Manner) (place : ℕ) (shares : List made.Share)
     → All (λ one. (place : ℕ) → P (made.file_at manner place one)) shares → All P (made.files_from manner place shares)
 each_made P manner place [] all = All-nil P
 each_made P manner place (one ∷ shares) all =
-    let Q = λ (one : made.Share). (place : ℕ) → P (made.file_at manner place one) in
-    step_each P _ _ [] (manner.has_name place) (All-head Q one shares all place) (each_made P manner (place + 1) shares (All-tail Q one shares all)) (All-nil P)
+    step_each P _ _ [] (manner.has_name place) (all 0 one (omega arith) place)
+    (each_made P manner (place + 1) shares (λ k one within. all (suc k) one (omega (arith, within)))) (All-nil P)
 
 -- Works, whatever came in
 
@@ -242,9 +242,10 @@ pub each_section : (P : made.Share → Type 0) (style : Style) (sections : List 
     → All P (shares_in style sections)
 each_section P style [] all = All-nil P
 each_section P style (section ∷ sections) all =
-    let Q = λ (section : Section). (bytes : List ℕ) → P (made.share (state_in section) bytes) in
     All-append P (map (made.share (state_in section)) (file_in style section)) (shares_in style sections)
-    (All-map P (made.share (state_in section)) (file_in style section) (λ k other within. All-head Q section sections all _)) (each_section P style sections (All-tail Q section sections all))
+    (All-map P (made.share (state_in section)) (file_in style section)
+    (λ k other within. all 0 section (omega arith) _))
+    (each_section P style sections (λ k one within. all (suc k) one (omega (arith, within))))
 
 sections_there : (style : Style) (sections : List Section)
     → AreLive (made.files_from (manner_of style) 0 (shares_in style sections))
@@ -280,7 +281,13 @@ pub fits_fault : {Line : Message → Type 0} {clears : Bool} {line : Message} (p
     → (sweeps ≡ true → clears ≡ true) → AreLive part.files
     → Fits Line clears (record { part = part; messages = line ∷ []; failed = true; sweeps = sweeps })
 fits_fault {Line} {line} part sweeps tells clears live =
-    record { are = one_line Line line tells; tells = λ is. (line, tells, ([], [], refl)); quiet = λ is. absurd (false≢true (sym is)); sweeps = λ is. (clears is, refl); live = live }
+    record {
+      are = one_line Line line tells;
+      tells = λ is. (line, tells, ([], [], refl));
+      quiet = λ is. absurd (cc);
+      sweeps = λ is. (clears is, refl);
+      live = live;
+    }
 
 fits_joined : {Line : Message → Type 0} {clears : Bool} (first next : Outcome) → Fits Line clears first
     → Fits Line clears next → Fits Line clears (joined first next)
@@ -290,7 +297,7 @@ fits_joined {Line} first next one other = record {
     | inl failed ↦ let (line, tells, has) = one.tells failed in (line, tells, has_before next.messages has)
     | inr failed ↦ let (line, tells, has) = other.tells failed in (line, tells, has_after first.messages has)
   ];
-  quiet = λ is. let both = or_parts first.failed next.failed is in ap (λ texts. texts ++ next.messages) (one.quiet both.0) ∙ other.quiet both.1;
+  quiet = λ is. let both = or_parts first.failed next.failed is in rw (one.quiet both.0) (other.quiet both.1);
   sweeps = λ is. elim (or_cases first.sweeps next.sweeps is) [
     | inl sweeps ↦ let why = one.sweeps sweeps in (why.0, or_left first.failed next.failed why.1)
     | inr sweeps ↦ let why = other.sweeps sweeps in (why.0, or_right first.failed next.failed why.1)
@@ -323,12 +330,13 @@ given_fits task work header name bytes true (Some verdict) breaks judges living 
 given_fits task work header name bytes false verdict breaks judges living = fits_fault _ _ (breaks refl) (λ is. (and_parts work.clears true is).0) (living.settled bytes)
 
 breaks_short : (work : Work) (content : Content) → is_enough work content ≡ false → content.breaks_off ≡ true
-breaks_short work content short = not-false content.breaks_off (or_parts (not content.breaks_off) (work.is_complete content.bytes) short).0
+breaks_short work content short = not-false content.breaks_off (or_parts _ _ short).0
 
 content_fits : {Line : Message → Type 0} (task : Task) (work : Work) (is_first : Bool) (name : List ℕ)
     (there : Option Content) → TellsInput Line task work name there → IsLiving work
     → Fits Line work.clears (of_content task work is_first name there)
-content_fits task work is_first name None tells living = fits_fault nothing false (tells.missing refl) (λ is. absurd (false≢true is)) no_live
+content_fits task work is_first name None tells living =
+    fits_fault nothing false (tells.missing refl) (λ is. absurd (cc)) no_live
 content_fits task work is_first name (Some content) tells living =
     given_fits task work (header_text task.with_header is_first name) name content.bytes (is_enough work content) (work.verdict content.bytes)
     (λ short. tells.broken_off content refl short) (λ verdict enough is. tells.judged content verdict refl enough is) living
@@ -350,28 +358,26 @@ inputs_fit task is_first [] tells living = search rules
 inputs_fit {Line} task is_first (input ∷ inputs) tells living =
     let P = TellsAt Line task in
     fits_joined (of_input task is_first input) (of_inputs task (is_first && is_missing input.content) inputs)
-    (subst (λ clears. Fits Line clears (of_input task is_first input)) (living.clears_all input.shown) (content_fits task (task.work input.shown) is_first input.name input.content (All-head P input inputs tells) (living.each input.shown)))
+    (rw (← living.clears_all input.shown)
+    (content_fits task (task.work input.shown) is_first input.name input.content (All-head P input inputs tells)
+    (living.each input.shown)))
     (inputs_fit task (is_first && is_missing input.content) inputs (All-tail P input inputs tells) living)
 
 -- what a run found is told so
 
 pub speaker_is : (calling : Calling) (asked : Settings) (task : Task) → IsTask calling asked task
     → task.speaker ≡ speaker_of calling asked
-speaker_is calling (Head asked) task is = ap (λ (task : Task). task.speaker) is
-speaker_is calling (Tail asked) task is = ap (λ (task : Task). task.speaker) is
-speaker_is calling (Split asked) task is = ap (λ (task : Task). task.speaker) is
-speaker_is calling (Csplit asked) task (operands, asks, is) = ap (λ (task : Task). task.speaker) is
+speaker_is calling (Csplit asked) task (operands, asks, is) = rw is
 speaker_is calling (Tee asked) task is = absurd is
 speaker_is calling (About which topic) task is = absurd is
+speaker_is calling asked task is = rw is
 
 one_task : (calling : Calling) (asked : Settings) (one other : Task) → IsTask calling asked one
     → IsTask calling asked other → one ≡ other
 one_task calling (Csplit asked) one other (operands, asks, is) (operands_too, asks_too, is_too) = rw (is, asks_once asked.operands operands operands_too asks asks_too, is_too)
-one_task calling (Head asked) one other is is_too = is ∙ sym is_too
-one_task calling (Tail asked) one other is is_too = is ∙ sym is_too
-one_task calling (Split asked) one other is is_too = is ∙ sym is_too
 one_task calling (Tee asked) one other is is_too = absurd is
 one_task calling (About which topic) one other is is_too = absurd is
+one_task calling asked one other is is_too = is ∙ sym is_too
 
 found_tells : {run : Run} (asked : Settings) {task : Task} (input : Input) → IsTask run.calling asked task
     → IsFound run asked input → TellsAt (TellsMet run asked) task input
@@ -432,11 +438,11 @@ outputs_live part error (suc (suc place)) live differs =
 
 slots_again : (since : List Slot) → map slot_of (map file_of since) ≡ since
 slots_again [] = refl
-slots_again (slot ∷ since) = ap (λ those. slot ∷ those) (slots_again since)
+slots_again (slot ∷ since) = rw (slots_again since)
 
 told_again : (files : List File) → map (told_file true) files ≡ files
 told_again [] = refl
-told_again (file ∷ files) = ap (λ those. file ∷ those) (told_again files)
+told_again (file ∷ files) = rw (told_again files)
 
 pub slots_at : {part : Part} {error : Slot} {now : List Slot} → OutputsAt true (streams_with error) part now
     → now ≡ outputs_of part error
@@ -474,7 +480,7 @@ kept_same sweeps place stays same = rw same (record {
   left = λ sound. sym stays;
   still = λ broken. broken;
   fails = λ at. refl;
-  broke = λ sound broken. absurd (false≢true (sym sound ∙ broken));
+  broke = λ sound broken. absurd (cc);
 })
 
 cleared_kept : (place : ℕ) {old new : Slot} → Cleared old new → Kept true (suc (suc place)) old new
@@ -482,25 +488,25 @@ cleared_kept place {old} (swept_so.removed has) = record {
   name = refl;
   mode = refl;
   written = refl;
-  left = λ sound. sym (ap (λ there. cond there (removes old) old) has);
+  left = λ sound. rw has;
   still = λ broken. broken;
   fails = λ at. sym (failing_file old.state has);
-  broke = λ sound broken. absurd (false≢true (sym sound ∙ broken));
+  broke = λ sound broken. absurd (cc);
 }
 cleared_kept place {old} (swept_so.stuck why has) = record {
   name = refl;
   mode = refl;
   written = refl;
-  left = λ sound. absurd (false≢true (sym sound));
+  left = λ sound. absurd (cc);
   still = λ broken. refl;
   fails = λ at. sym (failing_file old.state has);
   broke = λ sound broken. (refl, refl);
 }
-cleared_kept place {old} (swept_so.none lacks) = kept_same true (suc (suc place)) (ap (λ there. cond there (removes old) old) lacks) refl
+cleared_kept place {old} (swept_so.none lacks) = kept_same true (suc (suc place)) (rw lacks) refl
 
 pub swept_kept : (sweeps : Bool) (old new : List Slot) → Swept sweeps 2 old new → (place : ℕ)
     → Kept sweeps place (slot_at old place) (slot_at new place)
-swept_kept false old new swept place = kept_same false place refl (ap (λ slots. slot_at slots place) swept)
+swept_kept false old new swept place = kept_same false place refl (rw swept)
 swept_kept true old new swept (suc (suc place)) = cleared_kept place (swept.cleared (suc (suc place)) (omega arith))
 swept_kept true old new swept zero = kept_same true 0 refl (swept.before 0 (omega arith))
 swept_kept true old new swept (suc zero) = kept_same true 1 refl (swept.before 1 (omega arith))
@@ -513,7 +519,7 @@ cleared_gone (swept_so.none lacks) = inl lacks
 pub swept_gone : (sweeps : Bool) (old new : List Slot) → sweeps ≡ true → Swept sweeps 2 old new → (place : ℕ)
     → 2 ≤ place → IsGone (slot_at new place)
 swept_gone true old new is swept place past = cleared_gone (swept.cleared place past)
-swept_gone false old new is swept place past = absurd (false≢true is)
+swept_gone false old new is swept place past = absurd (cc)
 
 swept_count : (sweeps : Bool) (old new : List Slot) → Swept sweeps 2 old new → length new ≡ length old
 swept_count false old new swept = ap length swept
@@ -578,17 +584,18 @@ pub copies_are : (mode : Mode) (bytes : List ℕ) (names : List (List ℕ))
 copies_are mode bytes [] = refl
 copies_are mode bytes (name ∷ names) = rw (copies_are mode bytes names)
 
+copies_live : (mode : Mode) (bytes : List ℕ) (names : List (List ℕ))
+    → AreLive (map (λ name. file_of (copy mode bytes name)) names)
+copies_live mode bytes names =
+    All-map (λ (file : File). IsLive (slot_of file)) (λ name. file_of (copy mode bytes name)) names
+    (λ k name within. (refl, refl))
+
 tee_fits : {Line : Message → Type 0} (asked : TeeAsked) (bytes : List ℕ) (breaks_off : Bool) (shown : Option (List ℕ))
     → (breaks_off ≡ true → Line (message_of (Read 0) (codes "standard input")))
     → Fits Line false (tee_made asked (record { bytes = bytes; breaks_off = breaks_off; shown = shown }))
-tee_fits {Line} asked bytes breaks_off shown tells = by breaks_off tells where
-  live : AreLive (map (λ name. file_of (copy asked.mode bytes name)) asked.names)
-  live = All-map (λ (file : File). IsLive (slot_of file)) (λ name. file_of (copy asked.mode bytes name)) asked.names (λ k name within. (refl, refl))
-
-  by : (breaks_off : Bool) → (breaks_off ≡ true → Line (message_of (Read 0) (codes "standard input")))
-      → Fits Line false (tee_made asked (record { bytes = bytes; breaks_off = breaks_off; shown = shown }))
-  by true tells = fits_fault _ false (tells refl) (λ is. is) live
-  by false tells = fits_well _ false refl live
+tee_fits asked bytes true shown tells =
+    fits_fault _ false (tells refl) (λ is. is) (copies_live asked.mode bytes asked.names)
+tee_fits asked bytes false shown tells = fits_well _ false refl (copies_live asked.mode bytes asked.names)
 
 met_is : {content : Content} (Leaves : List ℕ → Type 0) {is_vain : Bool} {x : List ℕ} {fault : Option Fault}
     → is_vain ≡ false → x ≡ content.bytes → length x < 2 ^ 63 → IsRead content Leaves is_vain x fault
@@ -596,8 +603,8 @@ met_is : {content : Content} (Leaves : List ℕ → Type 0) {is_vain : Bool} {x 
 met_is Leaves left same few (tee.to_end x is ended leaves) = sym (ap met_by ended)
 met_is Leaves left same few (tee.to_break x is breaks leaves) = sym (ap met_by breaks)
 met_is Leaves left same few (tee.to_limit x piece rest is many within leaves) =
-    let long = length-append x piece in let all = length-append (x ++ piece) rest in let size = ap length (same ∙ is) in absurd (omega (arith, long, all, size, many, few))
-met_is Leaves left same few (tee.to_broken_output x rest is leaves) = absurd (false≢true (sym left))
+    absurd (omega (arith, simp length-append at (ap length (same ∙ is)), length-append x piece, many, few))
+met_is Leaves left same few (tee.to_broken_output x rest is leaves) = absurd (cc)
 
 met_status : (breaks_off : Bool) → ◌≡◌ {A = ℕ} (cond (is_none (met_by breaks_off)) 0 1) (cond breaks_off 1 0)
 met_status true = refl
@@ -618,7 +625,7 @@ tee_left {asked} {content} (tee.copied pieces fault first broke output error fil
       error = error;
       says = rw (quiet_outputs asked.on_broken asked.names (first ∷ broke) (length pieces) fault sound ∙ ap said_of_input met) at says;
       swept = rw (slots, whole_output true pieces first output sounds.0 left, whole_files true asked.mode pieces asked.names broke files sounds.1 rest, all, copies_are asked.mode content.bytes asked.names);
-      is = is ∙ sound_status asked.on_broken (first ∷ broke) fault sound ∙ ap (λ those. cond (is_none those) 0 1) met ∙ met_status content.breaks_off;
+      is = is ∙ sound_status asked.on_broken (first ∷ broke) fault sound ∙ rw met (met_status content.breaks_off);
     }
 tee_left (tee.no_room error says unread slots is) copied = absurd copied
 
@@ -697,7 +704,12 @@ ends_left {run} {asked} {task} of makes (as_defined error reached says outputs s
       made = made_by task found;
       of = makes;
       fits = inputs_fit task true found (all_tell run asked task [] found [] of (sym (append-nil found))) (task_lives run.calling asked task of);
-      left = record { error = error; says = subst (λ which. SaysAll true which (made_by task found).messages standard_error error) (speaker_is run.calling asked task of) says; swept = rw (slots_at outputs) at swept; is = is };
+      left = record {
+        error = error;
+        says = rw (speaker_is run.calling asked task of) at says;
+        swept = rw (slots_at outputs) at swept;
+        is = is;
+      };
     }
 ends_left of makes ends unstopped = absurd unstopped
 
@@ -713,15 +725,25 @@ made_so : (run : Run) (task : Task) (names : List (List ℕ))
     ≡ made_by (record task { speaker = by Cutters task.speaker.tool }) (inputs_at run.world names)
 made_so run task names = made_alike task (by Cutters task.speaker.tool) true (inputs_at run.world names)
 
-does_left : (run : Run) (asked : Settings)
-    (does : DoesAsked run.calling true true asked
-    (inputs_at run.world (names_of asked)) run.inputs run.outputs run.status)
-    → Unstopped run.calling asked
-    (inputs_at run.world (names_of asked)) run.inputs run.outputs run.status does → LeftBy run asked
-does_left run (Head asked) does unstopped = ends_left {asked = Head asked} refl (made_so run (head_task run.calling asked) asked.names) does unstopped
-does_left run (Tail asked) does unstopped = ends_left {asked = Tail asked} refl (made_so run (tail_task run.calling asked.ends) asked.ends.names) does unstopped
-does_left run (Split asked) does unstopped = ends_left {asked = Split asked} refl (made_so run (split_task run.calling asked) (asked.input ∷ [])) does unstopped
-does_left run (Csplit asked) does unstopped = ends_left {asked = Csplit asked} (does.operands, does.asks, refl) (does.operands, does.asks, made_so run (csplit_task run.calling asked does.operands) (asked.input ∷ [])) does.ends unstopped
+-- it did so, over what it found
+abbrev pub Did : Run → Settings → Type 0
+Did run asked =
+    DoesAsked run.calling true true asked (inputs_at run.world (names_of asked)) run.inputs run.outputs run.status
+
+abbrev pub DidUnstopped : (run : Run) (asked : Settings) → Did run asked → Type 0
+DidUnstopped run asked does =
+    Unstopped run.calling asked (inputs_at run.world (names_of asked)) run.inputs run.outputs run.status does
+
+does_left : (run : Run) (asked : Settings) (does : Did run asked) → DidUnstopped run asked does → LeftBy run asked
+does_left run (Head asked) does unstopped =
+    ends_left {asked = Head asked} refl (made_so run (head_task run.calling asked) asked.names) does unstopped
+does_left run (Tail asked) does unstopped =
+    ends_left {asked = Tail asked} refl (made_so run (tail_task run.calling asked.ends) asked.ends.names) does unstopped
+does_left run (Split asked) does unstopped =
+    ends_left {asked = Split asked} refl (made_so run (split_task run.calling asked) (asked.input ∷ [])) does unstopped
+does_left run (Csplit asked) does unstopped = ends_left {asked = Csplit asked} (does.operands, does.asks, refl)
+    (does.operands, does.asks, made_so run (csplit_task run.calling asked does.operands) (asked.input ∷ [])) does.ends
+    unstopped
 does_left run (Tee asked) does unstopped = record {
   made = tee_made asked does.content;
   of = (does.content, does.input, refl);
@@ -729,7 +751,8 @@ does_left run (Tee asked) does unstopped = record {
       (λ breaks. (Read 0, codes "standard input", inr (broken_off (standard_input does.content) does.content ([], [], does.input) refl breaks (λ task of. absurd of)), refl));
   left = tee_left does.ends unstopped;
 }
-does_left run (About which topic) does unstopped = record { made = _; of = refl; fits = fits_well _ false refl (All-nil (λ (file : File). IsLive (slot_of file))); left = text_left does unstopped }
+does_left run (About which topic) does unstopped =
+    record { made = _; of = refl; fits = fits_well _ false refl no_live; left = text_left does unstopped }
 
 pub completes_left : {run : Run} {asked : Settings} → Completes run asked → LeftBy run asked
 completes_left {run} {asked} whole = does_left run asked whole.does whole.unstopped
@@ -741,9 +764,7 @@ not_refused (inl did) = inl did
 not_refused (inr (same, refuses)) = inr refuses
 
 pub ran_over : {run : Run} {asked : Settings} → Ran run asked
-    → DoesAsked run.calling true true asked
-    (inputs_at run.world (names_of asked)) run.inputs run.outputs run.status
-    ⊎ RefusesOperands true run.words asked run.outputs run.status
+    → Did run asked ⊎ RefusesOperands true run.words asked run.outputs run.status
 ran_over ran =
     let (found, finds, ends) = ran.ends in
     not_refused (rw ran.read at (rw (finds.there refl) at ends))
@@ -761,19 +782,15 @@ given_content : {input : Input} {content : Content} {bytes : List ℕ} → input
 given_content {content} is gives =
     let there : Some gives.content ≡ Some content = sym gives.is ∙ is in
     let same : gives.content ≡ content = cc in
-    (ap (λ (those : Content). those.bytes) (sym same) ∙ gives.bytes_are, ap (λ (those : Content). those.breaks_off) (sym same) ∙ gives.ends)
-
-tee_of : TeeAsked → List ℕ → Bool → Outcome
-tee_of asked bytes breaks_off = tee_made asked (record { bytes = bytes; breaks_off = breaks_off; shown = None })
+    (rw same at gives.bytes_are, rw same at gives.ends)
 
 tee_alike : (asked : TeeAsked) (content other : Content) → AreAlike (standard_input content) (standard_input other)
     → tee_made asked other ≡ tee_made asked content
-unfolding tee_of
 tee_alike asked content other (are_same is) = ap (tee_made asked) (sym (same_content {inputs = standard_input content ∷ []} refl (ap (λ input. input ∷ []) is)))
 tee_alike asked content other (give_same bytes named gives gives_too) =
     let one = given_content refl gives in
     let two = given_content refl gives_too in
-    ap (λ those. tee_of asked those other.breaks_off) (two.0 ∙ sym one.0) ∙ ap (tee_of asked content.bytes) (two.1 ∙ sym one.1)
+    rw (one.0, one.1, two.0, two.1)
 
 -- what is made of inputs is what is made of others that are alike
 alike_makes : (asked : Settings) (ones others : List Input) {made made_too : Outcome} → AllAlike ones others

@@ -8,12 +8,12 @@ use Rattle.std.proofs.{
 use Rattle.ports_core.specs.{
   Slot.{Slot, slot_at},
   Work.Work,
-  declared.{calling.Calling.{Calling, TheVariants.Cutters}, slot.Mode.Mode},
-  Source.{Content, Source},
+  declared.{calling.Calling.{TheVariants.Cutters}, slot.Mode.Mode},
+  Source.{Content},
 }
 use Rattle.run_core.specs.{
   Input.{Input, World, shown_of, input_of, inputs_at, is_dash},
-  Task.{Outcome, Task, made_by, joined, no_outcome, of_content, header_text},
+  Task.{Outcome, Task, made_by, joined, no_outcome, of_content},
 }
 use Rattle.words_core.specs.{
   declared.settings.Settings.{Settings, TheVariants.{Tee, Head, Tail, Split, Csplit, About}},
@@ -23,14 +23,14 @@ use Rattle.words_core.specs.{
 }
 use Rattle.tools_core.specs.{
   Tasks.{filing_of, head_task, tail_task, names_of, is_minus, is_plus},
-  Promises.{GivesBytes, IsSteady, counted, Completes, Does, FindAlike, HasInput, Ran, Run, IsHead, IsTail, IsBare},
-  Promises.{CountAlike, output_of, AreCopies, IsSound, files_of, BeginsAs, BeginsEach},
-  Outcome.{DoesAsked, names_at},
+  Promises.{GivesBytes, counted, Completes, Does, FindAlike, HasInput, Ran, Run, IsHead, IsTail, IsBare, CountAlike},
+  Promises.{output_of, AreCopies, IsSound, files_of, BeginsAs, BeginsEach},
 }
 use Rattle.tools_core.proofs.{
   BeginLemmas.{all_have_names, ending, is_way, part_of, bare_begins, begins_kept, begins_whole, lawful_grows},
   BeginLemmas.{way_grows, still_begins, tee_begins, text_begins},
-  LeftLemmas.{Makes, completes_left, left_whole, same_made, slots_of, copies_are, copy, tee_made, left_at, ran_over},
+  LeftLemmas.{Did, Makes, completes_left, left_whole, same_made, slots_of, copies_are, copy, tee_made, left_at},
+  LeftLemmas.ran_over,
   StoppedPromises.{completes_or, silent_completes},
   RunLemmas.can_run,
   SameLemmas.{KnowsNoMore, head_in-None, head_in_lawful, head_knows, steady_made, tail_in-None, tail_in_lawful},
@@ -43,7 +43,7 @@ use Rattle.seg_core.specs.declared.{
 use Rattle.ends_core.specs.{
   Head.head_work,
   Tail.tail_work,
-  Ends.{head_of, tail_of, after_of, first_of},
+  Ends.{head_of, tail_of},
   laws.EndsLaws.{first_then_after, ends_together},
 }
 use Rattle.csplit_core.specs.laws.InputLaws as csplit_law
@@ -60,7 +60,11 @@ pub leave_same : (one other : Run) (asked : Settings) → Does one asked → Doe
 leave_same one other asked does does_too same =
     let here = completes_left (completes does) in
     let there = completes_left (completes does_too) in
-    (left_whole here.fits here.left does.well).slots ∙ ap (λ (made : Outcome). slots_of made.part) (sym (same_made one other does.ran.read does_too.ran.read same here.of there.of)) ∙ sym (left_whole there.fits there.left does_too.well).slots
+    rw (
+      (left_whole here.fits here.left does.well).slots,
+      ← same_made one other does.ran.read does_too.ran.read same here.of there.of,
+    )
+    (sym (left_whole there.fits there.left does_too.well).slots)
 
 -- One input, which ends
 
@@ -89,7 +93,7 @@ one_gives {run} {bytes} has =
       is = there;
       bytes_are = refl;
       ends = refl;
-      steady = subst (λ shown. IsSteady shown bytes) (sym (shows_all run.world has.name (is_dash has.name) ∙ ap shown_of there)) has.steady;
+      steady = rw (shows_all run.world has.name (is_dash has.name), there) has.steady;
     }
 
 pub has_one : {run : Run} {asked : Settings} {bytes : List ℕ} → Ran run asked → HasInput run bytes
@@ -97,7 +101,7 @@ pub has_one : {run : Run} {asked : Settings} {bytes : List ℕ} → Ran run aske
 has_one {run} ran has = record {
   input = input_of run.world false 1 has.name (is_dash has.name);
   gives = one_gives has;
-  only = ap (inputs_at run.world) (sym (ap names_at ran.read) ∙ has.only);
+  only = let only = rw ran.read at has.only in rw only;
 }
 
 -- what was made of it
@@ -130,7 +134,7 @@ made_one task name bytes is sound slots = grind (arith, common_steps)
 pub one_made : {run : Run} {asked : Settings} {bytes : List ℕ} (one : DidOne run asked bytes) (task : Task)
     → KnowsNoMore task.work → one.made ≡ made_by task (one.input ∷ []) → IsMade task one.input.name bytes run.outputs
 one_made {bytes} one task knows is = made_one task one.input.name bytes
-    (is ∙ ap (λ made. joined made no_outcome) (steady_made task knows true one.input.name bytes one.input refl one.gives)) one.sound one.slots
+    (is ∙ rw (steady_made task knows true one.input.name bytes one.input refl one.gives)) one.sound one.slots
 
 -- What `head` and `tail` leave of one input.
 
@@ -138,10 +142,7 @@ one_made {bytes} one task knows is = made_one task one.input.name bytes
 bare_output : (task : Task) (name input : List ℕ) (work : Work) {new : List Slot} → task.with_header ≡ false
     → task.work None ≡ work → new ≡ slots_of (part_of task name input)
     → (slot_at new 0).written ≡ (work.whole input).out
-bare_output task name input work bare is left =
-    ap (λ slots. (slot_at slots 0).written) left
-    ∙ ap (λ b. header_text b true name ++ ((task.work None).whole input).out) bare
-    ∙ ap (λ (work : Work). (work.whole input).out) is
+bare_output task name input work bare is left = rw (left, bare, is)
 
 head_output : {run : Run} (options : EndsAsked) {sign : Sign} {n : ℕ} {input : List ℕ} → IsBare options
     → IsHead run options sign n → HasInput run input
@@ -164,7 +165,7 @@ tail_output options {sign} {n} {input} bare (looks, pause, process, does) has =
 -- lines alone have a delimiter
 tail_of-alike : (unit : Counted) (one other : ℕ) (from_nth : Bool) (n : ℕ) (x : List ℕ) → (unit ≡ Lines → one ≡ other)
     → tail_of one unit from_nth n x ≡ tail_of other unit from_nth n x
-tail_of-alike Lines one other from_nth n x delim = ap (λ d. tail_of d Lines from_nth n x) (delim refl)
+tail_of-alike Lines one other from_nth n x delim = rw (delim refl)
 tail_of-alike Bytes one other false n x delim = refl
 tail_of-alike Bytes one other true n x delim = refl
 
@@ -172,19 +173,16 @@ tail_alike : {run : Run} {first rest : EndsAsked} {sign : Sign} {n : ℕ} {input
     → IsTail run rest sign n → HasInput run input
     → output_of run ≡ tail_of first.delim first.unit (is_plus sign) n input
 tail_alike {first} {rest} {sign} {n} {input} alike does has =
-    tail_output rest alike.bare.1 does has
-    ∙ ap (λ unit. tail_of rest.delim unit (is_plus sign) n input) (sym alike.unit)
-    ∙ tail_of-alike first.unit rest.delim first.delim (is_plus sign) n input (λ lines. sym (alike.delim lines))
+    rw (tail_output rest alike.bare.1 does has, ← alike.unit)
+    (tail_of-alike first.unit rest.delim first.delim (is_plus sign) n input (λ lines. sym (alike.delim lines)))
 
 pub first_meet : (head tail : Run) (first rest : EndsAsked) (n : ℕ) (input : List ℕ) → CountAlike first rest
     → IsHead head first Plain n → IsTail tail rest Plus (n + 1) → HasInput head input → HasInput tail input
     → output_of head ++ output_of tail ≡ input
 first_meet head tail first rest n input alike one other has has_too =
-    ap (λ front. front ++ output_of tail) (head_output first alike.bare.0 one has)
-    ∙ ap (λ back. first_of first.delim first.unit n input ++ back) (tail_alike alike other has_too ∙ ap (λ k. after_of first.delim first.unit k input) (same n))
-    ∙ first_then_after first.delim first.unit n input where
-      same : (k : ℕ) → k + 1 - 1 ≡ k
-      same k = omega arith
+    let same : n + 1 - 1 ≡ n = omega arith in
+    rw (head_output first alike.bare.0 one has, tail_alike alike other has_too, same)
+    (first_then_after first.delim first.unit n input)
 
 pub last_meet : (head tail : Run) (first rest : EndsAsked) (n : ℕ) (input : List ℕ) → CountAlike first rest
     → IsHead head first Minus n → IsTail tail rest Plain n → HasInput head input → HasInput tail input
@@ -201,7 +199,7 @@ first_content default (input ∷ inputs) = input.content
 copies_named : (mode : Mode) (bytes : List ℕ) (names : List (List ℕ))
     → map (λ (file : Slot). file.name) (map (copy mode bytes) names) ≡ names
 copies_named mode bytes [] = refl
-copies_named mode bytes (name ∷ names) = ap (λ those. name ∷ those) (copies_named mode bytes names)
+copies_named mode bytes (name ∷ names) = rw (copies_named mode bytes names)
 
 pub record IsCopied (tee : Run) (asked : TeeAsked) (input : List ℕ) : Type 0 where
   pub output : output_of tee ≡ input
@@ -218,30 +216,28 @@ is_copied {asked} {input} does has =
     let whole = one.slots ∙ ap (λ (made : Outcome). slots_of made.part) is
     ∙ ap (λ those. slots_of (tee_made asked (record { bytes = those; breaks_off = content.breaks_off; shown = content.shown })).part) bytes in
     record {
-      output = ap (λ slots. (slot_at slots 0).written) whole;
+      output = rw whole;
       files = rw (ap (drop 2) whole ∙ copies_are asked.mode input asked.names) (record { named = copies_named asked.mode input asked.names; each = All-map (λ (file : Slot). IsSound asked.mode file × (file.written ≡ input)) (copy asked.mode input) asked.names (λ k name within. ((refl, refl, refl), refl)) });
     }
 
 -- the outputs have beginnings of what is made of the inputs
-abbrev BeginsMade : Settings → List Input → List Slot → Type 0
-BeginsMade asked inputs new = (made : Outcome) × Makes asked inputs made × ((place : ℕ) → (place ≡ 1 → ⊥) → BeginsAs (slot_at new place) (slot_at (slots_of made.part) place))
-
-begins_made : (calling : Calling) (asked : Settings) (inputs : List Input)
-    (sources : List Source) (new : List Slot) (status : ℕ) → CanRun asked
-    → DoesAsked calling true true asked inputs sources new status → BeginsMade asked inputs new
-begins_made calling (Head asked) inputs sources new status can does =
+begins_made : (run : Run) (asked : Settings) → CanRun asked → Did run asked
+    → (made : Outcome) × Makes asked (inputs_at run.world (names_of asked)) made
+    × ((place : ℕ) → (place ≡ 1 → ⊥) → BeginsAs (slot_at run.outputs place) (slot_at (slots_of made.part) place))
+begins_made run (Head asked) can does =
     (_, refl, λ place differs. begins_whole (λ shown. lawful_grows (head_in_lawful _ _ _ _ shown)) differs does)
-begins_made calling (Tail asked) inputs sources new status can does =
+begins_made run (Tail asked) can does =
     (_, refl, λ place differs. begins_whole (λ shown. lawful_grows (tail_in_lawful _ _ _ _ shown)) differs does)
-begins_made calling (Split asked) inputs sources new status can does =
+begins_made run (Split asked) can does =
     let grows = λ (shown : Option (List ℕ)). way_grows asked.way asked.elide (filing_of asked) (option_map length shown)
     (is_way asked can) (all_have_names asked can.named) in
     (_, refl, λ place differs. begins_whole grows differs does)
-begins_made calling (Csplit asked) inputs sources new status can does =
+begins_made run (Csplit asked) can does =
     let law = csplit_law.lawful asked.style does.operands in
     (_, (does.operands, does.asks, refl), λ place differs. begins_whole (λ shown. lawful_grows law) differs does.ends)
-begins_made calling (Tee asked) inputs sources new status can does = (_, (does.content, does.input, refl), λ place differs. tee_begins place differs does.ends)
-begins_made calling (About which topic) inputs sources new status can does = (_, refl, λ place differs. text_begins place differs does)
+begins_made run (Tee asked) can does =
+    (_, (does.content, does.input, refl), λ place differs. tee_begins place differs does.ends)
+begins_made run (About which topic) can does = (_, refl, λ place differs. text_begins place differs does)
 
 pub begins_each : (run well : Run) (asked : Settings) → Ran run asked → Completes well asked → FindAlike run well
     → BeginsEach run well
@@ -249,7 +245,7 @@ begins_each run well asked ran whole same =
     let all = completes_left whole in
     elim (ran_over ran) [
       | inl does ↦ λ place differs.
-          let (made, makes, begins) = begins_made run.calling asked _ run.inputs run.outputs run.status (can_run run.calling run.words ran.read) does in
+          let (made, makes, begins) = begins_made run asked (can_run run.calling run.words ran.read) does in
           let same_too = same_made run well ran.read whole.read same makes all.of in
           begins_kept (left_at all.left place differs) (subst (λ (those : Outcome). BeginsAs (slot_at run.outputs place) (slot_at (slots_of those.part) place)) (sym same_too) (begins place differs))
       | inr (fault, bad, refuses) ↦ λ place differs. still_begins place refuses.slots (bare_begins refuses.error place differs)

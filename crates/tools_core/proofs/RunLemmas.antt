@@ -3,7 +3,6 @@ use Rattle.std.{
   specs.Option.unwrap_or,
   proofs.Common.{◌≡◌, ℕ, List, [], ◌∷◌, Option, Some, None, option_map, Result, Ok, Err, refl, sym, ◌∙◌, ap, subst},
   proofs.Common.{Bool, true, false, length, map, Bor, inl, inr, codes, arith, max},
-  proofs.lemmas.Bool.false≢true,
 }
 use Rattle.ports_core.specs.{
   declared.fault.{Fault.{Fault, TheVariants.{Memory, Usage}}, UsageKind.TheVariants.BadFollow},
@@ -13,7 +12,7 @@ use Rattle.ports_core.specs.{
   declared.slot.Mode.Mode,
   Slot.{Slot, changed_at, slot_at},
   Source.{Content, Source, source_at, IsFresh},
-  Text.message_of,
+  Text.{Message, message_of},
   Message.{Says, SaysAll, SaysFor},
   Inputs.{CameFrom, OfContent, empty},
   Streams.standard_error,
@@ -143,7 +142,7 @@ finds_standard : {told : Bool} {laid : ℕ → List ℕ → Option Content} (sou
     → Finds told (world_of laid sources) (codes "-" ∷ []) (standard_input content ∷ [])
 finds_standard {laid} sources {content} there = record {
   are = ((record { laid = laid; standard = content }, _, refl), refl);
-  there = λ t. ap (λ (those : Content). standard_input those ∷ []) (there t);
+  there = λ t. rw (there t);
 }
 
 pub tee_runs : {told_in told : Bool} {calling : Calling}
@@ -176,11 +175,17 @@ unread_source : (told : Bool) {sources : List Source} → IsFresh sources
     → OfContent told (source_at sources 0).left (λ content. IsAsFound told content (source_at sources 0)
     × CameFrom told content (source_at sources 0))
 unread_source true {sources} fresh =
-    let unread = ap (λ those. source_at those 0) fresh.only in
-    ((source_at sources 0).left, λ t. refl, ((fresh.standard, unread, λ t. sym (ap (λ (source : Source). source.left) unread)), record { was_open = ap (λ (source : Source). source.is_open) unread; breaks = λ off. absurd (false≢true (sym off)) }))
+    let unread = ap (λ those. source_at those 0) fresh.only in (
+      (source_at sources 0).left,
+      λ t. refl,
+      ((fresh.standard, unread, λ t. rw unread), record { was_open = rw unread; breaks = λ off. absurd (cc) }),
+    )
 unread_source false fresh =
-    let unread = ap (λ those. source_at those 0) fresh.only in
-    (empty, λ t. absurd (false≢true t), ((fresh.standard, unread, λ t. absurd (false≢true t)), record { was_open = ap (λ (source : Source). source.is_open) unread; breaks = λ off. sym (ap (λ (source : Source). source.is_broken) unread) }))
+    let unread = ap (λ those. source_at those 0) fresh.only in (
+      empty,
+      λ t. absurd (cc),
+      ((fresh.standard, unread, λ t. absurd (cc)), record { was_open = rw unread; breaks = λ off. rw unread }),
+    )
 
 -- want of memory is one of the faults of operands
 pub lacks_memory : (asked : CsplitAsked) → HasBadOperand asked Memory
@@ -197,18 +202,23 @@ refused_memory words fault refuses = record {
   failed = refuses.failed;
 }
 
--- what is said of the words is said by the tool that they ask for
-pub memory_by : {told : Bool} (calling : Calling) {which tool : Tool} {old new : Slot} → which ≡ tool
-    → Says told (by Cutters which) (message_of Memory []) old new
-    → Says told (by calling tool) (message_of Memory []) old new
-memory_by {told} OwnName {which} {old} {new} is (why, says) =
-    let spoken : Says told (by OwnName which) (message_of Memory []) old new = (why, record { said = says.said; is = says.is; printed = says.printed }) in rw is at spoken
-memory_by Cutters is says = rw is at says
+-- what is said of the words is said by the tool that they ask for: alike, however the program was called, if no reason
+-- stands in it
+abbrev unreasoned : List ℕ → Message
+unreasoned text = record { text = text; has_reason = false }
+
+pub worded_by : {told : Bool} {text : List ℕ} (calling : Calling) {which tool : Tool} {old new : Slot} → which ≡ tool
+    → Says told (by Cutters which) (unreasoned text) old new → Says told (by calling tool) (unreasoned text) old new
+worded_by {told} {text} OwnName {which} {old} {new} is (why, says) =
+    let spoken : Says told (by OwnName which) (unreasoned text) old new =
+    (why, record { said = says.said; is = says.is; printed = says.printed }) in rw is at spoken
+worded_by Cutters is says = rw is at says
 
 says_as : {told : Bool} (calling : Calling) (words : List (List ℕ)) {settings : Settings} {new : List Slot} {status : ℕ}
     → settings_of calling words ≡ Ok settings → (refuses : RefusesFor told words Memory new status)
     → SaysAll told (speaker_of calling settings) (message_of Memory [] ∷ []) standard_error refuses.error
-says_as calling words is refuses = (refuses.error, memory_by calling (runs_as_named calling words is) refuses.says, refl)
+says_as calling words is refuses =
+    (refuses.error, worded_by calling (runs_as_named calling words is) refuses.says, refl)
 
 module _ (calling : Calling) (told_in told : Bool) (words : List (List ℕ))
     (laid : ℕ → List ℕ → Option Content) (sources : List Source) (new : List Slot) (status : ℕ)
@@ -233,8 +243,13 @@ module _ (calling : Calling) (told_in told : Bool) (words : List (List ℕ))
         finds_standard sources there,
         inl (record { content = content; input = refl; ends = copies.no_room refuses.error (says_as calling words is refuses) unread refuses.slots refuses.failed; came = came; whole = λ t well told_of. absurd (omega (arith, well, refuses.failed)) }),
       )
-  unread_for (Ok (About which topic)) is refuses =
-      ([], record { are = refl; there = λ t. refl }, inl (no_text refuses.error (memory_by calling (runs_as_named calling words is) refuses.says) refuses.slots refuses.failed))
+  unread_for (Ok (About which topic)) is refuses = (
+    [],
+    record { are = refl; there = λ t. refl },
+    inl
+        (no_text refuses.error (worded_by calling (runs_as_named calling words is) refuses.says) refuses.slots
+        refuses.failed),
+  )
   unread_for (Ok settings) is refuses =
       let (found, finds, untouched) = none_touched fresh in (found, finds, inl (no_room refuses.error (says_as calling words is refuses) refuses.slots untouched (ap length fresh.only) refuses.failed))
 
@@ -265,7 +280,7 @@ module _ (calling : Calling) (told_in told : Bool) (words : List (List ℕ)) (lo
   unread_tail asked None speaks refuses = (unseen, unwatched, refused_memory words (Usage BadFollow 0) refuses)
   unread_tail asked (Some followed) speaks refuses =
       let (most, are, above) = most_made told_in asked.process (λ n. waiting (max asked.pause 1) (shows_by calling (is_name followed) shows n)) looks 0 (omega arith) (λ t. omega arith) in
-      let (why, says) = memory_by calling speaks refuses.says in
+      let (why, says) = worded_by calling speaks refuses.says in
       ends_by asked.process most are (no_room_yet why unseen unwatched (λ output error since are. let is_error : standard_error ≡ error = ap (λ (slots : List Slot). slot_at slots 1) are in (
         refuses.error,
         subst (λ first. SaysFor told (by calling tool.Tail) why (message_of Memory []) first refuses.error) is_error says,

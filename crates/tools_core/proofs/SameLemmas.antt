@@ -1,16 +1,11 @@
 -- Lemmas on inputs that give what they show before they are read: what is made of them is what is made of those that show nothing.
 use Rattle.std.proofs.{
-  Common.{◌≡◌, ℕ, ◌&&◌, ◌||◌, if◌then◌else◌, Bool, true, false, is_some, List, [], ◌∷◌, Option, Some, None, inl, inr},
-  Common.{refl, sym, ◌∙◌, ap, length, option_map},
+  Common.{◌≡◌, ℕ, ◌&&◌, Bool, true, false, List, [], ◌∷◌, Option, Some, None, inl, inr, refl, sym, ◌∙◌, ap, length},
+  Common.option_map,
   Math.Bool.or-true,
   lemmas.Bool.eq-eqb,
 }
-use Rattle.ports_core.specs.{
-  Part.{Part, only_out},
-  Source.unshown,
-  Work.{IsLawful, Work},
-  declared.verdict.Verdict.{Verdict, TheVariants.Changed},
-}
+use Rattle.ports_core.specs.{Source.unshown, Work.{IsLawful, Work}}
 use Rattle.seg_core.specs.declared.{unit.Unit.Unit as Counted, cut.Way.Way}
 use Rattle.ends_core.{
   specs.{Shown.{head_in, tail_in}, Head.head_work, Tail.tail_work, laws.WorkLaws.{head_lawful, tail_lawful}},
@@ -18,10 +13,7 @@ use Rattle.ends_core.{
   proofs.ShownLemmas.whole-tail_shown,
 }
 use Rattle.split_core.specs.{Chunks.is_as_said, ChunkWork.{is_written, way_work}, Split.Filing}
-use Rattle.run_core.specs.{
-  Input.Input,
-  Task.{Task, Outcome, after_part, header_text, is_missing, joined, of_content, of_input, of_inputs, verdict_messages},
-}
+use Rattle.run_core.specs.{Input.Input, Task.{Task, Outcome, is_missing, joined, of_content, of_input, of_inputs}}
 use Rattle.tools_core.specs.Promises.{AllAlike, AreAlike, GivesBytes, IsSteady, are_same, give_same}
 use Rattle.seg_core.specs.declared.cut.Way.TheVariants as way
 
@@ -82,25 +74,15 @@ pub way_knows : (way : Way) (elide : Bool) (filing : Filing)
 way_knows (way.Cut cut) elide filing = record { whole = λ text. refl; verdict = λ text. refl; clears = λ text. refl }
 way_knows (way.Chunks chunks) elide filing = record {
   whole = λ text. refl;
-  verdict = λ text. ap (λ (b : Bool). if b then None else Some Changed) (said_so text);
+  verdict = λ text. rw (said_so text);
   clears = λ text. refl;
 }
 way_knows (way.Chunk place chunks) elide filing = record {
   whole = λ text. refl;
-  verdict = λ text. ap (λ (b : Bool). if is_written place chunks (Some (length text)) text || b then None else Some Changed) (said_so text)
-      ∙ ap (λ (b : Bool). if b then None else Some Changed) (or-true (is_written place chunks (Some (length text)) text));
+  verdict = λ text. rw (said_so text, or-true (is_written place chunks (Some (length text)) text));
   clears = λ text. refl;
 }
 way_knows (way.Turn place count delim) elide filing = record { whole = λ text. refl; verdict = λ text. refl; clears = λ text. refl }
-
--- what is made of an input that ends, by what its work says there
-made_of_end : Task → Bool → List ℕ → Part → Option Verdict → Bool → Outcome
-made_of_end task is_first name whole verdict clears = record {
-  part = after_part (only_out (header_text task.with_header is_first name)) whole;
-  messages = verdict_messages task name verdict;
-  failed = is_some verdict;
-  sweeps = clears && is_some verdict;
-}
 
 -- what is made of an input, by its fields
 of_fields : Task → Work → Bool → List ℕ → List ℕ → Bool → Outcome
@@ -111,32 +93,25 @@ module _ (task : Task) (knows : KnowsNoMore task.work) (is_first : Bool) (name b
   shown_too : (shown : Option (List ℕ)) → IsSteady shown bytes
       → of_fields task (task.work shown) is_first name bytes false
       ≡ of_fields task (task.work None) is_first name bytes false
-  unfolding of_fields made_of_end
-  shown_too shown (inl none) = ap (λ shown. of_fields task (task.work shown) is_first name bytes false) none
-  shown_too shown (inr all) = ap (λ shown. of_fields task (task.work shown) is_first name bytes false) all
-      ∙ ap (λ whole. made_of_end task is_first name whole ((task.work (Some bytes)).verdict bytes) (task.work (Some bytes)).clears) (knows.whole bytes)
-      ∙ ap (λ verdict. made_of_end task is_first name ((task.work None).whole bytes) verdict (task.work (Some bytes)).clears) (knows.verdict bytes)
-      ∙ ap (made_of_end task is_first name ((task.work None).whole bytes) ((task.work None).verdict bytes)) (knows.clears bytes)
+  unfolding of_fields
+  shown_too shown (inl none) = rw none
+  shown_too shown (inr all) = rw (all, knows.whole bytes, knows.verdict bytes, knows.clears bytes)
 
   -- what is made of an input that gives these bytes
   pub steady_made : (input : Input) → input.name ≡ name → GivesBytes input bytes
       → of_input task is_first input ≡ of_content task (task.work None) is_first name (Some (unshown bytes))
   unfolding of_fields
   steady_made input named gives =
-      ap (λ name. of_content task (task.work input.shown) is_first name input.content) named
-      ∙ ap (of_content task (task.work input.shown) is_first name) gives.is
-      ∙ ap (λ those. of_fields task (task.work input.shown) is_first name those gives.content.breaks_off) gives.bytes_are
-      ∙ ap (of_fields task (task.work input.shown) is_first name bytes) gives.ends
-      ∙ shown_too input.shown gives.steady
+      rw (named, gives.is, gives.bytes_are, gives.ends) (shown_too input.shown gives.steady)
 
 -- both are missing, or none is
 missing_alike : (one other : Input) → AreAlike one other → is_missing one.content ≡ is_missing other.content
-missing_alike one other (are_same is) = ap (λ (input : Input). is_missing input.content) is
-missing_alike one other (give_same bytes named gives gives_too) = ap is_missing gives.is ∙ sym (ap is_missing gives_too.is)
+missing_alike one other (are_same is) = rw is
+missing_alike one other (give_same bytes named gives gives_too) = rw (gives.is, gives_too.is)
 
 alike_made : (task : Task) → KnowsNoMore task.work → (is_first : Bool) (one other : Input) → AreAlike one other
     → of_input task is_first one ≡ of_input task is_first other
-alike_made task knows is_first one other (are_same is) = ap (of_input task is_first) is
+alike_made task knows is_first one other (are_same is) = rw is
 alike_made task knows is_first one other (give_same bytes named gives gives_too) =
     steady_made task knows is_first other.name bytes one named gives ∙ sym (steady_made task knows is_first other.name bytes other refl gives_too)
 
@@ -148,8 +123,8 @@ all_made_alike task knows is_first (one ∷ ones) [] alike = absurd alike
 all_made_alike task knows is_first [] (other ∷ others) alike = absurd alike
 all_made_alike task knows is_first (one ∷ ones) (other ∷ others) alike =
     ap (λ made. joined made (of_inputs task (is_first && is_missing one.content) ones)) (alike_made task knows is_first one other alike.0)
-    ∙ ap (joined (of_input task is_first other)) (ap (λ b. of_inputs task (is_first && b) ones) (missing_alike one other alike.0)
-    ∙ all_made_alike task knows (is_first && is_missing other.content) ones others alike.1)
+    ∙ ap (joined (of_input task is_first other)) (rw (missing_alike one other alike.0)
+    (all_made_alike task knows (is_first && is_missing other.content) ones others alike.1))
 
 -- inputs are as themselves
 pub all_alike : (inputs : List Input) → AllAlike inputs inputs

@@ -1,7 +1,7 @@
 -- What `split` leaves of its input, and that names by places are in order.
 use Rattle.std.proofs.{
   lemmas.Grind.common_steps,
-  lemmas.Bool.{cases_lt, cond_both, false≢true, lt-ltb, ltb-false, ltb-true},
+  lemmas.Bool.{cases_lt, cond_both, lt-ltb, ltb-false, ltb-true},
   lemmas.List.{get_or_append_left, length-map, length-take, length-take-le, length-drop, get_or-take, get_or_past},
   lemmas.List.{take-append-drop, take-append-le, take_all},
   lemmas.List.FromFn.{get_or-map-range_with_len, length-map-range_with_len},
@@ -20,9 +20,9 @@ use Rattle.ports_core.specs.{
   declared.verdict.Verdict.TheVariants.Suffixes,
   declared.slot.{Mode.TheVariants.Fresh, State.TheVariants.Closed},
   declared.calling.Calling.TheVariants.Cutters,
-  Draft.{opening_line, part_of, told_of_files},
+  Draft.{part_of, told_of_files},
   Part.{File, only_out},
-  Slot.{Slot, slot_at},
+  Slot.{Slot},
 }
 use Rattle.ports_core.proofs.OrderLemmas.{in_order}
 use Rattle.tools_core.{
@@ -52,7 +52,7 @@ use Rattle.seg_core.proofs.{
 }
 use Rattle.run_core.specs.Task.{after_part}
 use Rattle.split_core.specs.{
-  Chunks.{chunks_in, chunks_of, in_the_end, size_by},
+  Chunks.{chunks_in, in_the_end, size_by},
   ChunkWork.{files_by, kept, piece_at, way_work},
   laws.{
     ChunkLaws.{map_same, rest_none},
@@ -111,7 +111,7 @@ not_short false well = absurd (cc)
 pub bytes_written : (files : List File)
     → map (λ (file : Slot). file.written) (map slot_of files) ≡ map (λ (file : File). file.bytes) files
 bytes_written [] = refl
-bytes_written (file ∷ files) = ap (λ those. file.bytes ∷ those) (bytes_written files)
+bytes_written (file ∷ files) = rw (bytes_written files)
 
 all_named : (filing : Filing) {pieces : List (List ℕ)}
     → are_named filing.names (length (map (share Closed) pieces)) ≡ true
@@ -147,7 +147,7 @@ told_lines : (verbose : Bool) (files : List File)
     → told_of_files (output_by verbose) files ≡ cond verbose (lines_telling (map slot_of files)) []
 told_lines false files = refl
 told_lines true [] = refl
-told_lines true (file ∷ files) = ap (λ lines. opening_line file.name ++ lines) (told_lines true files)
+told_lines true (file ∷ files) = rw (told_lines true files)
 
 -- What a run leaves
 
@@ -168,8 +168,7 @@ alone_by (way.Turn place n delim) x = share_of delim n x place
 -- in the end a text is cut up into its chunks, and nothing is left
 ends_cut : (chunks : Chunks) (said : Option ℕ) (x : List ℕ) → 0 < chunks.count → size_by said x ≡ length x
     → in_the_end chunks said x ≡ record { full = chunks_in chunks x; rest = [] }
-ends_cut chunks said x some long = ap (λ size. chunks_of chunks size x) long
-    ∙ ap (λ rest. record { full = chunks_in chunks x; rest = rest }) (rest_none chunks (length x) x some (omega arith))
+ends_cut chunks said x some long = rw (long, rest_none chunks (length x) x some (omega arith))
 
 -- what the work makes of the whole
 module _ (asked : SplitAsked) (x : List ℕ) where
@@ -179,17 +178,16 @@ module _ (asked : SplitAsked) (x : List ℕ) where
   whole_is (way.Cut cut) limits makes = refl
   whole_is (way.Chunks chunks) limits makes =
       ap (λ cut. part_of (manner_of (filing_of asked)) (map (share Closed) (files_by asked.elide cut)))
-      (ends_cut chunks None x limits.0 refl)
-      ∙ ap (λ those. part_of (manner_of (filing_of asked)) (map (share Closed) those)) (append-nil _)
-  whole_is way limits makes = absurd (false≢true makes)
+      (ends_cut chunks None x limits.0 refl) ∙ rw append-nil
+  whole_is way limits makes = absurd (cc)
 
   alone_is : (way : Way) → IsInLimits way → makes_files way ≡ false
       → (way_work way asked.elide (filing_of asked) None).whole x ≡ only_out (alone_by way x)
   alone_is (way.Chunk place chunks) limits makes =
-      ap (λ cut. piece_at place cut) (ends_cut chunks None x limits.0.0 refl)
+      ap (piece_at place) (ends_cut chunks None x limits.0.0 refl)
       ∙ ap only_out (get_or_append_left (chunks_in chunks x) ([] ∷ []) [] place (omega (arith, limits.1, count_chunks chunks x limits.0.0)))
   alone_is (way.Turn place n delim) limits makes = refl
-  alone_is way limits makes = absurd (false≢true (sym makes))
+  alone_is way limits makes = absurd (cc)
 
   -- each piece has a name
   named_all : (way : Way) → IsInLimits way → HasNumbers way asked.alphabet asked.from asked.width
@@ -239,7 +237,7 @@ is_filed run asked pieces can are left =
         sound = All-map (IsSound Fresh) slot_of _ (named_each IsMade filing 0 (map (share Closed) pieces) (All-map (λ one. (place : ℕ) → IsMade (file_at filing place one)) (share Closed) pieces (λ k bytes within place. (refl, refl, refl))));
       });
       contents = rw (files, all_named filing are);
-      told = rw files (ap (λ slots. (slot_at slots 0).written) left ∙ told_lines asked.verbose (named filing 0 (map (share Closed) pieces)));
+      told = rw left (told_lines asked.verbose (named filing 0 (map (share Closed) pieces)));
     }
 
 -- and where standard output got it
@@ -249,7 +247,7 @@ none_listed asked = record { named = λ place within. absurd (omega (arith, with
 no_pieces : (way : Way) (elide : Bool) (x : List ℕ) → makes_files way ≡ false → pieces_by way elide x ≡ []
 no_pieces (way.Chunk place chunks) elide x makes = refl
 no_pieces (way.Turn place n delim) elide x makes = refl
-no_pieces way elide x makes = absurd (false≢true (sym makes))
+no_pieces way elide x makes = absurd (cc)
 
 pub is_split : {run : Run} {asked : SplitAsked} {input : List ℕ} → Does run (Split asked) → HasInput run input
     → IsSplit run asked input
@@ -267,14 +265,14 @@ is_split {run} {asked} {input} does has = by (makes_files asked.way) refl where
   by true makes =
       let filed = is_filed run asked (pieces_by asked.way asked.elide input) can
       (named_all asked input asked.way can.way can.named made.unjudged)
-      (made.slots ∙ ap (λ whole. slots_of (after_part (only_out []) whole)) (whole_is asked input asked.way can.way makes)) in
+      (made.slots ∙ rw (whole_is asked input asked.way can.way makes)) in
       record {
         can = can;
         listed = filed.listed;
         contents = filed.contents;
         told = λ is. filed.told;
-        none = λ is. absurd (false≢true (sym is ∙ makes));
-        alone = λ is. absurd (false≢true (sym is ∙ makes));
+        none = λ is. absurd (cc);
+        alone = λ is. absurd (cc);
       }
   by false makes =
       let left = made.slots ∙ ap (λ whole. slots_of (after_part (only_out []) whole)) (alone_is asked input asked.way can.way makes) in
@@ -282,10 +280,10 @@ is_split {run} {asked} {input} does has = by (makes_files asked.way) refl where
       record {
         can = can;
         listed = rw files (none_listed asked);
-        contents = ap (map (λ (file : Slot). file.written)) files ∙ sym (no_pieces asked.way asked.elide input makes);
-        told = λ is. absurd (false≢true (sym makes ∙ is));
+        contents = rw (files, no_pieces asked.way asked.elide input makes);
+        told = λ is. absurd (cc);
         none = λ is. files;
-        alone = λ is. ap (λ slots. (slot_at slots 0).written) left;
+        alone = λ is. rw left;
       }
 
 -- Pieces of n lines or bytes
@@ -312,7 +310,9 @@ run_pieces size {n} {pieces} some are few each = record {
 
 pub line_pieces : (delim : ℕ) {n : ℕ} {x : List ℕ} → 0 < n
     → ArePieces (line_count delim) n x (parts (limit.Lines n delim) x)
-line_pieces delim {n} {x} some = run_pieces (line_count delim) some (joined_parts (limit.Lines n delim) x) (lines_count delim n x some) (λ i. ap length (part_lines delim n i x some) ∙ run_size n i (lines_of delim x))
+line_pieces delim {n} {x} some =
+    run_pieces (line_count delim) some (joined_parts (limit.Lines n delim) x) (lines_count delim n x some)
+    (λ i. rw (part_lines delim n i x some) (run_size n i (lines_of delim x)))
 
 -- as many lines as there are delimiters end with one
 lines_end : (delim : ℕ) {k : ℕ} (bytes : List ℕ) (ends : Bool) → 0 < k → k ≤ delimiters delim bytes
@@ -320,7 +320,8 @@ lines_end : (delim : ℕ) {k : ℕ} (bytes : List ℕ) (ends : Bool) → 0 < k �
 lines_end delim bytes true some enough is = refl
 lines_end delim {k} bytes false some enough is =
     let all : delimiters delim (first_lines delim k bytes) ≡ k = delimiters-first_lines delim k bytes enough in
-    let count : line_count delim (first_lines delim k bytes) ≡ min k (line_count delim bytes) = ap length (lines_of-first_lines delim k bytes) ∙ length-take k (lines_of delim bytes) in
+    let count : line_count delim (first_lines delim k bytes) ≡ min k (line_count delim bytes) =
+    rw (lines_of-first_lines delim k bytes) (length-take k (lines_of delim bytes)) in
     let long : delimiters delim (first_lines delim k bytes) ≤ length (first_lines delim k bytes) = delimiters-le-length delim (first_lines delim k bytes) in
     let one_more : line_count delim (first_lines delim k bytes) ≡ delimiters delim (first_lines delim k bytes) + 1 = line_count-open delim (first_lines delim k bytes) (omega (arith, all, long, some)) is in
     absurd (omega (arith, all, count, one_more))
@@ -336,13 +337,16 @@ line_part delim {n} i x some = cc (joined-lines_of delim (text_at (parts (limit.
 pub line_ends : (delim : ℕ) {n : ℕ} (x : List ℕ) → 0 < n → AreUncut delim (parts (limit.Lines n delim) x)
 line_ends delim {n} x some i next =
     let rest = after_lines delim (i * n) x in
-    let left : line_count delim rest ≡ line_count delim x - i * n = ap length (lines_of-after_lines delim (i * n) x) ∙ length-drop (i * n) (lines_of delim x) in
+    let left : line_count delim rest ≡ line_count delim x - i * n =
+    rw (lines_of-after_lines delim (i * n) x) (length-drop (i * n) (lines_of delim x)) in
     let near : line_count delim rest ≤ delimiters delim rest + 1 = (line_count_near delim rest).1 in
     let more = more_lines i (line_count delim x) (lines_count delim n x some).1 next in
-    ap (ends_with delim) (line_part delim i x some) ∙ lines_end delim rest _ some (omega (arith, left, near, more)) refl
+    rw (line_part delim i x some) (lines_end delim rest _ some (omega (arith, left, near, more)) refl)
 
 pub byte_pieces : {n : ℕ} {x : List ℕ} → 0 < n → ArePieces length n x (parts (limit.Bytes n) x)
-byte_pieces {n} {x} some = run_pieces length some (joined_parts (limit.Bytes n) x) (bytes_count n x some) (λ i. ap length (part_bytes n i x some) ∙ run_size n i x)
+byte_pieces {n} {x} some =
+    run_pieces length some (joined_parts (limit.Bytes n) x) (bytes_count n x some)
+    (λ i. rw (part_bytes n i x some) (run_size n i x))
 
 -- Pieces of whole lines within n bytes
 
@@ -367,18 +371,21 @@ line_after : (delim : ℕ) (front rest : List ℕ) {k : ℕ} → k ≡ delimiter
     ≡ length front + length (first_lines delim 1 (rest ++ delim ∷ []))
 line_after delim front rest {k} count =
     let one : k + 1 - delimiters delim front ≡ 1 = omega (arith, count) in
-    ap (λ text. length (first_lines delim (k + 1) text)) (append_assoc front rest (delim ∷ []))
-    ∙ ap length (first_lines-append delim (k + 1) front (rest ++ delim ∷ []))
-    ∙ length-append (first_lines delim (k + 1) front) (first_lines delim (k + 1 - delimiters delim front) (rest ++ delim ∷ []))
-    ∙ ap (λ text. length text + length (first_lines delim (k + 1 - delimiters delim front) (rest ++ delim ∷ []))) (first_lines-short delim (k + 1) front (omega (arith, count)))
-    ∙ ap (λ n. length front + length (first_lines delim n (rest ++ delim ∷ []))) one
+    rw (
+      append_assoc front rest (delim ∷ []),
+      first_lines-append delim (k + 1) front (rest ++ delim ∷ []),
+      one,
+      first_lines-short delim (k + 1) front (omega (arith, count)),
+    )
+    (length-append front (first_lines delim 1 (rest ++ delim ∷ [])))
 
 line_past : (delim : ℕ) {n : ℕ} {x : List ℕ} (part rest : List ℕ) → n ≤ length x → x ≡ part ++ rest
     → delimiters delim part ≡ delimiters delim (take n x) → IsFilled delim n part rest
 line_past delim {n} {x} part rest enough is same =
     let k = delimiters delim (take n x) in
     let both : length part + length (first_lines delim 1 (rest ++ delim ∷ [])) ≡ length (take n x) + length (first_lines delim 1 (drop n x ++ delim ∷ [])) =
-    sym (line_after delim part rest (sym same)) ∙ ap (λ text. length (first_lines delim (k + 1) (text ++ delim ∷ []))) (sym is ∙ sym (take-append-drop n x)) ∙ line_after delim (take n x) (drop n x) refl in
+    sym (line_after delim part rest (sym same)) ∙ rw
+    (← is, ← line_after delim (take n x) (drop n x) refl, take-append-drop n x) in
     let long : length (take n x) ≡ n = length-take-le n x enough in
     let more : length (drop n x ++ delim ∷ []) ≡ length (drop n x) + 1 = length-append (drop n x) (delim ∷ []) in
     let some = some_line delim (drop n x ++ delim ∷ []) (omega (arith, more)) in
@@ -394,7 +401,8 @@ same_line delim next rest some = rw (append_assoc next rest (delim ∷ []), firs
 open_next : (delim : ℕ) {n : ℕ} (part next : List ℕ) → length next ≡ n → delimiters delim next ≡ 0
     → IsFilled delim n part next
 open_next delim part next long none =
-    let line : length (first_lines delim 1 (next ++ delim ∷ [])) ≡ length next + 1 = ap length (first_lines-more delim 1 next delim (omega (arith, none))) ∙ length-append next (delim ∷ []) in
+    let line : length (first_lines delim 1 (next ++ delim ∷ [])) ≡ length next + 1 =
+    rw (first_lines-more delim 1 next delim (omega (arith, none))) (length-append next (delim ∷ [])) in
     omega (arith, line, long)
 
 -- the next piece has the next line, or n bytes of it
@@ -405,10 +413,11 @@ filled_by delim {n} part rest enough filled =
     let count : delimiters delim next ≡ delimiters delim (take n rest) = whole_count delim (take n rest) in
     let whole : next ++ drop (length next) rest ≡ rest = first_then_after (limit.LineBytes n delim) rest in
     elim (cases_lt 0 (delimiters delim (take n rest))) [
-      | inl lines ↦ rw (ap (λ text. first_lines delim 1 (text ++ delim ∷ [])) (sym whole) ∙ same_line delim next (drop (length next) rest) (omega (arith, lines, count))) at filled
+      | inl lines ↦ rw (← whole, same_line delim next (drop (length next) rest) (omega (arith, lines, count))) at filled
       | inr few ↦
           let none : delimiters delim (take n rest) ≡ 0 = omega (arith, few) in
-          open_next delim part next (ap length (whole_of_none delim (take n rest) none) ∙ length-take-le n rest enough) (count ∙ none)
+          open_next delim part next (rw (whole_of_none delim (take n rest) none) (length-take-le n rest enough))
+          (count ∙ none)
     ]
 
 first_filled : {delim n : ℕ} (part : List ℕ) {rest : List ℕ} {pieces : List (List ℕ)}
@@ -432,7 +441,7 @@ rooms : (delim n : ℕ) {x : List ℕ} {pieces : List (List ℕ)} → AreLineByt
     → ends_with delim (text_at pieces place) ≡ false → length (text_at pieces place) < n
 rooms delim n (piece.one x has short) zero within lines cut = short
 rooms delim n (piece.more x pieces enough past) zero within lines cut = elim (ends_line delim (take n x) (length-take-le n x enough)) [
-  | inl ends ↦ absurd (false≢true (sym cut ∙ ends))
+  | inl ends ↦ absurd (cc)
   | inr long ↦ absurd (omega (arith, lines, long.1))
 ]
 rooms delim n (piece.more x pieces enough past) (suc place) within lines cut = rooms delim n past place (omega (arith, within)) lines cut
@@ -458,8 +467,8 @@ before_end : (delim m : ℕ) (text : List ℕ) → m < length (first_lines delim
 before_end delim m text less = elim (cases_lt 0 (delimiters delim (take m text))) [
   | inr none ↦ omega (arith, none)
   | inl some ↦
-      let same : first_lines delim 1 (text ++ delim ∷ []) ≡ first_lines delim 1 (take m text) =
-      ap (λ those. first_lines delim 1 (those ++ delim ∷ [])) (sym (take-append-drop m text)) ∙ ap (first_lines delim 1) (append_assoc (take m text) (drop m text) (delim ∷ [])) ∙ first_lines-full delim 1 (take m text) (drop m text ++ delim ∷ []) some in
+      let same = rw (← append_assoc (take m text) (drop m text) (delim ∷ []), take-append-drop m text) at
+      (first_lines-full delim 1 (take m text) (drop m text ++ delim ∷ []) some) in
       let short : length (first_lines delim 1 (take m text)) ≤ length (take m text) = length-first_lines-le delim 1 (take m text) in
       absurd (omega (arith, less, ap length same, short, length-take m text))
 ]
@@ -469,28 +478,31 @@ piece_before : {delim n : ℕ} (one rest : List ℕ) {pieces : List (List ℕ)} 
     → whole_lines delim (take n (one ++ rest)) ≡ one → AreLineByteParts delim n rest pieces
     → AreLineByteParts delim n (one ++ rest) (one ∷ pieces)
 piece_before {delim} {n} one rest {pieces} enough whole past = subst (λ part. AreLineByteParts delim n (one ++ rest) (part ∷ pieces)) whole
-    (piece.more (one ++ rest) pieces enough (subst (λ left. AreLineByteParts delim n left pieces) (sym (ap (λ part. drop (length part) (one ++ rest)) whole ∙ drop-append_seam one rest)) past))
+    (piece.more (one ++ rest) pieces enough (rw (whole, drop-append_seam one rest) past))
 
 closed_some : (delim : ℕ) (text : List ℕ) → ends_with delim text ≡ true → 0 < delimiters delim text
-closed_some delim [] ends = absurd (false≢true ends)
+closed_some delim [] ends = absurd (cc)
 closed_some delim (byte ∷ []) ends = grind (arith, common_steps)
 closed_some delim (byte ∷ next ∷ text) ends = grind (arith, common_steps, (closed_some delim (next ∷ text) ends))
 
 whole_closed : (delim : ℕ) (text rest : List ℕ) → ends_with delim text ≡ true → delimiters delim rest ≡ 0
     → whole_lines delim (text ++ rest) ≡ text
 whole_closed delim text rest ends none =
-    let count : delimiters delim (text ++ rest) ≡ delimiters delim text = delimiters-append delim text rest ∙ ap (λ n. delimiters delim text + n) none ∙ (let e : delimiters delim text + 0 ≡ delimiters delim text = omega arith in e) in
+    let count : delimiters delim (text ++ rest) ≡ delimiters delim text =
+    omega (arith, delimiters-append delim text rest, none) in
     whole_of_lines delim (text ++ rest) (omega (arith, count, closed_some delim text ends)) ∙ first_lines-whole delim text rest (delimiters delim (text ++ rest)) ends count
 
 last_piece : (delim n : ℕ) (one : List ℕ) → 0 < length one → length one ≤ n
     → (0 < delimiters delim one → ends_with delim one ≡ false → length one < n)
     → AreLineByteParts delim n (one ++ []) (one ∷ [])
 last_piece delim n one some most room = elim (cases_lt (length one) n) [
-  | inl short ↦ subst (λ x. AreLineByteParts delim n x (one ∷ [])) (sym (append-nil one)) (piece.one one some short)
-  | inr full ↦ piece_before one [] (omega (arith, full, length-append one [])) (ap (whole_lines delim) (take_all n (one ++ []) (omega (arith, most, length-append one [])) ∙ append-nil one) ∙ whole (ends_with delim one) refl full) piece.none
+  | inl short ↦ rw append-nil (piece.one one some short)
+  | inr full ↦ piece_before one [] (omega (arith, full, length-append one []))
+      (rw (take_all n (one ++ []) (omega (arith, most, length-append one [])), append-nil one)
+      (whole (ends_with delim one) refl full)) piece.none
 ] where
   whole : (closed : Bool) → ends_with delim one ≡ closed → n ≤ length one → whole_lines delim one ≡ one
-  whole true ends full = ap (whole_lines delim) (sym (append-nil one)) ∙ whole_closed delim one [] ends refl
+  whole true ends full = rw append-nil at (whole_closed delim one [] ends refl)
   whole false cut full = elim (cases_lt 0 (delimiters delim one)) [
     | inl lines ↦ absurd (omega (arith, room lines cut, full))
     | inr none ↦ whole_of_none delim one (omega (arith, none))
@@ -500,7 +512,7 @@ front_piece : (delim n : ℕ) (one next more : List ℕ) → length one ≤ n �
     → (n ≤ length (one ++ (next ++ more))) × (whole_lines delim (take n (one ++ (next ++ more))) ≡ one)
 front_piece delim n one next more most (inr (long, none)) filled = (
   omega (arith, long, length-append one (next ++ more)),
-  ap (whole_lines delim) (ap (λ k. take k (one ++ (next ++ more))) (sym long) ∙ take-append_seam one (next ++ more)) ∙ whole_of_none delim one none,
+  rw (← long, take-append_seam one (next ++ more)) (whole_of_none delim one none),
 )
 front_piece delim n one next more most (inl ends) filled =
     let m = n - length one in
@@ -534,7 +546,8 @@ pieces_are_parts delim n (one ∷ next ∷ pieces) are =
 pub one_line_list : (delim n : ℕ) (input : List ℕ) (some other : List (List ℕ)) → 0 < n
     → AreLinePieces delim n input some → AreLinePieces delim n input other → some ≡ other
 one_line_list delim n input some other positive these those =
-    line_bytes_once positive (subst (λ x. AreLineByteParts delim n x some) these.all (pieces_are_parts delim n some these)) (subst (λ x. AreLineByteParts delim n x other) those.all (pieces_are_parts delim n other those))
+    line_bytes_once positive (rw these.all at (pieces_are_parts delim n some these))
+    (rw those.all at (pieces_are_parts delim n other those))
 
 -- Lines dealt in turn
 
@@ -552,12 +565,10 @@ all_some ((byte ∷ bytes) ∷ files) = All-cons (λ bytes. 0 < length bytes) (b
 pub dealt_lines : {delim n : ℕ} {elide : Bool} {x : List ℕ} → 0 < n
     → AreDealt delim n elide x (dealt_files delim elide n x)
 dealt_lines {delim} {n} {elide} {x} some = record {
-  lines = λ i. sym (
-      ap (λ text. get_or (lines_of delim text) (i / n) []) (dealt_at delim elide x (mod_below i n some))
-      ∙ line_at delim n (i % n) (i / n) x (mod_below i n some)
-      ∙ ap (λ place. get_or (lines_of delim x) place []) (let sum = div-add-mod' i n in omega (arith, sum)));
-  all = ap length (joined_files delim elide n x) ∙ all_dealt delim n x some;
-  count = λ is. ap (λ those. length (dealt_files delim those n x)) is ∙ length-map-range_with_len (share_of delim n x) 0 n;
+  lines = λ i. let place : i % n + i / n * n ≡ i = omega (arith, div-add-mod' i n) in
+      rw (dealt_at delim elide x (mod_below i n some), line_at delim n (i % n) (i / n) x (mod_below i n some), place);
+  all = rw (joined_files delim elide n x) (all_dealt delim n x some);
+  count = λ is. rw is (length-map-range_with_len (share_of delim n x) 0 n);
   left_out = λ is. rw is (all_some (round_robin delim n x));
 }
 
@@ -586,7 +597,7 @@ whole_line_files chunks elide x some unit = lines_kept elide (chunks_in chunks x
   lines_kept false pieces = refl
   lines_kept true [] = refl
   lines_kept true ([] ∷ pieces) = lines_kept true pieces
-  lines_kept true ((byte ∷ bytes) ∷ pieces) = ap (λ rest. lines_of chunks.delim (byte ∷ bytes) ++ rest) (lines_kept true pieces)
+  lines_kept true ((byte ∷ bytes) ∷ pieces) = rw (lines_kept true pieces)
 
 -- By the way to split
 
@@ -596,22 +607,28 @@ pub by_way : {run : Run} {asked : SplitAsked} {way : Way} {input : List ℕ} (P 
     → asked.way ≡ way → P (contents_of run)
 by_way {asked} {way} {input} P holds does has is =
     let split = is_split does has in
-    rw (split.contents ∙ ap (λ those. pieces_by those asked.elide input) is) (holds (rw is at split.can.way))
+    rw (split.contents, is) (holds (rw is at split.can.way))
 
 -- what a run wrote to standard output alone
 pub wrote_alone : {run : Run} {asked : SplitAsked} {way : Way} {input : List ℕ} → Splits run asked way input
     → makes_files way ≡ false → output_of run ≡ alone_by way input
 wrote_alone {input = input} splits makes =
-    (is_split splits.does splits.has).alone (ap makes_files splits.is ∙ makes) ∙ ap (λ way. alone_by way input) splits.is
+    rw splits.is at ((is_split splits.does splits.has).alone (rw splits.is makes))
 
 -- One file alone
 
--- it is one of those that all files have
-turn_is : {one : Run} {asked : SplitAsked} {place n delim : ℕ} {input : List ℕ}
-    → Splits one asked (way.Turn place n delim) input → output_of one ≡ text_at (round_robin delim n input) place
-turn_is {asked = asked} {place} {n} {delim} {input} splits =
-    let limits : IsInLimits (way.Turn place n delim) = rw splits.is at (is_split splits.does splits.has).can.way in
-    wrote_alone splits refl ∙ sym (get_or-map-range_with_len (share_of delim n input) 0 n place place [] limits.1 (omega arith))
+module _ {one : Run} {asked : SplitAsked} {place n delim : ℕ} {input : List ℕ}
+    (splits : Splits one asked (way.Turn place n delim) input) where
+  can_turn : IsInLimits (way.Turn place n delim)
+  can_turn = rw splits.is at (is_split splits.does splits.has).can.way
+
+  -- it is one of those that all files have
+  turn_is : output_of one ≡ text_at (round_robin delim n input) place
+  turn_is = wrote_alone splits refl
+      ∙ sym (get_or-map-range_with_len (share_of delim n input) 0 n place place [] can_turn.1 (omega arith))
+
+  pub turn_lines : (k : ℕ) → text_at (lines_of delim (output_of one)) k ≡ text_at (lines_of delim input) (place + k * n)
+  turn_lines k = rw turn_is (line_at delim n place k input can_turn.1)
 
 pub turn_alone : {one split : Run} {alone asked : SplitAsked} {place n delim : ℕ} {input : List ℕ}
     → Splits one alone (way.Turn place n delim) input → Splits split asked (way.Cut (Round n delim)) input
@@ -619,13 +636,6 @@ pub turn_alone : {one split : Run} {alone asked : SplitAsked} {place n delim : �
 turn_alone {asked = asked} {place} {n} {delim} {input} splits too elide = turn_is splits
     ∙ sym (by_way (λ contents. text_at contents place ≡ text_at (round_robin delim n input) place) (λ some. rw elide refl)
     too.does too.has too.is)
-
-pub turn_lines : {one : Run} {asked : SplitAsked} {place n delim : ℕ} (k : ℕ) {input : List ℕ}
-    → Splits one asked (way.Turn place n delim) input
-    → text_at (lines_of delim (output_of one)) k ≡ text_at (lines_of delim input) (place + k * n)
-turn_lines {asked = asked} {place} {n} {delim} k {input} splits =
-    let limits : IsInLimits (way.Turn place n delim) = rw splits.is at (is_split splits.does splits.has).can.way in
-    ap (λ text. text_at (lines_of delim text) k) (turn_is splits) ∙ line_at delim n place k input limits.1
 
 pub all_turns : (runs : ℕ → Run) (asked : ℕ → SplitAsked) (n delim : ℕ) (input : List ℕ) → 0 < n
     → ((place : ℕ) → place < n → Splits (runs place) (asked place) (way.Turn place n delim) input)
@@ -637,8 +647,7 @@ flat_alike : (f g : ℕ → List ℕ) (start n : ℕ) → ((place : ℕ) → pla
     → flat_map f (range_with_len start n) ≡ flat_map g (range_with_len start n)
 flat_alike f g start zero same = refl
 flat_alike f g start (suc n) same =
-    ap (λ front. front ++ flat_map f (range_with_len (start + 1) n)) (same start (omega arith))
-    ∙ ap (λ rest. g start ++ rest) (flat_alike f g (start + 1) n (λ place within. same place (omega (arith, within))))
+    rw (same start (omega arith), flat_alike f g (start + 1) n (λ place within. same place (omega (arith, within))))
 
 pub all_alone : (runs : ℕ → Run) (asked : ℕ → SplitAsked) (chunks : Chunks) (input : List ℕ) → 0 < chunks.count
     → ((place : ℕ) → place < chunks.count → Splits (runs place) (asked place) (way.Chunk place chunks) input)

@@ -3,15 +3,15 @@ use Rattle.std.{
   proofs.lemmas.{Grind.common_steps, Bool.{cases_Bool, false≢true, or_cases}, List.{get_or_push, Elements.All-append}},
   proofs.Common.{None, ◌≡◌, ℕ, ◌^◌, ◌≤◌, suc, Bool, true, false, cond, is_none, List, [], not, ◌||◌, map, ◌∷◌, ◌++◌},
   proofs.Common.{length, length-append, Option, Some, codes, inl, inr, ◌⊎◌, refl, sym, ◌∙◌, ap, subst, arith, take},
-  proofs.Common.{zero, rules, get_or},
+  proofs.Common.{zero, rules},
   proofs.Math.Seq.get_or-append_seam,
   specs.List.concat,
 }
 use Rattle.ports_core.specs.{
   Message.{Says, SaysAll, TellsIf, output_named, output_reason},
-  declared.calling.{Calling.{Calling, TheVariants.{Cutters, OwnName}}, Speaker.Speaker},
-  declared.fault.{UsageKind.UsageKind, Fault.{Fault, TheVariants.{Memory, Write, Open, Read, TooLong, Usage}}},
-  declared.on_broken.OnBroken.{OnBroken, TheVariants.{Warn, Exit, WarnNoPipe, ExitNoPipe, Signal}},
+  declared.calling.{Calling.{Calling, TheVariants.{Cutters, OwnName}}},
+  declared.fault.{Fault.{Fault, TheVariants.{Memory, Write, Open, Read, TooLong, Usage}}},
+  declared.on_broken.OnBroken.{OnBroken, TheVariants.{Warn, Exit}},
   declared.reason.Reason.Reason,
   declared.slot.Mode.Mode,
   declared.tool.Tool.Tool,
@@ -40,24 +40,24 @@ use Rattle.tee_core.{
 use Rattle.words_core.specs.{
   Words.HasBadOperands,
   TeeWords.TeeAsked,
-  declared.settings.{Settings.{Settings, TheVariants.{Head, Tail, Split, Csplit, Tee, About}}, Topic.Topic},
+  declared.settings.{Settings.{Settings, TheVariants.{Csplit, Tee, About}}, Topic.Topic},
   Help.text_about,
 }
 use Rattle.tools_core.specs.{
   About.{TellsText, no_text, text_cut, text_whole},
-  Outcome.{DoesAsked, refuser, speaker, word_of},
+  Outcome.{refuser, speaker, word_of},
   Tasks.{by, names_of, speaker_of, tool_of},
   Promises.{BrokeAt, Completes, Does, HasGone, HasLong, IsCalled, IsCopied, IsGone, IsSilent, IsStopped, IsTask},
-  Promises.{IsUnstopped, Ran, Run, SaysLines, SaysWhy, StopsRun, Tells, TellsMet, Unstopped, WhyBroken, broken_off},
-  Promises.{failing, named, removes_files},
+  Promises.{IsUnstopped, Ran, Run, SaysLines, SaysWhy, StopsRun, Tells, TellsMet, WhyBroken, broken_off, failing},
+  Promises.{named, removes_files},
 }
 use Rattle.tools_core.proofs.{
   BeginLemmas.{broken_tells, IsLoud, IsMarked, TellsOfInput, failing_stops, marked_at, tee_lines, tee_tells},
   BeginLemmas.unsound_broke,
   LeftLemmas.{HasLine, LeftBy, all_tell, completes_left, left_at, left_says, one_line, ran_over, slots_at, swept_gone},
   LeftLemmas.{swept_kept, speaker_is, AreLive, IsSoundAt, has_after, has_before, inputs_fit, live_begin, outputs_live},
-  LeftLemmas.{says_line, step_live, task_lives},
-  RunLemmas.{memory_by, runs_as_named},
+  LeftLemmas.{Did, DidUnstopped, says_line, step_live, task_lives},
+  RunLemmas.{runs_as_named, worded_by},
 }
 use Rattle.ports_core.specs.declared.reason.Reason.TheVariants as reason
 use Rattle.ports_core.specs.declared.slot.State.TheVariants as state
@@ -98,7 +98,7 @@ marked_here : (IsDue : List ℕ → Type 0) (slot : ℕ) (before reached : List 
     → (slot_at reached slot).is_broken ≡ true → IsSoundAt before slot → (fault : Fault)
     → Marks IsDue fault before reached → IsMarked fault slot before (slot_at reached slot)
 marked_here IsDue slot before reached broken sound fault marks = elim (marked_at IsDue fault before reached slot marks) [
-  | inl same ↦ absurd (false≢true (sym sound.0 ∙ sym (ap (λ (output : Slot). output.is_broken) same) ∙ broken))
+  | inl same ↦ absurd (false≢true (sym sound.0 ∙ rw same at broken))
   | inr marked ↦ marked
 ]
 
@@ -120,7 +120,7 @@ stops_run run asked IsDue step clears place count before reached (Write slot) lo
 stops_run run asked IsDue step clears place count before reached (Open slot) long sound two from stops (number, (name, kept, reason, due, is, slots)) swept =
     let differs : slot ≡ 1 → ⊥ = λ one. omega (arith, number, two, one) in
     broke_at run IsDue clears slot before reached (Open slot) differs
-    (ap (λ (output : Slot). output.is_broken) (ap (λ those. slot_at those slot) slots ∙ get_or_push before (unopened reason kept) no_slot slot (sym number)))
+    (rw (slots, get_or_push before (unopened reason kept) no_slot slot (sym number)))
     (sound slot differs) (number, (name, kept, reason, due, is, slots)) swept
 stops_run run asked IsDue step clears place count before reached Memory long sound two from stops marks swept = tt
 stops_run run asked IsDue step clears place count before reached TooLong long sound two from stops marks swept = long stops
@@ -128,8 +128,12 @@ stops_run run asked IsDue step clears place count before reached fault long soun
 
 -- Why an output is broken: it was told by its name, or the output was to be removed.
 
+abbrev IsToldIn : Run → Settings → List Slot → ℕ → Type 0
+IsToldIn run asked slots place = (name : List ℕ) × IsCalled (slot_at slots place) name
+    × Tells run asked (failing place (slot_at slots place).state) name
+
 abbrev IsToldOf : Run → Settings → ℕ → Type 0
-IsToldOf run asked place = (name : List ℕ) × IsCalled (slot_at run.outputs place) name × Tells run asked (failing place (slot_at run.outputs place).state) name
+IsToldOf run asked place = IsToldIn run asked run.outputs place
 
 abbrev IsStuck : Bool → List Slot → ℕ → Type 0
 IsStuck clears new place = (clears ≡ true) × ((slot_at new place).state ≡ state.Closed) × ((other : ℕ) → 2 ≤ other → IsGone (slot_at new other))
@@ -161,8 +165,7 @@ stop_early {run = run} {asked = asked} fault name {error} stops says slots is = 
   name = name;
   stops = stops;
   line = ([], [], record { are = one_line (TellsMet run asked) (message_of fault name) (fault, name, inl stops, refl); said = rw slots says });
-  broke = λ place differs broken.
-      absurd (false≢true (sym (streams_sound place error differs) ∙ sym (ap (λ those. (slot_at those place).is_broken) slots) ∙ broken));
+  broke = λ place differs broken. absurd (false≢true (sym (streams_sound place error differs) ∙ rw slots at broken));
 }
 
 -- Standard error stays the slot after the first.
@@ -177,7 +180,9 @@ sound_before : {output : Output} {error : Slot} {low high : Part} {fault : Fault
     → AreLive high.files → (between : StoppedBetween output true (streams_with error) low high fault reached)
     → (place : ℕ) → (place ≡ 1 → ⊥) → IsSoundAt between.reached place
 sound_before {error} {high} live between place differs =
-    subst (λ slots. IsSoundAt slots place) (sym (slots_at between.outputs)) (outputs_live between.part error place (live_begin between.part.files high.files between.below.files live) differs)
+    rw (slots_at between.outputs)
+    (outputs_live between.part error place (live_begin between.part.files high.files between.below.files live)
+    differs)
 
 stopped_broke : {output : Output} {clears : Bool} {run : Run} (asked : Settings) {error : Slot} {low high : Part}
     {fault : Fault} {reached : List Slot} (lines : List Message) → AreLive high.files
@@ -192,42 +197,39 @@ stopped_broke {clears} {run} asked {error} {high} {fault} {reached} lines live b
     elim (cases_Bool (slot_at reached place).is_broken) [
       | inr was ↦ let (is, closed) = kept.broke was broken in inr (is, closed, swept_gone clears reached new is swept)
       | inl was ↦ let why = blamed fault place between.reached sound (marked_here (IsNext between.part high) place between.reached reached was sound fault between.marks) in
-          inl ((slot_at new place).name, inl refl, (lines, [], rw (ap (λ what. message_of what (slot_at new place).name) (kept.fails place ∙ why.is) ∙ ap (message_of fault) (why.named new)) says))
+          inl ((slot_at new place).name, inl refl, (lines, [], rw (kept.fails place ∙ why.is, why.named new) says))
     ]
 
 -- nothing is said by a tool's own name alone
 quiet_own : (fault : Fault) (calling : Calling) (why : Reason) → is_quiet fault calling why ≡ true → calling ≡ OwnName
 quiet_own fault OwnName why is = refl
-quiet_own (Write slot) Cutters why is = absurd (false≢true is)
-quiet_own fault Cutters why is = absurd (false≢true is)
+quiet_own (Write slot) Cutters why is = absurd (cc)
+quiet_own fault Cutters why is = absurd (cc)
 
 -- of a reader that is gone
 
 gone_reason : (slot : ℕ) (calling : Calling) (why : Reason) → is_quiet (Write slot) calling why ≡ true
     → why ≡ reason.Gone
 gone_reason slot OwnName reason.Gone is = refl
-gone_reason slot OwnName why is = absurd (false≢true is)
-gone_reason slot Cutters why is = absurd (false≢true is)
+gone_reason slot OwnName why is = absurd (cc)
+gone_reason slot Cutters why is = absurd (cc)
 
 quiet_gone : (run : Run) (asked : Settings) (name : List ℕ) (fault : Fault) (calling : Calling)
     → is_quiet fault calling (output_reason run.outputs fault) ≡ true → StopsRun run asked name fault → HasGone run
 quiet_gone run asked name (Write slot) calling is (differs, called, broken, fails) =
     (slot, differs, broken, gone_reason slot calling (slot_at run.outputs slot).reason is)
-quiet_gone run asked name fault calling is stops = absurd (false≢true is)
+quiet_gone run asked name fault calling is stops = absurd (cc)
 
 called_so : (run : Run) (task : Task) (asked : Settings) → IsTask run.calling asked task
     → task.speaker.calling ≡ OwnName → run.calling ≡ OwnName
-called_so run task asked of own = ap (λ (speaker : Speaker). speaker.calling) (sym (speaker_is run.calling asked task of)) ∙ own
+called_so run task asked of own = rw (speaker_is run.calling asked task of) at own
 
 -- a run that ended by a reader that is gone, and said nothing of it
 silent_by : (run : Run) (task : Task) (asked : Settings) → IsTask run.calling asked task
     → task.speaker.calling ≡ OwnName → HasGone run → run.status ≡ 141 → IsSilent run asked
 silent_by run task (Tee asked) of own gone is = absurd of
 silent_by run task (About which topic) of own gone is = absurd of
-silent_by run task (Head asked) of own gone is = (called_so run task (Head asked) of own, gone, is)
-silent_by run task (Tail asked) of own gone is = (called_so run task (Tail asked) of own, gone, is)
-silent_by run task (Split asked) of own gone is = (called_so run task (Split asked) of own, gone, is)
-silent_by run task (Csplit asked) of own gone is = (called_so run task (Csplit asked) of own, gone, is)
+silent_by run task asked of own gone is = (called_so run task asked of own, gone, is)
 
 -- nothing stopped it, or something did, or nothing is said
 abbrev Unless : Run → Settings → Type 0 → Type 0
@@ -250,7 +252,13 @@ ends_or {run} {asked} {task} of (stopped fault before input after said error ste
     by (is_quiet fault task.speaker.calling (output_reason run.outputs fault)) refl tells is stop (λ told_so ends.
     let all = says_more true task.speaker lines (message_of fault name) standard_error said error says (output_reason run.outputs fault, told_so) in
     let told : SaysLines run asked (lines ++ message_of fault name ∷ []) =
-    record { are = All-append (TellsMet run asked) lines _ fits.are (one_line (TellsMet run asked) (message_of fault name) (fault, name, inl stop, refl)); said = rw (stopped_error (removes_files asked) run.outputs between swept) (subst (λ which. SaysAll true which (lines ++ message_of fault name ∷ []) standard_error error) (speaker_is run.calling asked task of) all) } in record {
+    record {
+      are = All-append (TellsMet run asked) lines _ fits.are
+          (one_line (TellsMet run asked) (message_of fault name) (fault, name, inl stop, refl));
+      said =
+          rw (stopped_error (removes_files asked) run.outputs between swept)
+          (rw (speaker_is run.calling asked task of) at all);
+    } in record {
       failed = ends;
       why = fault;
       name = name;
@@ -276,7 +284,8 @@ ends_or {run} {asked} {task} of (stopped fault before input after said error ste
           let gone = quiet_gone run asked (output_named run.outputs fault) fault task.speaker.calling (sym own) stop in
           inr (inr (silent_by run task asked of called gone ends))
       by false own told_so ends stop loud = inr (inl (loud told_so ends))
-ends_or {run} {asked} {task} of (no_room error says slots untouched count is) = inr (inl (stop_early Memory [] tt (subst (λ which. SaysAll true which (message_of Memory [] ∷ []) standard_error error) (speaker_is run.calling asked task of) says) slots is))
+ends_or {run} {asked} {task} of (no_room error says slots untouched count is) =
+    inr (inl (stop_early Memory [] tt (rw (speaker_is run.calling asked task of) at says) slots is))
 
 -- `tee`
 
@@ -286,25 +295,7 @@ read_or : {content : Content} (Leaves : List ℕ → Type 0) {is_vain : Bool} {x
 read_or Leaves left (tee.to_end x is ended leaves) = inl (sym is)
 read_or Leaves left (tee.to_break x is breaks leaves) = inl (sym is)
 read_or Leaves left (tee.to_limit x piece rest is many within leaves) = let size = ap length is in let all = length-append (x ++ piece) rest in inr (refl, omega (arith, size, all, many))
-read_or Leaves left (tee.to_broken_output x rest is leaves) = absurd (false≢true (sym left))
-
-tee_stop : {run : Run} {asked : TeeAsked} (on_broken : OnBroken) {mode : Mode} {pieces names : List (List ℕ)}
-    {first : Option Break} {broke : List (Option Break)} {output error : Slot} {files : List Slot}
-    (fault : Option Fault) → IsLoud on_broken (first ∷ broke) → OutputLeft true pieces first output
-    → FilesLeft true mode pieces names broke files
-    → SaysLines run (Tee asked) (messages_of on_broken names (first ∷ broke) (length pieces) fault)
-    → run.outputs ≡ output ∷ error ∷ files → run.status ≡ 1 → (why : Fault) (name : List ℕ)
-    → StopsRun run (Tee asked) name why → Tells run (Tee asked) why name
-    → IsStop false run (Tee asked)
-tee_stop {run} {asked} on_broken {error = error} fault loud left rest says slots failed why name stops line = record {
-  failed = failed;
-  why = why;
-  name = name;
-  stops = stops;
-  line = line;
-  broke = λ place differs broken. let (name, called, has) = tee_tells on_broken error fault place loud left rest differs (rw slots at broken) in
-      inl (subst (λ those. (name : List ℕ) × IsCalled (slot_at those place) name × Tells run (Tee asked) (failing place (slot_at those place).state) name) (sym slots) (name, called, says_line has says));
-}
+read_or Leaves left (tee.to_broken_output x rest is leaves) = absurd (cc)
 
 -- what is told of the input was met
 input_tells : (run : Run) (asked : TeeAsked) {content : Content} (Leaves : List ℕ → Type 0) {is_vain : Bool}
@@ -325,37 +316,60 @@ loud_status on_broken broke fault loud unsound = by (tee.any_is Gone (map tee.st
       → tee.gone_status on_broken failed ≡ 1
   gone_one Warn failed loud = refl
   gone_one Exit failed loud = refl
-  gone_one on_broken failed loud = absurd (false≢true (sym loud))
+  gone_one on_broken failed loud = absurd (cc)
 
   by : (gone broken ended : Bool) → tee.any_is Gone (map tee.standing_of broke) ≡ gone
       → tee.any_is Broken (map tee.standing_of broke) ≡ broken
       → cond gone (tee.gone_status on_broken (not ended || broken)) (cond (not ended || broken) 1 0) ≡ 1
-  by true broken ended is_gone is_broken = elim loud [ inl loudly ↦ gone_one on_broken (not ended || broken) loudly | inr none ↦ absurd (false≢true (sym none ∙ is_gone)) ]
+  by true broken ended is_gone is_broken =
+      elim loud [ inl loudly ↦ gone_one on_broken (not ended || broken) loudly | inr none ↦ absurd (cc) ]
   by false true true is_gone is_broken = refl
   by false true false is_gone is_broken = refl
   by false false false is_gone is_broken = refl
   by false false true is_gone is_broken = absurd (false≢true (sym unsound ∙ sound_if broke is_broken is_gone))
 
-tee_by : {run : Run} {asked : TeeAsked} (on_broken : OnBroken) {mode : Mode} {content : Content}
-    (Leaves : List ℕ → Type 0) {is_vain : Bool} {pieces names : List (List ℕ)} {first : Option Break}
-    {broke : List (Option Break)} {output error : Slot} {files : List Slot} (fault : Option Fault) (sound : Bool)
-    → IsLoud on_broken (first ∷ broke) → are_sound (first ∷ broke) ≡ sound
-    → (2 ^ 63 ≤ length content.bytes → HasLong run (Tee asked)) → (are_sound (first ∷ broke) ≡ true → is_vain ≡ false)
-    → IsRead content Leaves is_vain (concat pieces) fault → OutputLeft true pieces first output
-    → FilesLeft true mode pieces names broke files
-    → SaysLines run (Tee asked) (messages_of on_broken names (first ∷ broke) (length pieces) fault)
-    → run.outputs ≡ output ∷ error ∷ files → run.status ≡ tee.status_of on_broken (first ∷ broke) fault
-    → ((are_sound (first ∷ broke) ≡ true) × (concat pieces ≡ content.bytes)) ⊎ IsStop false run (Tee asked)
-tee_by {run} {asked} on_broken Leaves {first = first} {broke} {output} {error} {files} fault false loud sound long vain reads left rest says slots is =
-    let (place, differs, broken) = unsound_broke left rest sound in
-    let (name, called, has) = tee_tells on_broken error fault place loud left rest differs broken in
-    inr (tee_stop on_broken fault loud left rest says slots (is ∙ loud_status on_broken (first ∷ broke) fault loud sound) (failing place (slot_at (output ∷ error ∷ files) place).state) name
-    (failing_stops run (Tee asked) (slot_at (output ∷ error ∷ files) place).state (rw slots (differs, called, broken, refl))) (says_line has says))
-tee_by on_broken Leaves {pieces = pieces} {names} {first} {broke} fault true loud sound long vain reads left rest says slots is = elim (read_or Leaves (vain sound) reads) [
-  | inl all ↦ inl (sound, all)
-  | inr (met, many) ↦ inr (tee_stop on_broken fault loud left rest says slots (is ∙ sound_status on_broken (first ∷ broke) fault sound ∙ ap (λ why. cond (is_none why) 0 1) met) TooLong (codes "standard input") (long many)
-      (says_line (has_before (said_in on_broken (suc (length pieces)) (output_names names) (first ∷ broke)) (has_after (said_before on_broken (suc (length pieces)) (output_names names) (first ∷ broke)) ([], [], refl))) (rw met at says)))
-]
+-- a run of it whose lines were all said
+
+module _ {run : Run} {asked : TeeAsked} (on_broken : OnBroken) {mode : Mode} {pieces names : List (List ℕ)}
+    {first : Option Break} {broke : List (Option Break)} {output error : Slot} {files : List Slot}
+    (fault : Option Fault) (loud : IsLoud on_broken (first ∷ broke)) (left : OutputLeft true pieces first output)
+    (rest : FilesLeft true mode pieces names broke files)
+    (says : SaysLines run (Tee asked) (messages_of on_broken names (first ∷ broke) (length pieces) fault))
+    (slots : run.outputs ≡ output ∷ error ∷ files) where
+  tee_stop : run.status ≡ 1 → (why : Fault) (name : List ℕ) → StopsRun run (Tee asked) name why
+      → Tells run (Tee asked) why name → IsStop false run (Tee asked)
+  tee_stop failed why name stops line = record {
+    failed = failed;
+    why = why;
+    name = name;
+    stops = stops;
+    line = line;
+    broke = λ place differs broken. let (name, called, has) =
+        tee_tells on_broken error loud left rest fault place differs (rw slots at broken) in
+        inl (subst (λ those. IsToldIn run (Tee asked) those place) (sym slots) (name, called, says_line has says));
+  }
+
+  tee_by : {content : Content} (Leaves : List ℕ → Type 0) {is_vain : Bool} (sound : Bool)
+      → are_sound (first ∷ broke) ≡ sound → (2 ^ 63 ≤ length content.bytes → HasLong run (Tee asked))
+      → (are_sound (first ∷ broke) ≡ true → is_vain ≡ false)
+      → IsRead content Leaves is_vain (concat pieces) fault
+      → run.status ≡ tee.status_of on_broken (first ∷ broke) fault
+      → Unless run (Tee asked) ((are_sound (first ∷ broke) ≡ true) × (concat pieces ≡ content.bytes))
+  tee_by Leaves false sound long vain reads is =
+      let (place, differs, broken) = unsound_broke left rest sound in
+      let (name, called, has) = tee_tells on_broken error loud left rest fault place differs broken in
+      let which = (slot_at (output ∷ error ∷ files) place).state in
+      inr (inl (tee_stop (is ∙ loud_status on_broken (first ∷ broke) fault loud sound) (failing place which) name
+      (failing_stops run (Tee asked) which (rw slots (differs, called, broken, refl))) (says_line has says)))
+  tee_by Leaves true sound long vain reads is = elim (read_or Leaves (vain sound) reads) [
+    | inl all ↦ inl (sound, all)
+    | inr (met, many) ↦ inr (inl
+        (tee_stop (is ∙ sound_status on_broken (first ∷ broke) fault sound ∙ rw met) TooLong (codes "standard input")
+        (long many)
+        (says_line (has_before (said_in on_broken (suc (length pieces)) (output_names names) (first ∷ broke))
+        (has_after (said_before on_broken (suc (length pieces)) (output_names names) (first ∷ broke))
+        ([], [], refl))) (rw met at says))))
+  ]
 
 -- one that is gone broke for that reason
 
@@ -365,7 +379,7 @@ gone_why why is = absurd (cc)
 
 gone_is : (one : Standing) → tee.is_same one Gone ≡ true → one ≡ Gone
 gone_is Gone is = refl
-gone_is one is = absurd (false≢true is)
+gone_is one is = absurd (cc)
 
 abbrev IsGoneFor : Slot → Type 0
 IsGoneFor output = (output.is_broken ≡ true) × (output.reason ≡ reason.Gone)
@@ -385,9 +399,9 @@ file_gone (tee.file_unclosed {why}) gone = (refl, gone_why why gone)
 files_gone : {mode : Mode} {pieces names : List (List ℕ)} {broke : List (Option Break)} {files : List Slot}
     → FilesLeft true mode pieces names broke files → tee.any_is Gone (map tee.standing_of broke) ≡ true
     → (place : ℕ) × IsGoneFor (slot_at files place)
-files_gone tee.no_file gone = absurd (false≢true gone)
+files_gone tee.no_file gone = absurd (cc)
 files_gone (tee.one_file name names when broke file files left rest) gone =
-    elim (or_cases (tee.is_same (tee.standing_of when) Gone) (tee.any_is Gone (map tee.standing_of broke)) gone) [
+    elim (or_cases _ _ gone) [
       | inl here ↦ (0, file_gone left (gone_is (tee.standing_of when) here))
       | inr later ↦ let (place, is) = files_gone rest later in (suc place, is)
     ]
@@ -397,7 +411,7 @@ any_gone : (run : Run) {mode : Mode} {pieces names : List (List ℕ)} {first : O
     → FilesLeft true mode pieces names broke files → run.outputs ≡ output ∷ error ∷ files
     → tee.any_is Gone (map tee.standing_of (first ∷ broke)) ≡ true → HasGone run
 any_gone run {first = first} {broke} left rest slots gone =
-    elim (or_cases (tee.is_same (tee.standing_of first) Gone) (tee.any_is Gone (map tee.standing_of broke)) gone) [
+    elim (or_cases _ _ gone) [
       | inl here ↦ let (broken, why) = output_gone left (gone_is (tee.standing_of first) here) in
           (0, (λ is. omega (arith, is)), rw slots broken, rw slots why)
       | inr later ↦ let (place, (broken, why)) = files_gone rest later in
@@ -419,14 +433,10 @@ tee_or {run} asked {content = content} only (tee.copied pieces fault first broke
     ] where
       loudly : IsLoud asked.on_broken (first ∷ broke)
           → Unless run (Tee asked) ((are_sound (first ∷ broke) ≡ true) × (concat pieces ≡ content.bytes))
-      loudly loud = elim (tee_by asked.on_broken _ fault (are_sound (first ∷ broke)) loud refl
-          (λ many. (standard_input content, content, ([], [], only), refl, many))
-          (sound_goes_on asked.on_broken (suc (length pieces)) first broke) came.read left rest
-          (tee_lines asked asked.on_broken fault slots left rest (input_tells run asked _ only came.read) says)
-          slots is) [
-            | inl whole ↦ inl whole
-            | inr stop ↦ inr (inl stop)
-          ]
+      loudly loud = tee_by asked.on_broken fault loud left rest
+          (tee_lines asked asked.on_broken fault slots left rest (input_tells run asked _ only came.read) says) slots
+          _ (are_sound (first ∷ broke)) refl (λ many. (standard_input content, content, ([], [], only), refl, many))
+          (sound_goes_on asked.on_broken (suc (length pieces)) first broke) came.read is
 tee_or asked only (tee.no_room error says unread slots is) = inr (inl (stop_early Memory [] tt says slots is))
 
 -- a text about a tool
@@ -452,7 +462,9 @@ text_stops {run} {which} {topic} n {error} says slots is = record {
 
   broke : (place : ℕ) → (place ≡ 1 → ⊥) → (slot_at run.outputs place).is_broken ≡ true
       → IsToldOf run (About which topic) place ⊎ IsStuck false run.outputs place
-  broke zero differs broken = inl (subst (λ those. (name : List ℕ) × IsCalled (slot_at those 0) name × Tells run (About which topic) (failing 0 (slot_at those 0).state) name) (sym slots) (codes "standard output", inl refl, line))
+  broke zero differs broken =
+      inl (subst (λ those. IsToldIn run (About which topic) those 0) (sym slots)
+      (codes "standard output", inl refl, line))
   broke (suc zero) differs broken = absurd (differs refl)
   broke (suc (suc place)) differs broken = absurd (false≢true (rw slots at broken))
 
@@ -474,18 +486,11 @@ about_or (no_text error says slots is) = inr (inl (stop_early Memory [] tt (erro
 
 -- All tools
 
-does_or : {run : Run} (asked : Settings)
-    (does : DoesAsked run.calling true true asked
-    (inputs_at run.world (names_of asked)) run.inputs run.outputs run.status)
-    → Unless run asked
-    (Unstopped run.calling asked
-    (inputs_at run.world (names_of asked)) run.inputs run.outputs run.status does)
-does_or (Head asked) does = ends_or {asked = Head asked} refl does
-does_or (Tail asked) does = ends_or {asked = Tail asked} refl does
-does_or (Split asked) does = ends_or {asked = Split asked} refl does
+does_or : {run : Run} (asked : Settings) (does : Did run asked) → Unless run asked (DidUnstopped run asked does)
 does_or (Csplit asked) does = ends_or {asked = Csplit asked} (does.operands, does.asks, refl) does.ends
 does_or (Tee asked) does = tee_or asked does.input does.ends
 does_or (About which topic) does = about_or does
+does_or asked does = ends_or {asked = asked} refl does
 
 -- operands that are wrong
 
@@ -494,20 +499,12 @@ bad_stops : (run : Run) (asked : Settings) (fault : Fault) → HasBadOperands as
 bad_stops run (Csplit asked) fault bad = grind (arith, common_steps)
 bad_stops run asked fault bad = absurd bad
 
--- no reason stands in its line, so it is the same however the program was called
-usage_by : {old new : Slot} (calling : Calling) {which tool : Tool} (kind : UsageKind) (place : ℕ) (name : List ℕ)
-    → which ≡ tool → Says true (by Cutters which) (message_of (Usage kind place) name) old new
-    → Says true (by calling tool) (message_of (Usage kind place) name) old new
-usage_by {old} {new} OwnName {which} kind place name is (why, says) =
-    let spoken : Says true (by OwnName which) (message_of (Usage kind place) name) old new = (why, record { said = says.said; is = says.is; printed = says.printed }) in rw is at spoken
-usage_by Cutters kind place name is says = rw is at says
-
 refused_by : {old new : Slot} (run : Run) (asked : Settings) (fault : Fault) → HasBadOperands asked fault
     → speaker run.words ≡ tool_of asked
     → Says true (refuser run.words) (message_of fault (word_of run.words fault)) old new
     → Says true (speaker_of run.calling asked) (message_of fault (word_of run.words fault)) old new
-refused_by run asked Memory bad is says = memory_by run.calling is says
-refused_by run asked (Usage kind place) bad is says = usage_by run.calling kind place (word_of run.words (Usage kind place)) is says
+refused_by run asked Memory bad is says = worded_by run.calling is says
+refused_by run asked (Usage kind place) bad is says = worded_by run.calling is says
 refused_by run (Csplit asked) fault bad is says = grind (arith, common_steps)
 refused_by run asked fault bad is says = absurd bad
 
@@ -542,11 +539,7 @@ silent_completes {run} (Tee asked) does silent = elim (ran_over does.ran) [
   | inl did ↦ record { read = does.ran.read; does = did; unstopped = whole_copied run asked did.ends does.well does.unforgiven }
   | inr (fault, bad, refuses) ↦ absurd bad
 ]
-silent_completes (Head asked) does silent = absurd (omega (arith, does.well, silent.2))
-silent_completes (Tail asked) does silent = absurd (omega (arith, does.well, silent.2))
-silent_completes (Split asked) does silent = absurd (omega (arith, does.well, silent.2))
-silent_completes (Csplit asked) does silent = absurd (omega (arith, does.well, silent.2))
-silent_completes (About which topic) does silent = absurd (omega (arith, does.well, silent.2))
+silent_completes asked does silent = absurd (omega (arith, does.well, silent.2))
 
 pub completes_or : (run : Run) (asked : Settings) → Ran run asked
     → Completes run asked ⊎ IsStopped run asked ⊎ IsSilent run asked
@@ -561,7 +554,9 @@ told_one : {run : Run} {asked : Settings} {line : Message} {lines : List Message
     → HasLine line lines → SaysWhy run asked
 told_one {run} {asked} {line} {lines} says (before, after, is) =
     let has : HasLine line lines = (before, after, is) in
-    let (fault, name, met, same) = subst (TellsMet run asked) (ap (λ those. get_or those (length before) line) is ∙ get_or-append_seam before line after line) (says.are (length before) line (omega (arith, ap length is, length-append before (line ∷ after)))) in
+    let (fault, name, met, same) =
+    rw (is, get_or-append_seam before line after line) at
+    (says.are (length before) line (omega (arith, ap length is, length-append before (line ∷ after)))) in
     (fault, name, met, says_line (rw same at has) says)
 
 -- a `tee` that keeps back what is gone tells what else failed
@@ -574,16 +569,15 @@ quiet_line on_broken {pieces = pieces} {names} {first} {broke} (Some fault) left
     (message_of fault (codes "standard input"), has_before (said_in on_broken (suc (length pieces)) (output_names names) (first ∷ broke)) (has_after (said_before on_broken (suc (length pieces)) (output_names names) (first ∷ broke)) ([], [], refl)))
 quiet_line on_broken {names = names} {first} {broke} None left rest quiet one = elim (cases_Bool (tee.any_is Broken (map tee.standing_of (first ∷ broke)))) [
   | inl broken ↦ broken_tells on_broken None left rest broken
-  | inr unbroken ↦ absurd (by on_broken (tee.any_is Gone (map tee.standing_of (first ∷ broke))) quiet (subst (λ some. cond (tee.any_is Gone (map tee.standing_of (first ∷ broke))) (tee.gone_status on_broken some) (cond some 1 0) ≡ 1) unbroken one))
+  | inr unbroken ↦ absurd (by on_broken (tee.any_is Gone (map tee.standing_of (first ∷ broke))) quiet
+      (rw unbroken at one))
 ] where
   by : (on_broken : OnBroken) (gone : Bool) → tee.is_quiet on_broken ≡ true
       → cond gone (tee.gone_status on_broken false) 0 ≡ 1 → ⊥
   by on_broken false quiet one = omega (arith, one)
   by Warn true quiet one = false≢true quiet
   by Exit true quiet one = false≢true quiet
-  by WarnNoPipe true quiet one = omega (arith, one)
-  by ExitNoPipe true quiet one = omega (arith, one)
-  by Signal true quiet one = omega (arith, one)
+  by on_broken true quiet one = omega (arith, one)
 
 tee_why : (run : Run) (asked : TeeAsked) {mode : Mode} {names : List (List ℕ)} {content : Content} {source : Source}
     → inputs_at run.world (names_of (Tee asked)) ≡ standard_input content ∷ [] → tee.is_quiet asked.on_broken ≡ true
@@ -599,11 +593,7 @@ silent_says run (Tee asked) ran silent one = elim (ran_over ran) [
   | inl did ↦ tee_why run asked did.input silent.0 did.ends one
   | inr (fault, bad, refuses) ↦ absurd bad
 ]
-silent_says run (Head asked) ran silent one = absurd (omega (arith, one, silent.2))
-silent_says run (Tail asked) ran silent one = absurd (omega (arith, one, silent.2))
-silent_says run (Split asked) ran silent one = absurd (omega (arith, one, silent.2))
-silent_says run (Csplit asked) ran silent one = absurd (omega (arith, one, silent.2))
-silent_says run (About which topic) ran silent one = absurd (omega (arith, one, silent.2))
+silent_says run asked ran silent one = absurd (omega (arith, one, silent.2))
 
 pub says_why : (run : Run) (asked : Settings) → Ran run asked → run.status ≡ 1 → SaysWhy run asked
 says_why run asked ran one = elim (ran_so ran) [
@@ -620,7 +610,7 @@ left_broke : (run : Run) (asked : Settings) {place : ℕ} → LeftBy run asked �
 left_broke run asked {place} all differs broken =
     let (sweeps, closed) = (left_at all.left place differs).broke (outputs_live all.made.part standard_error place all.fits.live differs).0 broken in
     let (clears, failed) = all.fits.sweeps sweeps in
-    (all.left.is ∙ ap (λ flag. cond flag 1 0) failed, (clears, closed, swept_gone all.made.sweeps _ _ sweeps all.left.swept))
+    (rw failed at all.left.is, (clears, closed, swept_gone all.made.sweeps _ _ sweeps all.left.swept))
 
 why_broken : {run : Run} {asked : Settings} {place : ℕ}
     → IsToldOf run asked place ⊎ IsStuck (removes_files asked) run.outputs place → WhyBroken run asked place

@@ -1,8 +1,8 @@
 -- What a run of `tee` leaves, and what ended it.
 use Rattle.std.proofs.{
-  Common.{◌≡◌, ◌⊎◌, ◌||◌, ℕ, ◌≤◌, ◌<◌, ◌^◌, ◌+◌, get_or, map, not, zero, suc, Bool, true, false, List, [], ◌∷◌, ◌++◌},
-  Common.{length, take, Option, None, Some, cond, if◌then◌else◌, nat_lt, inl, inr, refl, sym, ◌∙◌, ap, arith},
-  Common.{append-nil, append_assoc, All, length-append},
+  Common.{◌≡◌, ◌⊎◌, ℕ, ◌≤◌, ◌<◌, ◌^◌, ◌+◌, get_or, map, zero, suc, Bool, true, false, List, [], ◌∷◌, ◌++◌, length},
+  Common.{take, Option, None, Some, cond, if◌then◌else◌, nat_lt, inl, inr, refl, sym, ◌∙◌, ap, arith, append-nil},
+  Common.{append_assoc, All, length-append},
   lemmas.{Bool.{lt-ltb, not-true, or_parts, false≢true, or_cases, Decides.nat_tests}, List.Folds.concat-append},
   Math.Bool.or-true,
 }
@@ -49,18 +49,18 @@ ends_now : (on_broken : OnBroken) (call at : ℕ) (why : Reason)
     → ends_run (lost_for why) on_broken ≡ true → nat_lt at call ≡ false
 ends_now on_broken call at why late ends = by (nat_lt at call) late where
   by : (sooner : Bool) → ends_run (cond sooner (lost_for why) Sound) on_broken ≡ false → sooner ≡ false
-  by true late = absurd (false≢true (sym late ∙ ends))
+  by true late = absurd (cc)
   by false late = refl
 
 -- one that ended it does so as it stands in the end
 ends_still : (on_broken : OnBroken) (call : ℕ) (when : Option Break) → Ends on_broken call when ≡ true
     → ends_run (standing_of when) on_broken ≡ true
-ends_still on_broken call None ends = absurd (false≢true ends)
+ends_still on_broken call None ends = absurd (cc)
 ends_still on_broken call (Some one) ends = by (nat_lt one.call call) ends where
   by : (sooner : Bool) → ends_run (cond sooner (lost_for one.why) Sound) on_broken ≡ true
       → ends_run (lost_for one.why) on_broken ≡ true
   by true ends = ends
-  by false ends = absurd (false≢true ends)
+  by false ends = absurd (cc)
 
 -- one that could not be opened ended it before any later call
 first_ends : (on_broken : OnBroken) (call : ℕ) (why : Reason) → ends_run (lost_for why) on_broken ≡ true
@@ -68,7 +68,7 @@ first_ends : (on_broken : OnBroken) (call : ℕ) (why : Reason) → ends_run (lo
 first_ends on_broken call why ends = by (nat_lt 0 (suc call)) (lt-ltb 0 (suc call) (omega arith)) where
   by : (sooner : Bool) → sooner ≡ true → ends_run (cond sooner (lost_for why) Sound) on_broken ≡ true
   by true is = ends
-  by false is = absurd (false≢true is)
+  by false is = absurd (cc)
 
 never_sound : (why : Reason) → lost_for why ≡ Sound → ⊥
 never_sound reason.Gone is = cc
@@ -95,13 +95,13 @@ last_of (piece ∷ next ∷ pieces) = last_of (next ∷ pieces)
 all_are : (pieces : List (List ℕ)) → concat pieces ≡ front_of pieces ++ last_of pieces
 all_are [] = refl
 all_are (piece ∷ []) = append-nil piece
-all_are (piece ∷ next ∷ pieces) = ap (λ rest. piece ++ rest) (all_are (next ∷ pieces)) ∙ sym (append_assoc piece (front_of (next ∷ pieces)) (last_of (next ∷ pieces)))
+all_are (piece ∷ next ∷ pieces) = rw (all_are (next ∷ pieces), append_assoc)
 
 front_is : (before : List (List ℕ)) (piece : List ℕ)
     → (front_of (before ++ piece ∷ []) ≡ concat before) × (last_of (before ++ piece ∷ []) ≡ piece)
 front_is [] piece = (refl, refl)
 front_is (first ∷ []) piece = (refl, refl)
-front_is (first ∷ next ∷ before) piece = let (front, last) = front_is (next ∷ before) piece in (ap (λ rest. first ++ rest) front, last)
+front_is (first ∷ next ∷ before) piece = let (front, last) = front_is (next ∷ before) piece in (rw front, last)
 
 last_small : (pieces : List (List ℕ))
     → All (λ (piece : List ℕ). (0 < length piece) × (length piece ≤ largest_piece)) pieces
@@ -139,14 +139,20 @@ module _ (run : Run) (on_broken : OnBroken) (pieces : List (List ℕ)) where
       → IsUpTo (lost_for why) output
   has_cut before piece after n why output is late has stands opened = record {
     stands = stands;
-    no_more = rw has (begins_trans _ _ _ (take_begins_after n (concat before) piece) (rw (sym (all_are pieces) ∙ ap concat is ∙ concat-append before (piece ∷ after) ∙ sym (append_assoc (concat before) piece (concat after))) (begins_more _ _)));
+    no_more = rw has (begins_trans _ _ _ (take_begins_after n (concat before) piece)
+        (rw (
+          ← all_are pieces,
+          is,
+          concat-append before (piece ∷ after),
+          ← append_assoc (concat before) piece (concat after),
+        ) (begins_more _ _)));
     sound = λ sound. absurd (never_sound why sound);
     some = λ ends. last_one after is (ends_now on_broken (length pieces) (suc (length before)) why late ends);
     unopened = λ ends unopened. absurd (opened unopened);
   } where
     last_one : (after : List (List ℕ)) → pieces ≡ before ++ piece ∷ after
         → nat_lt (suc (length before)) (length pieces) ≡ false → IsBeginning (front_of pieces) output.written
-    last_one [] is late = (take n piece, has ∙ ap (λ front. front ++ take n piece) (sym (ap front_of is ∙ (front_is before piece).0)))
+    last_one [] is late = (take n piece, rw (has, is, (front_is before piece).0))
     last_one (next ∷ after) is late = let size = ap length is ∙ length-append before (piece ∷ next ∷ after) in absurd (grind (arith, nat_tests, size, late))
 
   output_up_to : {when : Option Break} {output : Slot} → Ends on_broken (length pieces) when ≡ false
@@ -179,9 +185,9 @@ module _ (run : Run) (on_broken : OnBroken) (pieces : List (List ℕ)) where
       → IsUpTo (get_or (map standing_of broke) place Sound) (slot_at files place)
   files_up_to place late none tee.no_file within = absurd (omega arith)
   files_up_to zero late none (tee.one_file name names when broke file files left rest) within =
-      file_up_to (or_parts (Ends on_broken (length pieces) when) (some_end on_broken (length pieces) broke) late).0 (λ ends. none (rw ends refl)) left
+      file_up_to (or_parts _ _ late).0 (λ ends. none (rw ends refl)) left
   files_up_to (suc place) late none (tee.one_file name names when broke file files left rest) within =
-      files_up_to place (or_parts (Ends on_broken (length pieces) when) (some_end on_broken (length pieces) broke) late).1 (λ ends. none (rw ends (or-true _))) rest (omega arith)
+      files_up_to place (or_parts _ _ late).1 (λ ends. none (rw ends (or-true _))) rest (omega arith)
 
 -- what was read, and what is left
 
@@ -199,8 +205,8 @@ files_end : {mode : Mode} {pieces names : List (List ℕ)} {broke : List (Option
     (on_broken : OnBroken) (call : ℕ) → some_end on_broken call broke ≡ true
     → FilesLeft true mode pieces names broke files
     → (place : ℕ) × (place < length files) × (ends_run (get_or (map standing_of broke) place Sound) on_broken ≡ true)
-files_end on_broken call some tee.no_file = absurd (false≢true some)
-files_end on_broken call some (tee.one_file name names when broke file files left rest) = elim (or_cases (Ends on_broken call when) (some_end on_broken call broke) some) [
+files_end on_broken call some tee.no_file = absurd (cc)
+files_end on_broken call some (tee.one_file name names when broke file files left rest) = elim (or_cases _ _ some) [
   | inl here ↦ (0, omega arith, ends_still on_broken call when here)
   | inr later ↦ let (place, within, ends) = files_end on_broken call later rest in (suc place, omega (arith, within), ends)
 ]
@@ -211,9 +217,9 @@ files_lost : {mode : Mode} {pieces names : List (List ℕ)} {broke : List (Optio
     → place < length files → get_or (map standing_of broke) place Sound ≡ Sound → ⊥
 files_lost call place none tee.no_file within sound = omega (arith, within)
 files_lost call zero none (tee.one_file name names when broke file files left rest) within sound =
-    false≢true (sym (or_parts (is_same (standing_before call when) Sound) (any_is Sound (standings_before call broke)) none).0 ∙ sound_before call when sound)
+    false≢true (sym (or_parts _ _ none).0 ∙ sound_before call when sound)
 files_lost call (suc place) none (tee.one_file name names when broke file files left rest) within sound =
-    files_lost call place (or_parts (is_same (standing_before call when) Sound) (any_is Sound (standings_before call broke)) none).1 rest (omega arith) sound
+    files_lost call place (or_parts _ _ none).1 rest (omega arith) sound
 
 -- how each output stands: standard error, of which nothing is said, as if it were sound
 abbrev stand_at : Option Break → List (Option Break) → ℕ → Standing
@@ -225,9 +231,11 @@ none_sound : {mode : Mode} {pieces names : List (List ℕ)} {broke : List (Optio
     (first : Option Break) → any_is Sound (standings_before call (first ∷ broke)) ≡ false
     → FilesLeft true mode pieces names broke files
     → (place : ℕ) → (place ≡ 1 → ⊥) → place < suc (suc (length files)) → stand_at first broke place ≡ Sound → ⊥
-none_sound {broke = broke} call first none rest zero differs within sound = false≢true (sym (or_parts (is_same (standing_before call first) Sound) (any_is Sound (standings_before call broke)) none).0 ∙ sound_before call first sound)
+none_sound {broke = broke} call first none rest zero differs within sound =
+    false≢true (sym (or_parts _ _ none).0 ∙ sound_before call first sound)
 none_sound call first none rest (suc zero) differs within sound = differs refl
-none_sound {broke = broke} call first none rest (suc (suc place)) differs within sound = files_lost call place (or_parts (is_same (standing_before call first) Sound) (any_is Sound (standings_before call broke)) none).1 rest (omega arith) sound
+none_sound {broke = broke} call first none rest (suc (suc place)) differs within sound =
+    files_lost call place (or_parts _ _ none).1 rest (omega arith) sound
 
 -- where an output ended the run before a piece came, no read was made
 none_read : {pieces : List (List ℕ)} {reads : ℕ} (on_broken : OnBroken) (first : Option Break)
@@ -236,7 +244,7 @@ none_read : {pieces : List (List ℕ)} {reads : ℕ} (on_broken : OnBroken) (fir
     ≡ length pieces + (if is_done on_broken (standings_before (suc (length pieces)) (first ∷ broke)) then 0 else 1)
     → some_end on_broken (suc (length pieces)) (first ∷ broke) ≡ true → pieces ≡ [] → reads ≡ 0
 none_read {pieces} on_broken first broke is ends none =
-    is ∙ ap (λ ends. length pieces + cond (ends || not (any_is Sound (standings_before (suc (length pieces)) (first ∷ broke)))) 0 1) ends ∙ ap (λ (those : List (List ℕ)). length those + 0) none
+    is ∙ rw (ends, none)
 
 ends_with_break : (run : Run) (asked : TeeAsked) {mode : Mode} {names : List (List ℕ)}
     → length run.world.standard.bytes < 2 ^ 63
@@ -244,7 +252,7 @@ ends_with_break : (run : Run) (asked : TeeAsked) {mode : Mode} {names : List (Li
     (source_at run.inputs 0) run.outputs run.status → EndsWithBreak run asked
 ends_with_break run asked few (tee.copied pieces fault first broke output error files comes goes left rest says slots is) =
     let (more, bytes, unread, over) = read_up_to (source_at run.inputs 0) few comes.read in
-    let (early, later) = or_parts (Ends asked.on_broken (length pieces) first) (some_end asked.on_broken (length pieces) broke) (or_parts (some_end asked.on_broken (length pieces) (first ∷ broke)) _ goes).0 in record {
+    let (early, later) = or_parts _ _ (or_parts _ _ goes).0 in record {
       before = front_of pieces;
       last = last_of pieces;
       rest = more;
@@ -271,8 +279,8 @@ ends_with_break run asked few (tee.copied pieces fault first broke output error 
           → OneIs run (stand_at first broke) (λ standing. ends_run standing asked.on_broken ≡ true)
           ⊎ (OneIs run (stand_at first broke) (λ standing. standing ≡ Sound) → ⊥)
           ⊎ (((source_at run.inputs 0).reads ≡ 0) × Tells run (Tee asked) Memory [])
-      ended vain = elim (or_cases (some_end asked.on_broken (suc (length pieces)) (first ∷ broke)) _ vain) [
-        | inl one ↦ inl (elim (or_cases (Ends asked.on_broken (suc (length pieces)) first) _ one) [
+      ended vain = elim (or_cases _ _ vain) [
+        | inl one ↦ inl (elim (or_cases _ _ one) [
           | inl here ↦ (0, (λ same. omega (arith, same)), rw slots (omega arith), ends_still asked.on_broken (suc (length pieces)) first here)
           | inr there ↦ let (place, within, ends) = files_end asked.on_broken (suc (length pieces)) there rest in (suc (suc place), (λ same. omega (arith, same)), rw slots (omega (arith, within)), ends)
         ])

@@ -1,9 +1,7 @@
-use Rattle.std.proofs.Common.{Bor, ℕ, List, map, ◌∙◌, ◌∷◌, [], refl, sym, ap}
+use Rattle.std.proofs.Common.{Bor, ℕ, List, map, ◌∙◌, ◌∷◌, [], refl, ap}
 use Rattle.run_core.{specs.Input.has_dash, proofs.InputLemmas.fresh_counts}
-use Rattle.words_core.{
-  specs.{CsplitWords.CsplitAsked, SplitWords.SplitAsked, TeeWords.TeeAsked, declared.settings.Settings.Settings},
-}
-use Rattle.tools_core.{specs.Tasks.names_of, proofs.RunLemmas.{ends_names, tee_runs}}
+use Rattle.words_core.{specs.{CsplitWords.CsplitAsked, SplitWords.SplitAsked, TeeWords.TeeAsked}}
+use Rattle.tools_core.{proofs.RunLemmas.{ends_names, tee_runs}}
 use Rattle.ports_core.proofs.InputsLemmas.{fresh_asks}
 use Rattle.tools_core.proofs.run.run_tool.Goals as goal
 
@@ -13,7 +11,7 @@ returns-in-Head g c =
       ends = rw c.in-Head.is (rw names at c.run_inputs.ensures.ends);
       opened = rw c.in-Head.is (rw names at c.run_inputs.ensures.opened);
       asked = c.run_inputs.ensures.asked;
-      untouched = λ none. c.run_inputs.ensures.untouched (ap has_dash names ∙ sym (ap (λ (those : Settings). has_dash (names_of those)) c.in-Head.is) ∙ none);
+      untouched = λ none. c.run_inputs.ensures.untouched (ap has_dash names ∙ rw c.in-Head.is at none);
     }
 
 pub returns-in-Tail : goal.returns-in-Tail
@@ -22,7 +20,7 @@ returns-in-Tail g c =
       ends = rw c.in-Tail.is (rw names at c.run_inputs-in-Tail.ensures.ends);
       opened = rw c.in-Tail.is (rw names at c.run_inputs-in-Tail.ensures.opened);
       asked = c.run_inputs-in-Tail.ensures.asked;
-      untouched = λ none. c.run_inputs-in-Tail.ensures.untouched (ap has_dash names ∙ sym (ap (λ (those : Settings). has_dash (names_of those)) c.in-Tail.is) ∙ none);
+      untouched = λ none. c.run_inputs-in-Tail.ensures.untouched (ap has_dash names ∙ rw c.in-Tail.is at none);
     }
 
 pub returns-in-Split : goal.returns-in-Split
@@ -31,7 +29,8 @@ returns-in-Split g c =
       ends = rw c.in-Split.is (rw name at c.run_inputs-in-Split.ensures.ends);
       opened = rw c.in-Split.is (rw name at c.run_inputs-in-Split.ensures.opened);
       asked = c.run_inputs-in-Split.ensures.asked;
-      untouched = λ none. c.run_inputs-in-Split.ensures.untouched (ap (λ one. has_dash (one ∷ [])) name ∙ sym (ap (λ (those : Settings). has_dash (names_of those)) c.in-Split.is) ∙ none);
+      untouched = λ none. c.run_inputs-in-Split.ensures.untouched
+          (ap (λ one. has_dash (one ∷ [])) name ∙ rw c.in-Split.is at none);
     }
 
 pub returns-in-Csplit : goal.returns-in-Csplit
@@ -40,7 +39,8 @@ returns-in-Csplit g c = record {
       rw c.in-Csplit.is (found, rw (ap (λ (asked : CsplitAsked). asked.input) c.asked.view_is) at finds, record { operands = _; asks = c.operands.ensures; ends = ends });
   opened = rw c.in-Csplit.is (rw (ap (λ (asked : CsplitAsked). asked.input) c.asked.view_is) at c.run_inputs-in-Csplit.ensures.opened);
   asked = c.run_inputs-in-Csplit.ensures.asked;
-  untouched = λ none. c.run_inputs-in-Csplit.ensures.untouched (ap (λ (asked : CsplitAsked). has_dash (asked.input ∷ [])) c.asked.view_is ∙ sym (ap (λ (those : Settings). has_dash (names_of those)) c.in-Csplit.is) ∙ none);
+  untouched = λ none. c.run_inputs-in-Csplit.ensures.untouched
+      (ap (λ (asked : CsplitAsked). has_dash (asked.input ∷ [])) c.asked.view_is ∙ rw c.in-Csplit.is at none);
 }
 
 pub returns-in-About : goal.returns-in-About

@@ -1,5 +1,5 @@
-use Rattle.std.proofs.{Common.{Ok, None, Some, true, false, refl, sym, ◌∙◌, ap, subst}, lemmas.Bool.false≢true}
-use Rattle.run_core.{specs.RunSteps.IsShown, proofs.InputLemmas.shows_something}
+use Rattle.std.proofs.{Common.{Ok, None, Some, true, false, refl, sym, ◌∙◌, ap}, lemmas.Bool.false≢true}
+use Rattle.run_core.{proofs.InputLemmas.shows_something}
 use Rattle.words_core.specs.EndsWords.{EndsAsked}
 use Rattle.tools_core.{
   specs.Tasks.is_minus,
@@ -24,7 +24,7 @@ returns-in-Some-clause-opens g c =
     let signed = ap (λ (asked : EndsAsked). is_minus asked.count.sign) (sym c.settings.view_is) ∙ sym c.is_minus.ensures ∙ c.if-not-is_minus.false in
     let is = head_by (Some seen.text) {those = asked} refl signed in (
       Some seen.text,
-      subst (λ source. IsShown g.I.Inputs.told source (g.I.Inputs.sources c.args.inputs.now) (Some seen.text)) (sym at) (λ t. sym (seen.shown t)),
+      rw at (λ t. sym (seen.shown t)),
       opened_still _ _ (Ok c.up_to.result) is c.up_to.ensures.holds (c.up_to.ensures.does asked.delim asked.unit asked.count.amount seen.text (sym seen.place)) c.up_to.ensures.bound c.requires.output
           (head_shown_begins asked.delim asked.unit asked.count.amount seen.text c.requires.streams),
       tt,

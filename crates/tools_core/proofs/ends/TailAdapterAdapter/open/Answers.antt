@@ -1,5 +1,5 @@
-use Rattle.std.proofs.{Common.{Ok, None, Some, true, false, refl, sym, ◌∙◌, ap, subst}, lemmas.Bool.false≢true}
-use Rattle.run_core.{specs.RunSteps.IsShown, proofs.InputLemmas.shows_something}
+use Rattle.std.proofs.{Common.{Ok, None, Some, true, false, refl, sym, ◌∙◌, ap}, lemmas.Bool.false≢true}
+use Rattle.run_core.{proofs.InputLemmas.shows_something}
 use Rattle.words_core.specs.EndsWords.{EndsAsked}
 use Rattle.tools_core.{
   specs.Tasks.is_plus,
@@ -24,7 +24,7 @@ returns-in-Some-clause-opens g c =
     let signed = ap (λ (asked : EndsAsked). is_plus asked.count.sign) (sym c.settings.view_is) ∙ sym c.is_plus.ensures ∙ c.if-is_plus.false in
     let is = tail_by (Some seen.text) {those = asked} refl signed in (
       Some seen.text,
-      subst (λ source. IsShown g.I.Inputs.told source (g.I.Inputs.sources c.args.inputs.now) (Some seen.text)) (sym at) (λ t. sym (seen.shown t)),
+      rw at (λ t. sym (seen.shown t)),
       opened_still _ _ (Ok c.after.result) is c.after.ensures.holds (c.after.ensures.does asked.delim asked.unit asked.count.amount seen.text (sym seen.place) (sym seen.len)) c.after.ensures.bound c.requires.output
           (tail_shown_begins asked.delim asked.unit asked.count.amount seen.text c.requires.streams),
       tt,
