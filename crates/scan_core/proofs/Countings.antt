@@ -25,9 +25,9 @@ use Rattle.scan_core.{
 -- The words of the numbers of a kind.
 
 -- the word of a byte
-pub takes_word : (code : List Node) (takes : List ℕ) {size : ℕ} (byte at : ℕ) → AreTakes code takes → size ≡ width code
+pub takes_word : (code : List Node) {takes : List ℕ} {size byte at : ℕ} → AreTakes code takes → size ≡ width code
     → byte < 256 → at < width code → IsMask code (Takes byte) at (get_or takes (byte * size + at) 0)
-takes_word code takes byte at t e small within =
+takes_word code {takes} {byte} {at} t e small within =
     let place : ℕ = byte * width code + at in
     rw (← e) at (subst (λ b. IsMask code (Takes b) at (get_or takes place 0)) (div-mul-add byte (width code) at within)
     (subst (λ n. IsMask code (Takes (place / width code)) n (get_or takes place 0)) (mod-mul-add byte (width code) at within)
@@ -77,9 +77,9 @@ shifted_high kept carry bit h small =
     omega (arith, e, none, a, b, c)
 
 -- a bit of a word that the byte is taken from
-kept_bit : (code : List Node) (words : List ℕ) (byte at bit takes : ℕ) → IsMask code (Takes byte) at takes → bit < 64
+kept_bit : (code : List Node) (words : List ℕ) {byte : ℕ} (at bit takes : ℕ) → IsMask code (Takes byte) at takes → bit < 64
     → (bit_at (bit_and (get_or words at 0) takes) bit ≡ 1) ↔ Led code byte words (at * 64 + bit + 1)
-kept_bit code words byte at bit takes m small = search (rules, is_in_word, bit_at_and)
+kept_bit code words at bit takes m small = search (rules, is_in_word, bit_at_and)
 
 pub set_elsewhere : (words : List ℕ) {at : ℕ} (word number : ℕ) → (number / 64 ≡ at → ⊥)
     → IsIn (set words at word) number ↔ IsIn words number
@@ -121,7 +121,7 @@ passing_more {code} {byte} {base} {old} {now} {new} {at} {carry} {kept} takes p 
     kept_is : (bit : ℕ) → bit < 64 → (bit_at kept bit ≡ 1) ↔ Led code byte old (at * 64 + bit + 1)
     kept_is bit small =
         let e : kept ≡ bit_and (get_or old at 0) takes = ek ∙ ap (λ w. bit_and w takes) (p.rest at (omega arith)) in
-        rw (← e) at (kept_bit code old byte at bit takes m small)
+        rw (← e) at (kept_bit code old at bit takes m small)
 
     read : get_or new at 0 ≡ bit_or (bit_or (kept * 2 ^ 1 % 2 ^ 64) carry) (get_or base at 0)
     read = let s = p.size in ap (λ w. get_or w at 0) en ∙ get_or-set_same now at (bit_or (bit_or (kept * 2 ^ 1 % 2 ^ 64) carry) (get_or base at 0)) 0 (omega (arith, h, s))
@@ -168,7 +168,7 @@ pub passing_ends : {code : List Node} {byte : ℕ} {base old now : List ℕ} {at
     → Passing code byte base old now at carry → length old ≤ at → length old ≡ width code → length base ≡ width code
     → (number : ℕ) → IsIn now number ↔ LedOrBase code byte base old number
 passing_ends {code} {byte} {base} {old} {now} {at} p h size same number = (
-  λ k. let l = is_within now number k in let s = p.size in (p.past number (omega (arith, l, s, h))).0 k,
+  λ k. let l = is_within now k in let s = p.size in (p.past number (omega (arith, l, s, h))).0 k,
   λ k. (p.past number (within k)).1 k,
 )
   where
@@ -177,13 +177,13 @@ passing_ends {code} {byte} {base} {old} {now} {at} p h size same number = (
         let l = pass_least code k.2 in
         let e = k.2.3 in
         omega (arith, l, e, size, h)
-    within (inr front) = let l = is_within base number front in omega (arith, l, same, size, h)
+    within (inr front) = let l = is_within base front in omega (arith, l, same, size, h)
 
 -- no bit of words that are 0
-pub none_in : (words : List ℕ) (at : ℕ) → ((n : ℕ) → n < at → get_or words n 0 ≡ 0) → length words ≤ at → (number : ℕ)
+pub none_in : (words : List ℕ) {at : ℕ} → ((n : ℕ) → n < at → get_or words n 0 ≡ 0) → length words ≤ at → (number : ℕ)
     → IsIn words number → ⊥
-none_in words at zeros h number k =
-    let l = is_within words number k in
+none_in words {at} zeros h number k =
+    let l = is_within words k in
     let same : number ≡ number / 64 * 64 + number % 64 = omega arith in
     let b = (is_in_word words (number / 64) (number % 64) (omega arith)).1 (rw same at k) in
     let z = ap (λ x. bit_at x (number % 64)) (zeros (number / 64) (omega (arith, l, h))) ∙ bit_at-zero (number % 64) in
@@ -219,14 +219,14 @@ weight_bit word counts e =
     let least = bit_at-lt word 0 in
     grind (arith, both, a, b, e, l, least)
 
-sum_bits : (count : ℕ) (weight : ℕ → ℕ) (word counts : ℕ) (rest : List Bool) → word < 2 ^ count
+sum_bits : (count : ℕ) {weight : ℕ → ℕ} {word : ℕ} (counts : ℕ) (rest : List Bool) → word < 2 ^ count
     → ((bit : ℕ) → bit < count → bit_at counts bit ≡ weight bit)
     → sum_of weight (bits count word ++ rest) ≡ count_ones (bit_and word counts) + sum_of (λ n. weight (count + n)) rest
 unfolding bits
-sum_bits zero weight word counts rest small exact = grind (arith, common_steps)
-sum_bits (suc count) weight word counts rest small exact =
+sum_bits zero counts rest small exact = grind (arith, common_steps)
+sum_bits (suc count) {weight} {word} counts rest small exact =
     let half : word / 2 < 2 ^ count = halved count word small in
-    let r = sum_bits count (λ n. weight (suc n)) (word / 2) (counts / 2) rest half (λ bit l. sym (bit_at-suc counts bit) ∙ exact (suc bit) (omega (arith, l))) in
+    let r = sum_bits count (counts / 2) rest half (λ bit l. sym (bit_at-suc counts bit) ∙ exact (suc bit) (omega (arith, l))) in
     let step = ones_step (bit_and word counts) in
     let shr : bit_and word counts / 2 ≡ bit_and (word / 2) (counts / 2) = and_shr word counts 1 in
     let e = ap count_ones shr in
@@ -255,7 +255,7 @@ ones_sum weight [] counts size fits exact = refl
 ones_sum weight (word ∷ words) [] size fits exact = absurd (omega (arith, size))
 ones_sum weight (word ∷ words) (other ∷ counts) size fits exact =
     let z : (bit : ℕ) → bit < 64 → bit_at other bit ≡ weight bit = λ bit l. exact 0 bit (omega arith) l ∙ ap weight (omega arith) in
-    let b = sum_bits 64 weight word other (flags_of words) (fits 0 (omega arith)) z in
+    let b = sum_bits 64 other (flags_of words) (fits 0 (omega arith)) z in
     let r = ones_sum (λ n. weight (64 + n)) words counts (omega (arith, size)) (λ n h. fits (suc n) (omega (arith, h))) (λ n bit h l. exact (suc n) bit (omega (arith, h)) l ∙ ap weight (omega arith)) in
     let f = ones_front word other words counts (length words) in
     omega (arith, b, r, f)
@@ -266,10 +266,10 @@ counted_most [] (suc n) = omega arith
 counted_most (node ∷ code) zero = weight_most node
 counted_most (node ∷ code) (suc n) = counted_most code n
 
-pub positions_are : (code : List Node) (words counts : List ℕ) → length words ≡ width code
+pub positions_are : (code : List Node) (words : List ℕ) {counts : List ℕ} → length words ≡ width code
     → AreEach 0 (IsMask code Counts) (width code) counts → ((n : ℕ) → n < length words → get_or words n 0 < 2 ^ 64)
     → ones_below words counts (length words) ≡ positions_among code (flags_of words)
-positions_are code words counts size m fits = search (rules, ones_sum, among_sum, bit_at-lt, counted_most)
+positions_are code words size m fits = search (rules, ones_sum, among_sum, bit_at-lt, counted_most)
 
 bits_front : (count word n : ℕ) (rest : List Bool) → n < count
     → get_or (bits count word ++ rest) n false ≡ (bit_at word n == 1)

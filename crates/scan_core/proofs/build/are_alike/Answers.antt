@@ -5,4 +5,4 @@ pub loop-number-preserved : goal.loop-number-preserved
 loop-number-preserved c = alike_below c.args.nodes.now c.loop-number.number c.args.one c.args.other c.loop-number.invariant c.index-nodes-number.is c.loop-number-test.true (λ bytes e. c.tells_apart.ensures c.if-tells_apart.false bytes e)
 
 pub returns : goal.returns
-returns c = λ t. alike_all c.args.nodes.now c.loop-number.number c.args.one c.args.other c.loop-number-test.false c.loop-number.invariant
+returns c = λ t. alike_all c.args.nodes.now c.loop-number-test.false c.loop-number.invariant

@@ -11,4 +11,4 @@ loop-at-preserved c =
     none_more c.args.nodes.now c.args.words.now at _ c.loop-at.invariant (c.requires.closures.anchors.each at inside) (ap (bit_and (get_or c.args.words.now at 0)) (sym read) ∙ c.if-words-at-ne0.false)
 
 pub returns : goal.returns
-returns c = λ none number k. c.loop-at.invariant number (let w = is_within c.args.words.now number k in let t = c.loop-at-test.false in omega (arith, w, t)) k
+returns c = λ none number k. c.loop-at.invariant number (let w = is_within c.args.words.now k in let t = c.loop-at-test.false in omega (arith, w, t)) k

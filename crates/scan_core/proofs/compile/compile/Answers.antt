@@ -24,7 +24,7 @@ loop-place-preserved c = let w = c.loop-place.invariant.way in record {
   way = (
     w.0,
     w.1,
-    way_more c.tokens-tokens.result.now (c.loop-place.place - 1) w.0 c.loop-place.compiling c.take.new.self (omega (arith, c.loop-place-test.true))
+    way_more c.tokens-tokens.result.now w.0 c.loop-place.compiling c.take.new.self (omega (arith, c.loop-place-test.true))
         (omega (arith, c.loop-place.auto, c.loop-place-test.true)) c.index-tokens-place.is w.2 c.in_ok-take.ensures.ok,
   );
 }
