@@ -72,7 +72,8 @@ meets_kept base old grown (inr (inl based)) = inr (inl based)
 meets_kept base old {at} {to} grown (inr (inr hop)) = inr (inr (hops_added old grown.0 grown.1 hop))
 
 -- what a node leads to is met once both are
-pub both_met : {code : List Node} (base : List ℕ) (old new : List Hop) {number : ℕ} {way : Way} {T E : Type 0} (result : Result T E) → IsWay code number way → Meets base old (number / 64) way.one
+pub both_met : {code : List Node} (base : List ℕ) (old new : List Hop) {number : ℕ} {way : Way} {T E : Type 0}
+    (result : Result T E) → IsWay code number way → Meets base old (number / 64) way.one
     → OnOk result ((more : List Hop) × (new ≡ old ++ more)) → OnOk result (Meets base new (number / 64) way.other)
     → OnOk result ((to : ℕ) → Flows code false false number to → Meets base new (number / 64) to)
 both_met base old new {number} (Ok done) w one grown other = λ to f. led_by (Meets base new (number / 64)) w (meets_kept base old grown one) other f
@@ -101,8 +102,7 @@ hops_to_last old hop e = grind (arith, common_steps)
 
 pub part_onward : {code : List Node} {base : List ℕ} {all onward landings new : List Hop} {count : ℕ} {hop : Hop}
     → Parting code base all onward landings count → IsHop code hop → hop ≡ get_or all count no_hop
-    → new ≡ onward ++ hop ∷ []
-    → Parting code base all new landings (count + 1)
+    → new ≡ onward ++ hop ∷ [] → Parting code base all new landings (count + 1)
 part_onward {all = all} {onward} {landings} {new} {count} {hop} p is eh en = record {
   first = adding_one p.first is en;
   last = p.last;
@@ -117,8 +117,7 @@ part_onward {all = all} {onward} {landings} {new} {count} {hop} p is eh en = rec
 
 pub part_landing : {code : List Node} {base : List ℕ} {all onward landings new : List Hop} {count : ℕ} {hop : Hop}
     → Parting code base all onward landings count → IsLanding code base hop → hop ≡ get_or all count no_hop
-    → new ≡ landings ++ hop ∷ []
-    → Parting code base all onward new (count + 1)
+    → new ≡ landings ++ hop ∷ [] → Parting code base all onward new (count + 1)
 part_landing {all = all} {onward} {landings} {new} {count} {hop} p is eh en = record {
   first = p.first;
   last = let l = ap length en in let m = length-append landings (hop ∷ []) in each_to (each_more p.last is en) (omega (arith, l, m));
@@ -160,8 +159,7 @@ abbrev pub NoneAnchors : List Node → List ℕ → ℕ → Type 0
 NoneAnchors code words count = (number : ℕ) → number < 64 * count → IsIn words number → IsPlain code number
 
 pub none_more : (code : List Node) (words : List ℕ) (count anchors : ℕ) → NoneAnchors code words count
-    → HasAnchors code count anchors
-    → bit_and (get_or words count 0) anchors ≡ 0 → NoneAnchors code words (count + 1)
+    → HasAnchors code count anchors → bit_and (get_or words count 0) anchors ≡ 0 → NoneAnchors code words (count + 1)
 none_more code words count anchors before has none = λ number h k. elim (cases_lt number (64 * count)) [
   | inl l ↦ before number l k
   | inr l ↦
@@ -195,9 +193,8 @@ pub record Closed (code : List Node) (at : ℕ) (old now : List ℕ) : Type 0 wh
   pub fuller : unset now ≤ unset old
   pub closed : (start to : ℕ) → start / 64 ≡ at → IsIn now start → Stays code start to → IsIn now to
 
-pub close_word : {code : List Node} {at word all : ℕ} {old now : List ℕ} → at < length old
-    → word ≡ get_or old at 0 → Closes code at word all → word < 2 ^ 64 → all < 2 ^ 64 → now ≡ set old at all
-    → Closed code at old now
+pub close_word : {code : List Node} {at word all : ℕ} {old now : List ℕ} → at < length old → word ≡ get_or old at 0
+    → Closes code at word all → word < 2 ^ 64 → all < 2 ^ 64 → now ≡ set old at all → Closed code at old now
 close_word {code} {at} {word} {all} {old} {now} h ew c fits small es = record {
   adds = record {
     size = ap length en ∙ length-set old at (bit_or word all);
@@ -241,8 +238,7 @@ close_word {code} {at} {word} {all} {old} {now} h ew c fits small es = record {
 -- a number of a word of which none leads out of the base leads to numbers of it
 based_of : {code : List Node} {closures : Closures} {at : ℕ} (words : List ℕ) {start to : ℕ} → AreClosures code closures
     → at < width code → bit_and (get_or words at 0) (get_or closures.leads.items at 0) ≡ 0 → start / 64 ≡ at
-    → IsIn words start → Flows code false false start to
-    → IsIn closures.base.items to
+    → IsIn words start → Flows code false false start to → IsIn closures.base.items to
 based_of {closures} {at} words {start} {to} c inside e here h f =
     let same : start ≡ at * 64 + start % 64 = omega (arith, here) in
     let one = (is_in_word words at (start % 64) (omega arith)).1 (rw same at h) in
@@ -385,10 +381,10 @@ follows_none {hop} {old} {mid} {all} is size high apart led eo z = record {
     settled number k = elim (led.new number k) [ inl was ↦ was | inr e ↦ rw (← e) at (was_in (subst (IsIn mid) e k)) ]
 
 -- a number is new, and its word was closed
-pub follows_more : {code : List Node} {closures : Closures} {hop : Hop} {old mid new : List ℕ} {all inside over : ℕ} → AreClosures code closures → IsHop code hop → length old ≡ width code → get_or old hop.word 0 < 2 ^ 64
+pub follows_more : {code : List Node} {closures : Closures} {hop : Hop} {old mid new : List ℕ} {all inside over : ℕ}
+    → AreClosures code closures → IsHop code hop → length old ≡ width code → get_or old hop.word 0 < 2 ^ 64
     → ((number : ℕ) → IsIn closures.base.items number → IsIn old number) → IsApart code closures.hops old
-    → Led code hop old mid all
-    → over ≡ bit_and all (bit_not w64 (get_or old hop.word 0)) → (over ≡ 0 → ⊥)
+    → Led code hop old mid all → over ≡ bit_and all (bit_not w64 (get_or old hop.word 0)) → (over ≡ 0 → ⊥)
     → Closes code hop.word all inside → inside < 2 ^ 64 → new ≡ set mid hop.word inside
     → Follows code closures hop old new over
 follows_more {code} {hop} {old} {mid} {new} {all} {inside} {over} c is size high begun apart led eo some closes small en = record {
@@ -441,7 +437,8 @@ pub record Following (code : List Node) (closures : Closures) (old now : List �
       → IsIn now ((get_or closures.hops.onward.items place no_hop).at * 64 + bit)
       → IsIn now (end_of (get_or closures.hops.onward.items place no_hop))
 
-pub following_more : {code : List Node} {closures : Closures} {hop : Hop} {old now new : List ℕ} {count over led : ℕ} → Following code closures old now count over → Follows code closures hop now new led
+pub following_more : {code : List Node} {closures : Closures} {hop : Hop} {old now new : List ℕ} {count over led : ℕ}
+    → Following code closures old now count over → Follows code closures hop now new led
     → hop ≡ get_or closures.hops.onward.items count no_hop
     → Following code closures old new (count + 1) (bit_or over led)
 following_more {closures} {hop} {now} {count} {over} {led} s f eh = record {
@@ -504,8 +501,7 @@ pub record Landing_on (code : List Node) (base : List ℕ) (landings : List Hop)
 
 pub landing_more : {code : List Node} {base : List ℕ} {landings : List Hop} {hop : Hop} {old now new : List ℕ}
     {count all : ℕ} → Landing_on code base landings old now count → IsLanding code base hop → Led code hop now new all
-    → hop ≡ get_or landings count no_hop
-    → Landing_on code base landings old new (count + 1)
+    → hop ≡ get_or landings count no_hop → Landing_on code base landings old new (count + 1)
 landing_more {code} {base} {landings} {hop} {old} {now} {new} {count} s is led eh = record {
   adds = adds_both s.adds led.adds;
   over = λ n k. elim (led.new n k) [ inl was ↦ s.over n was | inr e ↦ inr (rw (← e) at is.ends) ];

@@ -230,8 +230,8 @@ exact_maybe {code} {line} {Kind} e = record {
         let e1 : 1 + length code ≡ suc (length code) = omega arith in
         (suc p.0, (1 + 0, from, (Choose (length code + 1), refl, (inl refl, refl)), rw e1 at right))
 
-pub parts_first : (Kind : ℕ → ℕ → Type 0) (count : ℕ) {from middle to : ℕ} → Kind from middle → Parts Kind count middle to
-    → Parts Kind (suc count) from to
+pub parts_first : (Kind : ℕ → ℕ → Type 0) (count : ℕ) {from middle to : ℕ} → Kind from middle
+    → Parts Kind count middle to → Parts Kind (suc count) from to
 parts_first Kind zero {from} k p = (from, refl, rw p at k)
 parts_first Kind (suc count) {from} {middle} k p = (p.0, parts_first Kind count k p.1, p.2)
 
@@ -252,9 +252,8 @@ record StarHolds (code : List Node) (line : List ℕ) (Kind : ℕ → ℕ → Ty
       → (middle : ℕ) × Path code line k place (length code) middle × Often Kind middle stop
 
 star_begun : {code : List Node} {line : List ℕ} {Kind : ℕ → ℕ → Type 0} → Exact code line Kind
-    → {count at' place' place stop : ℕ} → StarHolds code line Kind count
-    → (at' ≡ 0 + 1) ⊎ (at' ≡ 0 + (length code + 2)) → place' ≡ place
-    → Walks (starred code) line count at' place' (length code + 2) stop → Often Kind place stop
+    → {count at' place' place stop : ℕ} → StarHolds code line Kind count → (at' ≡ 0 + 1) ⊎ (at' ≡ 0 + (length code + 2))
+    → place' ≡ place → Walks (starred code) line count at' place' (length code + 2) stop → Often Kind place stop
 star_begun {Kind} e {at'} {place'} {place} {stop} ih (inl q) same w =
     let inside = ih.within at' 0 place' stop (omega (arith, q)) (omega arith) w in
     let rest : Often Kind inside.0 stop = inside.2 in

@@ -127,10 +127,8 @@ mutual
 
 -- a duplication's item was written out
 repeated_out : (old code : List Node) (now new : Compiling) (pending : List Pending) (d : Duplication)
-    → d.start ≡ length old
-    → now.nodes.items ++ reverse code ≡ old ++ begun d.high (reverse code)
-    → now.pending.items ≡ pending ++ Repeated d ∷ []
-    → Finishes (now.nodes.items ++ reverse code) now.pending.items new
+    → d.start ≡ length old → now.nodes.items ++ reverse code ≡ old ++ begun d.high (reverse code)
+    → now.pending.items ≡ pending ++ Repeated d ∷ [] → Finishes (now.nodes.items ++ reverse code) now.pending.items new
     → Finishes (old ++ reverse (copies d.low code ++ tail_of code d.low d.high)) pending new
 repeated_out old code now new pending d s n p f = grind (arith, common_steps)
 
@@ -215,10 +213,9 @@ compiled pattern {first} final e b n s =
     ap reverse (now.nodes ∙ ap (λ l. l ++ reverse (code_of pattern)) n.nodes) ∙ reverse-reverse (code_of pattern)
 
 -- one token more, towards the front
-pub way_more : (tokens : List Token) {before place : ℕ} {token : Token} (first now new : Compiling)
-    → place ≡ before + 1 → before < length tokens → token ≡ get_or tokens before token
-    → TakesAll first (drop place tokens) now → Takes now token new
-    → TakesAll first (drop before tokens) new
+pub way_more : (tokens : List Token) {before place : ℕ} {token : Token} (first now new : Compiling) → place ≡ before + 1
+    → before < length tokens → token ≡ get_or tokens before token → TakesAll first (drop place tokens) now
+    → Takes now token new → TakesAll first (drop before tokens) new
 way_more tokens {before} {token} first now new e h is s t =
     rw (at_drop_more (λ ts. ts) tokens before token h ∙ ap (λ k. k ∷ drop (before + 1) tokens) (sym is)) (now, subst (λ n. TakesAll first (drop n tokens) now) e s, t)
 

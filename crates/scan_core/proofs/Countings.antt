@@ -77,8 +77,8 @@ shifted_high kept carry bit h small =
     omega (arith, e, none, a, b, c)
 
 -- a bit of a word that the byte is taken from
-kept_bit : (code : List Node) (words : List ℕ) {byte : ℕ} (at bit takes : ℕ) → IsMask code (Takes byte) at takes → bit < 64
-    → (bit_at (bit_and (get_or words at 0) takes) bit ≡ 1) ↔ Led code byte words (at * 64 + bit + 1)
+kept_bit : (code : List Node) (words : List ℕ) {byte : ℕ} (at bit takes : ℕ) → IsMask code (Takes byte) at takes
+    → bit < 64 → (bit_at (bit_and (get_or words at 0) takes) bit ≡ 1) ↔ Led code byte words (at * 64 + bit + 1)
 kept_bit code words at bit takes m small = search (rules, is_in_word, bit_at_and)
 
 pub set_elsewhere : (words : List ℕ) {at : ℕ} (word number : ℕ) → (number / 64 ≡ at → ⊥)

@@ -72,8 +72,8 @@ node_here code {n} {read} h e is = rw (sym is ∙ e) at (at_index code n read h)
 pub target_in : {code : List Node} (n skip : ℕ) → IsCode code → At code n (Choose skip) → n + skip ≤ length code
 target_in n skip c here = c.fits n (Choose skip) here
 
-pub pass_found : (code : List Node) (n : ℕ) {byte to : ℕ} (bytes : List Bool) → At code n (Take bytes) → Passes code byte n to
-    → IsTrue (has bytes byte)
+pub pass_found : (code : List Node) (n : ℕ) {byte to : ℕ} (bytes : List Bool) → At code n (Take bytes)
+    → Passes code byte n to → IsTrue (has bytes byte)
 pass_found code n bytes here p = search (rules, at_once)
 
 pub pass_least : (code : List Node) {n byte to : ℕ} → Passes code byte n to → n < length code

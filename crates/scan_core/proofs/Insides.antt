@@ -44,8 +44,7 @@ pub record AreBits (Is : ℕ → ℕ → Type 0) (count word : ℕ) : Type 0 whe
   pub rest : (bit : ℕ) → count ≤ bit → bit_at word bit ≡ 0
 
 pub bits_more : {Is : ℕ → ℕ → Type 0} {count word : ℕ} (flag : Bool) → AreBits Is count word → count < 64
-    → Is count (bool_byte flag)
-    → AreBits Is (count + 1) (bit_or word (bool_byte flag * 2 ^ count % 2 ^ 64))
+    → Is count (bool_byte flag) → AreBits Is (count + 1) (bit_or word (bool_byte flag * 2 ^ count % 2 ^ 64))
 bits_more {Is} {count} {word} true a h is = record {
   past = λ bit l. elim (cases_eq bit count) [
     | inl same ↦ rw same (subst (Is count) (sym (bit_at_set_same w64 word count h)) is)
@@ -65,9 +64,8 @@ not_one false = inr refl
 
 -- a number's bit is set
 pub entered_one : (old : List ℕ) {new : List ℕ} {number word : ℕ} → number < 64 * length old
-    → word ≡ get_or old (number / 64) 0
-    → new ≡ set old (number / 64) (bit_or word (1 * 2 ^ (number % 64) % 2 ^ 64)) → (other : ℕ)
-    → IsIn new other ↔ (IsIn old other ⊎ (other ≡ number))
+    → word ≡ get_or old (number / 64) 0 → new ≡ set old (number / 64) (bit_or word (1 * 2 ^ (number % 64) % 2 ^ 64))
+    → (other : ℕ) → IsIn new other ↔ (IsIn old other ⊎ (other ≡ number))
 unfolding IsIn
 entered_one old {new} {number} {word} h ew en other = elim (cases_eq other number) [
   | inl same ↦
@@ -261,8 +259,7 @@ bit_is number bit here h =
 
 -- what a number of a word leads to in it
 pub both_led : {code : List Node} {number to : ℕ} {way : Way} (one other bit : ℕ) → IsWay code number way
-    → Opens way.when false false → ((bit_at one bit ≡ 1) ↔ (way.one ≡ to))
-    → ((bit_at other bit ≡ 1) ↔ (way.other ≡ to))
+    → Opens way.when false false → ((bit_at one bit ≡ 1) ↔ (way.one ≡ to)) → ((bit_at other bit ≡ 1) ↔ (way.other ≡ to))
     → (bit_at (bit_or one other) bit ≡ 1) ↔ Flows code false false number to
 both_led {to} one other bit w o a b = (
   λ k. (w.exact false false to).1 (o, elim (either_bit one other bit k) [ inl first ↦ inl (sym (a.0 first)) | inr second ↦ inr (sym (b.0 second)) ]),

@@ -30,8 +30,8 @@ step_near code line Last place place' passed here led low = omega (arith, led.0,
 step_near code line (Choose skip) place place' passed here led low = grind (arith, common_steps)
 step_near code line (Back by) place place' passed here led low = omega (arith, led.0, low)
 
-come_by : (code : List Node) {line : List ℕ} {number : ℕ} → IsPassed code number → (count : ℕ) {at : ℕ} (place : ℕ) {to stop : ℕ}
-    → Walks code line count at place to stop → at ≤ number → number < to
+come_by : (code : List Node) {line : List ℕ} {number : ℕ} → IsPassed code number → (count : ℕ) {at : ℕ} (place : ℕ)
+    {to stop : ℕ} → Walks code line count at place to stop → at ≤ number → number < to
     → (there : ℕ) × (rest : ℕ) × Walks code line rest number there to stop
 come_by code passed zero place w low high = absurd (omega (arith, w.0, low, high))
 come_by code {line} {number} passed (suc count) {at} place {to} {stop} w low high = elim (cases_eq at number) [

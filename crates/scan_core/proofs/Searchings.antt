@@ -32,16 +32,14 @@ pub record Searched (code : List Node) (line : List ℕ) (place : ℕ) (words : 
   pub so_far : IsCounted code line place steps
 
 -- at the line's front nothing came before
-pub front_is : {code : List Node} {line base words : List ℕ} {place steps : ℕ}
-    → Searched code line place words steps → IsBase code base → place ≡ 0 → (number : ℕ) → IsIn words number
-    → IsIn base number
+pub front_is : {code : List Node} {line base words : List ℕ} {place steps : ℕ} → Searched code line place words steps
+    → IsBase code base → place ≡ 0 → (number : ℕ) → IsIn words number → IsIn base number
 front_is s b z number k = elim ((s.came number).0 k) [ inl came ↦ absurd (let e = came.1 in omega (arith, e, z)) | inr on ↦ (b.exact number).1 on ]
 
 -- what is entered at a place
 pub entered_here : {code : List Node} {line : List ℕ} {place steps : ℕ} {at_first at_last : Bool} {old new : List ℕ}
     → Searched code line place old steps → IsPlace line place at_first at_last
-    → SpreadsOut code at_first at_last old new
-    → (number : ℕ) → IsIn new number ↔ Entered code line number place
+    → SpreadsOut code at_first at_last old new → (number : ℕ) → IsIn new number ↔ Entered code line number place
 entered_here {code} {line} {at_first} {at_last} s p o number = let r = reaches_exact code p number in (
   λ h. let f = (o.exact number).0 h in r.0 (elim ((s.came f.0).0 f.1) [
     | inl came ↦ (f.0, inl came, f.2)
@@ -115,8 +113,7 @@ search_ends {code} {line} {place} now s here e p test =
 -- A table that is built set by set and entry by entry.
 
 tells_more : {code : List Node} {sets : List (List Bool)} (set : List Bool) {state byte read : ℕ} → state < length sets
-    → Tells code sets state byte read
-    → Tells code (sets ++ set ∷ []) state byte read
+    → Tells code sets state byte read → Tells code (sets ++ set ∷ []) state byte read
 tells_more {code} {sets} set {state} {byte} {read} h t = search (rules, length-append, get_or_append_left)
 
 -- one more set; no entries of it are there yet
@@ -132,8 +129,7 @@ built_set {code} {sets} {set} b small o = let l = length-append sets (set ∷ []
 
 -- the entry of a state and a byte by its place
 tells_at : {code : List Node} {sets : List (List Bool)} {place state byte read : ℕ} → place ≡ state * 256 + byte
-    → byte < 256
-    → Tells code sets state byte read ≡ Tells code sets (place / 256) (place % 256) read
+    → byte < 256 → Tells code sets state byte read ≡ Tells code sets (place / 256) (place % 256) read
 tells_at {code} {sets} {place} {state} {byte} {read} e h = search rules
 
 next_by : (code : List Node) {byte : ℕ} {One Other : ℕ → Type 0} → ((n : ℕ) → One n → Other n) → {number : ℕ}
@@ -172,9 +168,8 @@ record Grown (code : List Node) (place : ℕ) (sets sets' : List (List Bool)) (r
   same : set_at sets' (place / 256) ≡ set_at sets (place / 256)
 
 grown : {code : List Node} {place : ℕ} {sets sets' : List (List Bool)} {rows : List ℕ} {set : List Bool}
-    → Built code place sets rows → place ≤ length sets * 256
-    → place / 256 < length sets → (sets' ≡ sets) ⊎ ((sets' ≡ sets ++ set ∷ []) × IsOpen code set)
-    → Grown code place sets sets' rows
+    → Built code place sets rows → place ≤ length sets * 256 → place / 256 < length sets
+    → (sets' ≡ sets) ⊎ ((sets' ≡ sets ++ set ∷ []) × IsOpen code set) → Grown code place sets sets' rows
 grown {code} {place} {sets} {rows} b r k (inl e) = rw e (record { built = b; order = r; known = k; same = refl })
 grown {code} {place} {sets} {rows} {set} b r k (inr e) = let l = length-append sets (set ∷ []) in rw e.0 (record {
   built = built_set b r e.1;

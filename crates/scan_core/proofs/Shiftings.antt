@@ -36,8 +36,7 @@ pub record IsPlace (line : List ℕ) (place : ℕ) (at_first at_last : Bool) : T
   pub last : IsTrue at_last ↔ (place ≡ length line)
 
 pub flow_goes : (node : Node) {line : List ℕ} {place : ℕ} {at_first at_last : Bool} (from to : ℕ)
-    → IsPlace line place at_first at_last
-    → LeadsOn node at_first at_last from to ↔ Leads node line from place to place
+    → IsPlace line place at_first at_last → LeadsOn node at_first at_last from to ↔ Leads node line from place to place
 flow_goes (Take bytes) from to p = (λ h. absurd h, λ h. absurd (omega (arith, h.1)))
 flow_goes First from to p = (λ h. (h.1, refl, p.first.0 h.0), λ h. (p.first.1 h.2, h.0))
 flow_goes Last from to p = (λ h. (h.1, refl, p.last.0 h.0), λ h. (p.last.1 h.2, h.0))
@@ -55,8 +54,8 @@ leads_place Last line from h = inl h.1
 leads_place (Choose skip) line from h = inl h.1
 leads_place (Back by) line from h = inl h.1
 
-walk_forward : (code : List Node) (line : List ℕ) (count at : ℕ) {place : ℕ} (to : ℕ) {stop : ℕ} → Walks code line count at place to stop
-    → place ≤ stop
+walk_forward : (code : List Node) (line : List ℕ) (count at : ℕ) {place : ℕ} (to : ℕ) {stop : ℕ}
+    → Walks code line count at place to stop → place ≤ stop
 walk_forward code line zero at to w = omega (arith, w.1)
 walk_forward code line (suc count) at {place} to {stop} w =
     let h = walk_forward code line count w.0 to w.3 in
@@ -115,8 +114,7 @@ more_positions code (other ∷ sets) set = let r = more_positions code sets set 
 
 one_counted : {code : List Node} {line : List ℕ} {place steps steps' : ℕ} (set : List Bool)
     → AreSteps code line place steps → ((number : ℕ) → IsMarked set number ↔ Entered code line number place)
-    → steps' ≡ steps + positions_among code set
-    → AreSteps code line (place + 1) steps'
+    → steps' ≡ steps + positions_among code set → AreSteps code line (place + 1) steps'
 one_counted {code} {line} {place} set a x e = record {
   sets = a.sets ++ set ∷ [];
   all = let l = length-append a.sets (set ∷ []) in omega (arith, l, a.all);
@@ -138,7 +136,8 @@ pub came_exact : (code : List Node) {line : List ℕ} {place byte : ℕ} {Now : 
 came_exact code a h e number = search rules
 
 -- one place more
-pub steps_more : (place : ℕ) {steps count size : ℕ} → steps ≤ place * size → count ≤ size → steps + count ≤ (place + 1) * size
+pub steps_more : (place : ℕ) {steps count size : ℕ} → steps ≤ place * size → count ≤ size
+    → steps + count ≤ (place + 1) * size
 steps_more place {size} h k = let e : (place + 1) * size ≡ place * size + size = grind arith in omega (arith, h, k, e)
 
 pub steps_wider : {place most steps : ℕ} (size : ℕ) → steps ≤ place * size → place ≤ most → steps ≤ most * size
@@ -295,9 +294,8 @@ walk_run {code} {line} {from} {to} {state} {steps} {added} d w l h b s e a =
     let stays = walked_stay (to - from) w.1 w.2 (omega (arith, l, h)) b (λ k m u. s k m (omega (arith, u, l))) in
     (w.0, w.1, rw more at (subst (λ p. Walked code w.0 line p state (steps + positions_among code (set_at w.0 state) * (to - from))) there stays))
 
-pub walk_next : {code : List Node} {table : Table} {line : List ℕ} {place state next steps : ℕ} (d' : ℕ)
-    {noted : State} (d : State) → WalkedOf code table line place state steps → place < length line
-    → slice_index line place < 256
+pub walk_next : {code : List Node} {table : Table} {line : List ℕ} {place state next steps : ℕ} (d' : ℕ) {noted : State}
+    (d : State) → WalkedOf code table line place state steps → place < length line → slice_index line place < 256
     → next ≡ get_or table.rows.items (state * 256 + slice_index line place) d' → next < 65534
     → noted ≡ get_or table.states.items state d → WalkedOf code table line (place + 1) next (steps + noted.positions)
 walk_next {line} {place} {state} {steps} d' d w h b e k f =
@@ -318,9 +316,8 @@ walk_one {code} {place} {state} {steps} {noted} d w f =
 -- a byte leads to the end
 pub walk_stops : {code : List Node} {table : Table} {line : List ℕ} {place state next steps : ℕ} (d' : ℕ)
     {noted : State} (d : State) → WalkedOf code table line place state steps → place < length line
-    → slice_index line place < 256
-    → next ≡ get_or table.rows.items (state * 256 + slice_index line place) d' → next ≡ 65535
-    → noted ≡ get_or table.states.items state d
+    → slice_index line place < 256 → next ≡ get_or table.rows.items (state * 256 + slice_index line place) d'
+    → next ≡ 65535 → noted ≡ get_or table.states.items state d
     → IsOutcome code line (record { found = true; steps = steps + noted.positions })
 walk_stops {code} {table} {line} {place} {state} {steps} d' {noted} d w h b e k f =
     let r = entry_read d' w.1 w.2.known b e in
@@ -456,8 +453,7 @@ more_steps added has = record { place = has.place; within = has.within; ends = h
 
 state_over : {code : List Node} {table : Table} {line : List ℕ} {place state steps added : ℕ} → IsTable code table
     → IsStateAt code table line place state steps → place < length line → HasStepsBefore code line (steps + added)
-    → added ≤ weight code + 1
-    → IsStateAt code table line (place + 1) (length table.states.items) (steps + added)
+    → added ≤ weight code + 1 → IsStateAt code table line (place + 1) (length table.states.items) (steps + added)
 state_over t a h e w = search rules
 
 state_going : {code : List Node} {table : Table} {line : List ℕ} {place state steps added : ℕ} → IsTable code table
@@ -497,8 +493,7 @@ state_ends {table} {line} {place} {state} same c a h b k n =
 
 state_more : {code : List Node} {table : Table} {line : List ℕ} {place state steps added six : ℕ} → IsTable code table
     → IsComplete table.rows.items → IsStateAt code table line place state steps → place < length line
-    → slice_index line place < 256
-    → IsWeight table.states.items (6 * state) added
+    → slice_index line place < 256 → IsWeight table.states.items (6 * state) added
     → IsOffset table.rows.items (length table.states.items) state (slice_index line place) six
     → (n : ℕ) × (six ≡ 6 * n) × IsStateAt code table line (place + 1) n (steps + added)
 state_more {code} {table} {line} {place} {state} {added} t c a h b w o = elim (cases_lt state (length table.states.items)) [
