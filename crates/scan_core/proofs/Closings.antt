@@ -69,7 +69,7 @@ pub meets_kept : (base : List ℕ) (old : List Hop) {new : List Hop} {at to : �
     → Meets base old at to → Meets base new at to
 meets_kept base old grown (inl near) = inl near
 meets_kept base old grown (inr (inl based)) = inr (inl based)
-meets_kept base old {at} {to} grown (inr (inr hop)) = inr (inr (hops_added old grown.0 grown.1 hop))
+meets_kept base old {at} {to} grown (inr (inr hop)) = inr (inr (hops_added _ _ grown.1 hop))
 
 -- what a node leads to is met once both are
 pub both_met : {code : List Node} (base : List ℕ) (old new : List Hop) {number : ℕ} {way : Way} {T E : Type 0}
@@ -87,7 +87,7 @@ pub all_met : (code : List Node) (base : List ℕ) (old new : List Hop) {count :
     → number < count + 1 → Flows code false false number to → Meets base new (number / 64) to
 all_met code base old new {count} before grown here number to h f = elim (cases_eq number count) [
   | inl same ↦ rw (← same) at (here to (subst (λ n. Flows code false false n to) same f))
-  | inr other ↦ meets_kept base old grown (before number to (omega (arith, h, other)) f)
+  | inr other ↦ meets_kept _ _ grown (before number to (omega (arith, h, other)) f)
 ]
 
 -- the first hops are in two parts
@@ -107,9 +107,9 @@ part_onward {all = all} {onward} {landings} {new} {count} {hop} p is eh en = rec
   first = adding_one p.first is en;
   last = p.last;
   parted = λ place l. elim (cases_eq place count) [
-    | inl same ↦ inl (rw (eh ∙ ap (λ n. get_or all n no_hop) (sym same)) at (hops_to_last onward hop en))
+    | inl same ↦ inl (rw (eh ∙ ap (λ n. get_or all n no_hop) (sym same)) at (hops_to_last _ _ en))
     | inr other ↦ elim (p.parted place (omega (arith, l, other))) [
-      | inl on ↦ inl (hops_added onward (hop ∷ []) en on)
+      | inl on ↦ inl (hops_added _ _ en on)
       | inr land ↦ inr land
     ]
   ];
@@ -122,10 +122,10 @@ part_landing {all = all} {onward} {landings} {new} {count} {hop} p is eh en = re
   first = p.first;
   last = let l = ap length en in let m = length-append landings (hop ∷ []) in each_to (each_more p.last is en) (omega (arith, l, m));
   parted = λ place l. elim (cases_eq place count) [
-    | inl same ↦ inr (rw (eh ∙ ap (λ n. get_or all n no_hop) (sym same)) at (hops_to_last landings hop en))
+    | inl same ↦ inr (rw (eh ∙ ap (λ n. get_or all n no_hop) (sym same)) at (hops_to_last _ _ en))
     | inr other ↦ elim (p.parted place (omega (arith, l, other))) [
       | inl on ↦ inl on
-      | inr land ↦ inr (hops_added landings (hop ∷ []) en land)
+      | inr land ↦ inr (hops_added _ _ en land)
     ]
   ];
 }
@@ -148,8 +148,8 @@ parting_ends {all = all} {onward} {landings} p h met number to f = elim (met num
 pub plain_node : (code : List Node) {number : ℕ} {read : Node} → read ≡ get_or code number read → number < length code
     → ((from to : ℕ) → LeadsOn read false true from to → LeadsOn read false false from to) → IsPlain code number
 plain_node code {number} {read} e inside plain = λ to f.
-    let here = subst (At code number) (sym e) (at_index code number read inside) in
-    (read, here, plain number to (flows_of code read here f))
+    let here = subst (At code number) (sym e) (at_index _ _ _ inside) in
+    (read, here, plain number to (flows_of _ _ here f))
 
 pub plain_beyond : (code : List Node) {number : ℕ} → length code ≤ number → IsPlain code number
 plain_beyond code {number} h = λ to f. absurd (let l = at_least code number f.0 f.1 in omega (arith, l, h))
@@ -164,9 +164,9 @@ none_more code words count anchors before has none = λ number h k. elim (cases_
   | inl l ↦ before number l k
   | inr l ↦
       let same : number ≡ count * 64 + number % 64 = omega (arith, h, l) in
-      let one = (is_in_word words count (number % 64) (omega arith)).1 (rw same at k) in
+      let one = (is_in_word _ _ _ (omega arith)).1 (rw same at k) in
       elim (has (number % 64) (omega arith)) [
-        | inl two ↦ absurd (none_of (get_or words count 0) anchors (number % 64) none one two)
+        | inl two ↦ absurd (none_of _ _ _ none one two)
         | inr plain ↦ rw (← same) at plain
       ]
 ]
@@ -206,11 +206,11 @@ close_word {code} {at} {word} {all} {old} {now} h ew c fits small es = record {
       | inl same ↦
           let e : number ≡ at * 64 + number % 64 = omega (arith, same) in
           let b = c.from_chosen (number % 64) (omega arith) (in_all (number % 64) (omega arith) (rw e at k)) in
-          (at * 64 + b.0, (is_in_word old at b.0 b.1).0 (ap (λ w. bit_at w b.0) (sym ew) ∙ b.2), subst (λ n. FlowsOn code false false (at * 64 + b.0) n) (sym e) b.3)
-      | inr other ↦ (number, (set_elsewhere old (bit_or word all) number other).0 (rw en at k), (0, refl))
+          (at * 64 + b.0, (is_in_word _ _ _ b.1).0 (ap (λ w. bit_at w b.0) (sym ew) ∙ b.2), subst (λ n. FlowsOn code false false (at * 64 + b.0) n) (sym e) b.3)
+      | inr other ↦ (number, (set_elsewhere _ _ _ other).0 (rw en at k), (0, refl))
     ];
   };
-  elsewhere = λ number other k. (set_elsewhere old (bit_or word all) number other).0 (rw en at k);
+  elsewhere = λ number other k. (set_elsewhere _ _ _ other).0 (rw en at k);
   fuller = rw (← en) at (unset_fuller old at (bit_or word all) (let l = le_or_l word all in omega (arith, l, ew)));
   closed = λ start to here k s.
       let e : start ≡ at * 64 + start % 64 = omega (arith, here) in
@@ -230,10 +230,10 @@ close_word {code} {at} {word} {all} {old} {now} h ew c fits small es = record {
     bit_now bit k = ap (λ w. bit_at w bit) read ∙ k
 
     bit_old : (bit : ℕ) → bit < 64 → IsIn old (at * 64 + bit) → bit_at word bit ≡ 1
-    bit_old bit l k = ap (λ w. bit_at w bit) ew ∙ (is_in_word old at bit l).1 k
+    bit_old bit l k = ap (λ w. bit_at w bit) ew ∙ (is_in_word _ _ _ l).1 k
 
     in_all : (bit : ℕ) → bit < 64 → IsIn now (at * 64 + bit) → bit_at all bit ≡ 1
-    in_all bit l k = elim (either_bit word all bit (sym (ap (λ w. bit_at w bit) read) ∙ (is_in_word now at bit l).1 k)) [ inl w ↦ c.kept bit l w | inr a ↦ a ]
+    in_all bit l k = elim (either_bit _ _ _ (sym (ap (λ w. bit_at w bit) read) ∙ (is_in_word _ _ _ l).1 k)) [ inl w ↦ c.kept bit l w | inr a ↦ a ]
 
 -- a number of a word of which none leads out of the base leads to numbers of it
 based_of : {code : List Node} {closures : Closures} {at : ℕ} (words : List ℕ) {start to : ℕ} → AreClosures code closures
@@ -241,9 +241,9 @@ based_of : {code : List Node} {closures : Closures} {at : ℕ} (words : List ℕ
     → IsIn words start → Flows code false false start to → IsIn closures.base.items to
 based_of {closures} {at} words {start} {to} c inside e here h f =
     let same : start ≡ at * 64 + start % 64 = omega (arith, here) in
-    let one = (is_in_word words at (start % 64) (omega arith)).1 (rw same at h) in
+    let one = (is_in_word _ _ _ (omega arith)).1 (rw same at h) in
     elim (c.leads.each at inside (start % 64) to (omega arith) (rw same at f)) [
-      | inl two ↦ absurd (none_of (get_or words at 0) (get_or closures.leads.items at 0) (start % 64) e one two)
+      | inl two ↦ absurd (none_of _ _ _ e one two)
       | inr based ↦ based
     ]
 
@@ -271,7 +271,7 @@ apart_skip {now = now} {count = count} s c begun inside e = record {
   adds = s.adds;
   done = λ start to h k flow. elim (cases_lt start (64 * count)) [
     | inl before ↦ s.done start to before k flow
-    | inr here ↦ inl (s.adds.kept to (begun to (based_of now c inside e (omega (arith, h, here)) k flow)))
+    | inr here ↦ inl (s.adds.kept to (begun to (based_of _ c inside e (omega (arith, h, here)) k flow)))
   ];
 }
 
@@ -293,7 +293,7 @@ apart_more {code} {now} {new} {count} {all} s c begun inside size closes fits sm
 
 pub apart_ends : {code : List Node} {closures : Closures} {old now : List ℕ} {count : ℕ}
     → Apart code closures old now count → length now ≤ count → IsApart code closures.hops now
-apart_ends {now = now} s h = λ start to k flow. let w = is_within now k in s.done start to (omega (arith, w, h)) k flow
+apart_ends {now = now} s h = λ start to k flow. let w = is_within _ k in s.done start to (omega (arith, w, h)) k flow
 
 -- Following a hop.
 
@@ -304,8 +304,8 @@ entered_if : (words : List ℕ) {new : List ℕ} {at bit : ℕ} (holds : Bool) �
 entered_if words {at} {bit} true h small en other =
     let here : (at * 64 + bit) / 64 ≡ at = omega (arith, small) in
     let there : (at * 64 + bit) % 64 ≡ bit = omega (arith, small) in
-    let e = entered_one words (omega (arith, h, small)) refl
-    (rw (here, there) en) other in
+    let e = entered_one _ (omega (arith, h, small)) refl
+    (rw (here, there) en) _ in
     (λ k. elim (e.0 k) [ inl was ↦ inl was | inr same ↦ inr (refl, same) ], λ k. e.1 (elim k [ inl was ↦ inl was | inr q ↦ inr q.1 ]))
 entered_if words false h small en other = search (rules, or_zero_r, set-get_or)
 
@@ -332,22 +332,22 @@ led_is {code} {hop} {old} {mid} {holds} is size fits high some any em = record {
   };
   new = λ n k. elim ((exact n).0 k) [ inl was ↦ inl was | inr led ↦ inr led.1 ];
   followed = λ bit small one k.
-      let here = (is_in_word old hop.at bit small).1 k in
-      (exact (end_of hop)).1 (inr (any (λ none. none_of (get_or old hop.at 0) hop.from bit none here one), refl));
+      let here = (is_in_word _ _ _ small).1 k in
+      (exact (end_of hop)).1 (inr (any (λ none. none_of _ _ _ none here one), refl));
   set = em;
   larger = le_or_l (get_or old hop.word 0) (bool_byte holds * 2 ^ hop.bit % 2 ^ 64);
   fits = or_lt 64 (get_or old hop.word 0) (bool_byte holds * 2 ^ hop.bit % 2 ^ 64) high (omega arith);
 }
   where
     exact : (other : ℕ) → IsIn mid other ↔ (IsIn old other ⊎ (IsTrue holds × (other ≡ end_of hop)))
-    exact = entered_if old holds (let w = is.word in omega (arith, w, size)) is.bit em
+    exact = entered_if _ _ (let w = is.word in omega (arith, w, size)) is.bit em
 
     entered : (number : ℕ) → IsTrue holds → number ≡ end_of hop
         → (start : ℕ) × IsIn old start × FlowsOn code false false start number
     entered number t e =
-        let one = one_of hop.from fits (some t) in
+        let one = one_of _ fits (some t) in
         let start : ℕ = hop.at * 64 + one.0 in
-        (start, (is_in_word old hop.at one.0 one.1).0 one.2, (1, (start, refl, rw (← e) at ((is.exact one.0 one.1).0 one.3))))
+        (start, (is_in_word _ _ _ one.1).0 one.2, (1, (start, refl, rw (← e) at ((is.exact one.0 one.1).0 one.3))))
 
 -- no number is new
 pub follows_none : {code : List Node} {closures : Closures} {hop : Hop} {old mid : List ℕ} {all over : ℕ}
@@ -563,7 +563,7 @@ spreads_front {code} {old = old} {new} {at_last = at_last} b f size begun only e
   exact = λ number. (
     λ k. (0, begun 0 ((b.exact 0).1 (0, refl)), (f.exact number).0 (subst (λ w. IsIn w number) e k)),
     λ k. let on = (b.exact k.0).0 (only k.0 k.1) in
-        subst (λ w. IsIn w number) (sym e) ((f.exact number).1 (flows_join code k.2.0 (on.0, parts_anywhere code true false on.0 0 k.0 on.1) k.2.1)),
+        subst (λ w. IsIn w number) (sym e) ((f.exact number).1 (flows_join _ _ (on.0, parts_anywhere _ _ _ _ 0 _ on.1) k.2.1)),
   );
 }))
 
@@ -575,13 +575,13 @@ closed_of : {code : List Node} {at_first at_last : Bool} {old new : List ℕ} �
     → (from to : ℕ) → IsIn new from → Flows code at_first at_last from to → IsIn new to
 closed_of {code} {at_first} {at_last} s from to k f =
     let was = (s.exact from).0 k in
-    (s.exact to).1 (was.0, was.1, flows_join code 1 was.2 (from, refl, f))
+    (s.exact to).1 (was.0, was.1, flows_join _ 1 was.2 (from, refl, f))
 
 pub spreads_plainly : {code : List Node} {at_first at_last : Bool} {old new : List ℕ}
     → SpreadsOut code false false old new
     → ((from to : ℕ) → IsIn new from → Flows code at_first at_last from to → Flows code false false from to)
     → SpreadsOut code at_first at_last old new
-spreads_plainly {at_first = at_first} {at_last} s plain = spreads_out (adds_anywhere (adds_of s)) (λ from to k f. closed_of s from to k (plain from to k f))
+spreads_plainly {at_first = at_first} {at_last} s plain = spreads_out (adds_anywhere (adds_of s)) (λ from to k f. closed_of s _ _ k (plain from to k f))
 
 pub spreads_again : {code : List Node} {at_first at_last : Bool} {old now new : List ℕ}
     → SpreadsOut code false false old now → SpreadsOut code at_first at_last now new

@@ -23,13 +23,13 @@ use Rattle.bre_core.{
 pub at-left : (a b : List Node) (n : ℕ) (node : Node) → At a n node → At (a ++ b) n node
 at-left [] b n node h = absurd h
 at-left (x ∷ a) b zero node h = h
-at-left (x ∷ a) b (suc n) node h = at-left a b n node h
+at-left (x ∷ a) b (suc n) node h = at-left a b n _ h
 
 pub at_at : (code : List Node) {n m : ℕ} (node : Node) → n ≡ m → At code n node → At code m node
 at_at code node e h = rw e at h
 
 pub at-right : (a b : List Node) (n : ℕ) (node : Node) → At b n node → At (a ++ b) (length a + n) node
-at-right [] b n node h = at_at b node (omega arith) h
+at-right [] b n node h = at_at b _ (omega arith) h
 at-right (x ∷ a) b n node h =
     let e : suc (length a + n) ≡ suc (length a) + n = omega arith in
     at_at (x ∷ (a ++ b)) node e (at-right a b n node h)
@@ -39,7 +39,7 @@ pub at-split : (a b : List Node) (n : ℕ) (node : Node) → At (a ++ b) n node
     → (At a n node) ⊎ ((k : ℕ) × (n ≡ length a + k) × At b k node)
 at-split [] b n node h = inr (n, omega arith, h)
 at-split (x ∷ a) b zero node h = inl h
-at-split (x ∷ a) b (suc n) node h = elim (at-split a b n node h) [ inl g ↦ inl g | inr g ↦ inr (g.0, omega (arith, g.1), g.2) ]
+at-split (x ∷ a) b (suc n) node h = elim (at-split a b n _ h) [ inl g ↦ inl g | inr g ↦ inr (g.0, omega (arith, g.1), g.2) ]
 
 -- the same step further on in a longer code
 pub leads_shift : (node : Node) (line : List ℕ) (base at place at' place' : ℕ) → Leads node line at place at' place'
@@ -71,7 +71,7 @@ walk_on code {line} (suc first) second at' place' {to} {stop} v w =
 
 pub path_on : (code : List Node) {line : List ℕ} {at place at' place' to stop : ℕ} → Path code line at place at' place'
     → Path code line at' place' to stop → Path code line at place to stop
-path_on code {line} {at} {place} {at'} {place'} {to} {stop} p q = walk_on code p.0 q.0 at' place' p.1 q.1
+path_on code {line} {at} {place} {at'} {place'} {to} {stop} p q = walk_on _ _ _ _ _ p.1 q.1
 
 -- a node that fits also fits further on in a longer code, and leads to one of the code or to its end
 pub fits_moved : (node : Node) (base size number : ℕ) {more moved : ℕ} → FitsIn size number node → base + size ≤ more
@@ -110,13 +110,13 @@ pub in_second : (a : List Node) {b : List Node} (line : List ℕ) → IsCode b �
     → at ≡ length a + k → Walks (a ++ b) line count at place (length (a ++ b)) stop
     → Walks b line count k place (length b) stop
 in_second a {b} line f zero k place stop e w = let l = length-append a b in (omega (arith, l, e, w.0), w.1)
-in_second a {b} line f (suc count) {at} k place stop e w = elim (at-split a b at w.2.0 w.2.1) [
-  | inl h ↦ let l = at_least a at w.2.0 h in absurd (omega (arith, l, e))
+in_second a {b} line f (suc count) {at} k place stop e w = elim (at-split a b _ _ w.2.1) [
+  | inl h ↦ let l = at_least a _ _ h in absurd (omega (arith, l, e))
   | inr h ↦
       let same : h.0 ≡ k = omega (arith, e, h.1) in
-      let here : At b k w.2.0 = at_at b w.2.0 same h.2 in
+      let here : At b k w.2.0 = at_at b _ same h.2 in
       let led : Leads w.2.0 line (length a + k) place w.0 w.1 = subst (λ n. Leads w.2.0 line n place w.0 w.1) e w.2.2 in
-      let moved = leads_unshift w.2.0 line (length a) (length b) k place w.1 (f.fits k w.2.0 here) led in
+      let moved = leads_unshift _ _ _ _ k _ _ (f.fits k w.2.0 here) led in
       (moved.0, w.1, (w.2.0, here, moved.2), in_second a line f count moved.0 w.1 stop moved.1 w.3)
 ]
 
@@ -129,7 +129,7 @@ through {a} {b} f g zero {place} h w =
     (place, (zero, (omega (arith, l, w.0, h), refl)), (zero, (omega (arith, l, w.0, h), w.1)))
 through {a} {b} {line} f g (suc count) {at} {place} {stop} h w = elim (cases_eq at (length a)) [
   | inl same ↦ (place, (zero, (same, refl)), (suc count, in_second a line g (suc count) 0 place stop (omega (arith, same)) w))
-  | inr other ↦ elim (at-split a b at w.2.0 w.2.1) [
+  | inr other ↦ elim (at-split a b _ _ w.2.1) [
     | inl here ↦
         let step : Goes a line at place w.0 w.1 = (w.2.0, here, w.2.2) in
         let rest = through f g count (fits_led line at place w.1 w.2.0 f here w.2.2) w.3 in
@@ -179,12 +179,12 @@ pub exact_both : {a b : List Node} {line : List ℕ} {Kind Other : ℕ → ℕ �
     → Exact b line Other → Exact (a ++ b) line (λ from to. (middle : ℕ) × Kind from middle × Other middle to)
 exact_both {a} {b} {line} e f = record {
   fits = record {
-    fits = λ n node h. let l = length-append a b in elim (at-split a b n node h) [
-      | inl k ↦ fits_moved node 0 _ _ (e.fits.fits n node k) (omega (arith, l)) (omega arith)
-      | inr k ↦ fits_moved node (length a) _ _ (f.fits.fits k.0 node k.2) (omega (arith, l)) k.1
+    fits = λ n node h. let l = length-append a b in elim (at-split a b n _ h) [
+      | inl k ↦ fits_moved _ 0 _ _ (e.fits.fits n node k) (omega (arith, l)) (omega arith)
+      | inr k ↦ fits_moved _ _ _ _ (f.fits.fits k.0 node k.2) (omega (arith, l)) k.1
     ];
   };
-  sound = λ from to p. let t = through e.fits f.fits p.0 (omega arith) p.1 in (t.0, e.sound from t.0 t.1, f.sound t.0 to t.2);
+  sound = λ from to p. let t = through e.fits f.fits _ (omega arith) p.1 in (t.0, e.sound from t.0 t.1, f.sound t.0 to t.2);
   complete = λ from to k. complete from to k.0 (e.complete from k.0 k.1) (f.complete k.0 to k.2);
 }
   where
@@ -194,8 +194,8 @@ exact_both {a} {b} {line} e f = record {
         let e1 : length a + length b ≡ length (a ++ b) = sym (length-append a b) in
         let e2 : length a + 0 ≡ length a = omega arith in
         let second : Walks (a ++ b) line q.0 (length a) middle (length (a ++ b)) to =
-        subst (λ n. Walks (a ++ b) line q.0 n middle (length (a ++ b)) to) e2 (rw e1 at (walk-right a b line q.0 0 middle (length b) to q.1)) in
-        walk_on (a ++ b) p.0 q.0 (length a) middle (walk-left a b line p.0 0 from (length a) middle p.1) second
+        subst (λ n. Walks (a ++ b) line q.0 n middle (length (a ++ b)) to) e2 (rw e1 at (walk-right a b _ _ 0 _ _ _ q.1)) in
+        walk_on _ _ _ _ _ (walk-left a b _ _ 0 _ _ _ p.1) second
 
 -- a code that may be passed by
 pub exact_maybe : {code : List Node} {line : List ℕ} {Kind : ℕ → ℕ → Type 0} → Exact code line Kind
@@ -257,7 +257,7 @@ star_begun : {code : List Node} {line : List ℕ} {Kind : ℕ → ℕ → Type 0
 star_begun {Kind} e {at'} {place'} {place} {stop} ih (inl q) same w =
     let inside = ih.within at' 0 place' stop (omega (arith, q)) (omega arith) w in
     let rest : Often Kind inside.0 stop = inside.2 in
-    (suc rest.0, parts_first Kind rest.0 (e.sound place inside.0 (rw (← same) inside.1)) rest.1)
+    (suc rest.0, parts_first _ _ (e.sound place inside.0 (rw (← same) inside.1)) rest.1)
 star_begun {code} {line} e {count} ih (inr q) same w =
     let l = length-append code (Back (length code + 1) ∷ []) in
     (0, sym same ∙ ended (starred code) line count (length code + 2) (omega (arith, q, l)) w)
@@ -269,8 +269,8 @@ star_at : {code : List Node} {line : List ℕ} {Kind : ℕ → ℕ → Type 0} �
     → (middle : ℕ) × Path code line k place (length code) middle × Often Kind middle stop
 star_at {code} {line} e {k} {place} {stop} ih h at' place' {node} (inl here) led w =
     let n1 : suc k ≡ 1 + k = omega arith in
-    let moved = leads_unshift node line 1 (length code) k place place' (e.fits.fits k node here) (rw n1 at led) in
-    let fits = fits_led line k place place' node e.fits here moved.2 in
+    let moved = leads_unshift _ _ 1 _ k _ _ (e.fits.fits k node here) (rw n1 at led) in
+    let fits = fits_led _ k _ _ _ e.fits here moved.2 in
     let rest = ih.within at' moved.0 place' stop (omega (arith, moved.1)) fits w in
     (rest.0, (suc rest.1.0, (moved.0, place', (node, here, moved.2), rest.1.1)), rest.2)
 star_at {code} {line} e {k} {place} {stop} ih h at' place' (inr (zero, far, last)) led w =
@@ -353,7 +353,7 @@ exact_up_to {line} {Kind} e zero = exact_by (exact_none) (λ from to q. (0, omeg
     (λ from to k. let e : k.0 ≡ 0 = omega (arith, k.1) in rw e at k.2)
 exact_up_to {line} {Kind} e (suc most) =
     exact_by
-    (exact_maybe (exact_both e (exact_up_to e most)))
+    (exact_maybe (exact_both e (exact_up_to e _)))
     there (λ from to k. here k.0 from to k.1 k.2)
   where
     there : (from to : ℕ) → (from ≡ to) ⊎ ((middle : ℕ) × Kind from middle × AtMost Kind most middle to)
@@ -392,20 +392,20 @@ exact_repeated : {code : List Node} {line : List ℕ} {Kind : ℕ → ℕ → Ty
     → Exact (copies low code ++ tail_of code low high) line (Between Kind low high)
 exact_repeated {line} {Kind} {low} None e b =
     exact_by
-    (exact_both (exact_copies e low) (exact_starred e))
+    (exact_both (exact_copies e _) (exact_starred e))
     (λ from to k. let often : Often Kind k.0 to = k.2 in
-    (low + often.0, omega arith, tt, parts_join Kind low often.0 from k.0 to k.1 often.1)) (λ from to k.
+    (low + often.0, omega arith, tt, parts_join _ _ _ _ _ _ k.1 often.1)) (λ from to k.
     let q : k.0 ≡ low + (k.0 - low) = omega (arith, k.1) in
-    let split = parts_split Kind low (k.0 - low) from to (rw q at k.3) in
+    let split = parts_split _ _ _ _ _ (rw q at k.3) in
     (split.0, split.1, (k.0 - low, split.2)))
 exact_repeated {line} {Kind} {low} (Some high) e b =
     exact_by
-    (exact_both (exact_copies e low) (exact_up_to e (high - low)))
+    (exact_both (exact_copies e _) (exact_up_to e _))
     (λ from to k. let most : AtMost Kind (high - low) k.0 to = k.2 in
-    (low + most.0, omega arith, omega (arith, most.1, b), parts_join Kind low most.0 from k.0 to k.1 most.2))
+    (low + most.0, omega arith, omega (arith, most.1, b), parts_join _ _ _ _ _ _ k.1 most.2))
     (λ from to k.
     let q : k.0 ≡ low + (k.0 - low) = omega (arith, k.1) in
-    let split = parts_split Kind low (k.0 - low) from to (rw q at k.3) in
+    let split = parts_split _ _ _ _ _ (rw q at k.3) in
     (split.0, split.1, (k.0 - low, omega (arith, k.2), split.2)))
 
 mutual
@@ -427,10 +427,10 @@ pub contained : (pattern : Pattern) {line : List ℕ} → IsOrdered pattern
     → Contains pattern line ↔ ((place : ℕ) × (place ≤ length line)
     × Entered (code_of pattern) line (length (code_of pattern)) place)
 contained pattern {line} o = (
-  λ c. let s = (code_exact pattern line o).complete c.0 c.1 c.4 in (c.1, c.3, (c.0, omega (arith, c.2, c.3), s)),
+  λ c. let s = (code_exact _ _ o).complete c.0 c.1 c.4 in (c.1, c.3, (c.0, omega (arith, c.2, c.3), s)),
   λ c.
       let entered : Entered (code_of pattern) line (length (code_of pattern)) c.0 = c.2 in
-      let m = (code_exact pattern line o).sound entered.0 c.0 entered.2 in
+      let m = (code_exact _ _ o).sound entered.0 c.0 entered.2 in
       let within = stays pattern line entered.0 c.0 entered.1 m in
       (entered.0, c.0, within.0, within.1, m),
 )
@@ -497,12 +497,12 @@ is_code pattern o = (code_exact pattern [] o).fits
 pub found_contains : (pattern : Pattern) {line : List ℕ} {found : Bool} → IsOrdered pattern
     → (IsTrue found ↔ EndsIn (code_of pattern) line) → found ≡ contains pattern line
 found_contains pattern {line} {found} o f =
-    one_truth found (contains pattern line) (Contains pattern line) ((λ t. (contained pattern o).1 (f.0 t), λ c. f.1 ((contained pattern o).0 c))) (contains_tells pattern line)
+    one_truth found (contains pattern line) (Contains pattern line) ((λ t. (contained _ o).1 (f.0 t), λ c. f.1 ((contained _ o).0 c))) (contains_tells pattern line)
 
 -- twice the positions are room enough
 pub enough_room : (pattern : Pattern) → IsOrdered pattern → length (code_of pattern) < 2 * positions_of pattern
-enough_room pattern o = let w = weighs pattern o in omega (arith, w.most)
+enough_room pattern o = let w = weighs _ o in omega (arith, w.most)
 
 pub bound_of : (pattern : Pattern) (places : ℕ) {steps : ℕ} → IsOrdered pattern
     → steps ≤ places * (weight (code_of pattern) + 1) → steps ≤ places * positions_of pattern
-bound_of pattern places o h = let e = ap (λ n. places * (n + 1)) (weighs pattern o).exact in omega (arith, h, e)
+bound_of pattern places o h = let e = ap (λ n. places * (n + 1)) (weighs _ o).exact in omega (arith, h, e)

@@ -44,7 +44,7 @@ turned around {last} e = ap reverse e ∙ reverse-append around (last ∷ [])
 pub finish_more : {nodes written : List Node} {pending : List Pending} (around : List Pending) (d : Duplication)
     (final : Compiling) → pending ≡ around ++ Repeated d ∷ [] → Repeats d nodes written → Finishes written around final
     → Finishes nodes pending final
-finish_more {written} around d final e r f = rw (turned around e) (written, r, f)
+finish_more {written} around d final e r f = rw (turned _ e) (written, r, f)
 
 -- no duplication waits
 ends_by : (stack : List Pending) {nodes : List Node} {pending : List Pending} {final : Compiling}
@@ -55,7 +55,7 @@ ends_by (Group ∷ stack) s none n = record { nodes = n.nodes; pending = n.pendi
 
 pub finish_ends : {nodes : List Node} {pending : List Pending} {final : Compiling} → PopsNone pending
     → IsNow nodes pending None final → Finishes nodes pending final
-finish_ends {pending} {final} none n = ends_by (reverse pending) (sym (reverse-reverse pending)) none n
+finish_ends {pending} {final} none n = ends_by _ (sym (reverse-reverse pending)) none n
 
 -- what follows from an item that is complete
 pub finished_group : {nodes : List Node} {pending : List Pending} (around : List Pending) {new : Compiling}
@@ -76,7 +76,7 @@ alone s = rw (← s.1) at s.2
 
 last_taken : (one : List Token) (token : Token) (old new : Compiling) → TakesAll old (one ++ token ∷ []) new
     → (now : Compiling) × Takes old token now × TakesAll now one new
-last_taken one token old new s = let p = parted one (token ∷ []) old new s in (p.0, alone p.1, p.2)
+last_taken one token old new s = let p = parted _ _ _ _ s in (p.0, alone p.1, p.2)
 
 -- no duplication waits
 abbrev Base : List Pending → Type 0
@@ -85,7 +85,7 @@ Base pending = (pending ≡ []) ⊎ ((around : List Pending) × (pending ≡ aro
 finished_base : {nodes : List Node} {pending : List Pending} {new : Compiling} → Base pending
     → Finishes nodes pending new → IsNow nodes pending None new
 finished_base {nodes} {new} (inl e) f = rw (← e) at (finished_all f e)
-finished_base (inr e) f = finished_group e.0 f e.1
+finished_base (inr e) f = finished_group _ f e.1
 
 takes_writing : (old new : Compiling) (token : Token) → old.passing ≡ None → Takes old token new → Writes token old new
 takes_writing old new token e t = subst (λ p. TakesIn p token old new) e t

@@ -131,33 +131,33 @@ passing_more {code} {byte} {base} {old} {now} {new} {at} {carry} {kept} takes p 
         (set now at (bit_or (bit_or (kept * 2 ^ 1 % 2 ^ 64) carry) (get_or base at 0))) number ↔ LedOrBase code byte
         base old number
     earlier number l i =
-        let e = set_elsewhere now (bit_or (bit_or (kept * 2 ^ 1 % 2 ^ 64) carry) (get_or base at 0)) number (λ q. omega (arith, q, l)) in
+        let e = set_elsewhere _ _ _ (λ q. omega (arith, q, l)) in
         (λ k. i.0 (e.0 k), λ k. e.1 (i.1 k))
 
     joined : (bit : ℕ) → bit < 64
         → ((bit_at (bit_or (kept * 2 ^ 1 % 2 ^ 64) carry) bit ≡ 1) ↔ Led code byte old (at * 64 + bit))
         → IsIn new (at * 64 + bit) ↔ LedOrBase code byte base old (at * 64 + bit)
     joined bit small i =
-        let w = is_in_word new at bit small in
-        let b = is_in_word base at bit small in
+        let w = is_in_word _ _ _ small in
+        let b = is_in_word _ _ _ small in
         let e = ap (λ x. bit_at x bit) read in (
-          λ k. elim (either_bit (bit_or (kept * 2 ^ 1 % 2 ^ 64) carry) (get_or base at 0) bit (sym e ∙ w.1 k)) [ inl led ↦ inl (i.0 led) | inr front ↦ inr (b.0 front) ],
+          λ k. elim (either_bit _ _ _ (sym e ∙ w.1 k)) [ inl led ↦ inl (i.0 led) | inr front ↦ inr (b.0 front) ],
           λ l. elim l [
-            | inl led ↦ w.0 (e ∙ left_bit (bit_or (kept * 2 ^ 1 % 2 ^ 64) carry) (get_or base at 0) bit (i.1 led))
-            | inr front ↦ w.0 (e ∙ right_bit (bit_or (kept * 2 ^ 1 % 2 ^ 64) carry) (get_or base at 0) bit (b.1 front))
+            | inl led ↦ w.0 (e ∙ left_bit _ _ _ (i.1 led))
+            | inr front ↦ w.0 (e ∙ right_bit _ _ _ (b.1 front))
           ],
         )
 
     inside : (bit : ℕ) → bit < 64
         → (bit_at (bit_or (kept * 2 ^ 1 % 2 ^ 64) carry) bit ≡ 1) ↔ Led code byte old (at * 64 + bit)
     inside zero small =
-        let e = shifted_low kept p.bit in
+        let e = shifted_low _ p.bit in
         let z : at * 64 + 0 ≡ at * 64 = omega arith in (
           λ k. rw (← z) at (p.over.0 (sym e ∙ k)),
           λ k. e ∙ p.over.1 (rw z at k),
         )
     inside (suc bit) small =
-        let e = shifted_high kept carry bit p.bit (omega (arith, small)) in
+        let e = shifted_high _ _ _ p.bit (omega (arith, small)) in
         let k = kept_is bit (omega (arith, small)) in
         let z : at * 64 + bit + 1 ≡ at * 64 + suc bit = omega arith in (
           λ i. rw z at (k.0 (sym e ∙ i)),
@@ -183,9 +183,9 @@ passing_ends {code} {byte} {base} {old} {now} {at} p h size same number = (
 pub none_in : (words : List ℕ) {at : ℕ} → ((n : ℕ) → n < at → get_or words n 0 ≡ 0) → length words ≤ at → (number : ℕ)
     → IsIn words number → ⊥
 none_in words {at} zeros h number k =
-    let l = is_within words k in
+    let l = is_within _ k in
     let same : number ≡ number / 64 * 64 + number % 64 = omega arith in
-    let b = (is_in_word words (number / 64) (number % 64) (omega arith)).1 (rw same at k) in
+    let b = (is_in_word _ _ _ (omega arith)).1 (rw same at k) in
     let z = ap (λ x. bit_at x (number % 64)) (zeros (number / 64) (omega (arith, l, h))) ∙ bit_at-zero (number % 64) in
     omega (arith, b, z)
 
@@ -263,7 +263,7 @@ ones_sum weight (word ∷ words) (other ∷ counts) size fits exact =
 counted_most : (code : List Node) (n : ℕ) → counted_at code n ≤ 1
 counted_most [] zero = omega arith
 counted_most [] (suc n) = omega arith
-counted_most (node ∷ code) zero = weight_most node
+counted_most (node ∷ code) zero = weight_most _
 counted_most (node ∷ code) (suc n) = counted_most code n
 
 pub positions_are : (code : List Node) (words : List ℕ) {counts : List ℕ} → length words ≡ width code
@@ -305,7 +305,7 @@ flag_is (word ∷ words) n = elim (cases_lt n 64) [
   | inl first ↦
       let low : n / 64 ≡ 0 = omega (arith, first) in
       let place : n % 64 ≡ n = omega (arith, first) in
-      bits_front 64 word n (flags_of words) first ∙ sym (ap (λ k. bit_at (get_or (word ∷ words) k 0) (n % 64) == 1) low ∙ ap (λ k. bit_at word k == 1) place)
+      bits_front _ _ n _ first ∙ sym (ap (λ k. bit_at (get_or (word ∷ words) k 0) (n % 64) == 1) low ∙ ap (λ k. bit_at word k == 1) place)
   | inr later ↦
       let e : n ≡ 64 + (n - 64) = omega (arith, later) in
       let high : n / 64 ≡ suc ((n - 64) / 64) = omega (arith, later) in

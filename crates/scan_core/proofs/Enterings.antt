@@ -63,7 +63,7 @@ parts_anywhere code at_first at_last (suc count) from to p = (p.0, parts_anywher
 -- what a known node leads to
 pub flows_of : (code : List Node) {n : ℕ} (node : Node) {at_first at_last : Bool} {to : ℕ} → At code n node
     → Flows code at_first at_last n to → LeadsOn node at_first at_last n to
-flows_of code {n} node here f = rw (at_once code n f.1 here) at f.2
+flows_of code {n} node here f = rw (at_once _ n f.1 here) at f.2
 
 pub node_here : (code : List Node) {n : ℕ} {node read : Node} → n < length code → read ≡ node
     → read ≡ get_or code n read → At code n node
@@ -77,7 +77,7 @@ pub pass_found : (code : List Node) (n : ℕ) {byte to : ℕ} (bytes : List Bool
 pass_found code n bytes here p = search (rules, at_once)
 
 pub pass_least : (code : List Node) {n byte to : ℕ} → Passes code byte n to → n < length code
-pass_least code {n} p = at_least code n (Take p.0) p.1
+pass_least code {n} p = at_least _ n _ p.1
 
 pub weight_length : (code : List Node) → weight code ≤ length code
 weight_length [] = omega arith
@@ -106,7 +106,7 @@ pub way_is : {code : List Node} {number : ℕ} (node : Node) → IsCode code →
 way_is {code} (Take bytes) c here = record {
   one = omega arith;
   other = omega arith;
-  exact = λ at_first at_last to. (λ f. absurd (flows_of code (Take bytes) here f), λ o. absurd o.0);
+  exact = λ at_first at_last to. (λ f. absurd (flows_of _ _ here f), λ o. absurd o.0);
 }
 way_is {code} {number} First c here = let l = at_least code number First here in record {
   one = omega (arith, l);

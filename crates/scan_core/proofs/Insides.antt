@@ -106,7 +106,7 @@ grows_one {old} {new} {number} {word} h none ew fits en eo = record {
     more = bit_or word (1 * 2 ^ (number % 64) % 2 ^ 64)
 
     is : (other : ℕ) → IsIn new other ↔ (IsIn old other ⊎ (other ≡ number))
-    is = entered_one old h ew en
+    is = entered_one _ h ew en
 
     larger : get_or old (number / 64) 0 < bit_or word (1 * 2 ^ (number % 64) % 2 ^ 64)
     larger = elim (cases_eq word (bit_or word (1 * 2 ^ (number % 64) % 2 ^ 64))) [
@@ -174,7 +174,7 @@ pub adds_both : {code : List Node} {at_first at_last : Bool} {old middle new : L
 adds_both {code} {at_first} {at_last} f g = record {
   size = g.size ∙ f.size;
   kept = λ number h. g.kept number (f.kept number h);
-  from = λ number h. let one = g.from number h in let two = f.from one.0 one.1 in (two.0, two.1, flows_join code one.2.0 two.2 one.2.1);
+  from = λ number h. let one = g.from number h in let two = f.from one.0 one.1 in (two.0, two.1, flows_join _ _ two.2 one.2.1);
 }
 
 -- what follows at any place follows at each
@@ -262,8 +262,8 @@ pub both_led : {code : List Node} {number to : ℕ} {way : Way} (one other bit :
     → Opens way.when false false → ((bit_at one bit ≡ 1) ↔ (way.one ≡ to)) → ((bit_at other bit ≡ 1) ↔ (way.other ≡ to))
     → (bit_at (bit_or one other) bit ≡ 1) ↔ Flows code false false number to
 both_led {to} one other bit w o a b = (
-  λ k. (w.exact false false to).1 (o, elim (either_bit one other bit k) [ inl first ↦ inl (sym (a.0 first)) | inr second ↦ inr (sym (b.0 second)) ]),
-  λ f. elim ((w.exact false false to).0 f).1 [ inl e ↦ left_bit one other bit (a.1 (sym e)) | inr e ↦ right_bit one other bit (b.1 (sym e)) ],
+  λ k. (w.exact false false to).1 (o, elim (either_bit _ _ _ k) [ inl first ↦ inl (sym (a.0 first)) | inr second ↦ inr (sym (b.0 second)) ]),
+  λ f. elim ((w.exact false false to).0 f).1 [ inl e ↦ left_bit _ _ _ (a.1 (sym e)) | inr e ↦ right_bit _ _ _ (b.1 (sym e)) ],
 )
 
 pub none_led : (code : List Node) {number to : ℕ} (bit : ℕ) → (Flows code false false number to → ⊥)
@@ -387,10 +387,10 @@ fitted n i h =
     ap (λ x. bit_at x i) q ∙ b ∙ omega (arith, o, l)
 
 pub placed_below : (n : ℕ) {s i : ℕ} → i < 64 → i < s → bit_at (n * 2 ^ s % 2 ^ 64) i ≡ 0
-placed_below n {s} {i} h l = fitted (n * 2 ^ s) i h ∙ ap (λ x. bit_at x i) (omega arith) ∙ bit_at_cat_low n s 0 i l ∙ bit_at-zero i
+placed_below n {s} {i} h l = fitted _ i h ∙ ap (λ x. bit_at x i) (omega arith) ∙ bit_at_cat_low n s 0 i l ∙ bit_at-zero i
 
 pub placed : (n : ℕ) {s i : ℕ} → i < 64 → s ≤ i → bit_at (n * 2 ^ s % 2 ^ 64) i ≡ bit_at n (i - s)
-placed n {s} {i} h l = fitted (n * 2 ^ s) i h ∙ ap (λ x. bit_at x i) (omega arith) ∙ bit_at_cat_high n s 0 i (search rules) l
+placed n {s} {i} h l = fitted _ i h ∙ ap (λ x. bit_at x i) (omega arith) ∙ bit_at_cat_high n s 0 i (search rules) l
 
 -- the bits of a number are those of its lower and of its higher four bits
 halved : (high low j : ℕ) → low < 16 → bit_at (high * 16 + low) j ≡ max (bit_at (high * 16) j) (bit_at low j)
@@ -432,16 +432,16 @@ closes_both : {code : List Node} {at : ℕ} (one other : ℕ) {chosen : ℕ} (al
     → Closes code at chosen (bit_or all more)
 closes_both one other all more c d e = record {
   kept = λ bit h is. elim (cases_eq (bit_at one bit) 1) [
-    | inl first ↦ left_bit all more bit (c.kept bit h first)
-    | inr differs ↦ right_bit all more bit (d.kept bit h (let q = e bit h in let l = bit_at-lt one bit in let m = bit_at-lt other bit in omega (arith, q, l, m, is, differs)))
+    | inl first ↦ left_bit _ _ _ (c.kept bit h first)
+    | inr differs ↦ right_bit _ _ _ (d.kept bit h (let q = e bit h in let l = bit_at-lt one bit in let m = bit_at-lt other bit in omega (arith, q, l, m, is, differs)))
   ];
-  from_chosen = λ number h is. elim (either_bit all more number is) [
+  from_chosen = λ number h is. elim (either_bit _ _ _ is) [
     | inl old ↦ let k = c.from_chosen number h old in (k.0, k.1, (let q = e k.0 k.1 in let is = k.2 in let l = bit_at-lt other k.0 in omega (arith, q, is, l)), k.3)
     | inr new ↦ let k = d.from_chosen number h new in (k.0, k.1, (let q = e k.0 k.1 in let is = k.2 in let l = bit_at-lt one k.0 in omega (arith, q, is, l)), k.3)
   ];
-  closed = λ number to h l is f. elim (either_bit all more number is) [
-    | inl old ↦ left_bit all more to (c.closed number to h l old f)
-    | inr new ↦ right_bit all more to (d.closed number to h l new f)
+  closed = λ number to h l is f. elim (either_bit _ _ _ is) [
+    | inl old ↦ left_bit _ _ _ (c.closed number to h l old f)
+    | inr new ↦ right_bit _ _ _ (d.closed number to h l new f)
   ];
 }
 
@@ -459,15 +459,15 @@ entry_of_halves {code} {inside} {place} i low high = closes_both _ _ _ _ one oth
         (get_or inside (place - place % 16) 0)
     one =
         let before : ℕ = place - place % 16 in
-        entry_at before (omega arith) (omega arith) (omega arith) (i.each before (omega (arith, low)))
+        entry_at _ (omega arith) (omega arith) (omega arith) (i.each before (omega (arith, low)))
 
     other : Closes code (place / 2048) (place % 16 * 2 ^ (place / 256 % 8 * 8) % 2 ^ 64)
         (get_or inside (place - place / 16 % 16 * 16) 0)
     other =
         let before : ℕ = place - place / 16 % 16 * 16 in
-        entry_at before (omega arith) (omega arith) (omega arith) (i.each before (omega (arith, high)))
+        entry_at _ (omega arith) (omega arith) (omega arith) (i.each before (omega (arith, high)))
 
     bits : (bit : ℕ) → bit < 64
         → bit_at (chosen_at place) bit ≡ max (bit_at (place / 16 % 16 * 16 * 2 ^ (place / 256 % 8 * 8) % 2 ^ 64) bit)
         (bit_at (place % 16 * 2 ^ (place / 256 % 8 * 8) % 2 ^ 64) bit)
-    bits bit h = ap (λ n. bit_at (n * 2 ^ (place / 256 % 8 * 8) % 2 ^ 64) bit) chosen ∙ halved_placed (place / 16 % 16) (place % 16) (place / 256 % 8 * 8) bit (omega arith) h
+    bits bit h = ap (λ n. bit_at (n * 2 ^ (place / 256 % 8 * 8) % 2 ^ 64) bit) chosen ∙ halved_placed _ _ _ _ (omega arith) h

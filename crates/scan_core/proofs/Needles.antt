@@ -59,9 +59,9 @@ taken code line zero number place {to} stop (suc count) w high takes =
     let first = takes 0 (omega arith) in
     let here : number + 0 ≡ number = omega arith in
     let there : place ≡ place + 0 = omega arith in
-    let led = led_on code count to stop first.0 w (at_at code (Take first.0) here first.1) in (
+    let led = led_on _ _ _ _ _ w (at_at _ _ here first.1) in (
       omega (arith, led.0),
-      λ bytes at. rw there at (led_on code count to stop bytes w (at_at code (Take bytes) here at)).1,
+      λ bytes at. rw there at (led_on _ _ _ _ _ w (at_at _ _ here at)).1,
     )
 taken code line (suc k) number place {to} stop (suc count) w high takes =
     let first = takes 0 (omega arith) in
@@ -76,18 +76,18 @@ taken code line (suc k) number place {to} stop (suc count) w high takes =
 comes : (code : List Node) {line : List ℕ} {number : ℕ} → IsPassed code number → number < length code → EndsIn code line
     → (there : ℕ) × (rest : ℕ) × (stop : ℕ) × Walks code line rest number there (length code) stop
 comes code {line} {number} passed within ends =
-    let by = come_by code passed ends.2.2.0 ends.2.0 ends.2.2.1 (omega arith) within in
+    let by = come_by _ passed _ _ ends.2.2.1 (omega arith) within in
     (by.0, by.1, ends.0, by.2)
 
 pub is_byte_needle : (code : List Node) {number : ℕ} (bytes : List Bool) (few : FewBytes) → IsPassed code number
     → At code number (Take bytes) → ((byte : ℕ) → byte < 256 → IsTrue (has bytes byte) → is_among few byte ≡ true)
     → IsNeedle code (Byte few)
 is_byte_needle code {number} bytes few passed here among line are ends =
-    let walk = comes code passed (at_least code number (Take bytes) here) ends in
+    let walk = comes _ passed (at_least _ _ _ here) ends in
     let same : number ≡ number + 0 = omega arith in
     let first : AreTakes code number 0 = λ k low. (bytes, at_at code (Take bytes) (omega (arith, low)) here) in
     let t = taken code line 0 number walk.0 walk.2 walk.1 walk.3 (let low = at_least code number (Take bytes) here in omega (arith, low)) first in
-    (walk.0 + 0, t.0, among (slice_index line (walk.0 + 0)) (are (walk.0 + 0) t.0) (t.1 bytes (at_at code (Take bytes) same here)))
+    (walk.0 + 0, t.0, among (slice_index line (walk.0 + 0)) (are (walk.0 + 0) t.0) (t.1 bytes (at_at _ _ same here)))
 
 -- a node that takes one byte alone takes bytes
 only_takes : (code : List Node) (number : ℕ) {byte : ℕ} (node : Node) → At code number node → TakesOnly node byte
@@ -119,7 +119,7 @@ is_text_needle code {number} {text} passed literal same some line are ends = (
     each : (k : ℕ) → k < length text → (walk.0 + k < length line) × (slice_index line (walk.0 + k) ≡ slice_index text k)
     each k within =
         let one = takes k within in
-        let t = taken code line k number walk.0 walk.2 walk.1 walk.3 (at_least code (number + k) (Take one.0) one.1) (λ j low. let next = takes j (omega (arith, low, within)) in (next.0, next.1)) in
+        let t = taken _ _ k _ _ _ _ walk.3 (at_least _ _ _ one.1) (λ j low. let next = takes j (omega (arith, low, within)) in (next.0, next.1)) in
         (t.0, one.2 (slice_index line (walk.0 + k)) (are (walk.0 + k) t.0) (t.1 one.0 one.1))
 
 -- Stretches of a text
@@ -154,7 +154,7 @@ clear_of pattern needle ordered are is lacks before line after all ends = by (co
   where
     by : (found : Bool) → contains pattern line ≡ found → found ≡ false
     by false same = refl
-    by true same = absurd (lacks before line after all ends (is line (part_bytes before line after (rw all at are)) ((contained pattern ordered).0 ((contains_tells pattern line).0 same))))
+    by true same = absurd (lacks before line after all ends (is line (part_bytes _ _ _ (rw all at are)) ((contained _ ordered).0 ((contains_tells pattern line).0 same))))
 
 -- Choosing the rarest nodes
 
@@ -169,7 +169,7 @@ literal_more code from {at} byte text node all literal here only k within = elim
   | inl same ↦
       let there : at ≡ from + k = omega (arith, all, same) in
       let last : byte ≡ slice_index (text ++ byte ∷ []) k = sym (ap (λ n. slice_index (text ++ byte ∷ []) n) same ∙ get_or-append_seam text byte [] _) in
-      (node, at_at code node there here, rw last at only)
+      (node, at_at _ _ there here, rw last at only)
   | inr other ↦
       let long : length (text ++ byte ∷ []) ≡ length text + 1 = length-append text (byte ∷ []) in
       let less : k < length text = omega (arith, within, long, other) in

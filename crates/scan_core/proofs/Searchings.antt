@@ -40,10 +40,10 @@ front_is s b z number k = elim ((s.came number).0 k) [ inl came ↦ absurd (let 
 pub entered_here : {code : List Node} {line : List ℕ} {place steps : ℕ} {at_first at_last : Bool} {old new : List ℕ}
     → Searched code line place old steps → IsPlace line place at_first at_last
     → SpreadsOut code at_first at_last old new → (number : ℕ) → IsIn new number ↔ Entered code line number place
-entered_here {code} {line} {at_first} {at_last} s p o number = let r = reaches_exact code p number in (
+entered_here {code} {line} {at_first} {at_last} s p o number = let r = reaches_exact _ p _ in (
   λ h. let f = (o.exact number).0 h in r.0 (elim ((s.came f.0).0 f.1) [
     | inl came ↦ (f.0, inl came, f.2)
-    | inr on ↦ (0, inr refl, flows_join code f.2.0 (on.0, parts_anywhere code at_first at_last on.0 0 f.0 on.1) f.2.1)
+    | inr on ↦ (0, inr refl, flows_join _ _ (on.0, parts_anywhere _ _ _ _ 0 _ on.1) f.2.1)
   ]),
   λ e. let f = r.1 e in (o.exact number).1 (f.0, (s.came f.0).1 (elim f.1 [ inl came ↦ inl came | inr e ↦ inr (0, sym e) ]), f.2),
 )
@@ -68,7 +68,7 @@ search_fits {code} {place} now s e few far =
 marked_here : (code : List Node) {line : List ℕ} {place : ℕ} (words : List ℕ)
     → ((number : ℕ) → IsIn words number ↔ Entered code line number place) → (number : ℕ)
     → IsMarked (flags_of words) number ↔ Entered code line number place
-marked_here code words here number = (λ h. (here number).0 ((flags_are words number).0 h), λ e. (flags_are words number).1 ((here number).1 e))
+marked_here code words here number = (λ h. (here number).0 ((flags_are _ _).0 h), λ e. (flags_are _ _).1 ((here number).1 e))
 
 -- one byte more
 pub search_more : {code : List Node} {line base : List ℕ} {place byte steps positions : ℕ} {old : List ℕ}
@@ -83,12 +83,12 @@ search_more {code} {line} {place} now b s here h e p absent test size passed = r
   size = size;
   came = λ number.
       let one : suc place ≡ place + 1 = omega arith in
-      let c = came_exact code here h e number in
+      let c = came_exact _ here h e _ in
       rw (← one) (
         λ k. elim ((passed number).0 k) [ inl led ↦ inl (c.0 led) | inr based ↦ inr ((b.exact number).0 based) ],
         λ k. elim k [ inl came ↦ (passed number).1 (inl (c.1 came)) | inr flows ↦ (passed number).1 (inr ((b.exact number).1 flows)) ],
       );
-  so_far = rw (← p) at (counted_more (flags_of now) s.so_far (marked_here code now here) (λ m. false≢true (sym absent ∙ test.1 ((flags_are now (length code)).0 m))));
+  so_far = rw (← p) at (counted_more _ s.so_far (marked_here _ _ here) (λ m. false≢true (sym absent ∙ test.1 ((flags_are _ _).0 m))));
 }
 
 -- the end is entered
@@ -98,7 +98,7 @@ pub search_found : {code : List Node} {line : List ℕ} {place steps positions :
     → IsOutcome code line (record { found = true; steps = steps + positions })
 search_found {code} {line} {place} {steps} {positions} now s here h p is =
     counted_found s.so_far (omega (arith, h)) ((here (length code)).0 is) (omega arith)
-    (steps_wider (weight code + 1) (steps_more place s.so_far.bound (few_positions code now p)) (omega (arith, h)))
+    (steps_wider _ (steps_more _ s.so_far.bound (few_positions _ _ p)) (omega (arith, h)))
 
 -- the line's end
 pub search_ends : {code : List Node} {line : List ℕ} {place steps positions : ℕ} {old : List ℕ} (now : List ℕ)
@@ -107,8 +107,8 @@ pub search_ends : {code : List Node} {line : List ℕ} {place steps positions : 
     → place ≡ length line → positions ≡ positions_among code (flags_of now) → (IsTrue found ↔ IsIn now (length code))
     → IsOutcome code line (record { found = found; steps = steps + positions })
 search_ends {code} {line} {place} now s here e p test =
-    let f = flags_are now (length code) in
-    rw (← p) at (counted_ends (flags_of now) s.so_far (marked_here code now here) e (λ t. f.1 (test.0 t), λ m. test.1 (f.0 m)))
+    let f = flags_are _ _ in
+    rw (← p) at (counted_ends _ s.so_far (marked_here _ _ here) e (λ t. f.1 (test.0 t), λ m. test.1 (f.0 m)))
 
 -- A table that is built set by set and entry by entry.
 
@@ -124,7 +124,7 @@ built_set {code} {sets} {set} b small o = let l = length-append sets (set ∷ []
   some = omega (arith, l);
   front = λ number. rw (← get_or_append_left sets (set ∷ []) [] 0 b.some) at (b.front number);
   going = each_to (each_more b.going o refl) (omega (arith, l));
-  told = each_by b.told (λ place read h t. tells_more set (omega (arith, h, small)) t);
+  told = each_by b.told (λ place read h t. tells_more _ (omega (arith, h, small)) t);
 }
 
 -- the entry of a state and a byte by its place
@@ -147,13 +147,13 @@ pub twin_entry : {code : List Node} {most place twin read : ℕ} (d : ℕ) {buil
     → read ≡ get_or building.rows.items (place / 256 * 256 + twin) d
     → Tells code building.sets.items (place / 256) (place % 256) read
 twin_entry {code} {place} {twin} {read} d {building} f a less e = record {
-  next = λ s. let n = t.next s in (n.0, λ number. (λ i. there number ((n.1 number).0 i), λ i. (n.1 number).1 (next_alike code a i)));
+  next = λ s. let n = t.next s in (n.0, λ number. (λ i. there number ((n.1 number).0 i), λ i. (n.1 number).1 (next_alike _ a i)));
   stop = λ s. there (length code) (t.stop s);
 }
   where
     there : (number : ℕ) → Next code twin (InSets building.sets.items (place / 256)) number
         → Next code (place % 256) (InSets building.sets.items (place / 256)) number
-    there number n = next_alike code (λ number bytes h. sym (a number bytes h)) n
+    there number n = next_alike _ (λ number bytes h. sym (a number bytes h)) n
 
     t : Tells code building.sets.items (place / 256) twin read
     t =
@@ -195,7 +195,7 @@ led_on {code} {most} {place} {read} {old} {new} before {words} f k is size advan
   known = g.known;
   tells = record {
     next = λ s. let k = l.next s in (k.0, λ number. rw (← k.1) at (exact number));
-    stop = λ e. (exact (length code)).0 ((flags_are words (length code)).1 (l.stop e));
+    stop = λ e. (exact (length code)).0 ((flags_are _ _).1 (l.stop e));
   };
 }
   where
@@ -203,7 +203,7 @@ led_on {code} {most} {place} {read} {old} {new} before {words} f k is size advan
         ⊎ ((new.sets.items ≡ old.sets.items ++ flags_of words ∷ []) × IsOpen code (flags_of words))
     set = elim l.sets [
       | inl e ↦ inl e
-      | inr e ↦ inr (e.0, record { size = flags_length words ∙ ap (λ n. 64 * n) size; going = λ m. e.1 ((flags_are words (length code)).0 m) })
+      | inr e ↦ inr (e.0, record { size = flags_length _ ∙ ap (λ n. 64 * n) size; going = λ m. e.1 ((flags_are _ _).0 m) })
     ]
 
     g : Grown code place old.sets.items new.sets.items old.rows.items
@@ -212,8 +212,8 @@ led_on {code} {most} {place} {read} {old} {new} before {words} f k is size advan
     exact : (number : ℕ)
         → IsMarked (flags_of words) number ↔ Next code (place % 256) (InSets new.sets.items (place / 256)) number
     exact number = rw (← (is ∙ sym g.same)) (
-      λ m. next_by code (λ n. (flags_are before n).1) ((advanced number).0 ((flags_are words number).0 m)),
-      λ n. (flags_are words number).1 ((advanced number).1 (next_by code (λ n. (flags_are before n).0) n)),
+      λ m. next_by _ (λ n. (flags_are _ n).1) ((advanced _).0 ((flags_are _ _).0 m)),
+      λ n. (flags_are _ _).1 ((advanced _).1 (next_by _ (λ n. (flags_are _ n).0) n)),
     )
 
 -- one entry more
@@ -240,7 +240,7 @@ pub advanced : {code : List Node} {byte : ℕ} {base : List ℕ} (old : List ℕ
 advanced {code} old b passed s number = (
   λ h. let f = (s.exact number).0 h in elim ((passed f.0).0 f.1) [
     | inl led ↦ (f.0, inl led, f.2)
-    | inr based ↦ (0, inr refl, flows_join code f.2.0 ((b.exact f.0).0 based) f.2.1)
+    | inr based ↦ (0, inr refl, flows_join _ _ ((b.exact f.0).0 based) f.2.1)
   ],
   λ n. (s.exact number).1 (n.0, (passed n.0).1 (elim n.1 [ inl led ↦ inl led | inr e ↦ inr ((b.exact n.0).1 (0, sym e)) ]), n.2),
 )

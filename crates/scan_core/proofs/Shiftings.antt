@@ -63,7 +63,7 @@ walk_forward code line (suc count) at {place} to {stop} w =
 
 pub entered_on : (code : List Node) {line : List ℕ} {at place to stop : ℕ} → Entered code line at place
     → Goes code line at place to stop → Entered code line to stop
-entered_on code {line} {at} {place} {to} {stop} e g = (e.0, e.1, path_on code e.2 (1, (to, stop, g, (refl, refl))))
+entered_on code {line} {at} {place} {to} {stop} e g = (e.0, e.1, path_on _ e.2 (1, (to, stop, g, (refl, refl))))
 
 pub reaches_exact : (code : List Node) {line : List ℕ} {place : ℕ} {at_first at_last : Bool}
     → IsPlace line place at_first at_last → (number : ℕ)
@@ -73,20 +73,20 @@ reaches_exact code {line} {place} {at_first} {at_last} p number = (there number,
     flows : (count from to : ℕ) → Entered code line from place → Parts (Flows code at_first at_last) count from to
         → Entered code line to place
     flows zero from to e q = rw q at e
-    flows (suc count) from to e q = entered_on code (flows count from q.0 e q.1) (q.2.0, q.2.1, (flow_goes q.2.0 q.0 to p).0 q.2.2)
+    flows (suc count) from to e q = entered_on _ (flows count from q.0 e q.1) (q.2.0, q.2.1, (flow_goes _ _ _ p).0 q.2.2)
 
     there : (number : ℕ) → Reaches code line place at_first at_last number → Entered code line number place
-    there number f = flows f.2.0 f.0 number (elim f.1 [ inl c ↦ entered_on code c.3 c.4 | inr e ↦ (place, p.within, (0, (sym e, refl))) ]) f.2.1
+    there number f = flows f.2.0 f.0 number (elim f.1 [ inl c ↦ entered_on _ c.3 c.4 | inr e ↦ (place, p.within, (0, (sym e, refl))) ]) f.2.1
 
     step : (at from at' from' : ℕ) → from ≤ place → Entered code line at from
         → (from ≡ place → Reaches code line place at_first at_last at) → Goes code line at from at' from'
         → from' ≡ place → Reaches code line place at_first at_last at'
-    step at from at' from' l e h g q = elim (leads_place g.0 line at g.2) [
+    step at from at' from' l e h g q = elim (leads_place _ _ _ g.2) [
       | inl same ↦
           let here : from ≡ place = omega (arith, same, q) in
           let was = h here in
           let led = subst (λ n. Leads g.0 line at n at' place) here (rw q at g.2) in
-          (was.0, was.1, (suc was.2.0, (at, was.2.1, (g.0, g.1, (flow_goes g.0 at at' p).1 led))))
+          (was.0, was.1, (suc was.2.0, (at, was.2.1, (g.0, g.1, (flow_goes _ _ _ p).1 led))))
       | inr more ↦ (at', inl (from, omega (arith, more.0, q), at, e, rw q at g), (0, refl))
     ]
 
@@ -95,11 +95,11 @@ reaches_exact code {line} {place} {at_first} {at_last} p number = (there number,
         → Reaches code line place at_first at_last number
     arrive zero at from number l w e h = subst (Reaches code line place at_first at_last) w.0 (h w.1)
     arrive (suc count) at from number l w e h =
-        arrive count w.0 w.1 number (walk_forward code line count w.0 number w.3) w.3 (entered_on code e w.2) (step at from w.0 w.1 l e h w.2)
+        arrive count w.0 w.1 number (walk_forward _ _ _ _ _ w.3) w.3 (entered_on _ e w.2) (step at from w.0 w.1 l e h w.2)
 
     here : (number : ℕ) → Entered code line number place → Reaches code line place at_first at_last number
     here number e =
-        let l = walk_forward code line e.2.0 0 number e.2.1 in
+        let l = walk_forward _ _ _ 0 _ e.2.1 in
         arrive e.2.0 0 e.0 number l e.2.1 (e.0, e.1, (0, (refl, refl))) (λ q. (0, inr refl, (0, refl)))
 
 pub inner : {line : List ℕ} {place : ℕ} {at_first : Bool} → place < length line → at_first ≡ (place == 0)
@@ -151,8 +151,8 @@ counted_more {code} {line} {place} {steps} set s here never = record {
     | inl same ↦ never ((here (length code)).1 (rw same at k))
     | inr other ↦ s.none before (omega (arith, l, other)) k
   ];
-  counted = one_counted set s.counted here refl;
-  bound = let m = positions_most code set in steps_more place s.bound m;
+  counted = one_counted _ s.counted here refl;
+  bound = let m = positions_most _ _ in steps_more _ s.bound m;
 }
 
 -- the end is entered at a place
@@ -174,7 +174,7 @@ counted_ends {code} {line} {place} {steps} set s here e test = record {
       | inr other ↦ absurd (s.none k.0 (omega (arith, k.1, e, other)) k.2)
     ],
   );
-  counted = λ absent. rw e at (one_counted set s.counted here refl);
+  counted = λ absent. rw e at (one_counted _ s.counted here refl);
   least = λ t. (counted_found s (omega (arith, e)) ((here (length code)).0 (test.0 t)) (omega arith) all).least refl;
   bound = all;
 }
@@ -187,18 +187,18 @@ counted_ends {code} {line} {place} {steps} set s here e test = record {
 -- at every place but the last
 pub inner_entered : (code : List Node) {line : List ℕ} (place : ℕ) → place < length line → {number : ℕ}
     → Inner code line place number ↔ Entered code line number place
-inner_entered code {line} zero h {number} = reaches_exact code (inner h refl) number
-inner_entered code {line} (suc place) h {number} = reaches_exact code (inner h (sym (ne_eqb (suc place) 0 (λ e. omega (arith, e))))) number
+inner_entered code {line} zero h {number} = reaches_exact _ (inner h refl) _
+inner_entered code {line} (suc place) h {number} = reaches_exact _ (inner h (sym (ne_eqb (suc place) 0 (λ e. omega (arith, e))))) _
 
 -- at the last place, after a byte
 pub last_entered : (code : List Node) {line : List ℕ} {place : ℕ} → suc place ≡ length line → {number : ℕ}
     → Entered code line number (suc place) ↔ ((from : ℕ) × Inner code line (suc place) from
     × FlowsOn code false true from number)
-last_entered code {line} h {number} = let exact = reaches_exact code (final h (sym (ne_eqb (length line) 0 (λ e. omega (arith, e, h))))) number in (
+last_entered code {line} h {number} = let exact = reaches_exact _ (final h (sym (ne_eqb (length line) 0 (λ e. omega (arith, e, h))))) _ in (
   λ e. let f = exact.1 e in (f.0, (f.0, f.1, (0, refl)), f.2),
   λ k.
-      let before = parts_anywhere code false true k.1.2.0 k.1.0 k.0 k.1.2.1 in
-      exact.0 (k.1.0, k.1.1, (k.1.2.0 + k.2.0, parts_join (Flows code false true) k.1.2.0 k.2.0 k.1.0 k.0 number before k.2.1)),
+      let before = parts_anywhere _ _ _ _ _ _ k.1.2.1 in
+      exact.0 (k.1.0, k.1.1, (k.1.2.0 + k.2.0, parts_join _ _ _ _ _ _ before k.2.1)),
 )
 
 pub walked_starts : {code : List Node} {sets : List (List Bool)} {table : Table} {line : List ℕ}
@@ -215,7 +215,7 @@ walked_here w h number = search (rules, inner_entered)
 next_inner : {code : List Node} {sets : List (List Bool)} {line : List ℕ} {place state steps : ℕ}
     → Walked code sets line place state steps → place < length line
     → {number : ℕ} → Next code (slice_index line place) (InSets sets state) number ↔ Inner code line (suc place) number
-next_inner {code} {sets} {line} {place} {state} w h = let came = came_exact code (walked_here w h) h refl in (
+next_inner {code} {sets} {line} {place} {state} w h = let came = came_exact _ (walked_here w h) h refl in (
   λ n. (n.0, elim n.1 [ inl led ↦ inl ((came n.0).0 led) | inr e ↦ inr e ], n.2),
   λ f. (f.0, elim f.1 [ inl c ↦ inl ((came f.0).1 c) | inr e ↦ inr e ], f.2),
 )
@@ -234,7 +234,7 @@ walked_more {code} {sets} {table} {line} {place} {state} t w h b e k p = record 
       rw e (λ i. n.0 ((step.1 number).0 i), λ i. (step.1 number).1 (n.1 i));
   so_far =
       let one : place + 1 ≡ suc place = omega arith in
-      rw one at (subst (IsCounted code line (place + 1)) (sym p) (counted_more (set_at sets state) w.so_far (walked_here w h) (t.none state w.known)));
+      rw one at (subst (IsCounted code line (place + 1)) (sym p) (counted_more _ w.so_far (walked_here w h) (t.none state w.known)));
 }
   where
     step : (entry table.rows.items state (slice_index line place) < length sets)
@@ -250,7 +250,7 @@ walked_stay : {code : List Node} {sets : List (List Bool)} {table : Table} {line
     → Walked code sets line (place + more) state (steps + positions_among code (set_at sets state) * more)
 walked_stay zero t w h b s = search rules
 walked_stay {code} {sets} {line} (suc more) {place} {state} t w h b s =
-    let before = walked_stay more t w (omega (arith, h)) b (λ k l u. s k l (omega (arith, u))) in
+    let before = walked_stay _ t w (omega (arith, h)) b (λ k l u. s k l (omega (arith, u))) in
     let m = t.most in
     let z : positions_among code (set_at sets state) * suc more ≡ positions_among code (set_at sets state) * more + positions_among code (set_at sets state) = mul-suc (positions_among code (set_at sets state)) more in
     let last = walked_more t before (omega (arith, h)) (b (place + more) (omega (arith, h)))
@@ -262,8 +262,8 @@ walked_stay {code} {sets} {line} (suc more) {place} {state} t w h b s =
 entered_there : (code : List Node) {line : List ℕ} {place number : ℕ} → place < length line
     → Inner code line (suc place) number → Entered code line number (suc place)
 entered_there code {line} {place} {number} h i = elim (cases_eq (suc place) (length line)) [
-  | inl same ↦ (last_entered code same).1 (number, i, (0, refl))
-  | inr other ↦ (inner_entered code (suc place) (omega (arith, h, other))).0 i
+  | inl same ↦ (last_entered _ same).1 (number, i, (0, refl))
+  | inr other ↦ (inner_entered _ _ (omega (arith, h, other))).0 i
 ]
 
 pub entry_read : {table : Table} {code : List Node} {sets : List (List Bool)} {state byte read : ℕ} (d : ℕ)
@@ -291,7 +291,7 @@ walk_run {code} {line} {from} {to} {state} {steps} {added} d w l h b s e a =
     let n = noted_read d w.1 w.2.known e in
     let more : steps + positions_among code (set_at w.0 state) * (to - from) ≡ steps + added = ap (λ p. steps + p * (to - from)) (sym n.positions) ∙ ap (λ p. steps + p) (sym a) in
     let there : from + (to - from) ≡ to = omega (arith, l) in
-    let stays = walked_stay (to - from) w.1 w.2 (omega (arith, l, h)) b (λ k m u. s k m (omega (arith, u, l))) in
+    let stays = walked_stay _ w.1 w.2 (omega (arith, l, h)) b (λ k m u. s k m (omega (arith, u, l))) in
     (w.0, w.1, rw more at (subst (λ p. Walked code w.0 line p state (steps + positions_among code (set_at w.0 state) * (to - from))) there stays))
 
 pub walk_next : {code : List Node} {table : Table} {line : List ℕ} {place state next steps : ℕ} (d' : ℕ) {noted : State}
@@ -300,7 +300,7 @@ pub walk_next : {code : List Node} {table : Table} {line : List ℕ} {place stat
     → noted ≡ get_or table.states.items state d → WalkedOf code table line (place + 1) next (steps + noted.positions)
 walk_next {line} {place} {state} {steps} d' d w h b e k f =
     let n = noted_read d w.1 w.2.known f in
-    let r = entry_read d' w.1 w.2.known b e in
+    let r = entry_read _ w.1 w.2.known b e in
     let one : suc place ≡ place + 1 = omega arith in
     (w.0, w.1, rw one at (walked_more w.1 w.2 h b r k (ap (λ p. steps + p) n.positions)))
 
@@ -320,13 +320,13 @@ pub walk_stops : {code : List Node} {table : Table} {line : List ℕ} {place sta
     → next ≡ 65535 → noted ≡ get_or table.states.items state d
     → IsOutcome code line (record { found = true; steps = steps + noted.positions })
 walk_stops {code} {table} {line} {place} {state} {steps} d' {noted} d w h b e k f =
-    let r = entry_read d' w.1 w.2.known b e in
+    let r = entry_read _ w.1 w.2.known b e in
     let n = noted_read d w.1 w.2.known f in
     let next = (next_inner w.2 h).0 ((w.1.told state (slice_index line place) w.2.known b).stop (sym r ∙ k)) in
     let one : suc place ≡ place + 1 = omega arith in
-    let counted = subst (λ p. IsCounted code line (place + 1) (steps + p)) (sym n.positions) (counted_more (set_at w.0 state) w.2.so_far (walked_here w.2 h) (w.1.none state w.2.known)) in
-    counted_found counted (omega (arith, h)) (rw one at (entered_there code h next)) (omega arith)
-    (steps_wider (weight code + 1) (walk_one d w f) (omega (arith, h)))
+    let counted = subst (λ p. IsCounted code line (place + 1) (steps + p)) (sym n.positions) (counted_more _ w.2.so_far (walked_here w.2 h) (w.1.none state w.2.known)) in
+    counted_found counted (omega (arith, h)) (rw one at (entered_there _ h next)) (omega arith)
+    (steps_wider _ (walk_one d w f) (omega (arith, h)))
 
 -- the line's end
 pub walk_ends : {code : List Node} {table : Table} {line : List ℕ} (place : ℕ) {state steps : ℕ} {noted : State}
@@ -335,13 +335,13 @@ pub walk_ends : {code : List Node} {table : Table} {line : List ℕ} (place : �
     → IsOutcome code line (record { found = noted.ends; steps = steps + noted.last_positions })
 walk_ends zero d w h some e = absurd (omega (arith, h, some))
 walk_ends {code} {table} {line} (suc place) {state} {noted} d w h some e =
-    rw (← n.last_positions) at (counted_ends n.last w.2.so_far last h n.ends)
+    rw (← n.last_positions) at (counted_ends _ w.2.so_far last h n.ends)
   where
     n : IsState code w.0 table.rows.items state noted
     n = noted_read d w.1 w.2.known e
 
     last : (number : ℕ) → IsMarked n.last number ↔ Entered code line number (suc place)
-    last number = let l = last_entered code h in (
+    last number = let l = last_entered _ h in (
       λ m. let k = (n.last_exact number).0 m in l.1 (k.0, (w.2.exact k.0).0 k.1, k.2),
       λ f. let k = l.0 f in (n.last_exact number).1 (k.0, (w.2.exact k.0).1 k.1, k.2),
     )
@@ -353,7 +353,7 @@ bound_fits code few h p = search (rules, weight_length, mul-le-mul)
 pub walk_fits : {code : List Node} {table : Table} {line : List ℕ} {place state steps : ℕ}
     → WalkedOf code table line place state steps → place ≤ 18446744073709551616
     → steps < 340282366920938463463374607431768211456
-walk_fits {code} {place} {steps} w p = bound_fits code w.1.few w.2.so_far.bound (omega (arith, p))
+walk_fits {code} {place} {steps} w p = bound_fits _ w.1.few w.2.so_far.bound (omega (arith, p))
 
 -- a state that no byte changes
 pub fixed_stays : {code : List Node} {table : Table} (line : List ℕ) {state : ℕ} {noted : State} (d : State)
@@ -398,7 +398,7 @@ word_more {rows} {count} {byte} {done} {word} {offset} b h o i = record {
     told state zero l e =
         let same : count - done ≡ state = omega (arith, l, e, h) in
         rw (← six_first word o) at (subst (λ s. IsOffset rows count s byte offset) same i)
-    told state (suc place) l e = rw (← six_more word offset place o) at (b.told state place l (omega (arith, e)))
+    told state (suc place) l e = rw (← six_more _ _ _ o) at (b.told state place l (omega (arith, e)))
 
 pub word_fits : {rows : List ℕ} {count byte done word : ℕ} → IsBegun rows count byte done word → done ≤ 9
     → word < 18014398509481984
@@ -471,7 +471,7 @@ state_going {code} {table} {line} {place} {state} {steps} {added} t a h b k n e 
       let s = g.1.states in
       rw (ap (λ p. steps + p) (sym e)) at (walk_next 0 no_state g h b refl (omega (arith, n, m, s)) refl);
   over = λ q. absurd (omega (arith, q, n));
-  bound = steps_more place a.bound w;
+  bound = steps_more _ a.bound w;
 }
 
 state_ends : {code : List Node} {table : Table} {line : List ℕ} {place state steps added : ℕ}
@@ -500,7 +500,7 @@ state_more {code} {table} {line} {place} {state} {added} t c a h b w o = elim (c
   | inr over ↦
       let k = a.known in
       let same : state ≡ length table.states.items = omega (arith, over, k) in
-      (length table.states.items, o.stop (λ l. absurd (omega (arith, l, over))), state_over t a h (more_steps added (a.over same)) (let z = w.stop (ap (λ n. 6 * n) same) in omega (arith, z)))
+      (length table.states.items, o.stop (λ l. absurd (omega (arith, l, over))), state_over t a h (more_steps _ (a.over same)) (let z = w.stop (ap (λ n. 6 * n) same) in omega (arith, z)))
   | inl below ↦ elim (cases_lt (entry table.rows.items state (slice_index line place)) (length table.states.items)) [
     | inl less ↦ (entry table.rows.items state (slice_index line place), o.next below less, state_going t a h b below less (w.exact state below refl) (weight_small t w refl below))
     | inr more ↦ (length table.states.items, o.stop (λ l. more), state_over t a h (state_ends (w.exact state below refl) c a h b below more) (weight_small t w refl below))
@@ -521,7 +521,7 @@ pub at_more : {code : List Node} {shifts : ShiftTable} {line : List ℕ} {place 
 at_more {shifts} {line} {place} word {read} d {added} e a h b r w g =
     let o = subst (λ n. IsOffset a.0.rows.items (length a.0.states.items) a.3.0 (slice_index line place) (six_bits n a.3.0)) (get_or_default shifts.words.items (slice_index line place) 0 d (let s = a.2.words.size in omega (arith, s, b)) ∙ sym r)
     (a.2.words.each (slice_index line place) b a.3.0 a.3.2.known) in
-    let i = subst (λ n. IsWeight a.0.states.items n added) a.3.1 (weight_read word e a.2 g) in
+    let i = subst (λ n. IsWeight a.0.states.items n added) a.3.1 (weight_read _ e a.2 g) in
     let m = state_more a.1 a.2.complete a.3.2 h b i o in
     (a.0, a.1, a.2, (m.0, ap (λ k. k % 64) (w ∙ ap (λ k. read / 2 ^ k) a.3.1) ∙ m.1, m.2))
 
@@ -548,13 +548,13 @@ at_known word a n = search rules
 noted_here : {code : List Node} {shifts : ShiftTable} {line : List ℕ} {place : ℕ} (word : ℕ) {steps : ℕ} {noted : State}
     (d : State) (a : IsAt code shifts line place word steps) → noted ≡ get_or shifts.states.items (word % 64 / 6) d
     → noted ≡ get_or a.0.states.items a.3.0 d
-noted_here {shifts} {line} word d a e = e ∙ ap (λ n. get_or shifts.states.items n d) (state_number word a) ∙ ap (λ l. get_or l a.3.0 d) a.2.states
+noted_here {shifts} {line} word d a e = e ∙ ap (λ n. get_or shifts.states.items n d) (state_number _ a) ∙ ap (λ l. get_or l a.3.0 d) a.2.states
 
 pub at_end : {code : List Node} {shifts : ShiftTable} {line : List ℕ} {place : ℕ} (word : ℕ) {steps : ℕ} {noted : State}
     (d : State) → IsAt code shifts line place word steps → (word % 64 ≡ shifts.stop → ⊥) → place ≡ length line
     → 0 < length line → noted ≡ get_or shifts.states.items (word % 64 / 6) d
     → IsOutcome code line (record { found = noted.ends; steps = steps + noted.last_positions })
-at_end {line} word {steps} d a n h some e = walk_ends _ d (a.3.2.going (state_here word a n)) h some (noted_here word d a e)
+at_end {line} word {steps} d a n h some e = walk_ends _ d (a.3.2.going (state_here _ a n)) h some (noted_here _ d a e)
 
 -- no byte can change the state
 pub at_fixed : {code : List Node} {shifts : ShiftTable} {line : List ℕ} {place : ℕ} (word : ℕ) {steps rest : ℕ}
@@ -564,17 +564,17 @@ pub at_fixed : {code : List Node} {shifts : ShiftTable} {line : List ℕ} {place
     → rest ≡ noted.positions * (length line - place)
     → IsOutcome code line (record { found = noted.ends; steps = steps + rest + noted.last_positions })
 at_fixed {code} {line} {place} word {steps} {rest} d a n some b e f r =
-    let k = state_here word a n in
-    let q = noted_here word d a e in
+    let k = state_here _ a n in
+    let q = noted_here _ d a e in
     let w = walk_run d (a.3.2.going k) a.3.2.within (omega arith) b (λ at l h. fixed_stays line d a.1 k q f at (b at h)) q r in
     walk_ends _ d w refl some q
 
 pub at_fits : {code : List Node} {shifts : ShiftTable} {line : List ℕ} {place : ℕ} (word : ℕ) {steps : ℕ}
     → IsAt code shifts line place word steps → place ≤ 18446744073709551616
     → steps < 340282366920938463463374607431768211456
-at_fits {code} {place} word {steps} a p = bound_fits code a.1.1.few a.3.2.bound (omega (arith, p))
+at_fits {code} {place} word {steps} a p = bound_fits _ a.1.1.few a.3.2.bound (omega (arith, p))
 
 pub outcome_fits : {code : List Node} {shifts : ShiftTable} {line : List ℕ} {found : Bool} {steps : ℕ}
     → IsShiftTable code shifts → IsOutcome code line (record { found = found; steps = steps })
     → length line ≤ 18446744073709551615 → steps < 340282366920938463463374607431768211456
-outcome_fits {code} {line} {steps} t o p = bound_fits code t.1.1.few o.bound (omega (arith, p))
+outcome_fits {code} {line} {steps} t o p = bound_fits _ t.1.1.few o.bound (omega (arith, p))

@@ -8,13 +8,13 @@ use Rattle.scan_core.proofs.search.search.Goals as goal
 pub overflow_add-steps : goal.overflow_add-steps
 overflow_add-steps c =
     let n : length c.args.nodes.now < 9223372036854775808 = search rules in
-    let f = search_fits c.spread.new.words c.loop-place.invariant c.positions.ensures n (omega (arith, c.loop-place-test.true)) in
+    let f = search_fits _ c.loop-place.invariant c.positions.ensures n (omega (arith, c.loop-place-test.true)) in
     search (rules, f)
 
 pub overflow_add-steps-2 : goal.overflow_add-steps-2
 overflow_add-steps-2 c =
     let n : length c.args.nodes.now < 9223372036854775808 = search rules in
-    let f = search_fits c.spread-2.new.words c.loop-place.invariant c.positions-2.ensures n (omega arith) in
+    let f = search_fits _ c.loop-place.invariant c.positions-2.ensures n (omega arith) in
     search (rules, f)
 
 pub spread-requires-clause-front : goal.spread-requires-clause-front
@@ -26,12 +26,12 @@ spread-requires-2-clause-front c = λ t. let z = eqb-true _ 0 (sym c.is_empty.en
 pub returns-then-has-clause-outcome : goal.returns-then-has-clause-outcome
 returns-then-has-clause-outcome c =
     let here = entered_here c.loop-place.invariant (inner c.loop-place-test.true refl) c.spread.ensures in
-    search_found c.spread.new.words c.loop-place.invariant here c.loop-place-test.true c.positions.ensures (c.has.ensures.0 c.if-has.true)
+    search_found _ c.loop-place.invariant here c.loop-place-test.true c.positions.ensures (c.has.ensures.0 c.if-has.true)
 
 pub loop-place-preserved : goal.loop-place-preserved
 loop-place-preserved c =
     let here = entered_here c.loop-place.invariant (inner c.loop-place-test.true refl) c.spread.ensures in
-    search_more c.spread.new.words c.requires.closures.base c.loop-place.invariant here c.loop-place-test.true refl c.positions.ensures
+    search_more _ c.requires.closures.base c.loop-place.invariant here c.loop-place-test.true refl c.positions.ensures
     c.if-has.false c.has.ensures (c.pass.ensures.size ∙ c.spread.ensures.size ∙ c.loop-place.invariant.size)
     (rw c.deref-in-loop-place-2.ensures.value at c.pass.ensures.exact)
 
@@ -39,4 +39,4 @@ pub returns-clause-outcome : goal.returns-clause-outcome
 returns-clause-outcome c =
     let e : c.loop-place.place ≡ length c.args.line.now = omega arith in
     let here = entered_here c.loop-place.invariant (final e c.is_empty.ensures) c.spread-2.ensures in
-    search_ends c.spread-2.new.words c.loop-place.invariant here e c.positions-2.ensures c.has-2.ensures
+    search_ends _ c.loop-place.invariant here e c.positions-2.ensures c.has-2.ensures

@@ -23,7 +23,7 @@ overflow_add-steps-then-place-line c =
     c.stretch_end-end.ensures.high (λ k h. search (rules, c.type_inv.line)) c.stretch_end-end.ensures.stays c.index.ensures
     c.positions_of_places-steps.ensures in
     let v = walk_one _ w c.index-then-place-line.ensures in
-    let f = bound_fits c.args.nodes.now w.1.few v (omega (arith)) in
+    let f = bound_fits _ w.1.few v (omega (arith)) in
     search (rules, f)
 
 pub loop-place-preserved-then-place-line : goal.loop-place-preserved-then-place-line
@@ -44,7 +44,7 @@ pub overflow_add-result : goal.overflow_add-result
 overflow_add-result c =
     let v = c.loop-place.invariant in
     let o = walk_ends _ _ v (let h = v.2.within in omega (arith, h, c.loop-place-test.false)) c.requires.some c.index-last.ensures in
-    let f = bound_fits c.args.nodes.now v.1.few o.bound (let h = v.2.within in omega (arith, h, c.loop-place-test.false)) in
+    let f = bound_fits _ v.1.few o.bound (let h = v.2.within in omega (arith, h, c.loop-place-test.false)) in
     search (rules, f)
 
 pub returns : goal.returns
