@@ -58,7 +58,7 @@ none_of word from bit none here there =
 
 pub adding_one : {code : List Node} {old new : List Hop} {hop : Hop} → AreHops code old → IsHop code hop
     → new ≡ old ++ hop ∷ [] → AreHops code new
-adding_one {old = old} {hop = hop} are is e = let l = ap length e in let m = length-append old (hop ∷ []) in each_to (each_more are is e) (omega (arith, l, m))
+adding_one {old} {hop} are is e = let l = ap length e in let m = length-append old (hop ∷ []) in each_to (each_more are is e) (omega (arith, l, m))
 
 pub hops_added : (old more : List Hop) {new : List Hop} {at to : ℕ} → new ≡ old ++ more → HopsTo old at to
     → HopsTo new at to
@@ -69,7 +69,7 @@ pub meets_kept : (base : List ℕ) (old : List Hop) {new : List Hop} {at to : �
     → Meets base old at to → Meets base new at to
 meets_kept base old grown (inl near) = inl near
 meets_kept base old grown (inr (inl based)) = inr (inl based)
-meets_kept base old {at} {to} grown (inr (inr hop)) = inr (inr (hops_added _ _ grown.1 hop))
+meets_kept base old grown (inr (inr hop)) = inr (inr (hops_added _ _ grown.1 hop))
 
 -- what a node leads to is met once both are
 pub both_met : {code : List Node} (base : List ℕ) (old new : List Hop) {number : ℕ} {way : Way} {T E : Type 0}
@@ -103,7 +103,7 @@ hops_to_last old hop e = grind (arith, common_steps)
 pub part_onward : {code : List Node} {base : List ℕ} {all onward landings new : List Hop} {count : ℕ} {hop : Hop}
     → Parting code base all onward landings count → IsHop code hop → hop ≡ get_or all count no_hop
     → new ≡ onward ++ hop ∷ [] → Parting code base all new landings (count + 1)
-part_onward {all = all} {onward} {landings} {new} {count} {hop} p is eh en = record {
+part_onward {all} {count} p is eh en = record {
   first = adding_one p.first is en;
   last = p.last;
   parted = λ place l. elim (cases_eq place count) [
@@ -118,7 +118,7 @@ part_onward {all = all} {onward} {landings} {new} {count} {hop} p is eh en = rec
 pub part_landing : {code : List Node} {base : List ℕ} {all onward landings new : List Hop} {count : ℕ} {hop : Hop}
     → Parting code base all onward landings count → IsLanding code base hop → hop ≡ get_or all count no_hop
     → new ≡ landings ++ hop ∷ [] → Parting code base all onward new (count + 1)
-part_landing {all = all} {onward} {landings} {new} {count} {hop} p is eh en = record {
+part_landing {all} {landings} {count} {hop} p is eh en = record {
   first = p.first;
   last = let l = ap length en in let m = length-append landings (hop ∷ []) in each_to (each_more p.last is en) (omega (arith, l, m));
   parted = λ place l. elim (cases_eq place count) [
@@ -135,7 +135,7 @@ pub parting_ends : {code : List Node} {base : List ℕ} {all onward landings : L
     → ((number to : ℕ) → Flows code false false number to → Meets base all (number / 64) to)
     → (number to : ℕ) → Flows code false false number to
     → (to / 64 ≡ number / 64) ⊎ (IsIn base to ⊎ PartsTo onward landings (number / 64) to)
-parting_ends {all = all} {onward} {landings} p h met number to f = elim (met number to f) [
+parting_ends {all} {onward} {landings} p h met number to f = elim (met number to f) [
   | inl near ↦ inl near
   | inr other ↦ inr (elim other [
     | inl based ↦ inl based
@@ -176,7 +176,7 @@ none_more code words count anchors before has none = λ number h k. elim (cases_
 -- what a word's numbers lead to has the word's own
 kept_or : {code : List Node} {at word all : ℕ} → Closes code at word all → word < 2 ^ 64 → all < 2 ^ 64
     → bit_or word all ≡ all
-kept_or {word = word} {all} c fits small = same_from_bits_below 64 (bit_or word all) all (or_lt 64 word all fits small) small (λ bit h.
+kept_or {word} {all} c fits small = same_from_bits_below 64 (bit_or word all) all (or_lt 64 word all fits small) small (λ bit h.
     let e = bit_at_or word all bit in
     let l = bit_at-lt word bit in
     elim (cases_eq (bit_at word bit) 1) [ inl one ↦ let k = c.kept bit h one in omega (arith, e, one, k) | inr other ↦ omega (arith, e, l, other) ])
@@ -239,7 +239,7 @@ close_word {code} {at} {word} {all} {old} {now} h ew c fits small es = record {
 based_of : {code : List Node} {closures : Closures} {at : ℕ} (words : List ℕ) {start to : ℕ} → AreClosures code closures
     → at < width code → bit_and (get_or words at 0) (get_or closures.leads.items at 0) ≡ 0 → start / 64 ≡ at
     → IsIn words start → Flows code false false start to → IsIn closures.base.items to
-based_of {closures} {at} words {start} {to} c inside e here h f =
+based_of {at} words {start} {to} c inside e here h f =
     let same : start ≡ at * 64 + start % 64 = omega (arith, here) in
     let one = (is_in_word _ _ _ (omega arith)).1 (rw same at h) in
     elim (c.leads.each at inside (start % 64) to (omega arith) (rw same at f)) [
@@ -267,7 +267,7 @@ pub apart_skip : {code : List Node} {closures : Closures} {old now : List ℕ} {
     → Apart code closures old now count → AreClosures code closures
     → ((number : ℕ) → IsIn closures.base.items number → IsIn old number) → count < width code
     → bit_and (get_or now count 0) (get_or closures.leads.items count 0) ≡ 0 → Apart code closures old now (count + 1)
-apart_skip {now = now} {count = count} s c begun inside e = record {
+apart_skip {count} s c begun inside e = record {
   adds = s.adds;
   done = λ start to h k flow. elim (cases_lt start (64 * count)) [
     | inl before ↦ s.done start to before k flow
@@ -280,7 +280,7 @@ pub apart_more : {code : List Node} {closures : Closures} {old now new : List �
     → ((number : ℕ) → IsIn closures.base.items number → IsIn old number) → count < width code → length old ≡ width code
     → Closes code count (get_or now count 0) all → get_or now count 0 < 2 ^ 64 → all < 2 ^ 64 → new ≡ set now count all
     → Apart code closures old new (count + 1)
-apart_more {code} {now} {new} {count} {all} s c begun inside size closes fits small en = record {
+apart_more {code} {now} {new} {count} s c begun inside size closes fits small en = record {
   adds = adds_both s.adds w.adds;
   done = λ start to h k flow. elim (cases_eq (start / 64) count) [
     | inl here ↦ closed_meets c w (λ number based. s.adds.kept number (begun number based)) here k flow
@@ -293,7 +293,7 @@ apart_more {code} {now} {new} {count} {all} s c begun inside size closes fits sm
 
 pub apart_ends : {code : List Node} {closures : Closures} {old now : List ℕ} {count : ℕ}
     → Apart code closures old now count → length now ≤ count → IsApart code closures.hops now
-apart_ends {now = now} s h = λ start to k flow. let w = is_within _ k in s.done start to (omega (arith, w, h)) k flow
+apart_ends s h = λ start to k flow. let w = is_within _ k in s.done start to (omega (arith, w, h)) k flow
 
 -- Following a hop.
 
@@ -387,7 +387,7 @@ pub follows_more : {code : List Node} {closures : Closures} {hop : Hop} {old mid
     → Led code hop old mid all → over ≡ bit_and all (bit_not w64 (get_or old hop.word 0)) → (over ≡ 0 → ⊥)
     → Closes code hop.word all inside → inside < 2 ^ 64 → new ≡ set mid hop.word inside
     → Follows code closures hop old new over
-follows_more {code} {hop} {old} {mid} {new} {all} {inside} {over} c is size high begun apart led eo some closes small en = record {
+follows_more {code} {hop} {old} {mid} {new} {all} {over} c is size high begun apart led eo some closes small en = record {
   closer = record {
     adds = adds_both led.adds w.adds;
     apart = λ from to k flow. elim (cases_eq (from / 64) hop.word) [
@@ -473,7 +473,7 @@ from_bit {code} {hop} {from} is at end flow =
 pub following_ends : {code : List Node} {closures : Closures} {old now : List ℕ} {count over : ℕ}
     → Following code closures old now count over → AreHops code closures.hops.onward.items
     → length closures.hops.onward.items ≤ count → Passes code closures old now over
-following_ends {code} {closures} {old} {now} {count} {over} s are h = record {
+following_ends {code} {closures} {now} {over} s are h = record {
   closer = s.closer;
   done = λ z from to k flow. elim (s.closer.apart from to k flow) [
     | inl there ↦ inl there
@@ -502,7 +502,7 @@ pub record Landing_on (code : List Node) (base : List ℕ) (landings : List Hop)
 pub landing_more : {code : List Node} {base : List ℕ} {landings : List Hop} {hop : Hop} {old now new : List ℕ}
     {count all : ℕ} → Landing_on code base landings old now count → IsLanding code base hop → Led code hop now new all
     → hop ≡ get_or landings count no_hop → Landing_on code base landings old new (count + 1)
-landing_more {code} {base} {landings} {hop} {old} {now} {new} {count} s is led eh = record {
+landing_more {landings} {hop} {old} {count} s is led eh = record {
   adds = adds_both s.adds led.adds;
   over = λ n k. elim (led.new n k) [ inl was ↦ s.over n was | inr e ↦ inr (rw (← e) at is.ends) ];
   led = λ place l bit small one k. elim (cases_eq place count) [
@@ -516,7 +516,7 @@ landing_more {code} {base} {landings} {hop} {old} {now} {new} {count} s is led e
 pub landing_ends : {code : List Node} {base : List ℕ} {landings : List Hop} {old now : List ℕ} {count : ℕ}
     → Landing_on code base landings old now count → AreLandings code base landings → length landings ≤ count
     → HasLanded code base landings old now
-landing_ends {code} {landings = landings} {old} {now} s are h = record {
+landing_ends {landings} {old} s are h = record {
   adds = s.adds;
   over = s.over;
   led = λ from to k flow hop.
@@ -558,7 +558,7 @@ pub spreads_front : {code : List Node} {base front old new : List ℕ} {at_first
     → IsBegun code true front → length old ≡ width code → ((number : ℕ) → IsIn base number → IsIn old number)
     → ((number : ℕ) → IsIn old number → IsIn base number) → new ≡ front → IsTrue at_first → at_last ≡ false
     → SpreadsOut code at_first at_last old new
-spreads_front {code} {old = old} {new} {at_last = at_last} b f size begun only e t l = rw (← t) at (subst (λ last. SpreadsOut code true last old new) (sym l) (record {
+spreads_front {code} {old} {new} b f size begun only e t l = rw (← t) at (subst (λ last. SpreadsOut code true last old new) (sym l) (record {
   size = ap length e ∙ f.size ∙ sym size;
   exact = λ number. (
     λ k. (0, begun 0 ((b.exact 0).1 (0, refl)), (f.exact number).0 (subst (λ w. IsIn w number) e k)),
@@ -573,7 +573,7 @@ adds_of s = record { size = s.size; kept = λ number k. (s.exact number).1 (numb
 
 closed_of : {code : List Node} {at_first at_last : Bool} {old new : List ℕ} → SpreadsOut code at_first at_last old new
     → (from to : ℕ) → IsIn new from → Flows code at_first at_last from to → IsIn new to
-closed_of {code} {at_first} {at_last} s from to k f =
+closed_of s from to k f =
     let was = (s.exact from).0 k in
     (s.exact to).1 (was.0, was.1, flows_join _ 1 was.2 (from, refl, f))
 
@@ -581,12 +581,12 @@ pub spreads_plainly : {code : List Node} {at_first at_last : Bool} {old new : Li
     → SpreadsOut code false false old new
     → ((from to : ℕ) → IsIn new from → Flows code at_first at_last from to → Flows code false false from to)
     → SpreadsOut code at_first at_last old new
-spreads_plainly {at_first = at_first} {at_last} s plain = spreads_out (adds_anywhere (adds_of s)) (λ from to k f. closed_of s _ _ k (plain from to k f))
+spreads_plainly s plain = spreads_out (adds_anywhere (adds_of s)) (λ from to k f. closed_of s _ _ k (plain from to k f))
 
 pub spreads_again : {code : List Node} {at_first at_last : Bool} {old now new : List ℕ}
     → SpreadsOut code false false old now → SpreadsOut code at_first at_last now new
     → SpreadsOut code at_first at_last old new
-spreads_again {at_first = at_first} {at_last} s t = spreads_out (adds_both (adds_anywhere (adds_of s)) (adds_of t)) (closed_of t)
+spreads_again s t = spreads_out (adds_both (adds_anywhere (adds_of s)) (adds_of t)) (closed_of t)
 
 pub not_zero : {n : ℕ} → IsTrue (not (eqb n 0)) → n ≡ 0 → ⊥
 not_zero {n} t = eqb-false n 0 (not-true (eqb n 0) t)

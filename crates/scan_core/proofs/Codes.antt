@@ -65,13 +65,13 @@ pub walk_on : (code : List Node) {line : List ℕ} (first second : ℕ) {at plac
     → Walks code line first at place at' place' → Walks code line second at' place' to stop
     → Path code line at place to stop
 walk_on code zero second at' place' v w = search rules
-walk_on code {line} (suc first) second at' place' {to} {stop} v w =
+walk_on code (suc first) second at' place' v w =
     let rest = walk_on code first second at' place' v.3 w in
     (suc rest.0, (v.0, v.1, v.2, rest.1))
 
 pub path_on : (code : List Node) {line : List ℕ} {at place at' place' to stop : ℕ} → Path code line at place at' place'
     → Path code line at' place' to stop → Path code line at place to stop
-path_on code {line} {at} {place} {at'} {place'} {to} {stop} p q = walk_on _ _ _ _ _ p.1 q.1
+path_on code p q = walk_on _ _ _ _ _ p.1 q.1
 
 -- a node that fits also fits further on in a longer code, and leads to one of the code or to its end
 pub fits_moved : (node : Node) (base size number : ℕ) {more moved : ℕ} → FitsIn size number node → base + size ≤ more
@@ -110,7 +110,7 @@ pub in_second : (a : List Node) {b : List Node} (line : List ℕ) → IsCode b �
     → at ≡ length a + k → Walks (a ++ b) line count at place (length (a ++ b)) stop
     → Walks b line count k place (length b) stop
 in_second a {b} line f zero k place stop e w = let l = length-append a b in (omega (arith, l, e, w.0), w.1)
-in_second a {b} line f (suc count) {at} k place stop e w = elim (at-split a b _ _ w.2.1) [
+in_second a {b} line f (suc count) k place stop e w = elim (at-split a b _ _ w.2.1) [
   | inl h ↦ let l = at_least a _ _ h in absurd (omega (arith, l, e))
   | inr h ↦
       let same : h.0 ≡ k = omega (arith, e, h.1) in
@@ -233,12 +233,12 @@ exact_maybe {code} {line} {Kind} e = record {
 pub parts_first : (Kind : ℕ → ℕ → Type 0) (count : ℕ) {from middle to : ℕ} → Kind from middle
     → Parts Kind count middle to → Parts Kind (suc count) from to
 parts_first Kind zero {from} k p = (from, refl, rw p at k)
-parts_first Kind (suc count) {from} {middle} k p = (p.0, parts_first Kind count k p.1, p.2)
+parts_first Kind (suc count) k p = (p.0, parts_first Kind count k p.1, p.2)
 
 pub parts_next : (Kind : ℕ → ℕ → Type 0) (count : ℕ) {from to : ℕ} → Parts Kind (suc count) from to
     → (middle : ℕ) × Kind from middle × Parts Kind count middle to
 parts_next Kind zero {to} p = (to, rw (← p.1) at p.2, refl)
-parts_next Kind (suc count) {from} p = let q = parts_next Kind count p.1 in (q.0, q.1, (p.0, q.2, p.2))
+parts_next Kind (suc count) p = let q = parts_next Kind count p.1 in (q.0, q.1, (p.0, q.2, p.2))
 
 -- any number of times
 abbrev pub Often : (ℕ → ℕ → Type 0) → ℕ → ℕ → Type 0
@@ -267,7 +267,7 @@ star_at : {code : List Node} {line : List ℕ} {Kind : ℕ → ℕ → Type 0} �
     → (At code k node) ⊎ ((j : ℕ) × (k ≡ length code + j) × At (Back (length code + 1) ∷ []) j node)
     → Leads node line (suc k) place at' place' → Walks (starred code) line count at' place' (length code + 2) stop
     → (middle : ℕ) × Path code line k place (length code) middle × Often Kind middle stop
-star_at {code} {line} e {k} {place} {stop} ih h at' place' {node} (inl here) led w =
+star_at e {k} {stop} ih h at' place' {node} (inl here) led w =
     let n1 : suc k ≡ 1 + k = omega arith in
     let moved = leads_unshift _ _ 1 _ k _ _ (e.fits.fits k node here) (rw n1 at led) in
     let fits = fits_led _ k _ _ _ e.fits here moved.2 in
@@ -283,7 +283,7 @@ star_at e ih h at' place' (inr (suc j, far, last)) led w = absurd last
 star_holds : {code : List Node} {line : List ℕ} {Kind : ℕ → ℕ → Type 0} → Exact code line Kind → (count : ℕ)
     → StarHolds code line Kind count
 star_holds e zero = grind (arith, common_steps)
-star_holds {code} {line} {Kind} e (suc count) = let ih = star_holds e count in record {
+star_holds {code} {line} e (suc count) = let ih = star_holds e count in record {
   whole = λ place stop w. let led : ((w.0 ≡ 0 + 1) ⊎ (w.0 ≡ 0 + (length code + 2))) × (w.1 ≡ place) = subst (λ m. Leads m line 0 place w.0 w.1) w.2.1 w.2.2 in
       star_begun e ih led.0 led.1 w.3;
   within = λ at k place stop q h w.
@@ -344,14 +344,14 @@ AtMost Kind most from to = (count : ℕ) × (count ≤ most) × Parts Kind count
 
 exact_copies : {code : List Node} {line : List ℕ} {Kind : ℕ → ℕ → Type 0} → Exact code line Kind → (count : ℕ)
     → Exact (copies count code) line (Parts Kind count)
-exact_copies {line} e zero = exact_none
-exact_copies {line} {Kind} e (suc count) = exact_both (exact_copies e count) e
+exact_copies e zero = exact_none
+exact_copies e (suc count) = exact_both (exact_copies e count) e
 
 exact_up_to : {code : List Node} {line : List ℕ} {Kind : ℕ → ℕ → Type 0} → Exact code line Kind → (most : ℕ)
     → Exact (up_to most code) line (AtMost Kind most)
-exact_up_to {line} {Kind} e zero = exact_by (exact_none) (λ from to q. (0, omega arith, q))
+exact_up_to e zero = exact_by (exact_none) (λ from to q. (0, omega arith, q))
     (λ from to k. let e : k.0 ≡ 0 = omega (arith, k.1) in rw e at k.2)
-exact_up_to {line} {Kind} e (suc most) =
+exact_up_to {Kind} e (suc most) =
     exact_by
     (exact_maybe (exact_both e (exact_up_to e _)))
     there (λ from to k. here k.0 from to k.1 k.2)
@@ -390,7 +390,7 @@ Between Kind low high from to = (count : ℕ) × (low ≤ count) × IsAtMost hig
 exact_repeated : {code : List Node} {line : List ℕ} {Kind : ℕ → ℕ → Type 0} {low : ℕ} (high : Option ℕ)
     → Exact code line Kind → IsAtMost high low
     → Exact (copies low code ++ tail_of code low high) line (Between Kind low high)
-exact_repeated {line} {Kind} {low} None e b =
+exact_repeated {Kind} {low} None e b =
     exact_by
     (exact_both (exact_copies e _) (exact_starred e))
     (λ from to k. let often : Often Kind k.0 to = k.2 in
@@ -398,7 +398,7 @@ exact_repeated {line} {Kind} {low} None e b =
     let q : k.0 ≡ low + (k.0 - low) = omega (arith, k.1) in
     let split = parts_split _ _ _ _ _ (rw q at k.3) in
     (split.0, split.1, (k.0 - low, split.2)))
-exact_repeated {line} {Kind} {low} (Some high) e b =
+exact_repeated {Kind} {low} (Some high) e b =
     exact_by
     (exact_both (exact_copies e _) (exact_up_to e _))
     (λ from to k. let most : AtMost Kind (high - low) k.0 to = k.2 in
@@ -462,7 +462,7 @@ weighs_up_to (suc count) {code} {n} w =
     record { exact = f; most = omega (arith, b.most, t) }
 
 weighs_starred : {code : List Node} {n : ℕ} → Weighs code n → Weighs (starred code) (n + 1)
-weighs_starred {code} {n} w = search (rules, weight-append, length-append)
+weighs_starred w = search (rules, weight-append, length-append)
 
 weighs_repeated : {code : List Node} {n : ℕ} (low : ℕ) (high : Option ℕ) → IsAtMost high low → Weighs code n
     → Weighs (copies low code ++ tail_of code low high) (repeated n low high)

@@ -28,7 +28,7 @@ use Rattle.bre_core.specs.{
 
 pub begun_wider : (pending : List Pending) {size wider : ℕ} → size ≤ wider → All (Waits size) pending
     → All (Waits wider) pending
-begun_wider pending {size} {wider} h = search rules
+begun_wider pending h = search rules
 
 pub popped_begun : (old new : Compiling) (d : Duplication) → Pops old (Some d) new → AreBegun old
     → IsBegun d.high d.low d.start (length new.nodes.items) × AreBegun new
@@ -55,16 +55,16 @@ ends_by (Group ∷ stack) s none n = record { nodes = n.nodes; pending = n.pendi
 
 pub finish_ends : {nodes : List Node} {pending : List Pending} {final : Compiling} → PopsNone pending
     → IsNow nodes pending None final → Finishes nodes pending final
-finish_ends {pending} {final} none n = ends_by _ (sym (reverse-reverse pending)) none n
+finish_ends {pending} none n = ends_by _ (sym (reverse-reverse pending)) none n
 
 -- what follows from an item that is complete
 pub finished_group : {nodes : List Node} {pending : List Pending} (around : List Pending) {new : Compiling}
     → Finishes nodes pending new → pending ≡ around ++ Group ∷ [] → IsNow nodes pending None new
-finished_group {nodes} {pending} around {new} f e = grind (arith, common_steps)
+finished_group around f e = grind (arith, common_steps)
 
 pub finished_all : {nodes : List Node} {pending : List Pending} {new : Compiling} → Finishes nodes pending new
     → pending ≡ [] → IsNow nodes [] None new
-finished_all {nodes} {new} f e = rw e at f
+finished_all f e = rw e at f
 
 parted : (one other : List Token) (old new : Compiling) → TakesAll old (one ++ other) new
     → (now : Compiling) × TakesAll old other now × TakesAll now one new
@@ -84,7 +84,7 @@ Base pending = (pending ≡ []) ⊎ ((around : List Pending) × (pending ≡ aro
 
 finished_base : {nodes : List Node} {pending : List Pending} {new : Compiling} → Base pending
     → Finishes nodes pending new → IsNow nodes pending None new
-finished_base {nodes} {new} (inl e) f = rw (← e) at (finished_all f e)
+finished_base (inl e) f = rw (← e) at (finished_all f e)
 finished_base (inr e) f = finished_group _ f e.1
 
 takes_writing : (old new : Compiling) (token : Token) → old.passing ≡ None → Takes old token new → Writes token old new

@@ -84,7 +84,7 @@ kept_bit code words at bit takes m small = search (rules, is_in_word, bit_at_and
 pub set_elsewhere : (words : List ℕ) {at : ℕ} (word number : ℕ) → (number / 64 ≡ at → ⊥)
     → IsIn (set words at word) number ↔ IsIn words number
 unfolding IsIn
-set_elsewhere words {at} word number differs = search rules
+set_elsewhere words word number differs = search rules
 
 -- the first words hold what the byte leads to
 pub record Passing (code : List Node) (byte : ℕ) (base old now : List ℕ) (at carry : ℕ) : Type 0 where

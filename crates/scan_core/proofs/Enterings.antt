@@ -39,7 +39,7 @@ at_index (x ∷ code) (suc n) d h = at_index code n d (omega (arith, h))
 pub at_once : (code : List Node) (n : ℕ) {one other : Node} → At code n one → At code n other → one ≡ other
 at_once [] n f g = absurd f
 at_once (x ∷ code) zero f g = f ∙ sym g
-at_once (x ∷ code) (suc n) {one} {other} f g = at_once code n f g
+at_once (x ∷ code) (suc n) f g = at_once code n f g
 
 pub at_least : (code : List Node) (n : ℕ) (node : Node) → At code n node → n < length code
 at_least [] n node h = absurd h
@@ -103,7 +103,7 @@ one_of (inr a) = a
 
 pub way_is : {code : List Node} {number : ℕ} (node : Node) → IsCode code → At code number node
     → IsWay code number (way_at node number)
-way_is {code} (Take bytes) c here = record {
+way_is (Take bytes) c here = record {
   one = omega arith;
   other = omega arith;
   exact = λ at_first at_last to. (λ f. absurd (flows_of _ _ here f), λ o. absurd o.0);
@@ -144,7 +144,7 @@ module _ {A : Type 0} {none : A} {Is : ℕ → A → Type 0} {count : ℕ} {list
   -- one entry more
   pub each_more : {new : List A} {entry : A} → AreEach none Is count list → Is count entry → new ≡ list ++ entry ∷ []
       → AreEach none Is (count + 1) new
-  each_more {entry} a is e = grind (arith, common_steps)
+  each_more a is e = grind (arith, common_steps)
 
   pub each_to : {all : ℕ} → AreEach none Is count list → count ≡ all → AreEach none Is all list
   each_to a e = rw e at a

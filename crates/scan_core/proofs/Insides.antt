@@ -52,7 +52,7 @@ bits_more {Is} {count} {word} true a h is = record {
   ];
   rest = λ bit l. bit_at_set_other w64 word count h bit (λ q. omega (arith, q, l)) ∙ a.rest bit (omega (arith, l));
 }
-bits_more {Is} {count} {word} false a h is = search (rules, or_zero_r, cases_eq)
+bits_more false a h is = search (rules, or_zero_r, cases_eq)
 
 pub flag_one : (flag : Bool) → (bool_byte flag ≡ 1) ↔ IsTrue flag
 flag_one true = (λ e. refl, λ t. refl)
@@ -125,7 +125,7 @@ goes_none = record { low = omega arith; under = λ number l h. h; fuller = omega
 
 pub grows_none : {Added : ℕ → Type 0} {words : List ℕ} {on : ℕ} → ((number : ℕ) → Added number → IsIn words number)
     → Grows Added words words on on
-grows_none {words} {on} within = record { size = refl; exact = λ number. (λ h. inl h, elim [ inl h ↦ h | inr h ↦ within number h ]); goes = goes_none }
+grows_none within = record { size = refl; exact = λ number. (λ h. inl h, elim [ inl h ↦ h | inr h ↦ within number h ]); goes = goes_none }
 
 -- Sets of numbers as words that grow by what a node leads to.
 
@@ -148,7 +148,7 @@ pub grows_way : {code : List Node} {number : ℕ} {way : Way} {at_first at_last 
     {before between on : ℕ} → IsWay code number way → Opens way.when at_first at_last
     → Grows (λ n. n ≡ way.one) old middle before between → Grows (λ n. n ≡ way.other) middle new between on
     → Grows (Flows code at_first at_last number) old new before on
-grows_way {code} {number} {way} {at_first} {at_last} {between} w o f g =
+grows_way {at_first} {at_last} w o f g =
     grows_by (grows_both f g)
     (λ to e. (w.exact at_first at_last to).1 (o, e)) (λ to k. ((w.exact at_first at_last to).0 k).1)
 
@@ -167,11 +167,11 @@ pub flows_join : (code : List Node) {at_first at_last : Bool} (count : ℕ) {sta
     → FlowsOn code at_first at_last start middle → Parts (Flows code at_first at_last) count middle number
     → FlowsOn code at_first at_last start number
 flows_join code zero f p = rw p at f
-flows_join code {at_first} {at_last} (suc count) {start} {middle} f p = let r = flows_join code count f p.1 in (suc r.0, (p.0, r.1, p.2))
+flows_join code (suc count) f p = let r = flows_join code count f p.1 in (suc r.0, (p.0, r.1, p.2))
 
 pub adds_both : {code : List Node} {at_first at_last : Bool} {old middle new : List ℕ}
     → Adds code at_first at_last old middle → Adds code at_first at_last middle new → Adds code at_first at_last old new
-adds_both {code} {at_first} {at_last} f g = record {
+adds_both f g = record {
   size = g.size ∙ f.size;
   kept = λ number h. g.kept number (f.kept number h);
   from = λ number h. let one = g.from number h in let two = f.from one.0 one.1 in (two.0, two.1, flows_join _ _ two.2 one.2.1);
@@ -205,7 +205,7 @@ pub spreading_more : {code : List Node} {at_first at_last : Bool} {old now new :
     → Spreading code at_first at_last old now number
     → Grows (λ to. IsIn now number × Flows code at_first at_last number to) now new (number + 1) on
     → Spreading code at_first at_last old new on
-spreading_more {code} {at_first} {at_last} {now = now} {number = number} s g = record {
+spreading_more {number} s g = record {
   adds = adds_both s.adds (record {
     size = g.size;
     kept = λ n k. (g.exact n).1 (inl k);
@@ -343,7 +343,7 @@ eight_bits {word} eight bit h =
 entry_at : {code : List Node} (place : ℕ) {at eight chosen entry : ℕ} → place / 2048 ≡ at → place / 256 % 8 ≡ eight
     → place % 256 ≡ chosen
     → Closes code (place / 2048) (chosen_at place) entry → Closes code at (chosen * 2 ^ (eight * 8) % 2 ^ 64) entry
-entry_at {code} place {eight} {chosen} {entry} word which low c = search rules
+entry_at place word which low c = search rules
 
 pub join_more : {code : List Node} {inside : List ℕ} {at word eight all entry : ℕ}
     → Joining code at word eight all → AreEach 0 (IsInside code) (width code * 2048) inside → at < width code

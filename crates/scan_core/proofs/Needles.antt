@@ -34,7 +34,7 @@ come_by : (code : List Node) {line : List ℕ} {number : ℕ} → IsPassed code 
     {to stop : ℕ} → Walks code line count at place to stop → at ≤ number → number < to
     → (there : ℕ) × (rest : ℕ) × Walks code line rest number there to stop
 come_by code passed zero place w low high = absurd (omega (arith, w.0, low, high))
-come_by code {line} {number} passed (suc count) {at} place {to} {stop} w low high = elim (cases_eq at number) [
+come_by code {line} {number} passed (suc count) {at} place w low high = elim (cases_eq at number) [
   | inl same ↦ (place, suc count, rw same at w)
   | inr other ↦ come_by code passed count w.1 w.3 (step_near code line w.2.0 place w.1 passed w.2.1 w.2.2 (omega (arith, low, other))) high
 ]
@@ -55,7 +55,7 @@ taken : (code : List Node) (line : List ℕ) (k number place : ℕ) {to : ℕ} (
     → (place + k < length line) × ((bytes : List Bool) → At code (number + k) (Take bytes)
     → IsTrue (has bytes (slice_index line (place + k))))
 taken code line k number place stop zero w high takes = absurd (omega (arith, w.0, high))
-taken code line zero number place {to} stop (suc count) w high takes =
+taken code line zero number place stop (suc count) w high takes =
     let first = takes 0 (omega arith) in
     let here : number + 0 ≡ number = omega arith in
     let there : place ≡ place + 0 = omega arith in
@@ -75,7 +75,7 @@ taken code line (suc k) number place {to} stop (suc count) w high takes =
 -- the walk of a line with a match, from such a node on
 comes : (code : List Node) {line : List ℕ} {number : ℕ} → IsPassed code number → number < length code → EndsIn code line
     → (there : ℕ) × (rest : ℕ) × (stop : ℕ) × Walks code line rest number there (length code) stop
-comes code {line} {number} passed within ends =
+comes code passed within ends =
     let by = come_by _ passed _ _ ends.2.2.1 (omega arith) within in
     (by.0, by.1, ends.0, by.2)
 
@@ -160,7 +160,7 @@ clear_of pattern needle ordered are is lacks before line after all ends = by (co
 
 pub other_node : (code : List Node) (number : ℕ) {node : Node} → At code number node
     → ((skip : ℕ) → node ≡ Choose skip → ⊥) → (skip : ℕ) → At code number (Choose skip) → ⊥
-other_node code number {node} here differs skip there = differs skip (at_once code number here there)
+other_node code number here differs skip there = differs skip (at_once code number here there)
 
 pub literal_more : (code : List Node) (from : ℕ) {at : ℕ} (byte : ℕ) (text : List ℕ) (node : Node)
     → from + length text ≡ at → IsLiteral code from text → At code at node → TakesOnly node byte

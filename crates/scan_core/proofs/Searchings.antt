@@ -40,7 +40,7 @@ front_is s b z number k = elim ((s.came number).0 k) [ inl came ↦ absurd (let 
 pub entered_here : {code : List Node} {line : List ℕ} {place steps : ℕ} {at_first at_last : Bool} {old new : List ℕ}
     → Searched code line place old steps → IsPlace line place at_first at_last
     → SpreadsOut code at_first at_last old new → (number : ℕ) → IsIn new number ↔ Entered code line number place
-entered_here {code} {line} {at_first} {at_last} s p o number = let r = reaches_exact _ p _ in (
+entered_here s p o number = let r = reaches_exact _ p _ in (
   λ h. let f = (o.exact number).0 h in r.0 (elim ((s.came f.0).0 f.1) [
     | inl came ↦ (f.0, inl came, f.2)
     | inr on ↦ (0, inr refl, flows_join _ _ (on.0, parts_anywhere _ _ _ _ 0 _ on.1) f.2.1)
@@ -79,7 +79,7 @@ pub search_more : {code : List Node} {line base : List ℕ} {place byte steps po
     → ((number : ℕ)
     → IsIn new number ↔ (((before : ℕ) × IsIn now before × Passes code byte before number) ⊎ IsIn base number))
     → Searched code line (place + 1) new (steps + positions)
-search_more {code} {line} {place} now b s here h e p absent test size passed = record {
+search_more {place} now b s here h e p absent test size passed = record {
   size = size;
   came = λ number.
       let one : suc place ≡ place + 1 = omega arith in
@@ -96,7 +96,7 @@ pub search_found : {code : List Node} {line : List ℕ} {place steps positions :
     → Searched code line place old steps → ((number : ℕ) → IsIn now number ↔ Entered code line number place)
     → place < length line → positions ≡ positions_among code (flags_of now) → IsIn now (length code)
     → IsOutcome code line (record { found = true; steps = steps + positions })
-search_found {code} {line} {place} {steps} {positions} now s here h p is =
+search_found {code} now s here h p is =
     counted_found s.so_far (omega (arith, h)) ((here (length code)).0 is) (omega arith)
     (steps_wider _ (steps_more _ s.so_far.bound (few_positions _ _ p)) (omega (arith, h)))
 
@@ -106,7 +106,7 @@ pub search_ends : {code : List Node} {line : List ℕ} {place steps positions : 
     → ((number : ℕ) → IsIn now number ↔ Entered code line number place)
     → place ≡ length line → positions ≡ positions_among code (flags_of now) → (IsTrue found ↔ IsIn now (length code))
     → IsOutcome code line (record { found = found; steps = steps + positions })
-search_ends {code} {line} {place} now s here e p test =
+search_ends now s here e p test =
     let f = flags_are _ _ in
     rw (← p) at (counted_ends _ s.so_far (marked_here _ _ here) e (λ t. f.1 (test.0 t), λ m. test.1 (f.0 m)))
 
@@ -114,13 +114,13 @@ search_ends {code} {line} {place} now s here e p test =
 
 tells_more : {code : List Node} {sets : List (List Bool)} (set : List Bool) {state byte read : ℕ} → state < length sets
     → Tells code sets state byte read → Tells code (sets ++ set ∷ []) state byte read
-tells_more {code} {sets} set {state} {byte} {read} h t = search (rules, length-append, get_or_append_left)
+tells_more set h t = search (rules, length-append, get_or_append_left)
 
 -- one more set; no entries of it are there yet
 built_set : {code : List Node} {entries : ℕ} {sets : List (List Bool)} {rows : List ℕ} {set : List Bool}
     → Built code entries sets rows → entries ≤ length sets * 256
     → IsOpen code set → Built code entries (sets ++ set ∷ []) rows
-built_set {code} {sets} {set} b small o = let l = length-append sets (set ∷ []) in record {
+built_set {sets} {set} b small o = let l = length-append sets (set ∷ []) in record {
   some = omega (arith, l);
   front = λ number. rw (← get_or_append_left sets (set ∷ []) [] 0 b.some) at (b.front number);
   going = each_to (each_more b.going o refl) (omega (arith, l));
@@ -130,7 +130,7 @@ built_set {code} {sets} {set} b small o = let l = length-append sets (set ∷ []
 -- the entry of a state and a byte by its place
 tells_at : {code : List Node} {sets : List (List Bool)} {place state byte read : ℕ} → place ≡ state * 256 + byte
     → byte < 256 → Tells code sets state byte read ≡ Tells code sets (place / 256) (place % 256) read
-tells_at {code} {sets} {place} {state} {byte} {read} e h = search rules
+tells_at e h = search rules
 
 next_by : (code : List Node) {byte : ℕ} {One Other : ℕ → Type 0} → ((n : ℕ) → One n → Other n) → {number : ℕ}
     → Next code byte One number → Next code byte Other number
@@ -170,8 +170,8 @@ record Grown (code : List Node) (place : ℕ) (sets sets' : List (List Bool)) (r
 grown : {code : List Node} {place : ℕ} {sets sets' : List (List Bool)} {rows : List ℕ} {set : List Bool}
     → Built code place sets rows → place ≤ length sets * 256 → place / 256 < length sets
     → (sets' ≡ sets) ⊎ ((sets' ≡ sets ++ set ∷ []) × IsOpen code set) → Grown code place sets sets' rows
-grown {code} {place} {sets} {rows} b r k (inl e) = rw e (record { built = b; order = r; known = k; same = refl })
-grown {code} {place} {sets} {rows} {set} b r k (inr e) = let l = length-append sets (set ∷ []) in rw e.0 (record {
+grown b r k (inl e) = rw e (record { built = b; order = r; known = k; same = refl })
+grown {place} {sets} {set} b r k (inr e) = let l = length-append sets (set ∷ []) in rw e.0 (record {
   built = built_set b r e.1;
   order = omega (arith, r, l);
   known = omega (arith, k, l);
@@ -190,7 +190,7 @@ pub led_on : {code : List Node} {most place read : ℕ} {old new : Building} (be
     → ((number : ℕ) → IsIn words number ↔ Next code (place % 256) (IsIn before) number)
     → LeadsTo (length code) most words old.sets.items new.sets.items read → new.rows ≡ old.rows
     → new.words.items ≡ words → Led code most place new read
-led_on {code} {most} {place} {read} {old} {new} before {words} f k is size advanced l er ew = record {
+led_on {code} {place} {old} {new} before {words} f k is size advanced l er ew = record {
   so_far = record { built = rw (← er) at g.built; room = l.room; size = ap length ew ∙ size; order = g.order };
   known = g.known;
   tells = record {
@@ -220,7 +220,7 @@ led_on {code} {most} {place} {read} {old} {new} before {words} f k is size advan
 pub building_more : {code : List Node} {most place read : ℕ} {old new : Building} → Led code most place old read
     → new.sets ≡ old.sets → new.words ≡ old.words → new.rows.items ≡ old.rows.items ++ read ∷ []
     → IsBuilding code most (place + 1) new
-building_more {code} {most} {place} {old} {new} l es ew er =
+building_more {code} {place} {old} {new} l es ew er =
     let b = l.so_far.built in
     let built : Built code (place + 1) old.sets.items new.rows.items = record { some = b.some; front = b.front; going = b.going; told = each_more b.told l.tells er } in
     rw es (record { built = built; room = l.so_far.room; size = ap (λ w. length w.items) ew ∙ l.so_far.size; order = omega (arith, l.known) })
@@ -229,7 +229,7 @@ building_more {code} {most} {place} {old} {new} l es ew er =
 pub front_built : {code : List Node} (words : List ℕ) {sets : List (List Bool)} → length words ≡ width code
     → ((number : ℕ) → IsIn words number ↔ FlowsOn code true false 0 number)
     → (IsIn words (length code) → ⊥) → sets ≡ flags_of words ∷ [] → Built code 0 sets []
-front_built {code} words size exact none e = search (rules, flags_are, each_more, flags_length)
+front_built words size exact none e = search (rules, flags_are, each_more, flags_length)
 
 -- what a byte leads to from a set, with all that follows
 pub advanced : {code : List Node} {byte : ℕ} {base : List ℕ} (old : List ℕ) {middle new : List ℕ} → IsBase code base
@@ -237,7 +237,7 @@ pub advanced : {code : List Node} {byte : ℕ} {base : List ℕ} (old : List ℕ
     → IsIn middle number ↔ (((before : ℕ) × IsIn old before × Passes code byte before number) ⊎ IsIn base number))
     → SpreadsOut code false false middle new
     → (number : ℕ) → IsIn new number ↔ Next code byte (IsIn old) number
-advanced {code} old b passed s number = (
+advanced old b passed s number = (
   λ h. let f = (s.exact number).0 h in elim ((passed f.0).0 f.1) [
     | inl led ↦ (f.0, inl led, f.2)
     | inr based ↦ (0, inr refl, flows_join _ _ ((b.exact f.0).0 based) f.2.1)
@@ -268,10 +268,10 @@ pub state_is : {code : List Node} {sets : List (List Bool)} {rows : List ℕ} {n
     → (IsTrue state.is_fixed → (byte : ℕ) → byte < 256 → entry rows number byte ≡ number)
     → state.last_positions ≡ positions_among code (flags_of last) → (IsTrue state.ends ↔ IsIn last (length code))
     → IsState code sets rows number state
-state_is {code} {now} {last} e s p f q x = search (rules, flags_are)
+state_is e s p f q x = search (rules, flags_are)
 
 -- a table that was built, with what is noted of each state
 pub table_is : {code : List Node} {sets : List (List Bool)} {table : Table}
     → Built code (length sets * 256) sets table.rows.items → length code ≤ 65536 → length sets < 65534
     → AreEach no_state (IsState code sets table.rows.items) (length sets) table.states.items → IsTable code table
-table_is {sets} b few small noted = search rules
+table_is b few small noted = search rules

@@ -57,13 +57,13 @@ leads_place (Back by) line from h = inl h.1
 walk_forward : (code : List Node) (line : List ℕ) (count at : ℕ) {place : ℕ} (to : ℕ) {stop : ℕ}
     → Walks code line count at place to stop → place ≤ stop
 walk_forward code line zero at to w = omega (arith, w.1)
-walk_forward code line (suc count) at {place} to {stop} w =
+walk_forward code line (suc count) at to w =
     let h = walk_forward code line count w.0 to w.3 in
     elim (leads_place w.2.0 line at w.2.2) [ inl e ↦ omega (arith, e, h) | inr e ↦ omega (arith, e.0, h) ]
 
 pub entered_on : (code : List Node) {line : List ℕ} {at place to stop : ℕ} → Entered code line at place
     → Goes code line at place to stop → Entered code line to stop
-entered_on code {line} {at} {place} {to} {stop} e g = (e.0, e.1, path_on _ e.2 (1, (to, stop, g, (refl, refl))))
+entered_on code {to} {stop} e g = (e.0, e.1, path_on _ e.2 (1, (to, stop, g, (refl, refl))))
 
 pub reaches_exact : (code : List Node) {line : List ℕ} {place : ℕ} {at_first at_last : Bool}
     → IsPlace line place at_first at_last → (number : ℕ)
@@ -146,7 +146,7 @@ steps_wider size h k = search rules
 pub counted_more : {code : List Node} {line : List ℕ} {place steps : ℕ} (set : List Bool)
     → IsCounted code line place steps → ((number : ℕ) → IsMarked set number ↔ Entered code line number place)
     → (IsMarked set (length code) → ⊥) → IsCounted code line (place + 1) (steps + positions_among code set)
-counted_more {code} {line} {place} {steps} set s here never = record {
+counted_more {code} {place} set s here never = record {
   none = λ before l k. elim (cases_eq before place) [
     | inl same ↦ never ((here (length code)).1 (rw same at k))
     | inr other ↦ s.none before (omega (arith, l, other)) k
@@ -159,7 +159,7 @@ counted_more {code} {line} {place} {steps} set s here never = record {
 pub counted_found : {code : List Node} {line : List ℕ} {place steps all : ℕ} → IsCounted code line place steps
     → place ≤ length line → Entered code line (length code) place → steps ≤ all
     → all ≤ (length line + 1) * (weight code + 1) → IsOutcome code line (record { found = true; steps = all })
-counted_found {place} {steps} s within ends least most = search rules
+counted_found s within ends least most = search rules
 
 -- the line's end
 pub counted_ends : {code : List Node} {line : List ℕ} {place steps : ℕ} {found : Bool} (set : List Bool)
@@ -187,14 +187,14 @@ counted_ends {code} {line} {place} {steps} set s here e test = record {
 -- at every place but the last
 pub inner_entered : (code : List Node) {line : List ℕ} (place : ℕ) → place < length line → {number : ℕ}
     → Inner code line place number ↔ Entered code line number place
-inner_entered code {line} zero h {number} = reaches_exact _ (inner h refl) _
-inner_entered code {line} (suc place) h {number} = reaches_exact _ (inner h (sym (ne_eqb (suc place) 0 (λ e. omega (arith, e))))) _
+inner_entered code zero h = reaches_exact _ (inner h refl) _
+inner_entered code (suc place) h = reaches_exact _ (inner h (sym (ne_eqb (suc place) 0 (λ e. omega (arith, e))))) _
 
 -- at the last place, after a byte
 pub last_entered : (code : List Node) {line : List ℕ} {place : ℕ} → suc place ≡ length line → {number : ℕ}
     → Entered code line number (suc place) ↔ ((from : ℕ) × Inner code line (suc place) from
     × FlowsOn code false true from number)
-last_entered code {line} h {number} = let exact = reaches_exact _ (final h (sym (ne_eqb (length line) 0 (λ e. omega (arith, e, h))))) _ in (
+last_entered code {line} h = let exact = reaches_exact _ (final h (sym (ne_eqb (length line) 0 (λ e. omega (arith, e, h))))) _ in (
   λ e. let f = exact.1 e in (f.0, (f.0, f.1, (0, refl)), f.2),
   λ k.
       let before = parts_anywhere _ _ _ _ _ _ k.1.2.1 in
@@ -215,7 +215,7 @@ walked_here w h number = search (rules, inner_entered)
 next_inner : {code : List Node} {sets : List (List Bool)} {line : List ℕ} {place state steps : ℕ}
     → Walked code sets line place state steps → place < length line
     → {number : ℕ} → Next code (slice_index line place) (InSets sets state) number ↔ Inner code line (suc place) number
-next_inner {code} {sets} {line} {place} {state} w h = let came = came_exact _ (walked_here w h) h refl in (
+next_inner w h = let came = came_exact _ (walked_here w h) h refl in (
   λ n. (n.0, elim n.1 [ inl led ↦ inl ((came n.0).0 led) | inr e ↦ inr e ], n.2),
   λ f. (f.0, elim f.1 [ inl c ↦ inl ((came f.0).1 c) | inr e ↦ inr e ], f.2),
 )
@@ -249,7 +249,7 @@ walked_stay : {code : List Node} {sets : List (List Bool)} {table : Table} {line
     → ((k : ℕ) → place ≤ k → k < place + more → entry table.rows.items state (slice_index line k) ≡ state)
     → Walked code sets line (place + more) state (steps + positions_among code (set_at sets state) * more)
 walked_stay zero t w h b s = search rules
-walked_stay {code} {sets} {line} (suc more) {place} {state} t w h b s =
+walked_stay {code} {sets} (suc more) {place} {state} t w h b s =
     let before = walked_stay _ t w (omega (arith, h)) b (λ k l u. s k l (omega (arith, u))) in
     let m = t.most in
     let z : positions_among code (set_at sets state) * suc more ≡ positions_among code (set_at sets state) * more + positions_among code (set_at sets state) = mul-suc (positions_among code (set_at sets state)) more in
@@ -274,7 +274,7 @@ entry_read {table} {state} {byte} d t h b e = e ∙ get_or_default table.rows.it
 pub noted_read : {table : Table} {code : List Node} {sets : List (List Bool)} {state : ℕ} {read : State} (d : State)
     → IsTableOf code sets table → state < length sets → read ≡ get_or table.states.items state d
     → IsState code sets table.rows.items state read
-noted_read {table} {code} {sets} {state} d t h e = rw (← (e ∙ get_or_default table.states.items state d no_state (let s = t.states in omega (arith, h, s)))) at (t.noted state h)
+noted_read {table} {state} d t h e = rw (← (e ∙ get_or_default table.states.items state d no_state (let s = t.states in omega (arith, h, s)))) at (t.noted state h)
 
 -- along a line, by some table's sets
 abbrev pub WalkedOf : List Node → Table → List ℕ → ℕ → ℕ → ℕ → Type 0
@@ -298,7 +298,7 @@ pub walk_next : {code : List Node} {table : Table} {line : List ℕ} {place stat
     (d : State) → WalkedOf code table line place state steps → place < length line → slice_index line place < 256
     → next ≡ get_or table.rows.items (state * 256 + slice_index line place) d' → next < 65534
     → noted ≡ get_or table.states.items state d → WalkedOf code table line (place + 1) next (steps + noted.positions)
-walk_next {line} {place} {state} {steps} d' d w h b e k f =
+walk_next {place} {steps} d' d w h b e k f =
     let n = noted_read d w.1 w.2.known f in
     let r = entry_read _ w.1 w.2.known b e in
     let one : suc place ≡ place + 1 = omega arith in
@@ -308,7 +308,7 @@ walk_next {line} {place} {state} {steps} d' d w h b e k f =
 pub walk_one : {code : List Node} {table : Table} {line : List ℕ} {place state steps : ℕ} {noted : State} (d : State)
     → WalkedOf code table line place state steps → noted ≡ get_or table.states.items state d
     → steps + noted.positions ≤ (place + 1) * (weight code + 1)
-walk_one {code} {place} {state} {steps} {noted} d w f =
+walk_one {code} {place} {state} d w f =
     let n = noted_read d w.1 w.2.known f in
     let m = positions_most code (set_at w.0 state) in
     steps_more place w.2.so_far.bound (let p = n.positions in omega (arith, m, p))
@@ -319,7 +319,7 @@ pub walk_stops : {code : List Node} {table : Table} {line : List ℕ} {place sta
     → slice_index line place < 256 → next ≡ get_or table.rows.items (state * 256 + slice_index line place) d'
     → next ≡ 65535 → noted ≡ get_or table.states.items state d
     → IsOutcome code line (record { found = true; steps = steps + noted.positions })
-walk_stops {code} {table} {line} {place} {state} {steps} d' {noted} d w h b e k f =
+walk_stops {code} {line} {place} {state} {steps} d' d w h b e k f =
     let r = entry_read _ w.1 w.2.known b e in
     let n = noted_read d w.1 w.2.known f in
     let next = (next_inner w.2 h).0 ((w.1.told state (slice_index line place) w.2.known b).stop (sym r ∙ k)) in
@@ -353,7 +353,7 @@ bound_fits code few h p = search (rules, weight_length, mul-le-mul)
 pub walk_fits : {code : List Node} {table : Table} {line : List ℕ} {place state steps : ℕ}
     → WalkedOf code table line place state steps → place ≤ 18446744073709551616
     → steps < 340282366920938463463374607431768211456
-walk_fits {code} {place} {steps} w p = bound_fits _ w.1.few w.2.so_far.bound (omega (arith, p))
+walk_fits w p = bound_fits _ w.1.few w.2.so_far.bound (omega (arith, p))
 
 -- a state that no byte changes
 pub fixed_stays : {code : List Node} {table : Table} (line : List ℕ) {state : ℕ} {noted : State} (d : State)
@@ -418,7 +418,7 @@ pub shifted_is : {table : Table} {shifts : ShiftTable} {rows : List ℕ} {noted 
     → AreEach 0 (IsWord rows (length noted)) 256 shifts.words.items
     → AreEach 0 (λ low. IsWeight noted (low % 64)) 256 shifts.weights.items → shifts.states.items ≡ noted
     → shifts.stop ≡ 6 * length noted → IsShifted table shifts
-shifted_is {table} {shifts} {noted} er en few complete words weights states stop = search rules
+shifted_is er en few complete words weights states stop = search rules
 
 pub at_starts : {code : List Node} {shifts : ShiftTable} {line : List ℕ} → IsShiftTable code shifts
     → IsAt code shifts line 0 0 0
@@ -435,7 +435,7 @@ at_starts {code} {line} t =
 -- the positions of a state, as the words have them
 weight_read : {table : Table} {shifts : ShiftTable} (word : ℕ) {added : ℕ} (e : ℕ) → IsShifted table shifts
     → added ≡ get_or shifts.weights.items (word % 256) e → IsWeight table.states.items (word % 64) added
-weight_read {table} {shifts} word {added} e i g = search (rules, get_or_default)
+weight_read word e i g = search (rules, get_or_default)
 
 weight_small : {code : List Node} {table : Table} {state low added : ℕ} → IsTable code table
     → IsWeight table.states.items low added → low ≡ 6 * state → state < length table.states.items
@@ -462,7 +462,7 @@ state_going : {code : List Node} {table : Table} {line : List ℕ} {place state 
     → entry table.rows.items state (slice_index line place) < length table.states.items
     → added ≡ (get_or table.states.items state no_state).positions → added ≤ weight code + 1
     → IsStateAt code table line (place + 1) (entry table.rows.items state (slice_index line place)) (steps + added)
-state_going {code} {table} {line} {place} {state} {steps} {added} t a h b k n e w = record {
+state_going {steps} t a h b k n e w = record {
   within = omega (arith, h);
   known = omega (arith, n);
   going = λ l.
@@ -496,7 +496,7 @@ state_more : {code : List Node} {table : Table} {line : List ℕ} {place state s
     → slice_index line place < 256 → IsWeight table.states.items (6 * state) added
     → IsOffset table.rows.items (length table.states.items) state (slice_index line place) six
     → (n : ℕ) × (six ≡ 6 * n) × IsStateAt code table line (place + 1) n (steps + added)
-state_more {code} {table} {line} {place} {state} {added} t c a h b w o = elim (cases_lt state (length table.states.items)) [
+state_more {table} {line} {place} {state} t c a h b w o = elim (cases_lt state (length table.states.items)) [
   | inr over ↦
       let k = a.known in
       let same : state ≡ length table.states.items = omega (arith, over, k) in
@@ -548,13 +548,13 @@ at_known word a n = search rules
 noted_here : {code : List Node} {shifts : ShiftTable} {line : List ℕ} {place : ℕ} (word : ℕ) {steps : ℕ} {noted : State}
     (d : State) (a : IsAt code shifts line place word steps) → noted ≡ get_or shifts.states.items (word % 64 / 6) d
     → noted ≡ get_or a.0.states.items a.3.0 d
-noted_here {shifts} {line} word d a e = e ∙ ap (λ n. get_or shifts.states.items n d) (state_number _ a) ∙ ap (λ l. get_or l a.3.0 d) a.2.states
+noted_here {shifts} word d a e = e ∙ ap (λ n. get_or shifts.states.items n d) (state_number _ a) ∙ ap (λ l. get_or l a.3.0 d) a.2.states
 
 pub at_end : {code : List Node} {shifts : ShiftTable} {line : List ℕ} {place : ℕ} (word : ℕ) {steps : ℕ} {noted : State}
     (d : State) → IsAt code shifts line place word steps → (word % 64 ≡ shifts.stop → ⊥) → place ≡ length line
     → 0 < length line → noted ≡ get_or shifts.states.items (word % 64 / 6) d
     → IsOutcome code line (record { found = noted.ends; steps = steps + noted.last_positions })
-at_end {line} word {steps} d a n h some e = walk_ends _ d (a.3.2.going (state_here _ a n)) h some (noted_here _ d a e)
+at_end word d a n h some e = walk_ends _ d (a.3.2.going (state_here _ a n)) h some (noted_here _ d a e)
 
 -- no byte can change the state
 pub at_fixed : {code : List Node} {shifts : ShiftTable} {line : List ℕ} {place : ℕ} (word : ℕ) {steps rest : ℕ}
@@ -563,7 +563,7 @@ pub at_fixed : {code : List Node} {shifts : ShiftTable} {line : List ℕ} {place
     → noted ≡ get_or shifts.states.items (word % 64 / 6) d → noted.is_fixed ≡ true
     → rest ≡ noted.positions * (length line - place)
     → IsOutcome code line (record { found = noted.ends; steps = steps + rest + noted.last_positions })
-at_fixed {code} {line} {place} word {steps} {rest} d a n some b e f r =
+at_fixed {line} word d a n some b e f r =
     let k = state_here _ a n in
     let q = noted_here _ d a e in
     let w = walk_run d (a.3.2.going k) a.3.2.within (omega arith) b (λ at l h. fixed_stays line d a.1 k q f at (b at h)) q r in
@@ -572,9 +572,9 @@ at_fixed {code} {line} {place} word {steps} {rest} d a n some b e f r =
 pub at_fits : {code : List Node} {shifts : ShiftTable} {line : List ℕ} {place : ℕ} (word : ℕ) {steps : ℕ}
     → IsAt code shifts line place word steps → place ≤ 18446744073709551616
     → steps < 340282366920938463463374607431768211456
-at_fits {code} {place} word {steps} a p = bound_fits _ a.1.1.few a.3.2.bound (omega (arith, p))
+at_fits word a p = bound_fits _ a.1.1.few a.3.2.bound (omega (arith, p))
 
 pub outcome_fits : {code : List Node} {shifts : ShiftTable} {line : List ℕ} {found : Bool} {steps : ℕ}
     → IsShiftTable code shifts → IsOutcome code line (record { found = found; steps = steps })
     → length line ≤ 18446744073709551615 → steps < 340282366920938463463374607431768211456
-outcome_fits {code} {line} {steps} t o p = bound_fits _ t.1.1.few o.bound (omega (arith, p))
+outcome_fits t o p = bound_fits _ t.1.1.few o.bound (omega (arith, p))
