@@ -197,15 +197,15 @@ pub close_word : {code : List Node} {at word all : ℕ} {old now : List ℕ} →
     → Closes code at word all → word < 2 ^ 64 → all < 2 ^ 64 → now ≡ set old at all → Closed code at old now
 close_word {code} {at} {word} {all} {old} {now} h ew c fits small es = record {
   adds = record {
-    size = ap length en ∙ length-set old at (bit_or word all);
+    size = ap length en ∙ length-set old at _;
     kept = λ number k. elim (cases_eq (number / 64) at) [
-      | inl same ↦ let e : number ≡ at * 64 + number % 64 = omega (arith, same) in rw (← e) at ((is_in_word now at (number % 64) (omega arith)).0 (bit_now (number % 64) (left_bit word all (number % 64) (bit_old (number % 64) (omega arith) (subst (IsIn old) e k)))))
+      | inl same ↦ let e : number ≡ at * 64 + number % 64 = omega (arith, same) in rw (← e) at ((is_in_word now at (number % 64) (omega arith)).0 (bit_now _ (left_bit word all (number % 64) (bit_old _ (omega arith) (subst (IsIn old) e k)))))
       | inr other ↦ rw (← en) at ((set_elsewhere old (bit_or word all) number other).1 k)
     ];
     from = λ number k. elim (cases_eq (number / 64) at) [
       | inl same ↦
           let e : number ≡ at * 64 + number % 64 = omega (arith, same) in
-          let b = c.from_chosen (number % 64) (omega arith) (in_all (number % 64) (omega arith) (rw e at k)) in
+          let b = c.from_chosen (number % 64) (omega arith) (in_all _ (omega arith) (rw e at k)) in
           (at * 64 + b.0, (is_in_word _ _ _ b.1).0 (ap (λ w. bit_at w b.0) (sym ew) ∙ b.2), subst (λ n. FlowsOn code false false (at * 64 + b.0) n) (sym e) b.3)
       | inr other ↦ (number, (set_elsewhere _ _ _ other).0 (rw en at k), (0, refl))
     ];
@@ -216,15 +216,15 @@ close_word {code} {at} {word} {all} {old} {now} h ew c fits small es = record {
       let e : start ≡ at * 64 + start % 64 = omega (arith, here) in
       let f : to ≡ at * 64 + to % 64 = (let q = s.1 in omega (arith, here, q)) in
       let flow = subst (λ n. Flows code false false n (at * 64 + to % 64)) e (rw f at s.0) in
-      let b = c.closed (start % 64) (to % 64) (omega arith) (omega arith) (in_all (start % 64) (omega arith) (rw e at k)) flow in
-      rw (← f) at ((is_in_word now at (to % 64) (omega arith)).0 (bit_now (to % 64) (right_bit word all (to % 64) b)));
+      let b = c.closed (start % 64) (to % 64) (omega arith) (omega arith) (in_all _ (omega arith) (rw e at k)) flow in
+      rw (← f) at ((is_in_word now at (to % 64) (omega arith)).0 (bit_now _ (right_bit word all (to % 64) b)));
 }
   where
     en : now ≡ set old at (bit_or word all)
     en = es ∙ ap (set old at) (sym (kept_or c fits small))
 
     read : get_or now at 0 ≡ bit_or word all
-    read = ap (λ w. get_or w at 0) en ∙ get_or-set_same old at (bit_or word all) 0 h
+    read = ap (λ w. get_or w at 0) en ∙ get_or-set_same old at _ 0 h
 
     bit_now : (bit : ℕ) → bit_at (bit_or word all) bit ≡ 1 → bit_at (get_or now at 0) bit ≡ 1
     bit_now bit k = ap (λ w. bit_at w bit) read ∙ k
@@ -326,17 +326,17 @@ pub led_is : {code : List Node} {hop : Hop} {old mid : List ℕ} {holds : Bool} 
     → Led code hop old mid (bit_or (get_or old hop.word 0) (bool_byte holds * 2 ^ hop.bit % 2 ^ 64))
 led_is {code} {hop} {old} {mid} {holds} is size fits high some any em = record {
   adds = record {
-    size = ap length em ∙ length-set old hop.word (bit_or (get_or old hop.word 0) (bool_byte holds * 2 ^ hop.bit % 2 ^ 64));
+    size = ap length em ∙ length-set old _ _;
     kept = λ n k. (exact n).1 (inl k);
     from = λ n k. elim ((exact n).0 k) [ inl was ↦ (n, was, (0, refl)) | inr led ↦ entered n led.0 led.1 ];
   };
   new = λ n k. elim ((exact n).0 k) [ inl was ↦ inl was | inr led ↦ inr led.1 ];
   followed = λ bit small one k.
       let here = (is_in_word _ _ _ small).1 k in
-      (exact (end_of hop)).1 (inr (any (λ none. none_of _ _ _ none here one), refl));
+      (exact _).1 (inr (any (λ none. none_of _ _ _ none here one), refl));
   set = em;
-  larger = le_or_l (get_or old hop.word 0) (bool_byte holds * 2 ^ hop.bit % 2 ^ 64);
-  fits = or_lt 64 (get_or old hop.word 0) (bool_byte holds * 2 ^ hop.bit % 2 ^ 64) high (omega arith);
+  larger = le_or_l _ (bool_byte holds * 2 ^ hop.bit % 2 ^ 64);
+  fits = or_lt 64 _ (bool_byte holds * 2 ^ hop.bit % 2 ^ 64) high (omega arith);
 }
   where
     exact : (other : ℕ) → IsIn mid other ↔ (IsIn old other ⊎ (IsTrue holds × (other ≡ end_of hop)))

@@ -38,7 +38,7 @@ popped_begun old new d p b =
 
 turned : {pending : List Pending} (around : List Pending) {last : Pending} → pending ≡ around ++ last ∷ []
     → reverse pending ≡ last ∷ reverse around
-turned around {last} e = ap reverse e ∙ reverse-append around (last ∷ [])
+turned around {last} e = ap reverse e ∙ reverse-append around _
 
 -- the last duplication that waits is written out
 pub finish_more : {nodes written : List Node} {pending : List Pending} (around : List Pending) (d : Duplication)
@@ -141,13 +141,13 @@ mutual
   write_pattern : (pattern : Pattern) (old : Compiling) {new : Compiling} → IsOrdered pattern → old.passing ≡ None
       → Base old.pending.items → TakesAll old (written pattern) new
       → IsNow (old.nodes.items ++ reverse (code_of pattern)) old.pending.items None new
-  write_pattern nothing old o e b s = rw (← s) (record { nodes = sym (append-nil old.nodes.items); pending = refl; passing = e })
+  write_pattern nothing old o e b s = rw (← s) (record { nodes = sym (append-nil _); pending = refl; passing = e })
   write_pattern (append pattern item) old {new} o e b s =
       let p = parted (written pattern) (written_item item) old new s in
       let now = finished_base b (write_item item old p.0 o.1 e p.1) in
       let next = write_pattern pattern p.0 o.0 now.passing (subst Base (sym now.pending) b) p.2 in
       record {
-        nodes = next.nodes ∙ ap (λ l. l ++ reverse (code_of pattern)) now.nodes ∙ append_assoc old.nodes.items (reverse (code_of_item item)) (reverse (code_of pattern))
+        nodes = next.nodes ∙ ap (λ l. l ++ reverse (code_of pattern)) now.nodes ∙ append_assoc _ (reverse (code_of_item item)) (reverse (code_of pattern))
             ∙ ap (λ l. old.nodes.items ++ l) (sym (reverse-append (code_of pattern) (code_of_item item)));
         pending = next.pending ∙ now.pending;
         passing = next.passing;
@@ -168,7 +168,7 @@ mutual
   write_item (repeat item low None) old new o e s =
       let p = last_taken (written_item item) (Repeat low None) old new s in
       let begins : Begins low None old p.0 = takes_writing old p.0 (Repeat low None) e p.1 in
-      let nodes = ap (λ l. l ++ reverse (code_of_item item)) begins.nodes ∙ append_assoc old.nodes.items (Back 0 ∷ []) (reverse (code_of_item item)) in
+      let nodes = ap (λ l. l ++ reverse (code_of_item item)) begins.nodes ∙ append_assoc _ _ (reverse (code_of_item item)) in
       let d : Duplication = record { start = length old.nodes.items; low = low; high = None } in
       repeated_out old.nodes.items (code_of_item item) p.0 new old.pending.items d refl nodes begins.pending (write_item item p.0 new o.0 begins.passing p.2)
   write_item (repeat item low (Some zero)) old new o e s =

@@ -100,14 +100,14 @@ pub passing_more : {code : List Node} {byte : ℕ} {base old now new : List ℕ}
     → new ≡ set now at (bit_or (bit_or (kept * 2 ^ 1 % 2 ^ 64) carry) (get_or base at 0))
     → Passing code byte base old new (at + 1) (kept / 2 ^ 63)
 passing_more {code} {byte} {base} {old} {now} {new} {at} {carry} {kept} takes p m h ek fits en = record {
-  size = ap length en ∙ length-set now at (bit_or (bit_or (kept * 2 ^ 1 % 2 ^ 64) carry) (get_or base at 0)) ∙ p.size;
+  size = ap length en ∙ length-set now at _ ∙ p.size;
   past = λ number l. elim (cases_lt number (64 * at)) [
     | inl before ↦ rw (← en) at (earlier number before (p.past number before))
     | inr here ↦
         let same : number ≡ at * 64 + number % 64 = omega (arith, l, here) in
         rw (← same) at (joined (number % 64) (omega arith) (inside (number % 64) (omega arith)))
   ];
-  rest = λ n l. ap (λ w. get_or w n 0) en ∙ get_or-set_other now at n (bit_or (bit_or (kept * 2 ^ 1 % 2 ^ 64) carry) (get_or base at 0)) 0 (λ e. omega (arith, e, l)) ∙ p.rest n (omega (arith, l));
+  rest = λ n l. ap (λ w. get_or w n 0) en ∙ get_or-set_other now at n _ 0 (λ e. omega (arith, e, l)) ∙ p.rest n (omega (arith, l));
   bit = omega (arith, fits);
   over =
       let k = kept_is 63 (omega arith) in
@@ -124,7 +124,7 @@ passing_more {code} {byte} {base} {old} {now} {new} {at} {carry} {kept} takes p 
         rw (← e) at (kept_bit code old at bit takes m small)
 
     read : get_or new at 0 ≡ bit_or (bit_or (kept * 2 ^ 1 % 2 ^ 64) carry) (get_or base at 0)
-    read = let s = p.size in ap (λ w. get_or w at 0) en ∙ get_or-set_same now at (bit_or (bit_or (kept * 2 ^ 1 % 2 ^ 64) carry) (get_or base at 0)) 0 (omega (arith, h, s))
+    read = let s = p.size in ap (λ w. get_or w at 0) en ∙ get_or-set_same now at _ 0 (omega (arith, h, s))
 
     earlier : (number : ℕ) → number < 64 * at → IsIn now number ↔ LedOrBase code byte base old number
         → IsIn
@@ -186,7 +186,7 @@ none_in words {at} zeros h number k =
     let l = is_within _ k in
     let same : number ≡ number / 64 * 64 + number % 64 = omega arith in
     let b = (is_in_word _ _ _ (omega arith)).1 (rw same at k) in
-    let z = ap (λ x. bit_at x (number % 64)) (zeros (number / 64) (omega (arith, l, h))) ∙ bit_at-zero (number % 64) in
+    let z = ap (λ x. bit_at x (number % 64)) (zeros (number / 64) (omega (arith, l, h))) ∙ bit_at-zero _ in
     omega (arith, b, z)
 
 -- the weights of the marked numbers
@@ -300,7 +300,7 @@ flags_length (word ∷ words) =
     omega (arith, a, b, r)
 
 flag_is : (words : List ℕ) (n : ℕ) → get_or (flags_of words) n false ≡ (bit_at (get_or words (n / 64) 0) (n % 64) == 1)
-flag_is [] n = sym (ap (λ x. x == 1) (bit_at-zero (n % 64)))
+flag_is [] n = sym (ap (λ x. x == 1) (bit_at-zero _))
 flag_is (word ∷ words) n = elim (cases_lt n 64) [
   | inl first ↦
       let low : n / 64 ≡ 0 = omega (arith, first) in

@@ -71,10 +71,10 @@ starred_out {marked} {chosen} before code {start} {size} low b n s m ch e =
     whole : chosen ≡ before ++ reverse (starred code)
     whole =
         ch ∙ ap (λ l. l ++ Choose (length marked - start + 1) ∷ []) set_now ∙ ap (λ k. (before ++ Back (length code + 1) ∷ reverse code) ++ Choose k ∷ []) skip
-        ∙ append_assoc before (Back (length code + 1) ∷ reverse code) (Choose (length code + 2) ∷ []) ∙ ap (λ l. before ++ l) (sym (reverse-starred _))
+        ∙ append_assoc before _ _ ∙ ap (λ l. before ++ l) (sym (reverse-starred _))
 
     parted : chosen ≡ (before ++ Back (length code + 1) ∷ []) ++ (reverse code ++ Choose (length code + 2) ∷ [])
-    parted = whole ∙ ap (λ l. before ++ l) (reverse-starred _) ∙ sym (append_assoc before (Back (length code + 1) ∷ []) (reverse code ++ Choose (length code + 2) ∷ []))
+    parted = whole ∙ ap (λ l. before ++ l) (reverse-starred _) ∙ sym (append_assoc before _ _)
 
     here : stretch (start + 1) size chosen ≡ reverse code
     here =

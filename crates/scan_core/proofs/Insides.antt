@@ -70,20 +70,20 @@ unfolding IsIn
 entered_one old {new} {number} {word} h ew en other = elim (cases_eq other number) [
   | inl same ↦
       let here = ap (λ n. bit_at (get_or new (n / 64) 0) (n % 64)) same ∙ ap (λ x. bit_at x (number % 64)) read in
-      (λ k. inr same, λ k. here ∙ bit_at_set_same w64 word (number % 64) (omega arith))
+      (λ k. inr same, λ k. here ∙ bit_at_set_same w64 word _ (omega arith))
   | inr differs ↦ (λ k. inl (sym (elsewhere differs) ∙ k), λ k. elim k [ inl was ↦ elsewhere differs ∙ was | inr same ↦ absurd (differs same) ])
 ]
   where
     read : get_or new (number / 64) 0 ≡ bit_or word (1 * 2 ^ (number % 64) % 2 ^ 64)
-    read = ap (λ l. get_or l (number / 64) 0) en ∙ get_or-set_same old (number / 64) (bit_or word (1 * 2 ^ (number % 64) % 2 ^ 64)) 0 (omega (arith, h))
+    read = ap (λ l. get_or l (number / 64) 0) en ∙ get_or-set_same old _ _ 0 (omega (arith, h))
 
     elsewhere : (other ≡ number → ⊥)
         → bit_at (get_or new (other / 64) 0) (other % 64) ≡ bit_at (get_or old (other / 64) 0) (other % 64)
     elsewhere differs = elim (cases_eq (other / 64) (number / 64)) [
       | inl same ↦ ap (λ k. bit_at (get_or new k 0) (other % 64)) same ∙ ap (λ x. bit_at x (other % 64)) read
-          ∙ bit_at_set_other w64 word (number % 64) (omega arith) (other % 64) (λ e. differs (omega (arith, e, same)))
+          ∙ bit_at_set_other w64 word _ (omega arith) _ (λ e. differs (omega (arith, e, same)))
           ∙ ap (λ x. bit_at x (other % 64)) ew ∙ ap (λ k. bit_at (get_or old k 0) (other % 64)) (sym same)
-      | inr apart ↦ ap (λ x. bit_at x (other % 64)) (ap (λ l. get_or l (other / 64) 0) en ∙ get_or-set_other old (number / 64) (other / 64) (bit_or word (1 * 2 ^ (number % 64) % 2 ^ 64)) 0 apart)
+      | inr apart ↦ ap (λ x. bit_at x (other % 64)) (ap (λ l. get_or l (other / 64) 0) en ∙ get_or-set_other old _ _ _ 0 apart)
     ]
 
 -- one number more
@@ -92,7 +92,7 @@ pub grows_one : {old new : List ℕ} {number word before on : ℕ} → number < 
     → new ≡ set old (number / 64) (bit_or word (1 * 2 ^ (number % 64) % 2 ^ 64)) → on ≡ min before number
     → Grows (λ other. other ≡ number) old new before on
 grows_one {old} {new} {number} {word} h none ew fits en eo = record {
-  size = ap length en ∙ length-set old (number / 64) more;
+  size = ap length en ∙ length-set old _ more;
   exact = is;
   goes = record {
     low = omega (arith, eo);
@@ -111,7 +111,7 @@ grows_one {old} {new} {number} {word} h none ew fits en eo = record {
     larger : get_or old (number / 64) 0 < bit_or word (1 * 2 ^ (number % 64) % 2 ^ 64)
     larger = elim (cases_eq word (bit_or word (1 * 2 ^ (number % 64) % 2 ^ 64))) [
       | inl same ↦
-          let unchanged = en ∙ ap (set old (number / 64)) (sym same ∙ ew) ∙ set-get_or old (number / 64) 0 in
+          let unchanged = en ∙ ap (set old (number / 64)) (sym same ∙ ew) ∙ set-get_or old _ 0 in
           absurd (none (rw unchanged at ((is number).1 (inr refl))))
       | inr differs ↦ let l = le_or_l word (1 * 2 ^ (number % 64) % 2 ^ 64) in omega (arith, l, differs, ew)
     ]
@@ -334,7 +334,7 @@ eight_bits : {word : ℕ} (eight bit : ℕ) → word < 2 ^ 64
     → bit_at (word / 2 ^ (eight * 8) % 256 * 2 ^ (eight * 8) % 2 ^ 64) bit
     ≡ min (bit_at word bit) (bit_at (2 ^ (8 + eight * 8) - 2 ^ (eight * 8)) bit)
 eight_bits {word} eight bit h =
-    let e : bit_and word (2 ^ (8 + eight * 8) - 2 ^ (eight * 8)) ≡ word / 2 ^ (eight * 8) % 256 * 2 ^ (eight * 8) = and_high word 8 (eight * 8) in
+    let e : bit_and word (2 ^ (8 + eight * 8) - 2 ^ (eight * 8)) ≡ word / 2 ^ (eight * 8) % 256 * 2 ^ (eight * 8) = and_high word 8 _ in
     let l = and_le_l word (2 ^ (8 + eight * 8) - 2 ^ (eight * 8)) in
     let q : word / 2 ^ (eight * 8) % 256 * 2 ^ (eight * 8) % 2 ^ 64 ≡ bit_and word (2 ^ (8 + eight * 8) - 2 ^ (eight * 8)) = omega (arith, e, l, h) in
     ap (λ x. bit_at x bit) q ∙ bit_at_and word (2 ^ (8 + eight * 8) - 2 ^ (eight * 8)) bit

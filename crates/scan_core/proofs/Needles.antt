@@ -137,7 +137,7 @@ pub lacks_text : {needle text : List ℕ} {place : ℕ} → Nowhere (OccursAt te
 lacks_text none before part after all ends has =
     let fits = has.1.fits in
     none (length before + has.0) (omega arith) (omega (arith, ends, fits)) (rw all (record {
-      fits = (let one : length (before ++ part) ≡ length before + length part = length-append before part in let two : length (before ++ part ++ after) ≡ length (before ++ part) + length after = length-append (before ++ part) after in omega (arith, one, two, fits));
+      fits = (let one : length (before ++ part) ≡ length before + length part = length-append before part in let two : length (before ++ part ++ after) ≡ length (before ++ part) + length after = length-append _ after in omega (arith, one, two, fits));
       reads = λ j within.
           let there : length before + has.0 + j ≡ length before + (has.0 + j) = omega arith in
           ap (λ n. slice_index (before ++ part ++ after) n) there ∙ part_at before part after (omega (arith, within, fits)) ∙ has.1.reads j within;
@@ -171,7 +171,7 @@ literal_more code from {at} byte text node all literal here only k within = elim
       let last : byte ≡ slice_index (text ++ byte ∷ []) k = sym (ap (λ n. slice_index (text ++ byte ∷ []) n) same ∙ get_or-append_seam text byte [] _) in
       (node, at_at _ _ there here, rw last at only)
   | inr other ↦
-      let long : length (text ++ byte ∷ []) ≡ length text + 1 = length-append text (byte ∷ []) in
+      let long : length (text ++ byte ∷ []) ≡ length text + 1 = length-append text _ in
       let less : k < length text = omega (arith, within, long, other) in
       let one = literal k less in
       (one.0, one.1, rw (← get_or_append_left text (byte ∷ []) _ k less) at one.2)

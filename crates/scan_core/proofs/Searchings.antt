@@ -148,7 +148,7 @@ pub twin_entry : {code : List Node} {most place twin read : ℕ} (d : ℕ) {buil
     → Tells code building.sets.items (place / 256) (place % 256) read
 twin_entry {code} {place} {twin} {read} d {building} f a less e = record {
   next = λ s. let n = t.next s in (n.0, λ number. (λ i. there number ((n.1 number).0 i), λ i. (n.1 number).1 (next_alike _ a i)));
-  stop = λ s. there (length code) (t.stop s);
+  stop = λ s. there _ (t.stop s);
 }
   where
     there : (number : ℕ) → Next code twin (InSets building.sets.items (place / 256)) number
@@ -175,7 +175,7 @@ grown {place} {sets} {set} b r k (inr e) = let l = length-append sets (set ∷ [
   built = built_set b r e.1;
   order = omega (arith, r, l);
   known = omega (arith, k, l);
-  same = get_or_append_left sets (set ∷ []) [] (place / 256) k;
+  same = get_or_append_left sets _ [] _ k;
 })
 
 -- a set has as many words as the code asks for
@@ -195,7 +195,7 @@ led_on {code} {place} {old} {new} before {words} f k is size advanced l er ew = 
   known = g.known;
   tells = record {
     next = λ s. let k = l.next s in (k.0, λ number. rw (← k.1) at (exact number));
-    stop = λ e. (exact (length code)).0 ((flags_are _ _).1 (l.stop e));
+    stop = λ e. (exact _).0 ((flags_are _ _).1 (l.stop e));
   };
 }
   where

@@ -148,7 +148,7 @@ pub counted_more : {code : List Node} {line : List ℕ} {place steps : ℕ} (set
     → (IsMarked set (length code) → ⊥) → IsCounted code line (place + 1) (steps + positions_among code set)
 counted_more {code} {place} set s here never = record {
   none = λ before l k. elim (cases_eq before place) [
-    | inl same ↦ never ((here (length code)).1 (rw same at k))
+    | inl same ↦ never ((here _).1 (rw same at k))
     | inr other ↦ s.none before (omega (arith, l, other)) k
   ];
   counted = one_counted _ s.counted here refl;
@@ -168,14 +168,14 @@ pub counted_ends : {code : List Node} {line : List ℕ} {place steps : ℕ} {fou
     → IsOutcome code line (record { found = found; steps = steps + positions_among code set })
 counted_ends {code} {line} {place} {steps} set s here e test = record {
   exact = (
-    λ t. (place, omega (arith, e), (here (length code)).0 (test.0 t)),
+    λ t. (place, omega (arith, e), (here _).0 (test.0 t)),
     λ k. elim (cases_eq k.0 place) [
-      | inl same ↦ test.1 ((here (length code)).1 (rw same at k.2))
+      | inl same ↦ test.1 ((here _).1 (rw same at k.2))
       | inr other ↦ absurd (s.none k.0 (omega (arith, k.1, e, other)) k.2)
     ],
   );
   counted = λ absent. rw e at (one_counted _ s.counted here refl);
-  least = λ t. (counted_found s (omega (arith, e)) ((here (length code)).0 (test.0 t)) (omega arith) all).least refl;
+  least = λ t. (counted_found s (omega (arith, e)) ((here _).0 (test.0 t)) (omega arith) all).least refl;
   bound = all;
 }
   where
@@ -274,7 +274,7 @@ entry_read {table} {state} {byte} d t h b e = e ∙ get_or_default table.rows.it
 pub noted_read : {table : Table} {code : List Node} {sets : List (List Bool)} {state : ℕ} {read : State} (d : State)
     → IsTableOf code sets table → state < length sets → read ≡ get_or table.states.items state d
     → IsState code sets table.rows.items state read
-noted_read {table} {state} d t h e = rw (← (e ∙ get_or_default table.states.items state d no_state (let s = t.states in omega (arith, h, s)))) at (t.noted state h)
+noted_read {table} {state} d t h e = rw (← (e ∙ get_or_default _ state d no_state (let s = t.states in omega (arith, h, s)))) at (t.noted state h)
 
 -- along a line, by some table's sets
 abbrev pub WalkedOf : List Node → Table → List ℕ → ℕ → ℕ → ℕ → Type 0
@@ -368,7 +368,7 @@ fixed_stays line d t h e f place b =
 pub six_more : (word offset state : ℕ) → offset < 64 → six_bits (word * 64 + offset) (suc state) ≡ six_bits word state
 six_more word offset state h =
     let e : 6 * suc state ≡ 6 + 6 * state = omega arith in
-    let a : (word * 64 + offset) / 2 ^ (6 * suc state) ≡ (word * 64 + offset) / 2 ^ 6 / 2 ^ (6 * state) = ap (λ k. (word * 64 + offset) / 2 ^ k) e ∙ sym (shr-shr (word * 64 + offset) 6 (6 * state)) in
+    let a : (word * 64 + offset) / 2 ^ (6 * suc state) ≡ (word * 64 + offset) / 2 ^ 6 / 2 ^ (6 * state) = ap (λ k. (word * 64 + offset) / 2 ^ k) e ∙ sym (shr-shr _ 6 _) in
     let b : (word * 64 + offset) / 2 ^ 6 ≡ word = shr_high word 6 offset h in
     ap (λ k. k % 64) (a ∙ ap (λ k. k / 2 ^ (6 * state)) b)
 
@@ -387,7 +387,7 @@ pub word_more : {rows : List ℕ} {count byte done word offset : ℕ} → IsBegu
 word_more {rows} {count} {byte} {done} {word} {offset} b h o i = record {
   small =
       let e : 6 * (done + 1) ≡ 6 + 6 * done = omega arith in
-      let p : 2 ^ (6 * (done + 1)) ≡ 2 ^ 6 * 2 ^ (6 * done) = ap (λ k. 2 ^ k) e ∙ pow-add 2 6 (6 * done) in
+      let p : 2 ^ (6 * (done + 1)) ≡ 2 ^ 6 * 2 ^ (6 * done) = ap (λ k. 2 ^ k) e ∙ pow-add 2 6 _ in
       let s = b.small in
       omega (arith, p, s, o);
   told = told;
@@ -519,7 +519,7 @@ pub at_more : {code : List Node} {shifts : ShiftTable} {line : List ℕ} {place 
     → read ≡ get_or shifts.words.items (slice_index line place) d → word' ≡ read / 2 ^ (word % 64)
     → added ≡ get_or shifts.weights.items (word % 256) e → IsAt code shifts line (place + 1) word' (steps + added)
 at_more {shifts} {line} {place} word {read} d {added} e a h b r w g =
-    let o = subst (λ n. IsOffset a.0.rows.items (length a.0.states.items) a.3.0 (slice_index line place) (six_bits n a.3.0)) (get_or_default shifts.words.items (slice_index line place) 0 d (let s = a.2.words.size in omega (arith, s, b)) ∙ sym r)
+    let o = subst (λ n. IsOffset a.0.rows.items (length a.0.states.items) a.3.0 (slice_index line place) (six_bits n a.3.0)) (get_or_default _ (slice_index line place) 0 d (let s = a.2.words.size in omega (arith, s, b)) ∙ sym r)
     (a.2.words.each (slice_index line place) b a.3.0 a.3.2.known) in
     let i = subst (λ n. IsWeight a.0.states.items n added) a.3.1 (weight_read _ e a.2 g) in
     let m = state_more a.1 a.2.complete a.3.2 h b i o in
