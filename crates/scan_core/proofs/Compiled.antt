@@ -38,7 +38,7 @@ popped_begun old new d p b =
 
 turned : {pending : List Pending} (around : List Pending) {last : Pending} → pending ≡ around ++ last ∷ []
     → reverse pending ≡ last ∷ reverse around
-turned around {last} e = ap reverse e ∙ reverse-append around _
+turned around e = ap reverse e ∙ reverse-append around _
 
 -- the last duplication that waits is written out
 pub finish_more : {nodes written : List Node} {pending : List Pending} (around : List Pending) (d : Duplication)

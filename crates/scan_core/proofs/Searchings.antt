@@ -171,7 +171,7 @@ grown : {code : List Node} {place : ℕ} {sets sets' : List (List Bool)} {rows :
     → Built code place sets rows → place ≤ length sets * 256 → place / 256 < length sets
     → (sets' ≡ sets) ⊎ ((sets' ≡ sets ++ set ∷ []) × IsOpen code set) → Grown code place sets sets' rows
 grown b r k (inl e) = rw e (record { built = b; order = r; known = k; same = refl })
-grown {place} {sets} {set} b r k (inr e) = let l = length-append sets (set ∷ []) in rw e.0 (record {
+grown {sets} {set} b r k (inr e) = let l = length-append sets (set ∷ []) in rw e.0 (record {
   built = built_set b r e.1;
   order = omega (arith, r, l);
   known = omega (arith, k, l);

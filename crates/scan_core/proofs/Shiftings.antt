@@ -146,7 +146,7 @@ steps_wider size h k = search rules
 pub counted_more : {code : List Node} {line : List ℕ} {place steps : ℕ} (set : List Bool)
     → IsCounted code line place steps → ((number : ℕ) → IsMarked set number ↔ Entered code line number place)
     → (IsMarked set (length code) → ⊥) → IsCounted code line (place + 1) (steps + positions_among code set)
-counted_more {code} {place} set s here never = record {
+counted_more {place} set s here never = record {
   none = λ before l k. elim (cases_eq before place) [
     | inl same ↦ never ((here _).1 (rw same at k))
     | inr other ↦ s.none before (omega (arith, l, other)) k
@@ -274,7 +274,7 @@ entry_read {table} {state} {byte} d t h b e = e ∙ get_or_default table.rows.it
 pub noted_read : {table : Table} {code : List Node} {sets : List (List Bool)} {state : ℕ} {read : State} (d : State)
     → IsTableOf code sets table → state < length sets → read ≡ get_or table.states.items state d
     → IsState code sets table.rows.items state read
-noted_read {table} {state} d t h e = rw (← (e ∙ get_or_default _ state d no_state (let s = t.states in omega (arith, h, s)))) at (t.noted state h)
+noted_read {state} d t h e = rw (← (e ∙ get_or_default _ state d no_state (let s = t.states in omega (arith, h, s)))) at (t.noted state h)
 
 -- along a line, by some table's sets
 abbrev pub WalkedOf : List Node → Table → List ℕ → ℕ → ℕ → ℕ → Type 0
@@ -518,7 +518,7 @@ pub at_more : {code : List Node} {shifts : ShiftTable} {line : List ℕ} {place 
     → slice_index line place < 256
     → read ≡ get_or shifts.words.items (slice_index line place) d → word' ≡ read / 2 ^ (word % 64)
     → added ≡ get_or shifts.weights.items (word % 256) e → IsAt code shifts line (place + 1) word' (steps + added)
-at_more {shifts} {line} {place} word {read} d {added} e a h b r w g =
+at_more {line} {place} word {read} d {added} e a h b r w g =
     let o = subst (λ n. IsOffset a.0.rows.items (length a.0.states.items) a.3.0 (slice_index line place) (six_bits n a.3.0)) (get_or_default _ (slice_index line place) 0 d (let s = a.2.words.size in omega (arith, s, b)) ∙ sym r)
     (a.2.words.each (slice_index line place) b a.3.0 a.3.2.known) in
     let i = subst (λ n. IsWeight a.0.states.items n added) a.3.1 (weight_read _ e a.2 g) in
