@@ -1,4 +1,4 @@
-use Rattle.std.proofs.Common.{rules, ◌<◌, ◌^◌, eqb, not, get_or, refl, ◌∙◌, arith, bit_and}
+use Rattle.std.proofs.Common.{rules, ◌<◌, ◌^◌, get_or, refl, ◌∙◌, arith}
 use Rattle.scan_core.{
   specs.inner.Hops.no_hop,
   proofs.Closings.{landing_more, landing_ends, led_is, not_zero, is_not_zero},

@@ -1,6 +1,6 @@
 use Rattle.std.proofs.Common.{rules}
 use Rattle.scan_core.{
-  specs.declared.node.Node.TheVariants.{Take, First, Last, Choose, Back},
+  specs.declared.node.Node.TheVariants.Back,
   proofs.Enterings.{node_here, target_in, way_is, way_nowhere},
 }
 use Rattle.scan_core.proofs.way.way_of.Goals as goal

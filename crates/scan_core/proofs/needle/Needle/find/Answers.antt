@@ -1,4 +1,4 @@
-use Rattle.std.proofs.Common.{length, arith}
+use Rattle.std.proofs.Common.{arith}
 use Rattle.scan_core.proofs.Needles.{lacks_byte, lacks_text}
 use Rattle.scan_core.proofs.needle.Needle.find.Goals as goal
 
