@@ -36,9 +36,9 @@ use Rattle.scan_core.proofs.{
 }
 
 -- some of a word's numbers are those of a hop, or none
-pub one_of : (word from : ℕ) → word < 2 ^ 64 → (bit_and word from ≡ 0 → ⊥)
+pub one_of : {word : ℕ} (from : ℕ) → word < 2 ^ 64 → (bit_and word from ≡ 0 → ⊥)
     → (bit : ℕ) × (bit < 64) × (bit_at word bit ≡ 1) × (bit_at from bit ≡ 1)
-one_of word from fits some =
+one_of {word} from fits some =
     let l = and_le_l word from in
     let lowest = bit_at-trailing_zeros w64 (bit_and word from) (omega (arith, some)) (omega (arith, l, fits)) in
     let bit : ℕ = trailing_zeros w64 (bit_and word from) in
@@ -58,25 +58,25 @@ none_of word from bit none here there =
 
 pub adding_one : {code : List Node} {old new : List Hop} {hop : Hop} → AreHops code old → IsHop code hop
     → new ≡ old ++ hop ∷ [] → AreHops code new
-adding_one {old = old} {hop = hop} are is e = let l = ap length e in let m = length-append old (hop ∷ []) in each_to (each_more are is e) (omega (arith, l, m))
+adding_one {old} {hop} are is e = let l = ap length e in let m = length-append old (hop ∷ []) in each_to (each_more are is e) (omega (arith, l, m))
 
-pub hops_added : (old more : List Hop) {new : List Hop} (at to : ℕ) → new ≡ old ++ more → HopsTo old at to
+pub hops_added : (old more : List Hop) {new : List Hop} {at to : ℕ} → new ≡ old ++ more → HopsTo old at to
     → HopsTo new at to
-hops_added old more at to e h = grind (arith, common_steps)
+hops_added old more e h = grind (arith, common_steps)
 
 -- what is met stays so when hops are added
-pub meets_kept : (base : List ℕ) (old new : List Hop) {at to : ℕ} → (more : List Hop) × (new ≡ old ++ more)
+pub meets_kept : (base : List ℕ) (old : List Hop) {new : List Hop} {at to : ℕ} → (more : List Hop) × (new ≡ old ++ more)
     → Meets base old at to → Meets base new at to
-meets_kept base old new grown (inl near) = inl near
-meets_kept base old new grown (inr (inl based)) = inr (inl based)
-meets_kept base old new {at} {to} grown (inr (inr hop)) = inr (inr (hops_added old grown.0 at to grown.1 hop))
+meets_kept base old grown (inl near) = inl near
+meets_kept base old grown (inr (inl based)) = inr (inl based)
+meets_kept base old grown (inr (inr hop)) = inr (inr (hops_added _ _ grown.1 hop))
 
 -- what a node leads to is met once both are
-pub both_met : {code : List Node} (base : List ℕ) (old new : List Hop) {number : ℕ} {way : Way} {T : Type 0}
-    {E : Type 0} (result : Result T E) → IsWay code number way → Meets base old (number / 64) way.one
+pub both_met : {code : List Node} (base : List ℕ) (old new : List Hop) {number : ℕ} {way : Way} {T E : Type 0}
+    (result : Result T E) → IsWay code number way → Meets base old (number / 64) way.one
     → OnOk result ((more : List Hop) × (new ≡ old ++ more)) → OnOk result (Meets base new (number / 64) way.other)
     → OnOk result ((to : ℕ) → Flows code false false number to → Meets base new (number / 64) to)
-both_met base old new {number} (Ok done) w one grown other = λ to f. led_by (Meets base new (number / 64)) w (meets_kept base old new grown one) other f
+both_met base old new {number} (Ok done) w one grown other = λ to f. led_by (Meets base new (number / 64)) w (meets_kept base old grown one) other f
 both_met base old new (Err fault) w one grown other = tt
 
 -- what the first numbers lead to is met
@@ -87,7 +87,7 @@ pub all_met : (code : List Node) (base : List ℕ) (old new : List Hop) {count :
     → number < count + 1 → Flows code false false number to → Meets base new (number / 64) to
 all_met code base old new {count} before grown here number to h f = elim (cases_eq number count) [
   | inl same ↦ rw (← same) at (here to (subst (λ n. Flows code false false n to) same f))
-  | inr other ↦ meets_kept base old new grown (before number to (omega (arith, h, other)) f)
+  | inr other ↦ meets_kept _ _ grown (before number to (omega (arith, h, other)) f)
 ]
 
 -- the first hops are in two parts
@@ -102,15 +102,14 @@ hops_to_last old hop e = grind (arith, common_steps)
 
 pub part_onward : {code : List Node} {base : List ℕ} {all onward landings new : List Hop} {count : ℕ} {hop : Hop}
     → Parting code base all onward landings count → IsHop code hop → hop ≡ get_or all count no_hop
-    → new ≡ onward ++ hop ∷ []
-    → Parting code base all new landings (count + 1)
-part_onward {all = all} {onward} {landings} {new} {count} {hop} p is eh en = record {
+    → new ≡ onward ++ hop ∷ [] → Parting code base all new landings (count + 1)
+part_onward {all} {count} p is eh en = record {
   first = adding_one p.first is en;
   last = p.last;
   parted = λ place l. elim (cases_eq place count) [
-    | inl same ↦ inl (rw (eh ∙ ap (λ n. get_or all n no_hop) (sym same)) at (hops_to_last onward hop en))
+    | inl same ↦ inl (rw (eh ∙ ap (λ n. get_or all n no_hop) (sym same)) at (hops_to_last _ _ en))
     | inr other ↦ elim (p.parted place (omega (arith, l, other))) [
-      | inl on ↦ inl (hops_added onward (hop ∷ []) (get_or all place no_hop).at (end_of (get_or all place no_hop)) en on)
+      | inl on ↦ inl (hops_added _ _ en on)
       | inr land ↦ inr land
     ]
   ];
@@ -118,16 +117,15 @@ part_onward {all = all} {onward} {landings} {new} {count} {hop} p is eh en = rec
 
 pub part_landing : {code : List Node} {base : List ℕ} {all onward landings new : List Hop} {count : ℕ} {hop : Hop}
     → Parting code base all onward landings count → IsLanding code base hop → hop ≡ get_or all count no_hop
-    → new ≡ landings ++ hop ∷ []
-    → Parting code base all onward new (count + 1)
-part_landing {all = all} {onward} {landings} {new} {count} {hop} p is eh en = record {
+    → new ≡ landings ++ hop ∷ [] → Parting code base all onward new (count + 1)
+part_landing {all} {landings} {count} {hop} p is eh en = record {
   first = p.first;
   last = let l = ap length en in let m = length-append landings (hop ∷ []) in each_to (each_more p.last is en) (omega (arith, l, m));
   parted = λ place l. elim (cases_eq place count) [
-    | inl same ↦ inr (rw (eh ∙ ap (λ n. get_or all n no_hop) (sym same)) at (hops_to_last landings hop en))
+    | inl same ↦ inr (rw (eh ∙ ap (λ n. get_or all n no_hop) (sym same)) at (hops_to_last _ _ en))
     | inr other ↦ elim (p.parted place (omega (arith, l, other))) [
       | inl on ↦ inl on
-      | inr land ↦ inr (hops_added landings (hop ∷ []) (get_or all place no_hop).at (end_of (get_or all place no_hop)) en land)
+      | inr land ↦ inr (hops_added _ _ en land)
     ]
   ];
 }
@@ -137,7 +135,7 @@ pub parting_ends : {code : List Node} {base : List ℕ} {all onward landings : L
     → ((number to : ℕ) → Flows code false false number to → Meets base all (number / 64) to)
     → (number to : ℕ) → Flows code false false number to
     → (to / 64 ≡ number / 64) ⊎ (IsIn base to ⊎ PartsTo onward landings (number / 64) to)
-parting_ends {all = all} {onward} {landings} p h met number to f = elim (met number to f) [
+parting_ends {all} {onward} {landings} p h met number to f = elim (met number to f) [
   | inl near ↦ inl near
   | inr other ↦ inr (elim other [
     | inl based ↦ inl based
@@ -150,26 +148,25 @@ parting_ends {all = all} {onward} {landings} p h met number to f = elim (met num
 pub plain_node : (code : List Node) {number : ℕ} {read : Node} → read ≡ get_or code number read → number < length code
     → ((from to : ℕ) → LeadsOn read false true from to → LeadsOn read false false from to) → IsPlain code number
 plain_node code {number} {read} e inside plain = λ to f.
-    let here = subst (At code number) (sym e) (at_index code number read inside) in
-    (read, here, plain number to (flows_of code read false true to here f))
+    let here = subst (At code number) (sym e) (at_index _ _ _ inside) in
+    (read, here, plain number to (flows_of _ _ here f))
 
-pub plain_beyond : (code : List Node) (number : ℕ) → length code ≤ number → IsPlain code number
-plain_beyond code number h = λ to f. absurd (let l = at_least code number f.0 f.1 in omega (arith, l, h))
+pub plain_beyond : (code : List Node) {number : ℕ} → length code ≤ number → IsPlain code number
+plain_beyond code {number} h = λ to f. absurd (let l = at_least code number f.0 f.1 in omega (arith, l, h))
 
 -- the first words of a set have no anchors
 abbrev pub NoneAnchors : List Node → List ℕ → ℕ → Type 0
 NoneAnchors code words count = (number : ℕ) → number < 64 * count → IsIn words number → IsPlain code number
 
 pub none_more : (code : List Node) (words : List ℕ) (count anchors : ℕ) → NoneAnchors code words count
-    → HasAnchors code count anchors
-    → bit_and (get_or words count 0) anchors ≡ 0 → NoneAnchors code words (count + 1)
+    → HasAnchors code count anchors → bit_and (get_or words count 0) anchors ≡ 0 → NoneAnchors code words (count + 1)
 none_more code words count anchors before has none = λ number h k. elim (cases_lt number (64 * count)) [
   | inl l ↦ before number l k
   | inr l ↦
       let same : number ≡ count * 64 + number % 64 = omega (arith, h, l) in
-      let one = (is_in_word words count (number % 64) (omega arith)).1 (rw same at k) in
+      let one = (is_in_word _ _ _ (omega arith)).1 (rw same at k) in
       elim (has (number % 64) (omega arith)) [
-        | inl two ↦ absurd (none_of (get_or words count 0) anchors (number % 64) none one two)
+        | inl two ↦ absurd (none_of _ _ _ none one two)
         | inr plain ↦ rw (← same) at plain
       ]
 ]
@@ -179,7 +176,7 @@ none_more code words count anchors before has none = λ number h k. elim (cases_
 -- what a word's numbers lead to has the word's own
 kept_or : {code : List Node} {at word all : ℕ} → Closes code at word all → word < 2 ^ 64 → all < 2 ^ 64
     → bit_or word all ≡ all
-kept_or {word = word} {all} c fits small = same_from_bits_below 64 (bit_or word all) all (or_lt 64 word all fits small) small (λ bit h.
+kept_or {word} {all} c fits small = same_from_bits_below 64 (bit_or word all) all (or_lt 64 word all fits small) small (λ bit h.
     let e = bit_at_or word all bit in
     let l = bit_at-lt word bit in
     elim (cases_eq (bit_at word bit) 1) [ inl one ↦ let k = c.kept bit h one in omega (arith, e, one, k) | inr other ↦ omega (arith, e, l, other) ])
@@ -196,68 +193,66 @@ pub record Closed (code : List Node) (at : ℕ) (old now : List ℕ) : Type 0 wh
   pub fuller : unset now ≤ unset old
   pub closed : (start to : ℕ) → start / 64 ≡ at → IsIn now start → Stays code start to → IsIn now to
 
-pub close_word : {code : List Node} {at word : ℕ} (all : ℕ) {old now : List ℕ} → at < length old
-    → word ≡ get_or old at 0 → Closes code at word all → word < 2 ^ 64 → all < 2 ^ 64 → now ≡ set old at all
-    → Closed code at old now
-close_word {code} {at} {word} all {old} {now} h ew c fits small es = record {
+pub close_word : {code : List Node} {at word all : ℕ} {old now : List ℕ} → at < length old → word ≡ get_or old at 0
+    → Closes code at word all → word < 2 ^ 64 → all < 2 ^ 64 → now ≡ set old at all → Closed code at old now
+close_word {code} {at} {word} {all} {old} {now} h ew c fits small es = record {
   adds = record {
-    size = ap length en ∙ length-set old at (bit_or word all);
+    size = ap length en ∙ length-set old at _;
     kept = λ number k. elim (cases_eq (number / 64) at) [
-      | inl same ↦ let e : number ≡ at * 64 + number % 64 = omega (arith, same) in rw (← e) at ((is_in_word now at (number % 64) (omega arith)).0 (bit_now (number % 64) (left_bit word all (number % 64) (bit_old (number % 64) (omega arith) (subst (IsIn old) e k)))))
+      | inl same ↦ let e : number ≡ at * 64 + number % 64 = omega (arith, same) in rw (← e) at ((is_in_word now at (number % 64) (omega arith)).0 (bit_now _ (left_bit word all (number % 64) (bit_old _ (omega arith) (subst (IsIn old) e k)))))
       | inr other ↦ rw (← en) at ((set_elsewhere old (bit_or word all) number other).1 k)
     ];
     from = λ number k. elim (cases_eq (number / 64) at) [
       | inl same ↦
           let e : number ≡ at * 64 + number % 64 = omega (arith, same) in
-          let b = c.from_chosen (number % 64) (omega arith) (in_all (number % 64) (omega arith) (rw e at k)) in
-          (at * 64 + b.0, (is_in_word old at b.0 b.1).0 (ap (λ w. bit_at w b.0) (sym ew) ∙ b.2), subst (λ n. FlowsOn code false false (at * 64 + b.0) n) (sym e) b.3)
-      | inr other ↦ (number, (set_elsewhere old (bit_or word all) number other).0 (rw en at k), (0, refl))
+          let b = c.from_chosen (number % 64) (omega arith) (in_all _ (omega arith) (rw e at k)) in
+          (at * 64 + b.0, (is_in_word _ _ _ b.1).0 (ap (λ w. bit_at w b.0) (sym ew) ∙ b.2), subst (λ n. FlowsOn code false false (at * 64 + b.0) n) (sym e) b.3)
+      | inr other ↦ (number, (set_elsewhere _ _ _ other).0 (rw en at k), (0, refl))
     ];
   };
-  elsewhere = λ number other k. (set_elsewhere old (bit_or word all) number other).0 (rw en at k);
+  elsewhere = λ number other k. (set_elsewhere _ _ _ other).0 (rw en at k);
   fuller = rw (← en) at (unset_fuller old at (bit_or word all) (let l = le_or_l word all in omega (arith, l, ew)));
   closed = λ start to here k s.
       let e : start ≡ at * 64 + start % 64 = omega (arith, here) in
       let f : to ≡ at * 64 + to % 64 = (let q = s.1 in omega (arith, here, q)) in
       let flow = subst (λ n. Flows code false false n (at * 64 + to % 64)) e (rw f at s.0) in
-      let b = c.closed (start % 64) (to % 64) (omega arith) (omega arith) (in_all (start % 64) (omega arith) (rw e at k)) flow in
-      rw (← f) at ((is_in_word now at (to % 64) (omega arith)).0 (bit_now (to % 64) (right_bit word all (to % 64) b)));
+      let b = c.closed (start % 64) (to % 64) (omega arith) (omega arith) (in_all _ (omega arith) (rw e at k)) flow in
+      rw (← f) at ((is_in_word now at (to % 64) (omega arith)).0 (bit_now _ (right_bit word all (to % 64) b)));
 }
   where
     en : now ≡ set old at (bit_or word all)
     en = es ∙ ap (set old at) (sym (kept_or c fits small))
 
     read : get_or now at 0 ≡ bit_or word all
-    read = ap (λ w. get_or w at 0) en ∙ get_or-set_same old at (bit_or word all) 0 h
+    read = ap (λ w. get_or w at 0) en ∙ get_or-set_same old at _ 0 h
 
     bit_now : (bit : ℕ) → bit_at (bit_or word all) bit ≡ 1 → bit_at (get_or now at 0) bit ≡ 1
     bit_now bit k = ap (λ w. bit_at w bit) read ∙ k
 
     bit_old : (bit : ℕ) → bit < 64 → IsIn old (at * 64 + bit) → bit_at word bit ≡ 1
-    bit_old bit l k = ap (λ w. bit_at w bit) ew ∙ (is_in_word old at bit l).1 k
+    bit_old bit l k = ap (λ w. bit_at w bit) ew ∙ (is_in_word _ _ _ l).1 k
 
     in_all : (bit : ℕ) → bit < 64 → IsIn now (at * 64 + bit) → bit_at all bit ≡ 1
-    in_all bit l k = elim (either_bit word all bit (sym (ap (λ w. bit_at w bit) read) ∙ (is_in_word now at bit l).1 k)) [ inl w ↦ c.kept bit l w | inr a ↦ a ]
+    in_all bit l k = elim (either_bit _ _ _ (sym (ap (λ w. bit_at w bit) read) ∙ (is_in_word _ _ _ l).1 k)) [ inl w ↦ c.kept bit l w | inr a ↦ a ]
 
 -- a number of a word of which none leads out of the base leads to numbers of it
-based_of : {code : List Node} {closures : Closures} {at : ℕ} (words : List ℕ) (start to : ℕ) → AreClosures code closures
+based_of : {code : List Node} {closures : Closures} {at : ℕ} (words : List ℕ) {start to : ℕ} → AreClosures code closures
     → at < width code → bit_and (get_or words at 0) (get_or closures.leads.items at 0) ≡ 0 → start / 64 ≡ at
-    → IsIn words start → Flows code false false start to
-    → IsIn closures.base.items to
-based_of {code} {closures} {at} words start to c inside e here h f =
+    → IsIn words start → Flows code false false start to → IsIn closures.base.items to
+based_of {at} words {start} {to} c inside e here h f =
     let same : start ≡ at * 64 + start % 64 = omega (arith, here) in
-    let one = (is_in_word words at (start % 64) (omega arith)).1 (rw same at h) in
+    let one = (is_in_word _ _ _ (omega arith)).1 (rw same at h) in
     elim (c.leads.each at inside (start % 64) to (omega arith) (rw same at f)) [
-      | inl two ↦ absurd (none_of (get_or words at 0) (get_or closures.leads.items at 0) (start % 64) e one two)
+      | inl two ↦ absurd (none_of _ _ _ e one two)
       | inr based ↦ based
     ]
 
 -- a number of a word that was closed leads to numbers of the set, or by a hop
 closed_meets : {code : List Node} {closures : Closures} {at : ℕ} {old now : List ℕ} → AreClosures code closures
     → Closed code at old now → ((number : ℕ) → IsIn closures.base.items number → IsIn old number)
-    → (start to : ℕ) → start / 64 ≡ at → IsIn now start → Flows code false false start to
+    → {start to : ℕ} → start / 64 ≡ at → IsIn now start → Flows code false false start to
     → IsIn now to ⊎ PartsTo closures.hops.onward.items closures.hops.landings.items (start / 64) to
-closed_meets c w begun start to here k f = elim (c.hops.met start to f) [
+closed_meets c w begun {start} {to} here k f = elim (c.hops.met start to f) [
   | inl near ↦ inl (w.closed start to here k (f, near))
   | inr other ↦ elim other [ inl based ↦ inl (w.adds.kept to (begun to based)) | inr hop ↦ inr hop ]
 ]
@@ -272,47 +267,47 @@ pub apart_skip : {code : List Node} {closures : Closures} {old now : List ℕ} {
     → Apart code closures old now count → AreClosures code closures
     → ((number : ℕ) → IsIn closures.base.items number → IsIn old number) → count < width code
     → bit_and (get_or now count 0) (get_or closures.leads.items count 0) ≡ 0 → Apart code closures old now (count + 1)
-apart_skip {now = now} {count = count} s c begun inside e = record {
+apart_skip {count} s c begun inside e = record {
   adds = s.adds;
   done = λ start to h k flow. elim (cases_lt start (64 * count)) [
     | inl before ↦ s.done start to before k flow
-    | inr here ↦ inl (s.adds.kept to (begun to (based_of now start to c inside e (omega (arith, h, here)) k flow)))
+    | inr here ↦ inl (s.adds.kept to (begun to (based_of _ c inside e (omega (arith, h, here)) k flow)))
   ];
 }
 
-pub apart_more : {code : List Node} {closures : Closures} {old now new : List ℕ} {count : ℕ} (all : ℕ)
+pub apart_more : {code : List Node} {closures : Closures} {old now new : List ℕ} {count all : ℕ}
     → Apart code closures old now count → AreClosures code closures
     → ((number : ℕ) → IsIn closures.base.items number → IsIn old number) → count < width code → length old ≡ width code
     → Closes code count (get_or now count 0) all → get_or now count 0 < 2 ^ 64 → all < 2 ^ 64 → new ≡ set now count all
     → Apart code closures old new (count + 1)
-apart_more {code} {closures} {old} {now} {new} {count} all s c begun inside size closes fits small en = record {
+apart_more {code} {now} {new} {count} s c begun inside size closes fits small en = record {
   adds = adds_both s.adds w.adds;
   done = λ start to h k flow. elim (cases_eq (start / 64) count) [
-    | inl here ↦ closed_meets c w (λ number based. s.adds.kept number (begun number based)) start to here k flow
+    | inl here ↦ closed_meets c w (λ number based. s.adds.kept number (begun number based)) here k flow
     | inr other ↦ elim (s.done start to (omega (arith, h, other)) (w.elsewhere start other k) flow) [ inl was ↦ inl (w.adds.kept to was) | inr hop ↦ inr hop ]
   ];
 }
   where
     w : Closed code count now new
-    w = close_word all (let e = s.adds.size in omega (arith, e, size, inside)) refl closes fits small en
+    w = close_word (let e = s.adds.size in omega (arith, e, size, inside)) refl closes fits small en
 
 pub apart_ends : {code : List Node} {closures : Closures} {old now : List ℕ} {count : ℕ}
     → Apart code closures old now count → length now ≤ count → IsApart code closures.hops now
-apart_ends {now = now} s h = λ start to k flow. let w = is_within now start k in s.done start to (omega (arith, w, h)) k flow
+apart_ends s h = λ start to k flow. let w = is_within _ k in s.done start to (omega (arith, w, h)) k flow
 
 -- Following a hop.
 
 -- a number of a word is entered if something holds
-entered_if : (words : List ℕ) {new : List ℕ} (at bit : ℕ) (holds : Bool) → at < length words → bit < 64
+entered_if : (words : List ℕ) {new : List ℕ} {at bit : ℕ} (holds : Bool) → at < length words → bit < 64
     → new ≡ set words at (bit_or (get_or words at 0) (bool_byte holds * 2 ^ bit % 2 ^ 64))
     → (other : ℕ) → IsIn new other ↔ (IsIn words other ⊎ (IsTrue holds × (other ≡ at * 64 + bit)))
-entered_if words {new} at bit true h small en other =
+entered_if words {at} {bit} true h small en other =
     let here : (at * 64 + bit) / 64 ≡ at = omega (arith, small) in
     let there : (at * 64 + bit) % 64 ≡ bit = omega (arith, small) in
-    let e = entered_one words (at * 64 + bit) (omega (arith, h, small)) refl
-    (rw (here, there) en) other in
+    let e = entered_one _ (omega (arith, h, small)) refl
+    (rw (here, there) en) _ in
     (λ k. elim (e.0 k) [ inl was ↦ inl was | inr same ↦ inr (refl, same) ], λ k. e.1 (elim k [ inl was ↦ inl was | inr q ↦ inr q.1 ]))
-entered_if words at bit false h small en other = search (rules, or_zero_r, set-get_or)
+entered_if words false h small en other = search (rules, or_zero_r, set-get_or)
 
 -- what a hop leads to was entered, if it leads from the set
 pub record Led (code : List Node) (hop : Hop) (old mid : List ℕ) (all : ℕ) : Type 0 where
@@ -323,43 +318,43 @@ pub record Led (code : List Node) (hop : Hop) (old mid : List ℕ) (all : ℕ) :
   pub larger : get_or old hop.word 0 ≤ all
   pub fits : all < 2 ^ 64
 
-pub led_is : {code : List Node} {hop : Hop} {old mid : List ℕ} (holds : Bool) → IsHop code hop → length old ≡ width code
+pub led_is : {code : List Node} {hop : Hop} {old mid : List ℕ} {holds : Bool} → IsHop code hop → length old ≡ width code
     → get_or old hop.at 0 < 2 ^ 64 → get_or old hop.word 0 < 2 ^ 64
     → (IsTrue holds → bit_and (get_or old hop.at 0) hop.from ≡ 0 → ⊥)
     → ((bit_and (get_or old hop.at 0) hop.from ≡ 0 → ⊥) → IsTrue holds)
     → mid ≡ set old hop.word (bit_or (get_or old hop.word 0) (bool_byte holds * 2 ^ hop.bit % 2 ^ 64))
     → Led code hop old mid (bit_or (get_or old hop.word 0) (bool_byte holds * 2 ^ hop.bit % 2 ^ 64))
-led_is {code} {hop} {old} {mid} holds is size fits high some any em = record {
+led_is {code} {hop} {old} {mid} {holds} is size fits high some any em = record {
   adds = record {
-    size = ap length em ∙ length-set old hop.word (bit_or (get_or old hop.word 0) (bool_byte holds * 2 ^ hop.bit % 2 ^ 64));
+    size = ap length em ∙ length-set old _ _;
     kept = λ n k. (exact n).1 (inl k);
     from = λ n k. elim ((exact n).0 k) [ inl was ↦ (n, was, (0, refl)) | inr led ↦ entered n led.0 led.1 ];
   };
   new = λ n k. elim ((exact n).0 k) [ inl was ↦ inl was | inr led ↦ inr led.1 ];
   followed = λ bit small one k.
-      let here = (is_in_word old hop.at bit small).1 k in
-      (exact (end_of hop)).1 (inr (any (λ none. none_of (get_or old hop.at 0) hop.from bit none here one), refl));
+      let here = (is_in_word _ _ _ small).1 k in
+      (exact _).1 (inr (any (λ none. none_of _ _ _ none here one), refl));
   set = em;
-  larger = le_or_l (get_or old hop.word 0) (bool_byte holds * 2 ^ hop.bit % 2 ^ 64);
-  fits = or_lt 64 (get_or old hop.word 0) (bool_byte holds * 2 ^ hop.bit % 2 ^ 64) high (omega arith);
+  larger = le_or_l _ (bool_byte holds * 2 ^ hop.bit % 2 ^ 64);
+  fits = or_lt 64 _ (bool_byte holds * 2 ^ hop.bit % 2 ^ 64) high (omega arith);
 }
   where
     exact : (other : ℕ) → IsIn mid other ↔ (IsIn old other ⊎ (IsTrue holds × (other ≡ end_of hop)))
-    exact = entered_if old hop.word hop.bit holds (let w = is.word in omega (arith, w, size)) is.bit em
+    exact = entered_if _ _ (let w = is.word in omega (arith, w, size)) is.bit em
 
     entered : (number : ℕ) → IsTrue holds → number ≡ end_of hop
         → (start : ℕ) × IsIn old start × FlowsOn code false false start number
     entered number t e =
-        let one = one_of (get_or old hop.at 0) hop.from fits (some t) in
+        let one = one_of _ fits (some t) in
         let start : ℕ = hop.at * 64 + one.0 in
-        (start, (is_in_word old hop.at one.0 one.1).0 one.2, (1, (start, refl, rw (← e) at ((is.exact one.0 one.1).0 one.3))))
+        (start, (is_in_word _ _ _ one.1).0 one.2, (1, (start, refl, rw (← e) at ((is.exact one.0 one.1).0 one.3))))
 
 -- no number is new
-pub follows_none : {code : List Node} {closures : Closures} {hop : Hop} {old mid : List ℕ} (all : ℕ) {over : ℕ}
+pub follows_none : {code : List Node} {closures : Closures} {hop : Hop} {old mid : List ℕ} {all over : ℕ}
     → IsHop code hop → length old ≡ width code → get_or old hop.word 0 < 2 ^ 64 → IsApart code closures.hops old
     → Led code hop old mid all
     → over ≡ bit_and all (bit_not w64 (get_or old hop.word 0)) → over ≡ 0 → Follows code closures hop old mid over
-follows_none {code} {closures} {hop} {old} {mid} all is size high apart led eo z = record {
+follows_none {hop} {old} {mid} {all} is size high apart led eo z = record {
   closer = record {
     adds = led.adds;
     apart = λ from to k flow. elim (apart from to (settled from k) flow) [ inl there ↦ inl (led.adds.kept to there) | inr hop ↦ inr hop ];
@@ -377,7 +372,7 @@ follows_none {code} {closures} {hop} {old} {mid} all is size high apart led eo z
     was_in : IsIn mid (end_of hop) → IsIn old (end_of hop)
     was_in k =
         let now = sym (ap (λ w. bit_at w hop.bit) read) ∙ (is_in_word mid hop.word hop.bit is.bit).1 k in
-        let e = fresh_bit all (get_or old hop.word 0) hop.bit high is.bit in
+        let e = fresh_bit all high is.bit in
         let none = ap (λ w. bit_at w hop.bit) (sym eo ∙ z) ∙ bit_at-zero hop.bit in
         let l = bit_at-lt (get_or old hop.word 0) hop.bit in
         (is_in_word old hop.word hop.bit is.bit).0 (omega (arith, now, e, none, l))
@@ -386,18 +381,17 @@ follows_none {code} {closures} {hop} {old} {mid} all is size high apart led eo z
     settled number k = elim (led.new number k) [ inl was ↦ was | inr e ↦ rw (← e) at (was_in (subst (IsIn mid) e k)) ]
 
 -- a number is new, and its word was closed
-pub follows_more : {code : List Node} {closures : Closures} {hop : Hop} {old mid new : List ℕ} (all inside : ℕ)
-    {over : ℕ} → AreClosures code closures → IsHop code hop → length old ≡ width code → get_or old hop.word 0 < 2 ^ 64
+pub follows_more : {code : List Node} {closures : Closures} {hop : Hop} {old mid new : List ℕ} {all inside over : ℕ}
+    → AreClosures code closures → IsHop code hop → length old ≡ width code → get_or old hop.word 0 < 2 ^ 64
     → ((number : ℕ) → IsIn closures.base.items number → IsIn old number) → IsApart code closures.hops old
-    → Led code hop old mid all
-    → over ≡ bit_and all (bit_not w64 (get_or old hop.word 0)) → (over ≡ 0 → ⊥)
+    → Led code hop old mid all → over ≡ bit_and all (bit_not w64 (get_or old hop.word 0)) → (over ≡ 0 → ⊥)
     → Closes code hop.word all inside → inside < 2 ^ 64 → new ≡ set mid hop.word inside
     → Follows code closures hop old new over
-follows_more {code} {closures} {hop} {old} {mid} {new} all inside {over} c is size high begun apart led eo some closes small en = record {
+follows_more {code} {hop} {old} {mid} {new} {all} {over} c is size high begun apart led eo some closes small en = record {
   closer = record {
     adds = adds_both led.adds w.adds;
     apart = λ from to k flow. elim (cases_eq (from / 64) hop.word) [
-      | inl here ↦ closed_meets c w (λ number based. led.adds.kept number (begun number based)) from to here k flow
+      | inl here ↦ closed_meets c w (λ number based. led.adds.kept number (begun number based)) here k flow
       | inr other ↦ elim (led.new from (w.elsewhere from other k)) [
         | inl was ↦ elim (apart from to was flow) [ inl there ↦ inl (w.adds.kept to (led.adds.kept to there)) | inr hop ↦ inr hop ]
         | inr e ↦ absurd (other (let b = is.bit in omega (arith, e, b)))
@@ -417,7 +411,7 @@ follows_more {code} {closures} {hop} {old} {mid} {new} all inside {over} c is si
     read = sym (ap (λ w. get_or w hop.word 0) led.set ∙ get_or-set_same old hop.word all 0 inside_old)
 
     w : Closed code hop.word mid new
-    w = close_word inside (let s = led.adds.size in omega (arith, s, inside_old)) read closes led.fits small en
+    w = close_word (let s = led.adds.size in omega (arith, s, inside_old)) read closes led.fits small en
 
     differs : get_or old hop.word 0 ≡ all → ⊥
     differs e =
@@ -425,7 +419,7 @@ follows_more {code} {closures} {hop} {old} {mid} {new} all inside {over} c is si
         let a = led.fits in
         let one = bit_at-trailing_zeros w64 over (omega (arith, some)) (omega (arith, eo, f, a)) in
         let bit : ℕ = trailing_zeros w64 over in
-        let b = fresh_bit all (get_or old hop.word 0) bit high one.0 in
+        let b = fresh_bit all high one.0 in
         let is = sym (ap (λ w. bit_at w bit) eo) ∙ one.1 in
         let same = ap (λ w. bit_at w bit) e in
         omega (arith, b, is, same)
@@ -443,11 +437,11 @@ pub record Following (code : List Node) (closures : Closures) (old now : List �
       → IsIn now ((get_or closures.hops.onward.items place no_hop).at * 64 + bit)
       → IsIn now (end_of (get_or closures.hops.onward.items place no_hop))
 
-pub following_more : {code : List Node} {closures : Closures} {hop : Hop} {old now new : List ℕ} {count over : ℕ}
-    (led : ℕ) → Following code closures old now count over → Follows code closures hop now new led
+pub following_more : {code : List Node} {closures : Closures} {hop : Hop} {old now new : List ℕ} {count over led : ℕ}
+    → Following code closures old now count over → Follows code closures hop now new led
     → hop ≡ get_or closures.hops.onward.items count no_hop
     → Following code closures old new (count + 1) (bit_or over led)
-following_more {code} {closures} {hop} {old} {now} {new} {count} {over} led s f eh = record {
+following_more {closures} {hop} {now} {count} {over} {led} s f eh = record {
   closer = record {
     adds = adds_both s.closer.adds f.closer.adds;
     apart = f.closer.apart;
@@ -470,16 +464,16 @@ following_more {code} {closures} {hop} {old} {now} {new} {count} {over} led s f 
 }
 
 -- the numbers of a hop are those that lead to its end
-from_bit : {code : List Node} {hop : Hop} (from to : ℕ) → IsHop code hop → hop.at ≡ from / 64 → end_of hop ≡ to
+from_bit : {code : List Node} {hop : Hop} {from to : ℕ} → IsHop code hop → hop.at ≡ from / 64 → end_of hop ≡ to
     → Flows code false false from to → bit_at hop.from (from % 64) ≡ 1
-from_bit {code} {hop} from to is at end flow =
+from_bit {code} {hop} {from} is at end flow =
     let same : from ≡ hop.at * 64 + from % 64 = omega (arith, at) in
     (is.exact (from % 64) (omega arith)).1 (rw same at (subst (Flows code false false from) (sym end) flow))
 
 pub following_ends : {code : List Node} {closures : Closures} {old now : List ℕ} {count over : ℕ}
     → Following code closures old now count over → AreHops code closures.hops.onward.items
     → length closures.hops.onward.items ≤ count → Passes code closures old now over
-following_ends {code} {closures} {old} {now} {count} {over} s are h = record {
+following_ends {code} {closures} {now} {over} s are h = record {
   closer = s.closer;
   done = λ z from to k flow. elim (s.closer.apart from to k flow) [
     | inl there ↦ inl there
@@ -491,7 +485,7 @@ following_ends {code} {closures} {old} {now} {count} {over} s are h = record {
         → HopsTo closures.hops.onward.items (from / 64) to → IsIn now to
     ended z from to k flow hop =
         let same : from ≡ (get_or closures.hops.onward.items hop.0 no_hop).at * 64 + from % 64 = (let e = hop.2 in omega (arith, e)) in
-        let one = from_bit from to (are.each hop.0 hop.1) hop.2 hop.3 flow in
+        let one = from_bit (are.each hop.0 hop.1) hop.2 hop.3 flow in
         rw hop.3 at (s.done z hop.0 (let l = hop.1 in omega (arith, l, h)) (from % 64) (omega arith) one (subst (IsIn now) same k))
 
 -- Following the landings.
@@ -507,9 +501,8 @@ pub record Landing_on (code : List Node) (base : List ℕ) (landings : List Hop)
 
 pub landing_more : {code : List Node} {base : List ℕ} {landings : List Hop} {hop : Hop} {old now new : List ℕ}
     {count all : ℕ} → Landing_on code base landings old now count → IsLanding code base hop → Led code hop now new all
-    → hop ≡ get_or landings count no_hop
-    → Landing_on code base landings old new (count + 1)
-landing_more {code} {base} {landings} {hop} {old} {now} {new} {count} s is led eh = record {
+    → hop ≡ get_or landings count no_hop → Landing_on code base landings old new (count + 1)
+landing_more {landings} {hop} {old} {count} s is led eh = record {
   adds = adds_both s.adds led.adds;
   over = λ n k. elim (led.new n k) [ inl was ↦ s.over n was | inr e ↦ inr (rw (← e) at is.ends) ];
   led = λ place l bit small one k. elim (cases_eq place count) [
@@ -523,12 +516,12 @@ landing_more {code} {base} {landings} {hop} {old} {now} {new} {count} s is led e
 pub landing_ends : {code : List Node} {base : List ℕ} {landings : List Hop} {old now : List ℕ} {count : ℕ}
     → Landing_on code base landings old now count → AreLandings code base landings → length landings ≤ count
     → HasLanded code base landings old now
-landing_ends {code} {landings = landings} {old} {now} s are h = record {
+landing_ends {landings} {old} s are h = record {
   adds = s.adds;
   over = s.over;
   led = λ from to k flow hop.
       let same : from ≡ (get_or landings hop.0 no_hop).at * 64 + from % 64 = (let e = hop.2 in omega (arith, e)) in
-      let one = from_bit from to (are.each hop.0 hop.1).leads hop.2 hop.3 flow in
+      let one = from_bit (are.each hop.0 hop.1).leads hop.2 hop.3 flow in
       rw hop.3 at (s.led hop.0 (let l = hop.1 in omega (arith, l, h)) (from % 64) (omega arith) one (subst (IsIn old) same k));
 }
 
@@ -544,11 +537,11 @@ pub spreads_more : {code : List Node} {closures : Closures} {old now new : List 
     → Spreads code closures old now before → Passes code closures now new over → Spreads code closures old new over
 spreads_more s p = record { adds = adds_both s.adds p.closer.adds; apart = p.closer.apart; done = p.done }
 
-pub spreads_end : {code : List Node} {closures : Closures} (base : List ℕ) (landings : List Hop) {old now new : List ℕ}
+pub spreads_end : {code : List Node} {closures : Closures} {base : List ℕ} {landings : List Hop} {old now new : List ℕ}
     {over : ℕ} → Spreads code closures old now over → over ≡ 0 → HasLanded code base landings now new
     → base ≡ closures.base.items → landings ≡ closures.hops.landings.items
     → ((number : ℕ) → IsIn closures.base.items number → IsIn old number) → SpreadsOut code false false old new
-spreads_end {code} base landings {old} {now} {new} s z l eb el begun = spreads_out (adds_both s.adds l.adds) closed
+spreads_end {code} {new} s z l eb el begun = spreads_out (adds_both s.adds l.adds) closed
   where
     closed : (from to : ℕ) → IsIn new from → Flows code false false from to → IsIn new to
     closed from to k flow = elim (l.over from k) [
@@ -565,12 +558,12 @@ pub spreads_front : {code : List Node} {base front old new : List ℕ} {at_first
     → IsBegun code true front → length old ≡ width code → ((number : ℕ) → IsIn base number → IsIn old number)
     → ((number : ℕ) → IsIn old number → IsIn base number) → new ≡ front → IsTrue at_first → at_last ≡ false
     → SpreadsOut code at_first at_last old new
-spreads_front {code} {old = old} {new} {at_last = at_last} b f size begun only e t l = rw (← t) at (subst (λ last. SpreadsOut code true last old new) (sym l) (record {
+spreads_front {code} {old} {new} b f size begun only e t l = rw (← t) at (subst (λ last. SpreadsOut code true last old new) (sym l) (record {
   size = ap length e ∙ f.size ∙ sym size;
   exact = λ number. (
     λ k. (0, begun 0 ((b.exact 0).1 (0, refl)), (f.exact number).0 (subst (λ w. IsIn w number) e k)),
     λ k. let on = (b.exact k.0).0 (only k.0 k.1) in
-        subst (λ w. IsIn w number) (sym e) ((f.exact number).1 (flows_join code true false k.2.0 0 k.0 number (on.0, parts_anywhere code true false on.0 0 k.0 on.1) k.2.1)),
+        subst (λ w. IsIn w number) (sym e) ((f.exact number).1 (flows_join _ _ (on.0, parts_anywhere _ _ _ _ 0 _ on.1) k.2.1)),
   );
 }))
 
@@ -580,23 +573,23 @@ adds_of s = record { size = s.size; kept = λ number k. (s.exact number).1 (numb
 
 closed_of : {code : List Node} {at_first at_last : Bool} {old new : List ℕ} → SpreadsOut code at_first at_last old new
     → (from to : ℕ) → IsIn new from → Flows code at_first at_last from to → IsIn new to
-closed_of {code} {at_first} {at_last} s from to k f =
+closed_of s from to k f =
     let was = (s.exact from).0 k in
-    (s.exact to).1 (was.0, was.1, flows_join code at_first at_last 1 was.0 from to was.2 (from, refl, f))
+    (s.exact to).1 (was.0, was.1, flows_join _ 1 was.2 (from, refl, f))
 
 pub spreads_plainly : {code : List Node} {at_first at_last : Bool} {old new : List ℕ}
     → SpreadsOut code false false old new
     → ((from to : ℕ) → IsIn new from → Flows code at_first at_last from to → Flows code false false from to)
     → SpreadsOut code at_first at_last old new
-spreads_plainly {at_first = at_first} {at_last} s plain = spreads_out (adds_anywhere at_first at_last (adds_of s)) (λ from to k f. closed_of s from to k (plain from to k f))
+spreads_plainly s plain = spreads_out (adds_anywhere (adds_of s)) (λ from to k f. closed_of s _ _ k (plain from to k f))
 
 pub spreads_again : {code : List Node} {at_first at_last : Bool} {old now new : List ℕ}
     → SpreadsOut code false false old now → SpreadsOut code at_first at_last now new
     → SpreadsOut code at_first at_last old new
-spreads_again {at_first = at_first} {at_last} s t = spreads_out (adds_both (adds_anywhere at_first at_last (adds_of s)) (adds_of t)) (closed_of t)
+spreads_again s t = spreads_out (adds_both (adds_anywhere (adds_of s)) (adds_of t)) (closed_of t)
 
-pub not_zero : (n : ℕ) → IsTrue (not (eqb n 0)) → n ≡ 0 → ⊥
-not_zero n t = eqb-false n 0 (not-true (eqb n 0) t)
+pub not_zero : {n : ℕ} → IsTrue (not (eqb n 0)) → n ≡ 0 → ⊥
+not_zero {n} t = eqb-false n 0 (not-true (eqb n 0) t)
 
 pub is_not_zero : {n : ℕ} → (n ≡ 0 → ⊥) → IsTrue (not (eqb n 0))
 is_not_zero {n} h = ap not (ne_eqb n 0 h)

@@ -23,13 +23,13 @@ use Rattle.bre_core.{
 pub at-left : (a b : List Node) (n : ℕ) (node : Node) → At a n node → At (a ++ b) n node
 at-left [] b n node h = absurd h
 at-left (x ∷ a) b zero node h = h
-at-left (x ∷ a) b (suc n) node h = at-left a b n node h
+at-left (x ∷ a) b (suc n) node h = at-left a b n _ h
 
 pub at_at : (code : List Node) {n m : ℕ} (node : Node) → n ≡ m → At code n node → At code m node
 at_at code node e h = rw e at h
 
 pub at-right : (a b : List Node) (n : ℕ) (node : Node) → At b n node → At (a ++ b) (length a + n) node
-at-right [] b n node h = at_at b node (omega arith) h
+at-right [] b n node h = at_at b _ (omega arith) h
 at-right (x ∷ a) b n node h =
     let e : suc (length a + n) ≡ suc (length a) + n = omega arith in
     at_at (x ∷ (a ++ b)) node e (at-right a b n node h)
@@ -39,7 +39,7 @@ pub at-split : (a b : List Node) (n : ℕ) (node : Node) → At (a ++ b) n node
     → (At a n node) ⊎ ((k : ℕ) × (n ≡ length a + k) × At b k node)
 at-split [] b n node h = inr (n, omega arith, h)
 at-split (x ∷ a) b zero node h = inl h
-at-split (x ∷ a) b (suc n) node h = elim (at-split a b n node h) [ inl g ↦ inl g | inr g ↦ inr (g.0, omega (arith, g.1), g.2) ]
+at-split (x ∷ a) b (suc n) node h = elim (at-split a b n _ h) [ inl g ↦ inl g | inr g ↦ inr (g.0, omega (arith, g.1), g.2) ]
 
 -- the same step further on in a longer code
 pub leads_shift : (node : Node) (line : List ℕ) (base at place at' place' : ℕ) → Leads node line at place at' place'
@@ -61,17 +61,17 @@ walk-right a b line zero at place to stop w = (ap (λ n. length a + n) w.0, w.1)
 walk-right a b line (suc count) at place to stop w =
     (length a + w.0, w.1, (w.2.0, at-right a b at w.2.0 w.2.1, leads_shift w.2.0 line (length a) at place w.0 w.1 w.2.2), walk-right a b line count w.0 w.1 to stop w.3)
 
-pub walk_on : (code : List Node) (line : List ℕ) (first second at place at' place' to stop : ℕ)
+pub walk_on : (code : List Node) {line : List ℕ} (first second : ℕ) {at place : ℕ} (at' place' : ℕ) {to stop : ℕ}
     → Walks code line first at place at' place' → Walks code line second at' place' to stop
     → Path code line at place to stop
-walk_on code line zero second at place at' place' to stop v w = search rules
-walk_on code line (suc first) second at place at' place' to stop v w =
-    let rest = walk_on code line first second v.0 v.1 at' place' to stop v.3 w in
+walk_on code zero second at' place' v w = search rules
+walk_on code (suc first) second at' place' v w =
+    let rest = walk_on code first second at' place' v.3 w in
     (suc rest.0, (v.0, v.1, v.2, rest.1))
 
-pub path_on : (code : List Node) (line : List ℕ) (at place at' place' to stop : ℕ) → Path code line at place at' place'
+pub path_on : (code : List Node) {line : List ℕ} {at place at' place' to stop : ℕ} → Path code line at place at' place'
     → Path code line at' place' to stop → Path code line at place to stop
-path_on code line at place at' place' to stop p q = walk_on code line p.0 q.0 at place at' place' to stop p.1 q.1
+path_on code p q = walk_on _ _ _ _ _ p.1 q.1
 
 -- a node that fits also fits further on in a longer code, and leads to one of the code or to its end
 pub fits_moved : (node : Node) (base size number : ℕ) {more moved : ℕ} → FitsIn size number node → base + size ≤ more
@@ -82,13 +82,13 @@ fits_moved Last base size number f l e = tt
 fits_moved (Choose skip) base size number f l e = omega (arith, f, l, e)
 fits_moved (Back by) base size number f l e = omega (arith, f, e)
 
-pub fits_led : (code : List Node) (line : List ℕ) (at place : ℕ) {at' : ℕ} (place' : ℕ) (node : Node) → IsCode code
+pub fits_led : {code : List Node} (line : List ℕ) (at place : ℕ) {at' : ℕ} (place' : ℕ) (node : Node) → IsCode code
     → At code at node → Leads node line at place at' place' → at' ≤ length code
-fits_led code line at place place' (Take bytes) c here h = let l = at_least code at (Take bytes) here in omega (arith, l, h.0)
-fits_led code line at place place' First c here h = let l = at_least code at First here in omega (arith, l, h.0)
-fits_led code line at place place' Last c here h = let l = at_least code at Last here in omega (arith, l, h.0)
-fits_led code line at place place' (Choose skip) c here h = search (rules, at_least)
-fits_led code line at place place' (Back by) c here h = let l = at_least code at (Back by) here in omega (arith, l, h.0)
+fits_led {code} line at place place' (Take bytes) c here h = let l = at_least code at (Take bytes) here in omega (arith, l, h.0)
+fits_led {code} line at place place' First c here h = let l = at_least code at First here in omega (arith, l, h.0)
+fits_led {code} line at place place' Last c here h = let l = at_least code at Last here in omega (arith, l, h.0)
+fits_led line at place place' (Choose skip) c here h = search (rules, at_least)
+fits_led {code} line at place place' (Back by) c here h = let l = at_least code at (Back by) here in omega (arith, l, h.0)
 
 -- a code's walks from its front to its end are those of a kind
 pub record Exact (code : List Node) (line : List ℕ) (Kind : ℕ → ℕ → Type 0) : Type 0 where
@@ -110,29 +110,29 @@ pub in_second : (a : List Node) {b : List Node} (line : List ℕ) → IsCode b �
     → at ≡ length a + k → Walks (a ++ b) line count at place (length (a ++ b)) stop
     → Walks b line count k place (length b) stop
 in_second a {b} line f zero k place stop e w = let l = length-append a b in (omega (arith, l, e, w.0), w.1)
-in_second a {b} line f (suc count) {at} k place stop e w = elim (at-split a b at w.2.0 w.2.1) [
-  | inl h ↦ let l = at_least a at w.2.0 h in absurd (omega (arith, l, e))
+in_second a {b} line f (suc count) k place stop e w = elim (at-split a b _ _ w.2.1) [
+  | inl h ↦ let l = at_least a _ _ h in absurd (omega (arith, l, e))
   | inr h ↦
       let same : h.0 ≡ k = omega (arith, e, h.1) in
-      let here : At b k w.2.0 = at_at b w.2.0 same h.2 in
+      let here : At b k w.2.0 = at_at b _ same h.2 in
       let led : Leads w.2.0 line (length a + k) place w.0 w.1 = subst (λ n. Leads w.2.0 line n place w.0 w.1) e w.2.2 in
-      let moved = leads_unshift w.2.0 line (length a) (length b) k place w.1 (f.fits k w.2.0 here) led in
+      let moved = leads_unshift _ _ _ _ k _ _ (f.fits k w.2.0 here) led in
       (moved.0, w.1, (w.2.0, here, moved.2), in_second a line f count moved.0 w.1 stop moved.1 w.3)
 ]
 
 -- a walk through two parts goes through the first and then through the second
-pub through : {a b : List Node} (line : List ℕ) → IsCode a → IsCode b → (count at place stop : ℕ) → at ≤ length a
+pub through : {a b : List Node} {line : List ℕ} → IsCode a → IsCode b → (count : ℕ) {at place stop : ℕ} → at ≤ length a
     → Walks (a ++ b) line count at place (length (a ++ b)) stop
     → (middle : ℕ) × Path a line at place (length a) middle × Path b line 0 middle (length b) stop
-through {a} {b} line f g zero at place stop h w =
+through {a} {b} f g zero {place} h w =
     let l = length-append a b in
     (place, (zero, (omega (arith, l, w.0, h), refl)), (zero, (omega (arith, l, w.0, h), w.1)))
-through {a} {b} line f g (suc count) at place stop h w = elim (cases_eq at (length a)) [
+through {a} {b} {line} f g (suc count) {at} {place} {stop} h w = elim (cases_eq at (length a)) [
   | inl same ↦ (place, (zero, (same, refl)), (suc count, in_second a line g (suc count) 0 place stop (omega (arith, same)) w))
-  | inr other ↦ elim (at-split a b at w.2.0 w.2.1) [
+  | inr other ↦ elim (at-split a b _ _ w.2.1) [
     | inl here ↦
         let step : Goes a line at place w.0 w.1 = (w.2.0, here, w.2.2) in
-        let rest = through line f g count w.0 w.1 stop (fits_led a line at place w.1 w.2.0 f here w.2.2) w.3 in
+        let rest = through f g count (fits_led line at place w.1 w.2.0 f here w.2.2) w.3 in
         (rest.0, (suc rest.1.0, (w.0, w.1, step, rest.1.1)), rest.2)
     | inr far ↦ absurd (other (omega (arith, far.1, h)))
   ]
@@ -145,20 +145,20 @@ ended code line (suc count) {at} to e w = let l = at_least code at w.2.0 w.2.1 i
 
 -- The walks of a pattern's code are what it matches: each way of putting codes together.
 
-pub exact_by : {code : List Node} (line : List ℕ) (Kind Other : ℕ → ℕ → Type 0) → Exact code line Kind
+pub exact_by : {code : List Node} {line : List ℕ} {Kind Other : ℕ → ℕ → Type 0} → Exact code line Kind
     → ((from to : ℕ) → Kind from to → Other from to) → ((from to : ℕ) → Other from to → Kind from to)
     → Exact code line Other
-exact_by line Kind Other e there here = search rules
+exact_by e there here = search rules
 
-pub exact_none : (line : List ℕ) → Exact [] line (λ from to. from ≡ to)
-exact_none line = search rules
+pub exact_none : {line : List ℕ} → Exact [] line (λ from to. from ≡ to)
+exact_none = search rules
 
 -- a code of one node that leads to its end
-pub exact_one : {node : Node} (line : List ℕ) (Kind : ℕ → ℕ → Type 0)
+pub exact_one : {node : Node} {line : List ℕ} {Kind : ℕ → ℕ → Type 0}
     → ((at place at' place' : ℕ) → Leads node line at place at' place' → (at' ≡ at + 1) × Kind place place')
     → ((place place' : ℕ) → Kind place place' → Leads node line 0 place 1 place') → FitsIn 1 0 node
     → Exact (node ∷ []) line Kind
-exact_one {node} line Kind out there here = record {
+exact_one {node} {line} {Kind} out there here = record {
   fits = record { fits = λ n node h. fits n node h };
   sound = λ from to p. sound from to p.0 p.1;
   complete = λ from to k. (1, (1, to, (node, refl, there from to k), (refl, refl)));
@@ -175,16 +175,16 @@ exact_one {node} line Kind out there here = record {
         rw (ended (node ∷ []) line count 1 (omega (arith, o.0)) w.3) at o.1
 
 -- one code after another
-pub exact_both : {a b : List Node} (line : List ℕ) (Kind Other : ℕ → ℕ → Type 0) → Exact a line Kind
+pub exact_both : {a b : List Node} {line : List ℕ} {Kind Other : ℕ → ℕ → Type 0} → Exact a line Kind
     → Exact b line Other → Exact (a ++ b) line (λ from to. (middle : ℕ) × Kind from middle × Other middle to)
-exact_both {a} {b} line Kind Other e f = record {
+exact_both {a} {b} {line} e f = record {
   fits = record {
-    fits = λ n node h. let l = length-append a b in elim (at-split a b n node h) [
-      | inl k ↦ fits_moved node 0 _ _ (e.fits.fits n node k) (omega (arith, l)) (omega arith)
-      | inr k ↦ fits_moved node (length a) _ _ (f.fits.fits k.0 node k.2) (omega (arith, l)) k.1
+    fits = λ n node h. let l = length-append a b in elim (at-split a b n _ h) [
+      | inl k ↦ fits_moved _ 0 _ _ (e.fits.fits n node k) (omega (arith, l)) (omega arith)
+      | inr k ↦ fits_moved _ _ _ _ (f.fits.fits k.0 node k.2) (omega (arith, l)) k.1
     ];
   };
-  sound = λ from to p. let t = through line e.fits f.fits p.0 0 from to (omega arith) p.1 in (t.0, e.sound from t.0 t.1, f.sound t.0 to t.2);
+  sound = λ from to p. let t = through e.fits f.fits _ (omega arith) p.1 in (t.0, e.sound from t.0 t.1, f.sound t.0 to t.2);
   complete = λ from to k. complete from to k.0 (e.complete from k.0 k.1) (f.complete k.0 to k.2);
 }
   where
@@ -194,13 +194,13 @@ exact_both {a} {b} line Kind Other e f = record {
         let e1 : length a + length b ≡ length (a ++ b) = sym (length-append a b) in
         let e2 : length a + 0 ≡ length a = omega arith in
         let second : Walks (a ++ b) line q.0 (length a) middle (length (a ++ b)) to =
-        subst (λ n. Walks (a ++ b) line q.0 n middle (length (a ++ b)) to) e2 (rw e1 at (walk-right a b line q.0 0 middle (length b) to q.1)) in
-        walk_on (a ++ b) line p.0 q.0 0 from (length a) middle (length (a ++ b)) to (walk-left a b line p.0 0 from (length a) middle p.1) second
+        subst (λ n. Walks (a ++ b) line q.0 n middle (length (a ++ b)) to) e2 (rw e1 at (walk-right a b _ _ 0 _ _ _ q.1)) in
+        walk_on _ _ _ _ _ (walk-left a b _ _ 0 _ _ _ p.1) second
 
 -- a code that may be passed by
-pub exact_maybe : {code : List Node} (line : List ℕ) (Kind : ℕ → ℕ → Type 0) → Exact code line Kind
+pub exact_maybe : {code : List Node} {line : List ℕ} {Kind : ℕ → ℕ → Type 0} → Exact code line Kind
     → Exact (maybe code) line (λ from to. (from ≡ to) ⊎ Kind from to)
-exact_maybe {code} line Kind e = record {
+exact_maybe {code} {line} {Kind} e = record {
   fits = record { fits = λ n node h. fits n node h };
   sound = λ from to p. sound from to p.0 p.1;
   complete = λ from to k. complete from to k;
@@ -230,15 +230,15 @@ exact_maybe {code} line Kind e = record {
         let e1 : 1 + length code ≡ suc (length code) = omega arith in
         (suc p.0, (1 + 0, from, (Choose (length code + 1), refl, (inl refl, refl)), rw e1 at right))
 
-pub parts_first : (Kind : ℕ → ℕ → Type 0) (count from middle to : ℕ) → Kind from middle → Parts Kind count middle to
-    → Parts Kind (suc count) from to
-parts_first Kind zero from middle to k p = (from, refl, rw p at k)
-parts_first Kind (suc count) from middle to k p = (p.0, parts_first Kind count from middle p.0 k p.1, p.2)
+pub parts_first : (Kind : ℕ → ℕ → Type 0) (count : ℕ) {from middle to : ℕ} → Kind from middle
+    → Parts Kind count middle to → Parts Kind (suc count) from to
+parts_first Kind zero {from} k p = (from, refl, rw p at k)
+parts_first Kind (suc count) k p = (p.0, parts_first Kind count k p.1, p.2)
 
-pub parts_next : (Kind : ℕ → ℕ → Type 0) (count from to : ℕ) → Parts Kind (suc count) from to
+pub parts_next : (Kind : ℕ → ℕ → Type 0) (count : ℕ) {from to : ℕ} → Parts Kind (suc count) from to
     → (middle : ℕ) × Kind from middle × Parts Kind count middle to
-parts_next Kind zero from to p = (to, rw (← p.1) at p.2, refl)
-parts_next Kind (suc count) from to p = let q = parts_next Kind count from p.0 p.1 in (q.0, q.1, (p.0, q.2, p.2))
+parts_next Kind zero {to} p = (to, rw (← p.1) at p.2, refl)
+parts_next Kind (suc count) p = let q = parts_next Kind count p.1 in (q.0, q.1, (p.0, q.2, p.2))
 
 -- any number of times
 abbrev pub Often : (ℕ → ℕ → Type 0) → ℕ → ℕ → Type 0
@@ -251,52 +251,51 @@ record StarHolds (code : List Node) (line : List ℕ) (Kind : ℕ → ℕ → Ty
       → Walks (starred code) line count at place (length code + 2) stop
       → (middle : ℕ) × Path code line k place (length code) middle × Often Kind middle stop
 
-star_begun : {code : List Node} (line : List ℕ) (Kind : ℕ → ℕ → Type 0) → Exact code line Kind
-    → {count at' place' place : ℕ} (stop : ℕ) → StarHolds code line Kind count
-    → (at' ≡ 0 + 1) ⊎ (at' ≡ 0 + (length code + 2)) → place' ≡ place
-    → Walks (starred code) line count at' place' (length code + 2) stop → Often Kind place stop
-star_begun {code} line Kind e {at'} {place'} {place} stop ih (inl q) same w =
+star_begun : {code : List Node} {line : List ℕ} {Kind : ℕ → ℕ → Type 0} → Exact code line Kind
+    → {count at' place' place stop : ℕ} → StarHolds code line Kind count → (at' ≡ 0 + 1) ⊎ (at' ≡ 0 + (length code + 2))
+    → place' ≡ place → Walks (starred code) line count at' place' (length code + 2) stop → Often Kind place stop
+star_begun {Kind} e {at'} {place'} {place} {stop} ih (inl q) same w =
     let inside = ih.within at' 0 place' stop (omega (arith, q)) (omega arith) w in
     let rest : Often Kind inside.0 stop = inside.2 in
-    (suc rest.0, parts_first Kind rest.0 place inside.0 stop (e.sound place inside.0 (rw (← same) inside.1)) rest.1)
-star_begun {code} line Kind e {count} stop ih (inr q) same w =
+    (suc rest.0, parts_first _ _ (e.sound place inside.0 (rw (← same) inside.1)) rest.1)
+star_begun {code} {line} e {count} ih (inr q) same w =
     let l = length-append code (Back (length code + 1) ∷ []) in
     (0, sym same ∙ ended (starred code) line count (length code + 2) (omega (arith, q, l)) w)
 
-star_at : {code : List Node} (line : List ℕ) (Kind : ℕ → ℕ → Type 0) → Exact code line Kind
-    → {count k place : ℕ} (stop : ℕ) → StarHolds code line Kind count → k ≤ length code → (at' place' : ℕ) {node : Node}
+star_at : {code : List Node} {line : List ℕ} {Kind : ℕ → ℕ → Type 0} → Exact code line Kind
+    → {count k place stop : ℕ} → StarHolds code line Kind count → k ≤ length code → (at' place' : ℕ) {node : Node}
     → (At code k node) ⊎ ((j : ℕ) × (k ≡ length code + j) × At (Back (length code + 1) ∷ []) j node)
     → Leads node line (suc k) place at' place' → Walks (starred code) line count at' place' (length code + 2) stop
     → (middle : ℕ) × Path code line k place (length code) middle × Often Kind middle stop
-star_at {code} line Kind e {k} {place} stop ih h at' place' {node} (inl here) led w =
+star_at e {k} {stop} ih h at' place' {node} (inl here) led w =
     let n1 : suc k ≡ 1 + k = omega arith in
-    let moved = leads_unshift node line 1 (length code) k place place' (e.fits.fits k node here) (rw n1 at led) in
-    let fits = fits_led code line k place place' node e.fits here moved.2 in
+    let moved = leads_unshift _ _ 1 _ k _ _ (e.fits.fits k node here) (rw n1 at led) in
+    let fits = fits_led _ k _ _ _ e.fits here moved.2 in
     let rest = ih.within at' moved.0 place' stop (omega (arith, moved.1)) fits w in
     (rest.0, (suc rest.1.0, (moved.0, place', (node, here, moved.2), rest.1.1)), rest.2)
-star_at {code} line Kind e {count} {k} {place} stop ih h at' place' (inr (zero, far, last)) led w =
+star_at {code} {line} e {k} {place} {stop} ih h at' place' (inr (zero, far, last)) led w =
     let back_led : Leads (Back (length code + 1)) line (suc k) place at' place' = subst (λ n. Leads n line (suc k) place at' place') last led in
     let at0 : at' ≡ 0 = omega (arith, back_led.0, far) in
     let rest = ih.whole place' stop (rw at0 at w) in
     (place', (zero, (omega (arith, far), sym back_led.1)), rest)
-star_at line Kind e stop ih h at' place' (inr (suc j, far, last)) led w = absurd last
+star_at e ih h at' place' (inr (suc j, far, last)) led w = absurd last
 
-star_holds : {code : List Node} (line : List ℕ) (Kind : ℕ → ℕ → Type 0) → Exact code line Kind → (count : ℕ)
+star_holds : {code : List Node} {line : List ℕ} {Kind : ℕ → ℕ → Type 0} → Exact code line Kind → (count : ℕ)
     → StarHolds code line Kind count
-star_holds line Kind e zero = grind (arith, common_steps)
-star_holds {code} line Kind e (suc count) = let ih = star_holds line Kind e count in record {
+star_holds e zero = grind (arith, common_steps)
+star_holds {code} {line} e (suc count) = let ih = star_holds e count in record {
   whole = λ place stop w. let led : ((w.0 ≡ 0 + 1) ⊎ (w.0 ≡ 0 + (length code + 2))) × (w.1 ≡ place) = subst (λ m. Leads m line 0 place w.0 w.1) w.2.1 w.2.2 in
-      star_begun line Kind e stop ih led.0 led.1 w.3;
+      star_begun e ih led.0 led.1 w.3;
   within = λ at k place stop q h w.
-      star_at line Kind e stop ih h w.0 w.1 (at-split code (Back (length code + 1) ∷ []) k w.2.0 (at_at (starred code) w.2.0 q w.2.1)) (rw q at w.2.2) w.3;
+      star_at e ih h w.0 w.1 (at-split code (Back (length code + 1) ∷ []) k w.2.0 (at_at (starred code) w.2.0 q w.2.1)) (rw q at w.2.2) w.3;
 }
 
 -- a code any number of times
-pub exact_starred : {code : List Node} (line : List ℕ) (Kind : ℕ → ℕ → Type 0) → Exact code line Kind
+pub exact_starred : {code : List Node} {line : List ℕ} {Kind : ℕ → ℕ → Type 0} → Exact code line Kind
     → Exact (starred code) line (Often Kind)
-exact_starred {code} line Kind e = record {
+exact_starred {code} {line} {Kind} e = record {
   fits = record { fits = λ n node h. fits n node h };
-  sound = λ from to p. (star_holds line Kind e p.0).whole from to (rw (← size) at p.1);
+  sound = λ from to p. (star_holds e p.0).whole from to (rw (← size) at p.1);
   complete = λ from to k. complete k.0 from to k.1;
 }
   where
@@ -322,17 +321,17 @@ exact_starred {code} line Kind e = record {
         at-right (Choose (length code + 2) ∷ []) (code ++ Back (length code + 1) ∷ []) (length code) (Back (length code + 1))
         (at_at (code ++ Back (length code + 1) ∷ []) (Back (length code + 1)) (omega arith) (at-right code (Back (length code + 1) ∷ []) 0 (Back (length code + 1)) refl)) in
         let home : Path (starred code) line (1 + length code) to 0 to = (1, (0, to, (Back (length code + 1), last, (omega arith, refl)), (refl, refl))) in
-        path_on (starred code) line 0 from (1 + 0) from 0 to (1, (1 + 0, from, (Choose (length code + 2), refl, (inl refl, refl)), (refl, refl)))
-        (path_on (starred code) line (1 + 0) from (1 + length code) to 0 to (p.0, shifted) home)
+        path_on (starred code) (1, (1 + 0, from, (Choose (length code + 2), refl, (inl refl, refl)), (refl, refl)))
+        (path_on (starred code) (p.0, shifted) home)
 
     loops : (count from to : ℕ) → Parts Kind count from to → Path (starred code) line 0 from 0 to
     loops zero from to q = (0, (refl, q))
-    loops (suc count) from to q = path_on (starred code) line 0 from 0 q.0 0 to (loops count from q.0 q.1) (around q.0 to q.2)
+    loops (suc count) from to q = path_on (starred code) (loops count from q.0 q.1) (around q.0 to q.2)
 
     complete : (count from to : ℕ) → Parts Kind count from to
         → Path (starred code) line 0 from (length (starred code)) to
     complete count from to q =
-        path_on (starred code) line 0 from 0 to (length (starred code)) to (loops count from to q)
+        path_on (starred code) (loops count from to q)
         (1, (length (starred code), to, (Choose (length code + 2), refl, (inr (sym size ∙ out), refl)), (refl, refl)))
       where
         out : length code + 2 ≡ 0 + (length code + 2)
@@ -343,29 +342,29 @@ exact_starred {code} line Kind e = record {
 abbrev pub AtMost : (ℕ → ℕ → Type 0) → ℕ → ℕ → ℕ → Type 0
 AtMost Kind most from to = (count : ℕ) × (count ≤ most) × Parts Kind count from to
 
-exact_copies : {code : List Node} (line : List ℕ) (Kind : ℕ → ℕ → Type 0) → Exact code line Kind → (count : ℕ)
+exact_copies : {code : List Node} {line : List ℕ} {Kind : ℕ → ℕ → Type 0} → Exact code line Kind → (count : ℕ)
     → Exact (copies count code) line (Parts Kind count)
-exact_copies line Kind e zero = exact_none line
-exact_copies line Kind e (suc count) = exact_both line (Parts Kind count) Kind (exact_copies line Kind e count) e
+exact_copies e zero = exact_none
+exact_copies e (suc count) = exact_both (exact_copies e count) e
 
-exact_up_to : {code : List Node} (line : List ℕ) (Kind : ℕ → ℕ → Type 0) → Exact code line Kind → (most : ℕ)
+exact_up_to : {code : List Node} {line : List ℕ} {Kind : ℕ → ℕ → Type 0} → Exact code line Kind → (most : ℕ)
     → Exact (up_to most code) line (AtMost Kind most)
-exact_up_to line Kind e zero = exact_by line (λ from to. from ≡ to) (AtMost Kind 0) (exact_none line) (λ from to q. (0, omega arith, q))
+exact_up_to e zero = exact_by (exact_none) (λ from to q. (0, omega arith, q))
     (λ from to k. let e : k.0 ≡ 0 = omega (arith, k.1) in rw e at k.2)
-exact_up_to line Kind e (suc most) =
-    exact_by line (λ from to. (from ≡ to) ⊎ ((middle : ℕ) × Kind from middle × AtMost Kind most middle to)) (AtMost Kind (suc most))
-    (exact_maybe line (λ from to. (middle : ℕ) × Kind from middle × AtMost Kind most middle to) (exact_both line Kind (AtMost Kind most) e (exact_up_to line Kind e most)))
+exact_up_to {Kind} e (suc most) =
+    exact_by
+    (exact_maybe (exact_both e (exact_up_to e _)))
     there (λ from to k. here k.0 from to k.1 k.2)
   where
     there : (from to : ℕ) → (from ≡ to) ⊎ ((middle : ℕ) × Kind from middle × AtMost Kind most middle to)
         → AtMost Kind (suc most) from to
     there from to (inl q) = (0, omega arith, q)
-    there from to (inr (middle, k, (count, h, p))) = (suc count, omega (arith, h), parts_first Kind count from middle to k p)
+    there from to (inr (middle, k, (count, h, p))) = (suc count, omega (arith, h), parts_first Kind count k p)
 
     here : (count from to : ℕ) → count ≤ suc most → Parts Kind count from to
         → (from ≡ to) ⊎ ((middle : ℕ) × Kind from middle × AtMost Kind most middle to)
     here zero from to h p = inl p
-    here (suc count) from to h p = let q = parts_next Kind count from to p in inr (q.0, q.1, (count, omega (arith, h), q.2))
+    here (suc count) from to h p = let q = parts_next Kind count p in inr (q.0, q.1, (count, omega (arith, h), q.2))
 
 pub parts_join : (Kind : ℕ → ℕ → Type 0) (first second from middle to : ℕ) → Parts Kind first from middle
     → Parts Kind second middle to → Parts Kind (first + second) from to
@@ -388,50 +387,50 @@ parts_split Kind first (suc second) from to r =
 abbrev Between : (ℕ → ℕ → Type 0) → ℕ → Option ℕ → ℕ → ℕ → Type 0
 Between Kind low high from to = (count : ℕ) × (low ≤ count) × IsAtMost high count × Parts Kind count from to
 
-exact_repeated : {code : List Node} (line : List ℕ) (Kind : ℕ → ℕ → Type 0) (low : ℕ) (high : Option ℕ)
+exact_repeated : {code : List Node} {line : List ℕ} {Kind : ℕ → ℕ → Type 0} {low : ℕ} (high : Option ℕ)
     → Exact code line Kind → IsAtMost high low
     → Exact (copies low code ++ tail_of code low high) line (Between Kind low high)
-exact_repeated line Kind low None e b =
-    exact_by line (λ from to. (middle : ℕ) × Parts Kind low from middle × Often Kind middle to) (Between Kind low None)
-    (exact_both line (Parts Kind low) (Often Kind) (exact_copies line Kind e low) (exact_starred line Kind e))
+exact_repeated {Kind} {low} None e b =
+    exact_by
+    (exact_both (exact_copies e _) (exact_starred e))
     (λ from to k. let often : Often Kind k.0 to = k.2 in
-    (low + often.0, omega arith, tt, parts_join Kind low often.0 from k.0 to k.1 often.1)) (λ from to k.
+    (low + often.0, omega arith, tt, parts_join _ _ _ _ _ _ k.1 often.1)) (λ from to k.
     let q : k.0 ≡ low + (k.0 - low) = omega (arith, k.1) in
-    let split = parts_split Kind low (k.0 - low) from to (rw q at k.3) in
+    let split = parts_split _ _ _ _ _ (rw q at k.3) in
     (split.0, split.1, (k.0 - low, split.2)))
-exact_repeated line Kind low (Some high) e b =
-    exact_by line (λ from to. (middle : ℕ) × Parts Kind low from middle × AtMost Kind (high - low) middle to) (Between Kind low (Some high))
-    (exact_both line (Parts Kind low) (AtMost Kind (high - low)) (exact_copies line Kind e low) (exact_up_to line Kind e (high - low)))
+exact_repeated {Kind} {low} (Some high) e b =
+    exact_by
+    (exact_both (exact_copies e _) (exact_up_to e _))
     (λ from to k. let most : AtMost Kind (high - low) k.0 to = k.2 in
-    (low + most.0, omega arith, omega (arith, most.1, b), parts_join Kind low most.0 from k.0 to k.1 most.2))
+    (low + most.0, omega arith, omega (arith, most.1, b), parts_join _ _ _ _ _ _ k.1 most.2))
     (λ from to k.
     let q : k.0 ≡ low + (k.0 - low) = omega (arith, k.1) in
-    let split = parts_split Kind low (k.0 - low) from to (rw q at k.3) in
+    let split = parts_split _ _ _ _ _ (rw q at k.3) in
     (split.0, split.1, (k.0 - low, omega (arith, k.2), split.2)))
 
 mutual
   pub code_exact : (pattern : Pattern) (line : List ℕ) → IsOrdered pattern
       → Exact (code_of pattern) line (Matches pattern line)
-  code_exact nothing line o = exact_none line
-  code_exact (append pattern item) line o = exact_both line (Matches pattern line) (MatchesItem item line) (code_exact pattern line o.0) (item_exact item line o.1)
+  code_exact nothing line o = exact_none
+  code_exact (append pattern item) line o = exact_both (code_exact pattern line o.0) (item_exact item line o.1)
 
   pub item_exact : (item : Item) (line : List ℕ) → IsOrderedItem item
       → Exact (code_of_item item) line (MatchesItem item line)
-  item_exact (set bytes) line o = exact_one {node = Take bytes} line (MatchesItem (set bytes) line) (λ at place at' place' h. (h.0, (h.1, h.2, h.3))) (λ place place' h. (omega arith, h.0, h.1, h.2)) tt
-  item_exact front line o = exact_one {node = First} line (MatchesItem front line) (λ at place at' place' h. (h.0, (h.2, h.1 ∙ h.2))) (λ place place' h. (omega arith, h.1 ∙ sym h.0, h.0)) tt
-  item_exact end line o = exact_one {node = Last} line (MatchesItem end line) (λ at place at' place' h. (h.0, (h.2, h.1 ∙ h.2))) (λ place place' h. (omega arith, h.1 ∙ sym h.0, h.0)) tt
+  item_exact (set bytes) line o = exact_one {node = Take bytes} (λ at place at' place' h. (h.0, (h.1, h.2, h.3))) (λ place place' h. (omega arith, h.0, h.1, h.2)) tt
+  item_exact front line o = exact_one {node = First} (λ at place at' place' h. (h.0, (h.2, h.1 ∙ h.2))) (λ place place' h. (omega arith, h.1 ∙ sym h.0, h.0)) tt
+  item_exact end line o = exact_one {node = Last} (λ at place at' place' h. (h.0, (h.2, h.1 ∙ h.2))) (λ place place' h. (omega arith, h.1 ∙ sym h.0, h.0)) tt
   item_exact (group pattern) line o = code_exact pattern line o
-  item_exact (repeat item low high) line o = exact_repeated {code = code_of_item item} line (MatchesItem item line) low high (item_exact item line o.0) o.1
+  item_exact (repeat item low high) line o = exact_repeated {code = code_of_item item} high (item_exact item line o.0) o.1
 
 -- the line contains a match just where the end is entered at one of its places
-pub contained : (pattern : Pattern) (line : List ℕ) → IsOrdered pattern
+pub contained : (pattern : Pattern) {line : List ℕ} → IsOrdered pattern
     → Contains pattern line ↔ ((place : ℕ) × (place ≤ length line)
     × Entered (code_of pattern) line (length (code_of pattern)) place)
-contained pattern line o = (
-  λ c. let s = (code_exact pattern line o).complete c.0 c.1 c.4 in (c.1, c.3, (c.0, omega (arith, c.2, c.3), s)),
+contained pattern {line} o = (
+  λ c. let s = (code_exact _ _ o).complete c.0 c.1 c.4 in (c.1, c.3, (c.0, omega (arith, c.2, c.3), s)),
   λ c.
       let entered : Entered (code_of pattern) line (length (code_of pattern)) c.0 = c.2 in
-      let m = (code_exact pattern line o).sound entered.0 c.0 entered.2 in
+      let m = (code_exact _ _ o).sound entered.0 c.0 entered.2 in
       let within = stays pattern line entered.0 c.0 entered.1 m in
       (entered.0, c.0, within.0, within.1, m),
 )
@@ -463,7 +462,7 @@ weighs_up_to (suc count) {code} {n} w =
     record { exact = f; most = omega (arith, b.most, t) }
 
 weighs_starred : {code : List Node} {n : ℕ} → Weighs code n → Weighs (starred code) (n + 1)
-weighs_starred {code} {n} w = search (rules, weight-append, length-append)
+weighs_starred w = search (rules, weight-append, length-append)
 
 weighs_repeated : {code : List Node} {n : ℕ} (low : ℕ) (high : Option ℕ) → IsAtMost high low → Weighs code n
     → Weighs (copies low code ++ tail_of code low high) (repeated n low high)
@@ -495,15 +494,15 @@ pub is_code : (pattern : Pattern) → IsOrdered pattern → IsCode (code_of patt
 is_code pattern o = (code_exact pattern [] o).fits
 
 -- what the search finds is what the line contains
-pub found_contains : (pattern : Pattern) (line : List ℕ) {found : Bool} → IsOrdered pattern
+pub found_contains : (pattern : Pattern) {line : List ℕ} {found : Bool} → IsOrdered pattern
     → (IsTrue found ↔ EndsIn (code_of pattern) line) → found ≡ contains pattern line
-found_contains pattern line {found} o f =
-    one_truth found (contains pattern line) (Contains pattern line) ((λ t. (contained pattern line o).1 (f.0 t), λ c. f.1 ((contained pattern line o).0 c))) (contains_tells pattern line)
+found_contains pattern {line} {found} o f =
+    one_truth found (contains pattern line) (Contains pattern line) ((λ t. (contained _ o).1 (f.0 t), λ c. f.1 ((contained _ o).0 c))) (contains_tells pattern line)
 
 -- twice the positions are room enough
 pub enough_room : (pattern : Pattern) → IsOrdered pattern → length (code_of pattern) < 2 * positions_of pattern
-enough_room pattern o = let w = weighs pattern o in omega (arith, w.most)
+enough_room pattern o = let w = weighs _ o in omega (arith, w.most)
 
-pub bound_of : (pattern : Pattern) (places steps : ℕ) → IsOrdered pattern
+pub bound_of : (pattern : Pattern) (places : ℕ) {steps : ℕ} → IsOrdered pattern
     → steps ≤ places * (weight (code_of pattern) + 1) → steps ≤ places * positions_of pattern
-bound_of pattern places steps o h = let e = ap (λ n. places * (n + 1)) (weighs pattern o).exact in omega (arith, h, e)
+bound_of pattern places o h = let e = ap (λ n. places * (n + 1)) (weighs _ o).exact in omega (arith, h, e)

@@ -28,7 +28,7 @@ use Rattle.bre_core.specs.{
 
 pub begun_wider : (pending : List Pending) {size wider : ℕ} → size ≤ wider → All (Waits size) pending
     → All (Waits wider) pending
-begun_wider pending {size} {wider} h = search rules
+begun_wider pending h = search rules
 
 pub popped_begun : (old new : Compiling) (d : Duplication) → Pops old (Some d) new → AreBegun old
     → IsBegun d.high d.low d.start (length new.nodes.items) × AreBegun new
@@ -36,47 +36,47 @@ popped_begun old new d p b =
     let parts = All-pop (Waits (length new.nodes.items)) old.pending.items new.pending.items (Some (Repeated d)) p.2 (rw (← p.0) at b) in
     (parts.1, parts.0)
 
-turned : {pending : List Pending} (around : List Pending) (last : Pending) → pending ≡ around ++ last ∷ []
+turned : {pending : List Pending} (around : List Pending) {last : Pending} → pending ≡ around ++ last ∷ []
     → reverse pending ≡ last ∷ reverse around
-turned around last e = ap reverse e ∙ reverse-append around (last ∷ [])
+turned around e = ap reverse e ∙ reverse-append around _
 
 -- the last duplication that waits is written out
-pub finish_more : (nodes written : List Node) {pending : List Pending} (around : List Pending) (d : Duplication)
+pub finish_more : {nodes written : List Node} {pending : List Pending} (around : List Pending) (d : Duplication)
     (final : Compiling) → pending ≡ around ++ Repeated d ∷ [] → Repeats d nodes written → Finishes written around final
     → Finishes nodes pending final
-finish_more nodes written around d final e r f = rw (turned around (Repeated d) e) (written, r, f)
+finish_more {written} around d final e r f = rw (turned _ e) (written, r, f)
 
 -- no duplication waits
-ends_by : (stack : List Pending) {nodes : List Node} {pending : List Pending} (final : Compiling)
+ends_by : (stack : List Pending) {nodes : List Node} {pending : List Pending} {final : Compiling}
     → pending ≡ reverse stack → PopsNone pending → IsNow nodes pending None final → FinishesBy stack nodes final
-ends_by (Repeated d ∷ stack) final s none n = absurd (none (reverse stack) d (s ∙ reverse-append (Repeated d ∷ []) stack))
-ends_by [] final s none n = record { nodes = n.nodes; pending = n.pending ∙ s; passing = n.passing }
-ends_by (Group ∷ stack) final s none n = record { nodes = n.nodes; pending = n.pending ∙ s; passing = n.passing }
+ends_by (Repeated d ∷ stack) s none n = absurd (none (reverse stack) d (s ∙ reverse-append (Repeated d ∷ []) stack))
+ends_by [] s none n = record { nodes = n.nodes; pending = n.pending ∙ s; passing = n.passing }
+ends_by (Group ∷ stack) s none n = record { nodes = n.nodes; pending = n.pending ∙ s; passing = n.passing }
 
-pub finish_ends : {nodes : List Node} {pending : List Pending} (final : Compiling) → PopsNone pending
+pub finish_ends : {nodes : List Node} {pending : List Pending} {final : Compiling} → PopsNone pending
     → IsNow nodes pending None final → Finishes nodes pending final
-finish_ends {pending} final none n = ends_by (reverse pending) final (sym (reverse-reverse pending)) none n
+finish_ends {pending} none n = ends_by _ (sym (reverse-reverse pending)) none n
 
 -- what follows from an item that is complete
 pub finished_group : {nodes : List Node} {pending : List Pending} (around : List Pending) {new : Compiling}
     → Finishes nodes pending new → pending ≡ around ++ Group ∷ [] → IsNow nodes pending None new
-finished_group {nodes} {pending} around {new} f e = grind (arith, common_steps)
+finished_group around f e = grind (arith, common_steps)
 
 pub finished_all : {nodes : List Node} {pending : List Pending} {new : Compiling} → Finishes nodes pending new
     → pending ≡ [] → IsNow nodes [] None new
-finished_all {nodes} {new} f e = rw e at f
+finished_all f e = rw e at f
 
 parted : (one other : List Token) (old new : Compiling) → TakesAll old (one ++ other) new
     → (now : Compiling) × TakesAll old other now × TakesAll now one new
 parted [] other old new s = (new, s, refl)
 parted (token ∷ one) other old new s = let p = parted one other old s.0 s.1 in (p.0, p.1, (s.0, p.2, s.2))
 
-alone : (token : Token) (old new : Compiling) → TakesAll old (token ∷ []) new → Takes old token new
-alone token old new s = rw (← s.1) at s.2
+alone : {token : Token} {old new : Compiling} → TakesAll old (token ∷ []) new → Takes old token new
+alone s = rw (← s.1) at s.2
 
 last_taken : (one : List Token) (token : Token) (old new : Compiling) → TakesAll old (one ++ token ∷ []) new
     → (now : Compiling) × Takes old token now × TakesAll now one new
-last_taken one token old new s = let p = parted one (token ∷ []) old new s in (p.0, alone token old p.0 p.1, p.2)
+last_taken one token old new s = let p = parted _ _ _ _ s in (p.0, alone p.1, p.2)
 
 -- no duplication waits
 abbrev Base : List Pending → Type 0
@@ -84,8 +84,8 @@ Base pending = (pending ≡ []) ⊎ ((around : List Pending) × (pending ≡ aro
 
 finished_base : {nodes : List Node} {pending : List Pending} {new : Compiling} → Base pending
     → Finishes nodes pending new → IsNow nodes pending None new
-finished_base {nodes} {new} (inl e) f = rw (← e) at (finished_all f e)
-finished_base (inr e) f = finished_group e.0 f e.1
+finished_base (inl e) f = rw (← e) at (finished_all f e)
+finished_base (inr e) f = finished_group _ f e.1
 
 takes_writing : (old new : Compiling) (token : Token) → old.passing ≡ None → Takes old token new → Writes token old new
 takes_writing old new token e t = subst (λ p. TakesIn p token old new) e t
@@ -106,50 +106,48 @@ mutual
   pass_pattern nothing {depth} old new e s = subst (IsNow old.nodes.items old.pending.items (Some (suc depth))) s (record { nodes = refl; pending = refl; passing = e })
   pass_pattern (append pattern item) {depth} old new e s =
       let p = parted (written pattern) (written_item item) old new s in
-      let now : IsNow old.nodes.items old.pending.items (Some (suc depth)) p.0 = pass_item item (suc depth) old p.0 e p.1 in
+      let now : IsNow old.nodes.items old.pending.items (Some (suc depth)) p.0 = pass_item item old p.0 e p.1 in
       let next = pass_pattern pattern p.0 new now.passing p.2 in
       record { nodes = next.nodes ∙ now.nodes; pending = next.pending ∙ now.pending; passing = next.passing }
 
-  pass_item : (item : Item) (depth : ℕ) (old new : Compiling) → old.passing ≡ Some depth
+  pass_item : (item : Item) {depth : ℕ} (old new : Compiling) → old.passing ≡ Some depth
       → TakesAll old (written_item item) new → PassesLeaf depth old new
-  pass_item (set bytes) depth old new e s = takes_passing old new (Set bytes) {depth = depth} e (alone (Set bytes) old new s)
-  pass_item front depth old new e s = takes_passing old new Front {depth = depth} e (alone Front old new s)
-  pass_item end depth old new e s = takes_passing old new End {depth = depth} e (alone End old new s)
-  pass_item (group pattern) depth old new e s =
+  pass_item (set bytes) {depth} old new e s = takes_passing old new (Set bytes) {depth = depth} e (alone s)
+  pass_item front {depth} old new e s = takes_passing old new Front {depth = depth} e (alone s)
+  pass_item end {depth} old new e s = takes_passing old new End {depth = depth} e (alone s)
+  pass_item (group pattern) {depth} old new e s =
       let p = last_taken (written pattern) Close old s.0 s.1 in
       let opened : IsNow old.nodes.items old.pending.items (Some (suc depth)) p.0 = takes_passing old p.0 Close {depth = depth} e p.1 in
       let inner = pass_pattern pattern p.0 s.0 opened.passing p.2 in
       passed_from depth old s.0 new (inner.nodes ∙ opened.nodes) (inner.pending ∙ opened.pending) (takes_passing s.0 new Open {depth = suc depth} inner.passing s.2)
-  pass_item (repeat item low high) depth old new e s =
+  pass_item (repeat item low high) {depth} old new e s =
       let p = last_taken (written_item item) (Repeat low high) old new s in
       let stays : IsNow old.nodes.items old.pending.items (Some depth) p.0 = takes_passing old p.0 (Repeat low high) {depth = depth} e p.1 in
-      passed_from depth old p.0 new stays.nodes stays.pending (pass_item item depth p.0 new stays.passing p.2)
+      passed_from depth old p.0 new stays.nodes stays.pending (pass_item item p.0 new stays.passing p.2)
 
 -- a duplication's item was written out
 repeated_out : (old code : List Node) (now new : Compiling) (pending : List Pending) (d : Duplication)
-    → d.start ≡ length old
-    → now.nodes.items ++ reverse code ≡ old ++ begun d.high (reverse code)
-    → now.pending.items ≡ pending ++ Repeated d ∷ []
-    → Finishes (now.nodes.items ++ reverse code) now.pending.items new
+    → d.start ≡ length old → now.nodes.items ++ reverse code ≡ old ++ begun d.high (reverse code)
+    → now.pending.items ≡ pending ++ Repeated d ∷ [] → Finishes (now.nodes.items ++ reverse code) now.pending.items new
     → Finishes (old ++ reverse (copies d.low code ++ tail_of code d.low d.high)) pending new
 repeated_out old code now new pending d s n p f = grind (arith, common_steps)
 
 -- an item that stands no time
-none_of : {nodes : List Node} (code : List Node) (low : ℕ) → low ≤ 0
+none_of : {nodes : List Node} (code : List Node) {low : ℕ} → low ≤ 0
     → nodes ≡ nodes ++ reverse (copies low code ++ up_to (0 - low) code)
-none_of {nodes} code low h = search rules
+none_of code h = search rules
 
 mutual
-  write_pattern : (pattern : Pattern) (old new : Compiling) → IsOrdered pattern → old.passing ≡ None
+  write_pattern : (pattern : Pattern) (old : Compiling) {new : Compiling} → IsOrdered pattern → old.passing ≡ None
       → Base old.pending.items → TakesAll old (written pattern) new
       → IsNow (old.nodes.items ++ reverse (code_of pattern)) old.pending.items None new
-  write_pattern nothing old new o e b s = rw (← s) (record { nodes = sym (append-nil old.nodes.items); pending = refl; passing = e })
-  write_pattern (append pattern item) old new o e b s =
+  write_pattern nothing old o e b s = rw (← s) (record { nodes = sym (append-nil _); pending = refl; passing = e })
+  write_pattern (append pattern item) old {new} o e b s =
       let p = parted (written pattern) (written_item item) old new s in
       let now = finished_base b (write_item item old p.0 o.1 e p.1) in
-      let next = write_pattern pattern p.0 new o.0 now.passing (subst Base (sym now.pending) b) p.2 in
+      let next = write_pattern pattern p.0 o.0 now.passing (subst Base (sym now.pending) b) p.2 in
       record {
-        nodes = next.nodes ∙ ap (λ l. l ++ reverse (code_of pattern)) now.nodes ∙ append_assoc old.nodes.items (reverse (code_of_item item)) (reverse (code_of pattern))
+        nodes = next.nodes ∙ ap (λ l. l ++ reverse (code_of pattern)) now.nodes ∙ append_assoc _ (reverse (code_of_item item)) (reverse (code_of pattern))
             ∙ ap (λ l. old.nodes.items ++ l) (sym (reverse-append (code_of pattern) (code_of_item item)));
         pending = next.pending ∙ now.pending;
         passing = next.passing;
@@ -158,25 +156,25 @@ mutual
   write_item : (item : Item) (old new : Compiling) → IsOrderedItem item → old.passing ≡ None
       → TakesAll old (written_item item) new
       → Finishes (old.nodes.items ++ reverse (code_of_item item)) old.pending.items new
-  write_item (set bytes) old new o e s = takes_writing old new (Set bytes) e (alone (Set bytes) old new s)
-  write_item front old new o e s = takes_writing old new Front e (alone Front old new s)
-  write_item end old new o e s = takes_writing old new End e (alone End old new s)
+  write_item (set bytes) old new o e s = takes_writing old new (Set bytes) e (alone s)
+  write_item front old new o e s = takes_writing old new Front e (alone s)
+  write_item end old new o e s = takes_writing old new End e (alone s)
   write_item (group pattern) old new o e s =
       let p = last_taken (written pattern) Close old s.0 s.1 in
       let opened : IsNow old.nodes.items (old.pending.items ++ Group ∷ []) None p.0 = takes_writing old p.0 Close e p.1 in
-      let inner = write_pattern pattern p.0 s.0 o opened.passing (inr (old.pending.items, opened.pending)) p.2 in
+      let inner = write_pattern pattern p.0 o opened.passing (inr (old.pending.items, opened.pending)) p.2 in
       let closed : Closes s.0 new = takes_writing s.0 new Open inner.passing s.2 in
       rw (inner.nodes ∙ ap (λ l. l ++ reverse (code_of pattern)) opened.nodes) at (closed old.pending.items (inner.pending ∙ opened.pending))
   write_item (repeat item low None) old new o e s =
       let p = last_taken (written_item item) (Repeat low None) old new s in
       let begins : Begins low None old p.0 = takes_writing old p.0 (Repeat low None) e p.1 in
-      let nodes = ap (λ l. l ++ reverse (code_of_item item)) begins.nodes ∙ append_assoc old.nodes.items (Back 0 ∷ []) (reverse (code_of_item item)) in
+      let nodes = ap (λ l. l ++ reverse (code_of_item item)) begins.nodes ∙ append_assoc _ _ (reverse (code_of_item item)) in
       let d : Duplication = record { start = length old.nodes.items; low = low; high = None } in
       repeated_out old.nodes.items (code_of_item item) p.0 new old.pending.items d refl nodes begins.pending (write_item item p.0 new o.0 begins.passing p.2)
   write_item (repeat item low (Some zero)) old new o e s =
       let p = last_taken (written_item item) (Repeat low (Some zero)) old new s in
       let begins : Begins low (Some zero) old p.0 = takes_writing old p.0 (Repeat low (Some zero)) e p.1 in
-      rw (← (begins.nodes ∙ none_of (code_of_item item) low o.1)) (subst (λ l. Finishes p.0.nodes.items l new) begins.pending (pass_item item 0 p.0 new begins.passing p.2))
+      rw (← (begins.nodes ∙ none_of (code_of_item item) o.1)) (subst (λ l. Finishes p.0.nodes.items l new) begins.pending (pass_item item p.0 new begins.passing p.2))
   write_item (repeat item low (Some (suc high))) old new o e s =
       let p = last_taken (written_item item) (Repeat low (Some (suc high))) old new s in
       let begins : Begins low (Some (suc high)) old p.0 = takes_writing old p.0 (Repeat low (Some (suc high))) e p.1 in
@@ -211,15 +209,14 @@ pub compiled : (pattern : Pattern) {tokens : List Token} {first : Compiling} (fi
     → tokens ≡ written pattern → AreBounded tokens → IsNow [] [] None first → TakesAll first tokens final
     → reverse final.nodes.items ≡ code_of pattern
 compiled pattern {first} final e b n s =
-    let now = write_pattern pattern first final (ordered pattern (rw e at b)) n.passing (inl n.pending) (rw e at s) in
+    let now = write_pattern pattern first (ordered pattern (rw e at b)) n.passing (inl n.pending) (rw e at s) in
     ap reverse (now.nodes ∙ ap (λ l. l ++ reverse (code_of pattern)) n.nodes) ∙ reverse-reverse (code_of pattern)
 
 -- one token more, towards the front
-pub way_more : (tokens : List Token) (before : ℕ) {place : ℕ} {token : Token} (first now new : Compiling)
-    → place ≡ before + 1 → before < length tokens → token ≡ get_or tokens before token
-    → TakesAll first (drop place tokens) now → Takes now token new
-    → TakesAll first (drop before tokens) new
-way_more tokens before {token} first now new e h is s t =
+pub way_more : (tokens : List Token) {before place : ℕ} {token : Token} (first now new : Compiling) → place ≡ before + 1
+    → before < length tokens → token ≡ get_or tokens before token → TakesAll first (drop place tokens) now
+    → Takes now token new → TakesAll first (drop before tokens) new
+way_more tokens {before} {token} first now new e h is s t =
     rw (at_drop_more (λ ts. ts) tokens before token h ∙ ap (λ k. k ∷ drop (before + 1) tokens) (sym is)) (now, subst (λ n. TakesAll first (drop n tokens) now) e s, t)
 
 pub bounded_at : (tokens : List Token) (place : ℕ) {token : Token} → AreBounded tokens → place < length tokens

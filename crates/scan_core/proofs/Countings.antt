@@ -25,9 +25,9 @@ use Rattle.scan_core.{
 -- The words of the numbers of a kind.
 
 -- the word of a byte
-pub takes_word : (code : List Node) (takes : List ℕ) {size : ℕ} (byte at : ℕ) → AreTakes code takes → size ≡ width code
+pub takes_word : (code : List Node) {takes : List ℕ} {size byte at : ℕ} → AreTakes code takes → size ≡ width code
     → byte < 256 → at < width code → IsMask code (Takes byte) at (get_or takes (byte * size + at) 0)
-takes_word code takes byte at t e small within =
+takes_word code {takes} {byte} {at} t e small within =
     let place : ℕ = byte * width code + at in
     rw (← e) at (subst (λ b. IsMask code (Takes b) at (get_or takes place 0)) (div-mul-add byte (width code) at within)
     (subst (λ n. IsMask code (Takes (place / width code)) n (get_or takes place 0)) (mod-mul-add byte (width code) at within)
@@ -77,14 +77,14 @@ shifted_high kept carry bit h small =
     omega (arith, e, none, a, b, c)
 
 -- a bit of a word that the byte is taken from
-kept_bit : (code : List Node) (words : List ℕ) (byte at bit takes : ℕ) → IsMask code (Takes byte) at takes → bit < 64
-    → (bit_at (bit_and (get_or words at 0) takes) bit ≡ 1) ↔ Led code byte words (at * 64 + bit + 1)
-kept_bit code words byte at bit takes m small = search (rules, is_in_word, bit_at_and)
+kept_bit : (code : List Node) (words : List ℕ) {byte : ℕ} (at bit takes : ℕ) → IsMask code (Takes byte) at takes
+    → bit < 64 → (bit_at (bit_and (get_or words at 0) takes) bit ≡ 1) ↔ Led code byte words (at * 64 + bit + 1)
+kept_bit code words at bit takes m small = search (rules, is_in_word, bit_at_and)
 
 pub set_elsewhere : (words : List ℕ) {at : ℕ} (word number : ℕ) → (number / 64 ≡ at → ⊥)
     → IsIn (set words at word) number ↔ IsIn words number
 unfolding IsIn
-set_elsewhere words {at} word number differs = search rules
+set_elsewhere words word number differs = search rules
 
 -- the first words hold what the byte leads to
 pub record Passing (code : List Node) (byte : ℕ) (base old now : List ℕ) (at carry : ℕ) : Type 0 where
@@ -100,14 +100,14 @@ pub passing_more : {code : List Node} {byte : ℕ} {base old now new : List ℕ}
     → new ≡ set now at (bit_or (bit_or (kept * 2 ^ 1 % 2 ^ 64) carry) (get_or base at 0))
     → Passing code byte base old new (at + 1) (kept / 2 ^ 63)
 passing_more {code} {byte} {base} {old} {now} {new} {at} {carry} {kept} takes p m h ek fits en = record {
-  size = ap length en ∙ length-set now at (bit_or (bit_or (kept * 2 ^ 1 % 2 ^ 64) carry) (get_or base at 0)) ∙ p.size;
+  size = ap length en ∙ length-set now at _ ∙ p.size;
   past = λ number l. elim (cases_lt number (64 * at)) [
     | inl before ↦ rw (← en) at (earlier number before (p.past number before))
     | inr here ↦
         let same : number ≡ at * 64 + number % 64 = omega (arith, l, here) in
         rw (← same) at (joined (number % 64) (omega arith) (inside (number % 64) (omega arith)))
   ];
-  rest = λ n l. ap (λ w. get_or w n 0) en ∙ get_or-set_other now at n (bit_or (bit_or (kept * 2 ^ 1 % 2 ^ 64) carry) (get_or base at 0)) 0 (λ e. omega (arith, e, l)) ∙ p.rest n (omega (arith, l));
+  rest = λ n l. ap (λ w. get_or w n 0) en ∙ get_or-set_other now at n _ 0 (λ e. omega (arith, e, l)) ∙ p.rest n (omega (arith, l));
   bit = omega (arith, fits);
   over =
       let k = kept_is 63 (omega arith) in
@@ -121,43 +121,43 @@ passing_more {code} {byte} {base} {old} {now} {new} {at} {carry} {kept} takes p 
     kept_is : (bit : ℕ) → bit < 64 → (bit_at kept bit ≡ 1) ↔ Led code byte old (at * 64 + bit + 1)
     kept_is bit small =
         let e : kept ≡ bit_and (get_or old at 0) takes = ek ∙ ap (λ w. bit_and w takes) (p.rest at (omega arith)) in
-        rw (← e) at (kept_bit code old byte at bit takes m small)
+        rw (← e) at (kept_bit code old at bit takes m small)
 
     read : get_or new at 0 ≡ bit_or (bit_or (kept * 2 ^ 1 % 2 ^ 64) carry) (get_or base at 0)
-    read = let s = p.size in ap (λ w. get_or w at 0) en ∙ get_or-set_same now at (bit_or (bit_or (kept * 2 ^ 1 % 2 ^ 64) carry) (get_or base at 0)) 0 (omega (arith, h, s))
+    read = let s = p.size in ap (λ w. get_or w at 0) en ∙ get_or-set_same now at _ 0 (omega (arith, h, s))
 
     earlier : (number : ℕ) → number < 64 * at → IsIn now number ↔ LedOrBase code byte base old number
         → IsIn
         (set now at (bit_or (bit_or (kept * 2 ^ 1 % 2 ^ 64) carry) (get_or base at 0))) number ↔ LedOrBase code byte
         base old number
     earlier number l i =
-        let e = set_elsewhere now (bit_or (bit_or (kept * 2 ^ 1 % 2 ^ 64) carry) (get_or base at 0)) number (λ q. omega (arith, q, l)) in
+        let e = set_elsewhere _ _ _ (λ q. omega (arith, q, l)) in
         (λ k. i.0 (e.0 k), λ k. e.1 (i.1 k))
 
     joined : (bit : ℕ) → bit < 64
         → ((bit_at (bit_or (kept * 2 ^ 1 % 2 ^ 64) carry) bit ≡ 1) ↔ Led code byte old (at * 64 + bit))
         → IsIn new (at * 64 + bit) ↔ LedOrBase code byte base old (at * 64 + bit)
     joined bit small i =
-        let w = is_in_word new at bit small in
-        let b = is_in_word base at bit small in
+        let w = is_in_word _ _ _ small in
+        let b = is_in_word _ _ _ small in
         let e = ap (λ x. bit_at x bit) read in (
-          λ k. elim (either_bit (bit_or (kept * 2 ^ 1 % 2 ^ 64) carry) (get_or base at 0) bit (sym e ∙ w.1 k)) [ inl led ↦ inl (i.0 led) | inr front ↦ inr (b.0 front) ],
+          λ k. elim (either_bit _ _ _ (sym e ∙ w.1 k)) [ inl led ↦ inl (i.0 led) | inr front ↦ inr (b.0 front) ],
           λ l. elim l [
-            | inl led ↦ w.0 (e ∙ left_bit (bit_or (kept * 2 ^ 1 % 2 ^ 64) carry) (get_or base at 0) bit (i.1 led))
-            | inr front ↦ w.0 (e ∙ right_bit (bit_or (kept * 2 ^ 1 % 2 ^ 64) carry) (get_or base at 0) bit (b.1 front))
+            | inl led ↦ w.0 (e ∙ left_bit _ _ _ (i.1 led))
+            | inr front ↦ w.0 (e ∙ right_bit _ _ _ (b.1 front))
           ],
         )
 
     inside : (bit : ℕ) → bit < 64
         → (bit_at (bit_or (kept * 2 ^ 1 % 2 ^ 64) carry) bit ≡ 1) ↔ Led code byte old (at * 64 + bit)
     inside zero small =
-        let e = shifted_low kept p.bit in
+        let e = shifted_low _ p.bit in
         let z : at * 64 + 0 ≡ at * 64 = omega arith in (
           λ k. rw (← z) at (p.over.0 (sym e ∙ k)),
           λ k. e ∙ p.over.1 (rw z at k),
         )
     inside (suc bit) small =
-        let e = shifted_high kept carry bit p.bit (omega (arith, small)) in
+        let e = shifted_high _ _ _ p.bit (omega (arith, small)) in
         let k = kept_is bit (omega (arith, small)) in
         let z : at * 64 + bit + 1 ≡ at * 64 + suc bit = omega arith in (
           λ i. rw z at (k.0 (sym e ∙ i)),
@@ -168,7 +168,7 @@ pub passing_ends : {code : List Node} {byte : ℕ} {base old now : List ℕ} {at
     → Passing code byte base old now at carry → length old ≤ at → length old ≡ width code → length base ≡ width code
     → (number : ℕ) → IsIn now number ↔ LedOrBase code byte base old number
 passing_ends {code} {byte} {base} {old} {now} {at} p h size same number = (
-  λ k. let l = is_within now number k in let s = p.size in (p.past number (omega (arith, l, s, h))).0 k,
+  λ k. let l = is_within now k in let s = p.size in (p.past number (omega (arith, l, s, h))).0 k,
   λ k. (p.past number (within k)).1 k,
 )
   where
@@ -177,16 +177,16 @@ passing_ends {code} {byte} {base} {old} {now} {at} p h size same number = (
         let l = pass_least code k.2 in
         let e = k.2.3 in
         omega (arith, l, e, size, h)
-    within (inr front) = let l = is_within base number front in omega (arith, l, same, size, h)
+    within (inr front) = let l = is_within base front in omega (arith, l, same, size, h)
 
 -- no bit of words that are 0
-pub none_in : (words : List ℕ) (at : ℕ) → ((n : ℕ) → n < at → get_or words n 0 ≡ 0) → length words ≤ at → (number : ℕ)
+pub none_in : (words : List ℕ) {at : ℕ} → ((n : ℕ) → n < at → get_or words n 0 ≡ 0) → length words ≤ at → (number : ℕ)
     → IsIn words number → ⊥
-none_in words at zeros h number k =
-    let l = is_within words number k in
+none_in words {at} zeros h number k =
+    let l = is_within _ k in
     let same : number ≡ number / 64 * 64 + number % 64 = omega arith in
-    let b = (is_in_word words (number / 64) (number % 64) (omega arith)).1 (rw same at k) in
-    let z = ap (λ x. bit_at x (number % 64)) (zeros (number / 64) (omega (arith, l, h))) ∙ bit_at-zero (number % 64) in
+    let b = (is_in_word _ _ _ (omega arith)).1 (rw same at k) in
+    let z = ap (λ x. bit_at x (number % 64)) (zeros (number / 64) (omega (arith, l, h))) ∙ bit_at-zero _ in
     omega (arith, b, z)
 
 -- the weights of the marked numbers
@@ -219,14 +219,14 @@ weight_bit word counts e =
     let least = bit_at-lt word 0 in
     grind (arith, both, a, b, e, l, least)
 
-sum_bits : (count : ℕ) (weight : ℕ → ℕ) (word counts : ℕ) (rest : List Bool) → word < 2 ^ count
+sum_bits : (count : ℕ) {weight : ℕ → ℕ} {word : ℕ} (counts : ℕ) (rest : List Bool) → word < 2 ^ count
     → ((bit : ℕ) → bit < count → bit_at counts bit ≡ weight bit)
     → sum_of weight (bits count word ++ rest) ≡ count_ones (bit_and word counts) + sum_of (λ n. weight (count + n)) rest
 unfolding bits
-sum_bits zero weight word counts rest small exact = grind (arith, common_steps)
-sum_bits (suc count) weight word counts rest small exact =
+sum_bits zero counts rest small exact = grind (arith, common_steps)
+sum_bits (suc count) {weight} {word} counts rest small exact =
     let half : word / 2 < 2 ^ count = halved count word small in
-    let r = sum_bits count (λ n. weight (suc n)) (word / 2) (counts / 2) rest half (λ bit l. sym (bit_at-suc counts bit) ∙ exact (suc bit) (omega (arith, l))) in
+    let r = sum_bits count (counts / 2) rest half (λ bit l. sym (bit_at-suc counts bit) ∙ exact (suc bit) (omega (arith, l))) in
     let step = ones_step (bit_and word counts) in
     let shr : bit_and word counts / 2 ≡ bit_and (word / 2) (counts / 2) = and_shr word counts 1 in
     let e = ap count_ones shr in
@@ -255,7 +255,7 @@ ones_sum weight [] counts size fits exact = refl
 ones_sum weight (word ∷ words) [] size fits exact = absurd (omega (arith, size))
 ones_sum weight (word ∷ words) (other ∷ counts) size fits exact =
     let z : (bit : ℕ) → bit < 64 → bit_at other bit ≡ weight bit = λ bit l. exact 0 bit (omega arith) l ∙ ap weight (omega arith) in
-    let b = sum_bits 64 weight word other (flags_of words) (fits 0 (omega arith)) z in
+    let b = sum_bits 64 other (flags_of words) (fits 0 (omega arith)) z in
     let r = ones_sum (λ n. weight (64 + n)) words counts (omega (arith, size)) (λ n h. fits (suc n) (omega (arith, h))) (λ n bit h l. exact (suc n) bit (omega (arith, h)) l ∙ ap weight (omega arith)) in
     let f = ones_front word other words counts (length words) in
     omega (arith, b, r, f)
@@ -263,13 +263,13 @@ ones_sum weight (word ∷ words) (other ∷ counts) size fits exact =
 counted_most : (code : List Node) (n : ℕ) → counted_at code n ≤ 1
 counted_most [] zero = omega arith
 counted_most [] (suc n) = omega arith
-counted_most (node ∷ code) zero = weight_most node
+counted_most (node ∷ code) zero = weight_most _
 counted_most (node ∷ code) (suc n) = counted_most code n
 
-pub positions_are : (code : List Node) (words counts : List ℕ) → length words ≡ width code
+pub positions_are : (code : List Node) (words : List ℕ) {counts : List ℕ} → length words ≡ width code
     → AreEach 0 (IsMask code Counts) (width code) counts → ((n : ℕ) → n < length words → get_or words n 0 < 2 ^ 64)
     → ones_below words counts (length words) ≡ positions_among code (flags_of words)
-positions_are code words counts size m fits = search (rules, ones_sum, among_sum, bit_at-lt, counted_most)
+positions_are code words size m fits = search (rules, ones_sum, among_sum, bit_at-lt, counted_most)
 
 bits_front : (count word n : ℕ) (rest : List Bool) → n < count
     → get_or (bits count word ++ rest) n false ≡ (bit_at word n == 1)
@@ -300,12 +300,12 @@ flags_length (word ∷ words) =
     omega (arith, a, b, r)
 
 flag_is : (words : List ℕ) (n : ℕ) → get_or (flags_of words) n false ≡ (bit_at (get_or words (n / 64) 0) (n % 64) == 1)
-flag_is [] n = sym (ap (λ x. x == 1) (bit_at-zero (n % 64)))
+flag_is [] n = sym (ap (λ x. x == 1) (bit_at-zero _))
 flag_is (word ∷ words) n = elim (cases_lt n 64) [
   | inl first ↦
       let low : n / 64 ≡ 0 = omega (arith, first) in
       let place : n % 64 ≡ n = omega (arith, first) in
-      bits_front 64 word n (flags_of words) first ∙ sym (ap (λ k. bit_at (get_or (word ∷ words) k 0) (n % 64) == 1) low ∙ ap (λ k. bit_at word k == 1) place)
+      bits_front _ _ n _ first ∙ sym (ap (λ k. bit_at (get_or (word ∷ words) k 0) (n % 64) == 1) low ∙ ap (λ k. bit_at word k == 1) place)
   | inr later ↦
       let e : n ≡ 64 + (n - 64) = omega (arith, later) in
       let high : n / 64 ≡ suc ((n - 64) / 64) = omega (arith, later) in

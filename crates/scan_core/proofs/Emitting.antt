@@ -31,7 +31,7 @@ reverse-copies (suc count) code = reverse-append (copies count code) code ∙ ap
 -- the stretch after a front
 pub stretch_after : (before : List Node) {code : List Node} (more : List Node) {from size : ℕ} → length before ≡ from
     → length code ≡ size → stretch from size (before ++ (code ++ more)) ≡ code
-stretch_after before {code} more {size} e f = grind (arith, common_steps)
+stretch_after before more e f = grind (arith, common_steps)
 
 reverse-starred : (code : List Node)
     → reverse (starred code) ≡ (Back (length code + 1) ∷ reverse code) ++ Choose (length code + 2) ∷ []
@@ -71,10 +71,10 @@ starred_out {marked} {chosen} before code {start} {size} low b n s m ch e =
     whole : chosen ≡ before ++ reverse (starred code)
     whole =
         ch ∙ ap (λ l. l ++ Choose (length marked - start + 1) ∷ []) set_now ∙ ap (λ k. (before ++ Back (length code + 1) ∷ reverse code) ++ Choose k ∷ []) skip
-        ∙ append_assoc before (Back (length code + 1) ∷ reverse code) (Choose (length code + 2) ∷ []) ∙ ap (λ l. before ++ l) (sym (reverse-starred code))
+        ∙ append_assoc before _ _ ∙ ap (λ l. before ++ l) (sym (reverse-starred _))
 
     parted : chosen ≡ (before ++ Back (length code + 1) ∷ []) ++ (reverse code ++ Choose (length code + 2) ∷ [])
-    parted = whole ∙ ap (λ l. before ++ l) (reverse-starred code) ∙ sym (append_assoc before (Back (length code + 1) ∷ []) (reverse code ++ Choose (length code + 2) ∷ []))
+    parted = whole ∙ ap (λ l. before ++ l) (reverse-starred _) ∙ sym (append_assoc before _ _)
 
     here : stretch (start + 1) size chosen ≡ reverse code
     here =
@@ -86,7 +86,7 @@ starred_out {marked} {chosen} before code {start} {size} low b n s m ch e =
 item_here : {nodes now : List Node} (more before code : List Node) {start size : ℕ} → length before ≡ start
     → nodes ≡ before ++ reverse code → size ≡ length nodes - start
     → now ≡ nodes ++ more → stretch start size now ≡ reverse code
-item_here more before code {start} {size} b n s g = grind (arith, common_steps)
+item_here more before code b n s g = grind (arith, common_steps)
 
 -- `count` times
 pub exact_out : {nodes new : List Node} (before code : List Node) {start size low high : ℕ} → length before ≡ start
@@ -110,14 +110,14 @@ pub optional_more : {nodes now middle new : List Node} (more before code : List 
     → length before ≡ start → nodes ≡ before ++ reverse code → size ≡ length nodes - start → now ≡ nodes ++ more
     → now ≡ before ++ reverse (up_to count code) → middle ≡ now ++ stretch start size now
     → new ≡ middle ++ Choose (length middle - start + 1) ∷ [] → new ≡ before ++ reverse (up_to (count + 1) code)
-optional_more {now} {middle} more before code {start} count b n s g w m e = grind (arith, common_steps)
+optional_more more before code count b n s g w m e = grind (arith, common_steps)
 
 -- the copies that are always there, before the optional ones
 pub bounded_out : {nodes now new : List Node} (more before code : List Node) {start size : ℕ} (low high : ℕ) {count : ℕ}
     → length before ≡ start → nodes ≡ before ++ reverse code → size ≡ length nodes - start → now ≡ nodes ++ more
     → now ≡ before ++ reverse (up_to count code) → count ≡ high - low → new ≡ now ++ copies low (stretch start size now)
     → new ≡ before ++ reverse (copies low code ++ up_to (high - low) code)
-bounded_out {now} more before code low high {count} b n s g w k e = search (rules, item_here, append_assoc, reverse-copies, reverse-append)
+bounded_out more before code low high b n s g w k e = search (rules, item_here, append_assoc, reverse-copies, reverse-append)
 
 -- what was written stays at the front
 pub grown_on : (nodes : List Node) {now middle new : List Node} (more first second : List Node) → now ≡ nodes ++ more

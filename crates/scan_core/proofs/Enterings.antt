@@ -36,10 +36,10 @@ at_index [] n d h = absurd (omega (arith, h))
 at_index (x ∷ code) zero d h = refl
 at_index (x ∷ code) (suc n) d h = at_index code n d (omega (arith, h))
 
-pub at_once : (code : List Node) (n : ℕ) (one other : Node) → At code n one → At code n other → one ≡ other
-at_once [] n one other f g = absurd f
-at_once (x ∷ code) zero one other f g = f ∙ sym g
-at_once (x ∷ code) (suc n) one other f g = at_once code n one other f g
+pub at_once : (code : List Node) (n : ℕ) {one other : Node} → At code n one → At code n other → one ≡ other
+at_once [] n f g = absurd f
+at_once (x ∷ code) zero f g = f ∙ sym g
+at_once (x ∷ code) (suc n) f g = at_once code n f g
 
 pub at_least : (code : List Node) (n : ℕ) (node : Node) → At code n node → n < length code
 at_least [] n node h = absurd h
@@ -61,9 +61,9 @@ parts_anywhere code at_first at_last zero from to p = p
 parts_anywhere code at_first at_last (suc count) from to p = (p.0, parts_anywhere code at_first at_last count from p.0 p.1, (p.2.0, p.2.1, leads_anywhere p.2.0 at_first at_last p.0 to p.2.2))
 
 -- what a known node leads to
-pub flows_of : (code : List Node) {n : ℕ} (node : Node) (at_first at_last : Bool) (to : ℕ) → At code n node
+pub flows_of : (code : List Node) {n : ℕ} (node : Node) {at_first at_last : Bool} {to : ℕ} → At code n node
     → Flows code at_first at_last n to → LeadsOn node at_first at_last n to
-flows_of code {n} node at_first at_last to here f = rw (at_once code n f.0 node f.1 here) at f.2
+flows_of code {n} node here f = rw (at_once _ n f.1 here) at f.2
 
 pub node_here : (code : List Node) {n : ℕ} {node read : Node} → n < length code → read ≡ node
     → read ≡ get_or code n read → At code n node
@@ -72,12 +72,12 @@ node_here code {n} {read} h e is = rw (sym is ∙ e) at (at_index code n read h)
 pub target_in : {code : List Node} (n skip : ℕ) → IsCode code → At code n (Choose skip) → n + skip ≤ length code
 target_in n skip c here = c.fits n (Choose skip) here
 
-pub pass_found : (code : List Node) (n byte to : ℕ) (bytes : List Bool) → At code n (Take bytes) → Passes code byte n to
-    → IsTrue (has bytes byte)
-pass_found code n byte to bytes here p = search (rules, at_once)
+pub pass_found : (code : List Node) (n : ℕ) {byte to : ℕ} (bytes : List Bool) → At code n (Take bytes)
+    → Passes code byte n to → IsTrue (has bytes byte)
+pass_found code n bytes here p = search (rules, at_once)
 
 pub pass_least : (code : List Node) {n byte to : ℕ} → Passes code byte n to → n < length code
-pass_least code {n} p = at_least code n (Take p.0) p.1
+pass_least code {n} p = at_least _ n _ p.1
 
 pub weight_length : (code : List Node) → weight code ≤ length code
 weight_length [] = omega arith
@@ -85,9 +85,9 @@ weight_length (node ∷ code) = let w = weight_most node in let r = weight_lengt
 
 -- Where the numbers of a code lead without a byte.
 
-pub way_nowhere : (code : List Node) (number : ℕ) → length code ≤ number
+pub way_nowhere : {code : List Node} {number : ℕ} → length code ≤ number
     → IsWay code number (record { when = Never; one = 0; other = 0 })
-way_nowhere code number h = search (rules, at_least)
+way_nowhere h = search (rules, at_least)
 
 -- where a node leads
 abbrev pub way_at : Node → ℕ → Way
@@ -101,33 +101,33 @@ one_of : {A : Type 0} → A ⊎ A → A
 one_of (inl a) = a
 one_of (inr a) = a
 
-pub way_is : (code : List Node) (number : ℕ) (node : Node) → IsCode code → At code number node
+pub way_is : {code : List Node} {number : ℕ} (node : Node) → IsCode code → At code number node
     → IsWay code number (way_at node number)
-way_is code number (Take bytes) c here = record {
+way_is (Take bytes) c here = record {
   one = omega arith;
   other = omega arith;
-  exact = λ at_first at_last to. (λ f. absurd (flows_of code (Take bytes) at_first at_last to here f), λ o. absurd o.0);
+  exact = λ at_first at_last to. (λ f. absurd (flows_of _ _ here f), λ o. absurd o.0);
 }
-way_is code number First c here = let l = at_least code number First here in record {
+way_is {code} {number} First c here = let l = at_least code number First here in record {
   one = omega (arith, l);
   other = omega (arith, l);
-  exact = λ at_first at_last to. (λ f. let w = flows_of code First at_first at_last to here f in (w.0, inl w.1), λ o. (First, here, (o.0, one_of o.1)));
+  exact = λ at_first at_last to. (λ f. let w = flows_of code First here f in (w.0, inl w.1), λ o. (First, here, (o.0, one_of o.1)));
 }
-way_is code number Last c here = let l = at_least code number Last here in record {
+way_is {code} {number} Last c here = let l = at_least code number Last here in record {
   one = omega (arith, l);
   other = omega (arith, l);
-  exact = λ at_first at_last to. (λ f. let w = flows_of code Last at_first at_last to here f in (w.0, inl w.1), λ o. (Last, here, (o.0, one_of o.1)));
+  exact = λ at_first at_last to. (λ f. let w = flows_of code Last here f in (w.0, inl w.1), λ o. (Last, here, (o.0, one_of o.1)));
 }
-way_is code number (Choose skip) c here = let l = at_least code number (Choose skip) here in record {
+way_is {code} {number} (Choose skip) c here = let l = at_least code number (Choose skip) here in record {
   one = omega (arith, l);
   other = c.fits number (Choose skip) here;
-  exact = λ at_first at_last to. (λ f. (tt, flows_of code (Choose skip) at_first at_last to here f), λ o. (Choose skip, here, o.1));
+  exact = λ at_first at_last to. (λ f. (tt, flows_of code (Choose skip) here f), λ o. (Choose skip, here, o.1));
 }
-way_is code number (Back by) c here = let l = at_least code number (Back by) here in let b : by ≤ number = c.fits number (Back by) here in record {
+way_is {code} {number} (Back by) c here = let l = at_least code number (Back by) here in let b : by ≤ number = c.fits number (Back by) here in record {
   one = omega (arith, l);
   other = omega (arith, l);
   exact = λ at_first at_last to. (
-    λ f. let e : number ≡ to + by = flows_of code (Back by) at_first at_last to here f in (tt, inl (omega (arith, e))),
+    λ f. let e : number ≡ to + by = flows_of code (Back by) here f in (tt, inl (omega (arith, e))),
     λ o. (Back by, here, let e = one_of o.1 in omega (arith, e, b)),
   );
 }
@@ -144,7 +144,7 @@ module _ {A : Type 0} {none : A} {Is : ℕ → A → Type 0} {count : ℕ} {list
   -- one entry more
   pub each_more : {new : List A} {entry : A} → AreEach none Is count list → Is count entry → new ≡ list ++ entry ∷ []
       → AreEach none Is (count + 1) new
-  each_more {entry} a is e = grind (arith, common_steps)
+  each_more a is e = grind (arith, common_steps)
 
   pub each_to : {all : ℕ} → AreEach none Is count list → count ≡ all → AreEach none Is all list
   each_to a e = rw e at a

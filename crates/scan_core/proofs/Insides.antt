@@ -44,8 +44,7 @@ pub record AreBits (Is : ℕ → ℕ → Type 0) (count word : ℕ) : Type 0 whe
   pub rest : (bit : ℕ) → count ≤ bit → bit_at word bit ≡ 0
 
 pub bits_more : {Is : ℕ → ℕ → Type 0} {count word : ℕ} (flag : Bool) → AreBits Is count word → count < 64
-    → Is count (bool_byte flag)
-    → AreBits Is (count + 1) (bit_or word (bool_byte flag * 2 ^ count % 2 ^ 64))
+    → Is count (bool_byte flag) → AreBits Is (count + 1) (bit_or word (bool_byte flag * 2 ^ count % 2 ^ 64))
 bits_more {Is} {count} {word} true a h is = record {
   past = λ bit l. elim (cases_eq bit count) [
     | inl same ↦ rw same (subst (Is count) (sym (bit_at_set_same w64 word count h)) is)
@@ -53,7 +52,7 @@ bits_more {Is} {count} {word} true a h is = record {
   ];
   rest = λ bit l. bit_at_set_other w64 word count h bit (λ q. omega (arith, q, l)) ∙ a.rest bit (omega (arith, l));
 }
-bits_more {Is} {count} {word} false a h is = search (rules, or_zero_r, cases_eq)
+bits_more false a h is = search (rules, or_zero_r, cases_eq)
 
 pub flag_one : (flag : Bool) → (bool_byte flag ≡ 1) ↔ IsTrue flag
 flag_one true = (λ e. refl, λ t. refl)
@@ -64,37 +63,36 @@ not_one true = inl refl
 not_one false = inr refl
 
 -- a number's bit is set
-pub entered_one : (old : List ℕ) {new : List ℕ} (number : ℕ) {word : ℕ} → number < 64 * length old
-    → word ≡ get_or old (number / 64) 0
-    → new ≡ set old (number / 64) (bit_or word (1 * 2 ^ (number % 64) % 2 ^ 64)) → (other : ℕ)
-    → IsIn new other ↔ (IsIn old other ⊎ (other ≡ number))
+pub entered_one : (old : List ℕ) {new : List ℕ} {number word : ℕ} → number < 64 * length old
+    → word ≡ get_or old (number / 64) 0 → new ≡ set old (number / 64) (bit_or word (1 * 2 ^ (number % 64) % 2 ^ 64))
+    → (other : ℕ) → IsIn new other ↔ (IsIn old other ⊎ (other ≡ number))
 unfolding IsIn
-entered_one old {new} number {word} h ew en other = elim (cases_eq other number) [
+entered_one old {new} {number} {word} h ew en other = elim (cases_eq other number) [
   | inl same ↦
       let here = ap (λ n. bit_at (get_or new (n / 64) 0) (n % 64)) same ∙ ap (λ x. bit_at x (number % 64)) read in
-      (λ k. inr same, λ k. here ∙ bit_at_set_same w64 word (number % 64) (omega arith))
+      (λ k. inr same, λ k. here ∙ bit_at_set_same w64 word _ (omega arith))
   | inr differs ↦ (λ k. inl (sym (elsewhere differs) ∙ k), λ k. elim k [ inl was ↦ elsewhere differs ∙ was | inr same ↦ absurd (differs same) ])
 ]
   where
     read : get_or new (number / 64) 0 ≡ bit_or word (1 * 2 ^ (number % 64) % 2 ^ 64)
-    read = ap (λ l. get_or l (number / 64) 0) en ∙ get_or-set_same old (number / 64) (bit_or word (1 * 2 ^ (number % 64) % 2 ^ 64)) 0 (omega (arith, h))
+    read = ap (λ l. get_or l (number / 64) 0) en ∙ get_or-set_same old _ _ 0 (omega (arith, h))
 
     elsewhere : (other ≡ number → ⊥)
         → bit_at (get_or new (other / 64) 0) (other % 64) ≡ bit_at (get_or old (other / 64) 0) (other % 64)
     elsewhere differs = elim (cases_eq (other / 64) (number / 64)) [
       | inl same ↦ ap (λ k. bit_at (get_or new k 0) (other % 64)) same ∙ ap (λ x. bit_at x (other % 64)) read
-          ∙ bit_at_set_other w64 word (number % 64) (omega arith) (other % 64) (λ e. differs (omega (arith, e, same)))
+          ∙ bit_at_set_other w64 word _ (omega arith) _ (λ e. differs (omega (arith, e, same)))
           ∙ ap (λ x. bit_at x (other % 64)) ew ∙ ap (λ k. bit_at (get_or old k 0) (other % 64)) (sym same)
-      | inr apart ↦ ap (λ x. bit_at x (other % 64)) (ap (λ l. get_or l (other / 64) 0) en ∙ get_or-set_other old (number / 64) (other / 64) (bit_or word (1 * 2 ^ (number % 64) % 2 ^ 64)) 0 apart)
+      | inr apart ↦ ap (λ x. bit_at x (other % 64)) (ap (λ l. get_or l (other / 64) 0) en ∙ get_or-set_other old _ _ _ 0 apart)
     ]
 
 -- one number more
-pub grows_one : {old new : List ℕ} (number : ℕ) {word before on : ℕ} → number < 64 * length old → (IsIn old number → ⊥)
+pub grows_one : {old new : List ℕ} {number word before on : ℕ} → number < 64 * length old → (IsIn old number → ⊥)
     → word ≡ get_or old (number / 64) 0 → word < 2 ^ 64
     → new ≡ set old (number / 64) (bit_or word (1 * 2 ^ (number % 64) % 2 ^ 64)) → on ≡ min before number
     → Grows (λ other. other ≡ number) old new before on
-grows_one {old} {new} number {word} h none ew fits en eo = record {
-  size = ap length en ∙ length-set old (number / 64) more;
+grows_one {old} {new} {number} {word} h none ew fits en eo = record {
+  size = ap length en ∙ length-set old _ more;
   exact = is;
   goes = record {
     low = omega (arith, eo);
@@ -108,12 +106,12 @@ grows_one {old} {new} number {word} h none ew fits en eo = record {
     more = bit_or word (1 * 2 ^ (number % 64) % 2 ^ 64)
 
     is : (other : ℕ) → IsIn new other ↔ (IsIn old other ⊎ (other ≡ number))
-    is = entered_one old number h ew en
+    is = entered_one _ h ew en
 
     larger : get_or old (number / 64) 0 < bit_or word (1 * 2 ^ (number % 64) % 2 ^ 64)
     larger = elim (cases_eq word (bit_or word (1 * 2 ^ (number % 64) % 2 ^ 64))) [
       | inl same ↦
-          let unchanged = en ∙ ap (set old (number / 64)) (sym same ∙ ew) ∙ set-get_or old (number / 64) 0 in
+          let unchanged = en ∙ ap (set old (number / 64)) (sym same ∙ ew) ∙ set-get_or old _ 0 in
           absurd (none (rw unchanged at ((is number).1 (inr refl))))
       | inr differs ↦ let l = le_or_l word (1 * 2 ^ (number % 64) % 2 ^ 64) in omega (arith, l, differs, ew)
     ]
@@ -122,36 +120,36 @@ grows_one {old} {new} number {word} h none ew fits en eo = record {
     fuller = rw (← en) at (unset-set old (number / 64) (bit_or word (1 * 2 ^ (number % 64) % 2 ^ 64)) (omega (arith, h)) larger
         (let m = or_lt 64 word (1 * 2 ^ (number % 64) % 2 ^ 64) fits (omega arith) in omega (arith, m)))
 
-pub goes_none : (words : List ℕ) (before : ℕ) → GoesOn words words before before
-goes_none words before = record { low = omega arith; under = λ number l h. h; fuller = omega arith; less = λ l. absurd (omega (arith, l)) }
+pub goes_none : {words : List ℕ} {before : ℕ} → GoesOn words words before before
+goes_none = record { low = omega arith; under = λ number l h. h; fuller = omega arith; less = λ l. absurd (omega (arith, l)) }
 
-pub grows_none : (Added : ℕ → Type 0) {words : List ℕ} {on : ℕ} → ((number : ℕ) → Added number → IsIn words number)
+pub grows_none : {Added : ℕ → Type 0} {words : List ℕ} {on : ℕ} → ((number : ℕ) → Added number → IsIn words number)
     → Grows Added words words on on
-grows_none Added {words} {on} within = record { size = refl; exact = λ number. (λ h. inl h, elim [ inl h ↦ h | inr h ↦ within number h ]); goes = goes_none words on }
+grows_none within = record { size = refl; exact = λ number. (λ h. inl h, elim [ inl h ↦ h | inr h ↦ within number h ]); goes = goes_none }
 
 -- Sets of numbers as words that grow by what a node leads to.
 
-pub grows_by : (Added Other : ℕ → Type 0) {old new : List ℕ} {before on : ℕ} → Grows Added old new before on
+pub grows_by : {Added Other : ℕ → Type 0} {old new : List ℕ} {before on : ℕ} → Grows Added old new before on
     → ((n : ℕ) → Added n → Other n) → ((n : ℕ) → Other n → Added n) → Grows Other old new before on
-grows_by Added Other g there here = search rules
+grows_by g there here = search rules
 
-pub grows_both : (Added Other : ℕ → Type 0) {old middle new : List ℕ} {before : ℕ} (between : ℕ) {on : ℕ}
+pub grows_both : {Added Other : ℕ → Type 0} {old middle new : List ℕ} {before between on : ℕ}
     → Grows Added old middle before between → Grows Other middle new between on
     → Grows (λ n. Added n ⊎ Other n) old new before on
-grows_both Added Other between {on} f g = search rules
+grows_both f g = search rules
 
 -- a node that leads nowhere at this place, and one that leads to two numbers
 pub grows_closed : {code : List Node} {number : ℕ} {way : Way} {at_first at_last : Bool} {words : List ℕ} {on : ℕ}
     → IsWay code number way → (Opens way.when at_first at_last → ⊥)
     → Grows (Flows code at_first at_last number) words words on on
-grows_closed {at_first} {at_last} w never = grows_none _ (λ to f. absurd (never ((w.exact at_first at_last to).0 f).0))
+grows_closed {at_first} {at_last} w never = grows_none (λ to f. absurd (never ((w.exact at_first at_last to).0 f).0))
 
 pub grows_way : {code : List Node} {number : ℕ} {way : Way} {at_first at_last : Bool} {old middle new : List ℕ}
     {before between on : ℕ} → IsWay code number way → Opens way.when at_first at_last
     → Grows (λ n. n ≡ way.one) old middle before between → Grows (λ n. n ≡ way.other) middle new between on
     → Grows (Flows code at_first at_last number) old new before on
-grows_way {code} {number} {way} {at_first} {at_last} {between} w o f g =
-    grows_by (λ n. (n ≡ way.one) ⊎ (n ≡ way.other)) (Flows code at_first at_last number) (grows_both (λ n. n ≡ way.one) (λ n. n ≡ way.other) between f g)
+grows_way {at_first} {at_last} w o f g =
+    grows_by (grows_both f g)
     (λ to e. (w.exact at_first at_last to).1 (o, e)) (λ to k. ((w.exact at_first at_last to).0 k).1)
 
 -- Entering all that a set of words leads to, number by number.
@@ -161,28 +159,28 @@ pub is_in_word : (words : List ℕ) (at bit : ℕ) → bit < 64
 unfolding IsIn
 is_in_word words at bit h = search rules
 
-pub is_within : (words : List ℕ) (number : ℕ) → IsIn words number → number < 64 * length words
+pub is_within : (words : List ℕ) {number : ℕ} → IsIn words number → number < 64 * length words
 unfolding IsIn
-is_within words number h = grind (arith, common_steps)
+is_within words h = grind (arith, common_steps)
 
-pub flows_join : (code : List Node) (at_first at_last : Bool) (count start middle number : ℕ)
+pub flows_join : (code : List Node) {at_first at_last : Bool} (count : ℕ) {start middle number : ℕ}
     → FlowsOn code at_first at_last start middle → Parts (Flows code at_first at_last) count middle number
     → FlowsOn code at_first at_last start number
-flows_join code at_first at_last zero start middle number f p = rw p at f
-flows_join code at_first at_last (suc count) start middle number f p = let r = flows_join code at_first at_last count start middle p.0 f p.1 in (suc r.0, (p.0, r.1, p.2))
+flows_join code zero f p = rw p at f
+flows_join code (suc count) f p = let r = flows_join code count f p.1 in (suc r.0, (p.0, r.1, p.2))
 
 pub adds_both : {code : List Node} {at_first at_last : Bool} {old middle new : List ℕ}
     → Adds code at_first at_last old middle → Adds code at_first at_last middle new → Adds code at_first at_last old new
-adds_both {code} {at_first} {at_last} f g = record {
+adds_both f g = record {
   size = g.size ∙ f.size;
   kept = λ number h. g.kept number (f.kept number h);
-  from = λ number h. let one = g.from number h in let two = f.from one.0 one.1 in (two.0, two.1, flows_join code at_first at_last one.2.0 two.0 one.0 number two.2 one.2.1);
+  from = λ number h. let one = g.from number h in let two = f.from one.0 one.1 in (two.0, two.1, flows_join _ _ two.2 one.2.1);
 }
 
 -- what follows at any place follows at each
-pub adds_anywhere : {code : List Node} (at_first at_last : Bool) {old new : List ℕ} → Adds code false false old new
+pub adds_anywhere : {code : List Node} {at_first at_last : Bool} {old new : List ℕ} → Adds code false false old new
     → Adds code at_first at_last old new
-adds_anywhere {code} at_first at_last a = search (rules, parts_anywhere)
+adds_anywhere a = search (rules, parts_anywhere)
 
 -- what a set leads to is in it
 pub spreads_out : {code : List Node} {at_first at_last : Bool} {old now : List ℕ} → Adds code at_first at_last old now
@@ -207,7 +205,7 @@ pub spreading_more : {code : List Node} {at_first at_last : Bool} {old now new :
     → Spreading code at_first at_last old now number
     → Grows (λ to. IsIn now number × Flows code at_first at_last number to) now new (number + 1) on
     → Spreading code at_first at_last old new on
-spreading_more {code} {at_first} {at_last} {now = now} {number = number} s g = record {
+spreading_more {number} s g = record {
   adds = adds_both s.adds (record {
     size = g.size;
     kept = λ n k. (g.exact n).1 (inl k);
@@ -226,9 +224,9 @@ pub spreading_ends : {code : List Node} {at_first at_last : Bool} {old now : Lis
     → Spreading code at_first at_last old now number → length code ≤ number → SpreadsOut code at_first at_last old now
 spreading_ends {code} s h = spreads_out s.adds (λ start to k flow. s.closed start to (let l = at_least code start flow.0 flow.1 in omega (arith, l, h)) k flow)
 
-pub visits_smaller : (Added : ℕ → Type 0) {old new : List ℕ} {number on most : ℕ} → Grows Added old new (number + 1) on
+pub visits_smaller : {Added : ℕ → Type 0} {old new : List ℕ} {number on most : ℕ} → Grows Added old new (number + 1) on
     → number < most → unset new * (most + 1) + (most - on) < unset old * (most + 1) + (most - number)
-visits_smaller Added g h = let l = g.goes in grind (arith, common_steps)
+visits_smaller g h = let l = g.goes in grind (arith, common_steps)
 
 -- What numbers lead to without a byte, ready to be looked up.
 
@@ -261,17 +259,16 @@ bit_is number bit here h =
 
 -- what a number of a word leads to in it
 pub both_led : {code : List Node} {number to : ℕ} {way : Way} (one other bit : ℕ) → IsWay code number way
-    → Opens way.when false false → ((bit_at one bit ≡ 1) ↔ (way.one ≡ to))
-    → ((bit_at other bit ≡ 1) ↔ (way.other ≡ to))
+    → Opens way.when false false → ((bit_at one bit ≡ 1) ↔ (way.one ≡ to)) → ((bit_at other bit ≡ 1) ↔ (way.other ≡ to))
     → (bit_at (bit_or one other) bit ≡ 1) ↔ Flows code false false number to
 both_led {to} one other bit w o a b = (
-  λ k. (w.exact false false to).1 (o, elim (either_bit one other bit k) [ inl first ↦ inl (sym (a.0 first)) | inr second ↦ inr (sym (b.0 second)) ]),
-  λ f. elim ((w.exact false false to).0 f).1 [ inl e ↦ left_bit one other bit (a.1 (sym e)) | inr e ↦ right_bit one other bit (b.1 (sym e)) ],
+  λ k. (w.exact false false to).1 (o, elim (either_bit _ _ _ k) [ inl first ↦ inl (sym (a.0 first)) | inr second ↦ inr (sym (b.0 second)) ]),
+  λ f. elim ((w.exact false false to).0 f).1 [ inl e ↦ left_bit _ _ _ (a.1 (sym e)) | inr e ↦ right_bit _ _ _ (b.1 (sym e)) ],
 )
 
-pub none_led : (code : List Node) (number to bit : ℕ) → (Flows code false false number to → ⊥)
+pub none_led : (code : List Node) {number to : ℕ} (bit : ℕ) → (Flows code false false number to → ⊥)
     → (bit_at 0 bit ≡ 1) ↔ Flows code false false number to
-none_led code number to bit never = (λ k. let z = bit_at-zero bit in absurd (omega (arith, z, k)), λ f. absurd (never f))
+none_led code bit never = (λ k. let z = bit_at-zero bit in absurd (omega (arith, z, k)), λ f. absurd (never f))
 
 -- what some of the numbers lead to is there
 pub record Insiding (code : List Node) (at word all done : ℕ) : Type 0 where
@@ -282,20 +279,20 @@ pub record Insiding (code : List Node) (at word all done : ℕ) : Type 0 where
       → Flows code false false (at * 64 + bit) (at * 64 + to) → bit_at all to ≡ 1
 
 -- what isn't in a word yet
-pub fresh_bit : (found all bit : ℕ) → all < 2 ^ 64 → bit < 64
+pub fresh_bit : (found : ℕ) {all bit : ℕ} → all < 2 ^ 64 → bit < 64
     → bit_at (bit_and found (bit_not w64 all)) bit ≡ min (bit_at found bit) (1 - bit_at all bit)
-fresh_bit found all bit m l = bit_at_and found (bit_not w64 all) bit ∙ ap (min (bit_at found bit)) (bit_at_not w64 all bit m l)
+fresh_bit found {all} {bit} m l = bit_at_and found (bit_not w64 all) bit ∙ ap (min (bit_at found bit)) (bit_at_not w64 all bit m l)
 
-pub inside_more : {code : List Node} {at word : ℕ} (all done found : ℕ) {bit : ℕ} → Insiding code at word all done
+pub inside_more : {code : List Node} {at word all done : ℕ} (found : ℕ) {bit : ℕ} → Insiding code at word all done
     → bit < 64 → done < 2 ^ 64 → bit_at (bit_and all (bit_not w64 done)) bit ≡ 1
     → ((to : ℕ) → to < 64 → (bit_at found to ≡ 1) ↔ Flows code false false (at * 64 + bit) (at * 64 + to))
     → Insiding code at word (bit_or all found) (bit_or done (1 * 2 ^ bit % 2 ^ 64))
-inside_more {code} {at} all done found {bit} i small fits here is = record {
+inside_more {at} {all} {done} found {bit} i small fits here is = record {
   kept = λ b h k. left_bit all found b (i.kept b h k);
   from_word = λ n h k. elim (either_bit all found n k) [
     | inl old ↦ i.from_word n h old
     | inr new ↦
-        let e = fresh_bit all done bit fits small in
+        let e = fresh_bit all fits small in
         let was = i.from_word bit small (omega (arith, e, here, bit_at-lt all bit)) in
         (was.0, was.1, was.2, (suc was.3.0, (at * 64 + bit, was.3.1, (is n h).0 new)))
   ];
@@ -305,20 +302,20 @@ inside_more {code} {at} all done found {bit} i small fits here is = record {
   ];
 }
 
-pub inside_ends : {code : List Node} {at word : ℕ} (all done : ℕ) → Insiding code at word all done → done < 2 ^ 64
+pub inside_ends : {code : List Node} {at word all done : ℕ} → Insiding code at word all done → done < 2 ^ 64
     → bit_and all (bit_not w64 done) ≡ 0 → Closes code at word all
-inside_ends all done i fits none = record {
+inside_ends {all} {done} i fits none = record {
   kept = i.kept;
   from_chosen = i.from_word;
-  closed = λ n to h l k f. i.looked n to h l (let e = fresh_bit all done n fits h in let z = ap (λ w. bit_at w n) none ∙ bit_at-zero n in let b = bit_at-lt done n in omega (arith, e, z, k, b)) f;
+  closed = λ n to h l k f. i.looked n to h l (let e = fresh_bit all fits h in let z = ap (λ w. bit_at w n) none ∙ bit_at-zero n in let b = bit_at-lt done n in omega (arith, e, z, k, b)) f;
 }
 
 -- one more was looked at
-pub inside_smaller : (all done : ℕ) {bit : ℕ} → bit < 64 → done < 2 ^ 64
+pub inside_smaller : (all : ℕ) {done bit : ℕ} → bit < 64 → done < 2 ^ 64
     → bit_at (bit_and all (bit_not w64 done)) bit ≡ 1 → 2 ^ 64 - bit_or done (1 * 2 ^ bit % 2 ^ 64) < 2 ^ 64 - done
-inside_smaller all done {bit} small fits here = elim (cases_eq (bit_or done (1 * 2 ^ bit % 2 ^ 64)) done) [
+inside_smaller all {done} {bit} small fits here = elim (cases_eq (bit_or done (1 * 2 ^ bit % 2 ^ 64)) done) [
   | inl same ↦
-      let e = fresh_bit all done bit fits small in
+      let e = fresh_bit all fits small in
       let s = sym (bit_at_set_same w64 done bit small) ∙ ap (λ w. bit_at w bit) same in
       absurd (omega (arith, e, s, here))
   | inr grown ↦ let l = le_or_l done (1 * 2 ^ bit % 2 ^ 64) in let m = or_lt 64 done (1 * 2 ^ bit % 2 ^ 64) fits (omega arith) in omega (arith, l, m, grown)
@@ -333,11 +330,11 @@ pub record Joining (code : List Node) (at word eight all : ℕ) : Type 0 where
       → Flows code false false (at * 64 + number) (at * 64 + to) → bit_at all to ≡ 1
 
 -- the bits of eight numbers of a word
-eight_bits : (word eight bit : ℕ) → word < 2 ^ 64
+eight_bits : {word : ℕ} (eight bit : ℕ) → word < 2 ^ 64
     → bit_at (word / 2 ^ (eight * 8) % 256 * 2 ^ (eight * 8) % 2 ^ 64) bit
     ≡ min (bit_at word bit) (bit_at (2 ^ (8 + eight * 8) - 2 ^ (eight * 8)) bit)
-eight_bits word eight bit h =
-    let e : bit_and word (2 ^ (8 + eight * 8) - 2 ^ (eight * 8)) ≡ word / 2 ^ (eight * 8) % 256 * 2 ^ (eight * 8) = and_high word 8 (eight * 8) in
+eight_bits {word} eight bit h =
+    let e : bit_and word (2 ^ (8 + eight * 8) - 2 ^ (eight * 8)) ≡ word / 2 ^ (eight * 8) % 256 * 2 ^ (eight * 8) = and_high word 8 _ in
     let l = and_le_l word (2 ^ (8 + eight * 8) - 2 ^ (eight * 8)) in
     let q : word / 2 ^ (eight * 8) % 256 * 2 ^ (eight * 8) % 2 ^ 64 ≡ bit_and word (2 ^ (8 + eight * 8) - 2 ^ (eight * 8)) = omega (arith, e, l, h) in
     ap (λ x. bit_at x bit) q ∙ bit_at_and word (2 ^ (8 + eight * 8) - 2 ^ (eight * 8)) bit
@@ -346,17 +343,17 @@ eight_bits word eight bit h =
 entry_at : {code : List Node} (place : ℕ) {at eight chosen entry : ℕ} → place / 2048 ≡ at → place / 256 % 8 ≡ eight
     → place % 256 ≡ chosen
     → Closes code (place / 2048) (chosen_at place) entry → Closes code at (chosen * 2 ^ (eight * 8) % 2 ^ 64) entry
-entry_at {code} place {eight} {chosen} {entry} word which low c = search rules
+entry_at place word which low c = search rules
 
-pub join_more : {code : List Node} {inside : List ℕ} {at word eight : ℕ} (all : ℕ) {entry : ℕ}
+pub join_more : {code : List Node} {inside : List ℕ} {at word eight all entry : ℕ}
     → Joining code at word eight all → AreEach 0 (IsInside code) (width code * 2048) inside → at < width code
     → eight < 8 → word < 2 ^ 64 → entry ≡ get_or inside (at * 2048 + (eight * 256 + word / 2 ^ (eight * 8) % 256)) 0
     → Joining code at word (eight + 1) (bit_or all entry)
-join_more {code} {at} {word} {eight} all {entry} j i within h fits e = record {
+join_more {code} {at} {word} {eight} {all} {entry} j i within h fits e = record {
   kept = λ bit l is. elim (cases_lt bit (eight * 8)) [
     | inl before ↦ left_bit all entry bit (j.kept bit before is)
     | inr here ↦
-        let m = eight_bits word eight bit fits in
+        let m = eight_bits eight bit fits in
         let o = bit_at_mask_inside (eight * 8) (8 + eight * 8) bit here (omega (arith, l)) in
         right_bit all entry bit (c.kept bit (omega (arith, l, h)) (omega (arith, m, o, is)))
   ];
@@ -364,7 +361,7 @@ join_more {code} {at} {word} {eight} all {entry} j i within h fits e = record {
     | inl old ↦ j.from_word number l old
     | inr new ↦
         let k = c.from_chosen number l new in
-        let m = eight_bits word eight k.0 fits in
+        let m = eight_bits eight k.0 fits in
         let b = bit_at-lt word k.0 in
         (k.0, k.1, (let is = k.2 in omega (arith, m, is, b)), k.3)
   ];
@@ -389,11 +386,11 @@ fitted n i h =
     let q : n % 2 ^ 64 ≡ bit_and n (2 ^ (64 + 0) - 2 ^ 0) = omega (arith, e) in
     ap (λ x. bit_at x i) q ∙ b ∙ omega (arith, o, l)
 
-pub placed_below : (n s i : ℕ) → i < 64 → i < s → bit_at (n * 2 ^ s % 2 ^ 64) i ≡ 0
-placed_below n s i h l = fitted (n * 2 ^ s) i h ∙ ap (λ x. bit_at x i) (omega arith) ∙ bit_at_cat_low n s 0 i l ∙ bit_at-zero i
+pub placed_below : (n : ℕ) {s i : ℕ} → i < 64 → i < s → bit_at (n * 2 ^ s % 2 ^ 64) i ≡ 0
+placed_below n {s} {i} h l = fitted _ i h ∙ ap (λ x. bit_at x i) (omega arith) ∙ bit_at_cat_low n s 0 i l ∙ bit_at-zero i
 
-pub placed : (n s i : ℕ) → i < 64 → s ≤ i → bit_at (n * 2 ^ s % 2 ^ 64) i ≡ bit_at n (i - s)
-placed n s i h l = fitted (n * 2 ^ s) i h ∙ ap (λ x. bit_at x i) (omega arith) ∙ bit_at_cat_high n s 0 i (search rules) l
+pub placed : (n : ℕ) {s i : ℕ} → i < 64 → s ≤ i → bit_at (n * 2 ^ s % 2 ^ 64) i ≡ bit_at n (i - s)
+placed n {s} {i} h l = fitted _ i h ∙ ap (λ x. bit_at x i) (omega arith) ∙ bit_at_cat_high n s 0 i (search rules) l
 
 -- the bits of a number are those of its lower and of its higher four bits
 halved : (high low j : ℕ) → low < 16 → bit_at (high * 16 + low) j ≡ max (bit_at (high * 16) j) (bit_at low j)
@@ -417,14 +414,14 @@ halved_placed : (high low s i : ℕ) → low < 16 → i < 64
     ≡ max (bit_at (high * 16 * 2 ^ s % 2 ^ 64) i) (bit_at (low * 2 ^ s % 2 ^ 64) i)
 halved_placed high low s i h small = elim (cases_lt i s) [
   | inl l ↦
-      let a = placed_below (high * 16 + low) s i small l in
-      let b = placed_below (high * 16) s i small l in
-      let d = placed_below low s i small l in
+      let a = placed_below (high * 16 + low) small l in
+      let b = placed_below (high * 16) small l in
+      let d = placed_below low small l in
       omega (arith, a, b, d)
   | inr l ↦
-      let a = placed (high * 16 + low) s i small l in
-      let b = placed (high * 16) s i small l in
-      let d = placed low s i small l in
+      let a = placed (high * 16 + low) small l in
+      let b = placed (high * 16) small l in
+      let d = placed low small l in
       let e = halved high low (i - s) h in
       omega (arith, a, b, d, e)
 ]
@@ -435,16 +432,16 @@ closes_both : {code : List Node} {at : ℕ} (one other : ℕ) {chosen : ℕ} (al
     → Closes code at chosen (bit_or all more)
 closes_both one other all more c d e = record {
   kept = λ bit h is. elim (cases_eq (bit_at one bit) 1) [
-    | inl first ↦ left_bit all more bit (c.kept bit h first)
-    | inr differs ↦ right_bit all more bit (d.kept bit h (let q = e bit h in let l = bit_at-lt one bit in let m = bit_at-lt other bit in omega (arith, q, l, m, is, differs)))
+    | inl first ↦ left_bit _ _ _ (c.kept bit h first)
+    | inr differs ↦ right_bit _ _ _ (d.kept bit h (let q = e bit h in let l = bit_at-lt one bit in let m = bit_at-lt other bit in omega (arith, q, l, m, is, differs)))
   ];
-  from_chosen = λ number h is. elim (either_bit all more number is) [
+  from_chosen = λ number h is. elim (either_bit _ _ _ is) [
     | inl old ↦ let k = c.from_chosen number h old in (k.0, k.1, (let q = e k.0 k.1 in let is = k.2 in let l = bit_at-lt other k.0 in omega (arith, q, is, l)), k.3)
     | inr new ↦ let k = d.from_chosen number h new in (k.0, k.1, (let q = e k.0 k.1 in let is = k.2 in let l = bit_at-lt one k.0 in omega (arith, q, is, l)), k.3)
   ];
-  closed = λ number to h l is f. elim (either_bit all more number is) [
-    | inl old ↦ left_bit all more to (c.closed number to h l old f)
-    | inr new ↦ right_bit all more to (d.closed number to h l new f)
+  closed = λ number to h l is f. elim (either_bit _ _ _ is) [
+    | inl old ↦ left_bit _ _ _ (c.closed number to h l old f)
+    | inr new ↦ right_bit _ _ _ (d.closed number to h l new f)
   ];
 }
 
@@ -462,15 +459,15 @@ entry_of_halves {code} {inside} {place} i low high = closes_both _ _ _ _ one oth
         (get_or inside (place - place % 16) 0)
     one =
         let before : ℕ = place - place % 16 in
-        entry_at before (omega arith) (omega arith) (omega arith) (i.each before (omega (arith, low)))
+        entry_at _ (omega arith) (omega arith) (omega arith) (i.each before (omega (arith, low)))
 
     other : Closes code (place / 2048) (place % 16 * 2 ^ (place / 256 % 8 * 8) % 2 ^ 64)
         (get_or inside (place - place / 16 % 16 * 16) 0)
     other =
         let before : ℕ = place - place / 16 % 16 * 16 in
-        entry_at before (omega arith) (omega arith) (omega arith) (i.each before (omega (arith, high)))
+        entry_at _ (omega arith) (omega arith) (omega arith) (i.each before (omega (arith, high)))
 
     bits : (bit : ℕ) → bit < 64
         → bit_at (chosen_at place) bit ≡ max (bit_at (place / 16 % 16 * 16 * 2 ^ (place / 256 % 8 * 8) % 2 ^ 64) bit)
         (bit_at (place % 16 * 2 ^ (place / 256 % 8 * 8) % 2 ^ 64) bit)
-    bits bit h = ap (λ n. bit_at (n * 2 ^ (place / 256 % 8 * 8) % 2 ^ 64) bit) chosen ∙ halved_placed (place / 16 % 16) (place % 16) (place / 256 % 8 * 8) bit (omega arith) h
+    bits bit h = ap (λ n. bit_at (n * 2 ^ (place / 256 % 8 * 8) % 2 ^ 64) bit) chosen ∙ halved_placed _ _ _ _ (omega arith) h

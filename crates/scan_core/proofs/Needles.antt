@@ -22,72 +22,72 @@ use Rattle.scan_core.proofs.{Codes.{contained, at_at}, Enterings.{at_once, at_le
 
 -- Each walk to the end comes by a node beyond which no choice leads.
 
-step_near : (code : List Node) (line : List ℕ) (number : ℕ) (node : Node) {at : ℕ} (place : ℕ) {at' : ℕ} (place' : ℕ)
+step_near : (code : List Node) (line : List ℕ) {number : ℕ} (node : Node) {at : ℕ} (place : ℕ) {at' : ℕ} (place' : ℕ)
     → IsPassed code number → At code at node → Leads node line at place at' place' → at < number → at' ≤ number
-step_near code line number (Take bytes) place place' passed here led low = omega (arith, led.0, low)
-step_near code line number First place place' passed here led low = omega (arith, led.0, low)
-step_near code line number Last place place' passed here led low = omega (arith, led.0, low)
-step_near code line number (Choose skip) {at} place place' passed here led low = grind (arith, common_steps)
-step_near code line number (Back by) place place' passed here led low = omega (arith, led.0, low)
+step_near code line (Take bytes) place place' passed here led low = omega (arith, led.0, low)
+step_near code line First place place' passed here led low = omega (arith, led.0, low)
+step_near code line Last place place' passed here led low = omega (arith, led.0, low)
+step_near code line (Choose skip) place place' passed here led low = grind (arith, common_steps)
+step_near code line (Back by) place place' passed here led low = omega (arith, led.0, low)
 
-come_by : (code : List Node) (line : List ℕ) (number : ℕ) → IsPassed code number → (count at place to stop : ℕ)
-    → Walks code line count at place to stop → at ≤ number → number < to
+come_by : (code : List Node) {line : List ℕ} {number : ℕ} → IsPassed code number → (count : ℕ) {at : ℕ} (place : ℕ)
+    {to stop : ℕ} → Walks code line count at place to stop → at ≤ number → number < to
     → (there : ℕ) × (rest : ℕ) × Walks code line rest number there to stop
-come_by code line number passed zero at place to stop w low high = absurd (omega (arith, w.0, low, high))
-come_by code line number passed (suc count) at place to stop w low high = elim (cases_eq at number) [
+come_by code passed zero place w low high = absurd (omega (arith, w.0, low, high))
+come_by code {line} {number} passed (suc count) {at} place w low high = elim (cases_eq at number) [
   | inl same ↦ (place, suc count, rw same at w)
-  | inr other ↦ come_by code line number passed count w.0 w.1 to stop w.3 (step_near code line number w.2.0 place w.1 passed w.2.1 w.2.2 (omega (arith, low, other))) high
+  | inr other ↦ come_by code passed count w.1 w.3 (step_near code line w.2.0 place w.1 passed w.2.1 w.2.2 (omega (arith, low, other))) high
 ]
 
 -- A walk that goes on from nodes which take bytes takes one after another.
 
-led_on : (code : List Node) (line : List ℕ) (count number place to stop : ℕ) (bytes : List Bool)
+led_on : (code : List Node) {line : List ℕ} (count : ℕ) {number place : ℕ} (to stop : ℕ) (bytes : List Bool)
     → Walks code line (suc count) number place to stop → At code number (Take bytes)
     → (place < length line) × IsTrue (has bytes (slice_index line place))
     × Walks code line count (number + 1) (place + 1) to stop
-led_on code line count number place to stop bytes w here = search (rules, at_once)
+led_on code count to stop bytes w here = search (rules, at_once)
 
 abbrev AreTakes : List Node → ℕ → ℕ → Type 0
 AreTakes code number last = (k : ℕ) → k ≤ last → (bytes : List Bool) × At code (number + k) (Take bytes)
 
-taken : (code : List Node) (line : List ℕ) (k number place to stop count : ℕ)
+taken : (code : List Node) (line : List ℕ) (k number place : ℕ) {to : ℕ} (stop count : ℕ)
     → Walks code line count number place to stop → number + k < to → AreTakes code number k
     → (place + k < length line) × ((bytes : List Bool) → At code (number + k) (Take bytes)
     → IsTrue (has bytes (slice_index line (place + k))))
-taken code line k number place to stop zero w high takes = absurd (omega (arith, w.0, high))
-taken code line zero number place to stop (suc count) w high takes =
+taken code line k number place stop zero w high takes = absurd (omega (arith, w.0, high))
+taken code line zero number place stop (suc count) w high takes =
     let first = takes 0 (omega arith) in
     let here : number + 0 ≡ number = omega arith in
     let there : place ≡ place + 0 = omega arith in
-    let led = led_on code line count number place to stop first.0 w (at_at code (Take first.0) here first.1) in (
+    let led = led_on _ _ _ _ _ w (at_at _ _ here first.1) in (
       omega (arith, led.0),
-      λ bytes at. rw there at (led_on code line count number place to stop bytes w (at_at code (Take bytes) here at)).1,
+      λ bytes at. rw there at (led_on _ _ _ _ _ w (at_at _ _ here at)).1,
     )
-taken code line (suc k) number place to stop (suc count) w high takes =
+taken code line (suc k) number place {to} stop (suc count) w high takes =
     let first = takes 0 (omega arith) in
-    let led = led_on code line count number place to stop first.0 w (at_at code (Take first.0) (omega arith) first.1) in
-    let more = taken code line k (number + 1) (place + 1) to stop count led.2 (omega (arith, high)) (λ j low. let next = takes (suc j) (omega (arith, low)) in (next.0, at_at code (Take next.0) (omega arith) next.1)) in
+    let led = led_on code count to stop first.0 w (at_at code (Take first.0) (omega arith) first.1) in
+    let more = taken code line k (number + 1) (place + 1) stop count led.2 (omega (arith, high)) (λ j low. let next = takes (suc j) (omega (arith, low)) in (next.0, at_at code (Take next.0) (omega arith) next.1)) in
     let there : place + 1 + k ≡ place + suc k = omega arith in (
       omega (arith, more.0),
       λ bytes at. rw there at (more.1 bytes (at_at code (Take bytes) (omega arith) at)),
     )
 
 -- the walk of a line with a match, from such a node on
-comes : (code : List Node) (line : List ℕ) (number : ℕ) → IsPassed code number → number < length code → EndsIn code line
+comes : (code : List Node) {line : List ℕ} {number : ℕ} → IsPassed code number → number < length code → EndsIn code line
     → (there : ℕ) × (rest : ℕ) × (stop : ℕ) × Walks code line rest number there (length code) stop
-comes code line number passed within ends =
-    let by = come_by code line number passed ends.2.2.0 0 ends.2.0 (length code) ends.0 ends.2.2.1 (omega arith) within in
+comes code passed within ends =
+    let by = come_by _ passed _ _ ends.2.2.1 (omega arith) within in
     (by.0, by.1, ends.0, by.2)
 
-pub is_byte_needle : (code : List Node) (number : ℕ) (bytes : List Bool) (few : FewBytes) → IsPassed code number
+pub is_byte_needle : (code : List Node) {number : ℕ} (bytes : List Bool) (few : FewBytes) → IsPassed code number
     → At code number (Take bytes) → ((byte : ℕ) → byte < 256 → IsTrue (has bytes byte) → is_among few byte ≡ true)
     → IsNeedle code (Byte few)
-is_byte_needle code number bytes few passed here among line are ends =
-    let walk = comes code line number passed (at_least code number (Take bytes) here) ends in
+is_byte_needle code {number} bytes few passed here among line are ends =
+    let walk = comes _ passed (at_least _ _ _ here) ends in
     let same : number ≡ number + 0 = omega arith in
     let first : AreTakes code number 0 = λ k low. (bytes, at_at code (Take bytes) (omega (arith, low)) here) in
-    let t = taken code line 0 number walk.0 (length code) walk.2 walk.1 walk.3 (let low = at_least code number (Take bytes) here in omega (arith, low)) first in
-    (walk.0 + 0, t.0, among (slice_index line (walk.0 + 0)) (are (walk.0 + 0) t.0) (t.1 bytes (at_at code (Take bytes) same here)))
+    let t = taken code line 0 number walk.0 walk.2 walk.1 walk.3 (let low = at_least code number (Take bytes) here in omega (arith, low)) first in
+    (walk.0 + 0, t.0, among (slice_index line (walk.0 + 0)) (are (walk.0 + 0) t.0) (t.1 bytes (at_at _ _ same here)))
 
 -- a node that takes one byte alone takes bytes
 only_takes : (code : List Node) (number : ℕ) {byte : ℕ} (node : Node) → At code number node → TakesOnly node byte
@@ -99,9 +99,9 @@ only_takes code number Last here only = absurd only
 only_takes code number (Choose skip) here only = absurd only
 only_takes code number (Back by) here only = absurd only
 
-pub is_text_needle : (code : List Node) (number : ℕ) {text needle : List ℕ} → IsPassed code number
+pub is_text_needle : (code : List Node) {number : ℕ} {text needle : List ℕ} → IsPassed code number
     → IsLiteral code number text → needle ≡ text → 0 < length text → IsNeedle code (Text needle)
-is_text_needle code number {text} passed literal same some line are ends = (
+is_text_needle code {number} {text} passed literal same some line are ends = (
   walk.0,
   rw same (record {
     fits = let last = each (length text - 1) (omega (arith, some)) in omega (arith, last.0, some);
@@ -114,33 +114,33 @@ is_text_needle code number {text} passed literal same some line are ends = (
     takes k within = let one = literal k within in only_takes code (number + k) one.0 one.1 one.2
 
     walk : (there : ℕ) × (rest : ℕ) × (stop : ℕ) × Walks code line rest number there (length code) stop
-    walk = comes code line number passed (let one = takes 0 some in let low = at_least code (number + 0) (Take one.0) one.1 in omega (arith, low)) ends
+    walk = comes code passed (let one = takes 0 some in let low = at_least code (number + 0) (Take one.0) one.1 in omega (arith, low)) ends
 
     each : (k : ℕ) → k < length text → (walk.0 + k < length line) × (slice_index line (walk.0 + k) ≡ slice_index text k)
     each k within =
         let one = takes k within in
-        let t = taken code line k number walk.0 (length code) walk.2 walk.1 walk.3 (at_least code (number + k) (Take one.0) one.1) (λ j low. let next = takes j (omega (arith, low, within)) in (next.0, next.1)) in
+        let t = taken _ _ k _ _ _ _ walk.3 (at_least _ _ _ one.1) (λ j low. let next = takes j (omega (arith, low, within)) in (next.0, next.1)) in
         (t.0, one.2 (slice_index line (walk.0 + k)) (are (walk.0 + k) t.0) (t.1 one.0 one.1))
 
 -- Stretches of a text
 
-pub part_at : (before part after : List ℕ) (k : ℕ) → k < length part
+pub part_at : (before part after : List ℕ) {k : ℕ} → k < length part
     → slice_index (before ++ part ++ after) (length before + k) ≡ slice_index part k
-part_at before part after k within = grind (arith, common_steps)
+part_at before part after within = grind (arith, common_steps)
 
-pub lacks_byte : (few : FewBytes) (text : List ℕ) (place : ℕ) → Nowhere (Passes (is_among few) text) 0 place
+pub lacks_byte : (few : FewBytes) {text : List ℕ} {place : ℕ} → Nowhere (Passes (is_among few) text) 0 place
     → LacksBefore (Byte few) text place
-lacks_byte few text place none before part after all ends has = search (rules, part_at)
+lacks_byte few none before part after all ends has = search (rules, part_at)
 
-pub lacks_text : (needle text : List ℕ) (place : ℕ) → Nowhere (OccursAt text needle) 0 place
+pub lacks_text : {needle text : List ℕ} {place : ℕ} → Nowhere (OccursAt text needle) 0 place
     → LacksBefore (Text needle) text place
-lacks_text needle text place none before part after all ends has =
+lacks_text none before part after all ends has =
     let fits = has.1.fits in
     none (length before + has.0) (omega arith) (omega (arith, ends, fits)) (rw all (record {
-      fits = (let one : length (before ++ part) ≡ length before + length part = length-append before part in let two : length (before ++ part ++ after) ≡ length (before ++ part) + length after = length-append (before ++ part) after in omega (arith, one, two, fits));
+      fits = (let one : length (before ++ part) ≡ length before + length part = length-append before part in let two : length (before ++ part ++ after) ≡ length (before ++ part) + length after = length-append _ after in omega (arith, one, two, fits));
       reads = λ j within.
           let there : length before + has.0 + j ≡ length before + (has.0 + j) = omega arith in
-          ap (λ n. slice_index (before ++ part ++ after) n) there ∙ part_at before part after (has.0 + j) (omega (arith, within, fits)) ∙ has.1.reads j within;
+          ap (λ n. slice_index (before ++ part ++ after) n) there ∙ part_at before part after (omega (arith, within, fits)) ∙ has.1.reads j within;
     }))
 
 -- a stretch that lacks the needle contains no match
@@ -148,19 +148,19 @@ lacks_text needle text place none before part after all ends has =
 part_bytes : (before part after : List ℕ) → AreBytes (before ++ part ++ after) → AreBytes part
 part_bytes before part after are k within = search (rules, length-append, part_at)
 
-pub clear_of : (pattern : Pattern) (needle : Needle) (text : List ℕ) (place : ℕ) → IsOrdered pattern → AreBytes text
+pub clear_of : (pattern : Pattern) (needle : Needle) {text : List ℕ} {place : ℕ} → IsOrdered pattern → AreBytes text
     → IsNeedle (code_of pattern) needle → LacksBefore needle text place → IsClear pattern text place
-clear_of pattern needle text place ordered are is lacks before line after all ends = by (contains pattern line) refl
+clear_of pattern needle ordered are is lacks before line after all ends = by (contains pattern line) refl
   where
     by : (found : Bool) → contains pattern line ≡ found → found ≡ false
     by false same = refl
-    by true same = absurd (lacks before line after all ends (is line (part_bytes before line after (rw all at are)) ((contained pattern line ordered).0 ((contains_tells pattern line).0 same))))
+    by true same = absurd (lacks before line after all ends (is line (part_bytes _ _ _ (rw all at are)) ((contained _ ordered).0 ((contains_tells pattern line).0 same))))
 
 -- Choosing the rarest nodes
 
 pub other_node : (code : List Node) (number : ℕ) {node : Node} → At code number node
     → ((skip : ℕ) → node ≡ Choose skip → ⊥) → (skip : ℕ) → At code number (Choose skip) → ⊥
-other_node code number {node} here differs skip there = differs skip (at_once code number node (Choose skip) here there)
+other_node code number here differs skip there = differs skip (at_once code number here there)
 
 pub literal_more : (code : List Node) (from : ℕ) {at : ℕ} (byte : ℕ) (text : List ℕ) (node : Node)
     → from + length text ≡ at → IsLiteral code from text → At code at node → TakesOnly node byte
@@ -169,9 +169,9 @@ literal_more code from {at} byte text node all literal here only k within = elim
   | inl same ↦
       let there : at ≡ from + k = omega (arith, all, same) in
       let last : byte ≡ slice_index (text ++ byte ∷ []) k = sym (ap (λ n. slice_index (text ++ byte ∷ []) n) same ∙ get_or-append_seam text byte [] _) in
-      (node, at_at code node there here, rw last at only)
+      (node, at_at _ _ there here, rw last at only)
   | inr other ↦
-      let long : length (text ++ byte ∷ []) ≡ length text + 1 = length-append text (byte ∷ []) in
+      let long : length (text ++ byte ∷ []) ≡ length text + 1 = length-append text _ in
       let less : k < length text = omega (arith, within, long, other) in
       let one = literal k less in
       (one.0, one.1, rw (← get_or_append_left text (byte ∷ []) _ k less) at one.2)

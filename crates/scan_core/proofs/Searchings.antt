@@ -32,20 +32,18 @@ pub record Searched (code : List Node) (line : List ℕ) (place : ℕ) (words : 
   pub so_far : IsCounted code line place steps
 
 -- at the line's front nothing came before
-pub front_is : {code : List Node} (line : List ℕ) {base words : List ℕ} {place steps : ℕ}
-    → Searched code line place words steps → IsBase code base → place ≡ 0 → (number : ℕ) → IsIn words number
-    → IsIn base number
-front_is line s b z number k = elim ((s.came number).0 k) [ inl came ↦ absurd (let e = came.1 in omega (arith, e, z)) | inr on ↦ (b.exact number).1 on ]
+pub front_is : {code : List Node} {line base words : List ℕ} {place steps : ℕ} → Searched code line place words steps
+    → IsBase code base → place ≡ 0 → (number : ℕ) → IsIn words number → IsIn base number
+front_is s b z number k = elim ((s.came number).0 k) [ inl came ↦ absurd (let e = came.1 in omega (arith, e, z)) | inr on ↦ (b.exact number).1 on ]
 
 -- what is entered at a place
-pub entered_here : {code : List Node} (line : List ℕ) {place steps : ℕ} {at_first at_last : Bool} {old new : List ℕ}
+pub entered_here : {code : List Node} {line : List ℕ} {place steps : ℕ} {at_first at_last : Bool} {old new : List ℕ}
     → Searched code line place old steps → IsPlace line place at_first at_last
-    → SpreadsOut code at_first at_last old new
-    → (number : ℕ) → IsIn new number ↔ Entered code line number place
-entered_here {code} line {at_first} {at_last} s p o number = let r = reaches_exact code line p number in (
+    → SpreadsOut code at_first at_last old new → (number : ℕ) → IsIn new number ↔ Entered code line number place
+entered_here s p o number = let r = reaches_exact _ p _ in (
   λ h. let f = (o.exact number).0 h in r.0 (elim ((s.came f.0).0 f.1) [
     | inl came ↦ (f.0, inl came, f.2)
-    | inr on ↦ (0, inr refl, flows_join code at_first at_last f.2.0 0 f.0 number (on.0, parts_anywhere code at_first at_last on.0 0 f.0 on.1) f.2.1)
+    | inr on ↦ (0, inr refl, flows_join _ _ (on.0, parts_anywhere _ _ _ _ 0 _ on.1) f.2.1)
   ]),
   λ e. let f = r.1 e in (o.exact number).1 (f.0, (s.came f.0).1 (elim f.1 [ inl came ↦ inl came | inr e ↦ inr (0, sym e) ]), f.2),
 )
@@ -56,24 +54,24 @@ pub few_positions : (code : List Node) (words : List ℕ) {positions : ℕ}
 few_positions code words e = let m = positions_most code (flags_of words) in omega (arith, m, e)
 
 -- the steps so far and those of one place more fit 128 bits
-pub search_fits : {code : List Node} (line : List ℕ) {place steps positions : ℕ} {old : List ℕ} (now : List ℕ)
+pub search_fits : {code : List Node} {line : List ℕ} {place steps positions : ℕ} {old : List ℕ} (now : List ℕ)
     → Searched code line place old steps
     → positions ≡ positions_among code (flags_of now) → length code < 9223372036854775808 → place ≤ 18446744073709551616
     → steps + positions < 340282366920938463463374607431768211456
-search_fits {code} line {place} now s e few far =
+search_fits {code} {place} now s e few far =
     let w = weight_length code in
     let m = few_positions code now e in
     let size : weight code + 1 ≤ 9223372036854775808 = omega (arith, w, few) in
     let most : place * (weight code + 1) ≤ 18446744073709551616 * 9223372036854775808 = mul-le-mul far size in
     omega (arith, s.so_far.bound, most, m, size)
 
-marked_here : (code : List Node) (line : List ℕ) (place : ℕ) (words : List ℕ)
+marked_here : (code : List Node) {line : List ℕ} {place : ℕ} (words : List ℕ)
     → ((number : ℕ) → IsIn words number ↔ Entered code line number place) → (number : ℕ)
     → IsMarked (flags_of words) number ↔ Entered code line number place
-marked_here code line place words here number = (λ h. (here number).0 ((flags_are words number).0 h), λ e. (flags_are words number).1 ((here number).1 e))
+marked_here code words here number = (λ h. (here number).0 ((flags_are _ _).0 h), λ e. (flags_are _ _).1 ((here number).1 e))
 
 -- one byte more
-pub search_more : {code : List Node} (line : List ℕ) {base : List ℕ} {place byte steps positions : ℕ} {old : List ℕ}
+pub search_more : {code : List Node} {line base : List ℕ} {place byte steps positions : ℕ} {old : List ℕ}
     (now : List ℕ) {new : List ℕ} {found : Bool} → IsBase code base → Searched code line place old steps
     → ((number : ℕ) → IsIn now number ↔ Entered code line number place) → place < length line
     → byte ≡ slice_index line place → positions ≡ positions_among code (flags_of now)
@@ -81,69 +79,67 @@ pub search_more : {code : List Node} (line : List ℕ) {base : List ℕ} {place 
     → ((number : ℕ)
     → IsIn new number ↔ (((before : ℕ) × IsIn now before × Passes code byte before number) ⊎ IsIn base number))
     → Searched code line (place + 1) new (steps + positions)
-search_more {code} line {place} {byte} {steps} now {new} b s here h e p absent test size passed = record {
+search_more {place} now b s here h e p absent test size passed = record {
   size = size;
   came = λ number.
       let one : suc place ≡ place + 1 = omega arith in
-      let c = came_exact code line place (IsIn now) here h e number in
+      let c = came_exact _ here h e _ in
       rw (← one) (
         λ k. elim ((passed number).0 k) [ inl led ↦ inl (c.0 led) | inr based ↦ inr ((b.exact number).0 based) ],
         λ k. elim k [ inl came ↦ (passed number).1 (inl (c.1 came)) | inr flows ↦ (passed number).1 (inr ((b.exact number).1 flows)) ],
       );
-  so_far = rw (← p) at (counted_more (flags_of now) s.so_far (marked_here code line place now here) (λ m. false≢true (sym absent ∙ test.1 ((flags_are now (length code)).0 m))));
+  so_far = rw (← p) at (counted_more _ s.so_far (marked_here _ _ here) (λ m. false≢true (sym absent ∙ test.1 ((flags_are _ _).0 m))));
 }
 
 -- the end is entered
-pub search_found : {code : List Node} (line : List ℕ) {place steps positions : ℕ} {old : List ℕ} (now : List ℕ)
+pub search_found : {code : List Node} {line : List ℕ} {place steps positions : ℕ} {old : List ℕ} (now : List ℕ)
     → Searched code line place old steps → ((number : ℕ) → IsIn now number ↔ Entered code line number place)
     → place < length line → positions ≡ positions_among code (flags_of now) → IsIn now (length code)
     → IsOutcome code line (record { found = true; steps = steps + positions })
-search_found {code} line {place} {steps} {positions} now s here h p is =
+search_found {code} now s here h p is =
     counted_found s.so_far (omega (arith, h)) ((here (length code)).0 is) (omega arith)
-    (steps_wider (place + 1) (length line + 1) (steps + positions) (weight code + 1) (steps_more place steps positions (weight code + 1) s.so_far.bound (few_positions code now p)) (omega (arith, h)))
+    (steps_wider _ (steps_more _ s.so_far.bound (few_positions _ _ p)) (omega (arith, h)))
 
 -- the line's end
-pub search_ends : {code : List Node} (line : List ℕ) {place steps positions : ℕ} {old : List ℕ} (now : List ℕ)
+pub search_ends : {code : List Node} {line : List ℕ} {place steps positions : ℕ} {old : List ℕ} (now : List ℕ)
     {found : Bool} → Searched code line place old steps
     → ((number : ℕ) → IsIn now number ↔ Entered code line number place)
     → place ≡ length line → positions ≡ positions_among code (flags_of now) → (IsTrue found ↔ IsIn now (length code))
     → IsOutcome code line (record { found = found; steps = steps + positions })
-search_ends {code} line {place} {steps} now {found} s here e p test =
-    let f = flags_are now (length code) in
-    rw (← p) at (counted_ends (flags_of now) s.so_far (marked_here code line place now here) e (λ t. f.1 (test.0 t), λ m. test.1 (f.0 m)))
+search_ends now s here e p test =
+    let f = flags_are _ _ in
+    rw (← p) at (counted_ends _ s.so_far (marked_here _ _ here) e (λ t. f.1 (test.0 t), λ m. test.1 (f.0 m)))
 
 -- A table that is built set by set and entry by entry.
 
 tells_more : {code : List Node} {sets : List (List Bool)} (set : List Bool) {state byte read : ℕ} → state < length sets
-    → Tells code sets state byte read
-    → Tells code (sets ++ set ∷ []) state byte read
-tells_more {code} {sets} set {state} {byte} {read} h t = search (rules, length-append, get_or_append_left)
+    → Tells code sets state byte read → Tells code (sets ++ set ∷ []) state byte read
+tells_more set h t = search (rules, length-append, get_or_append_left)
 
 -- one more set; no entries of it are there yet
 built_set : {code : List Node} {entries : ℕ} {sets : List (List Bool)} {rows : List ℕ} {set : List Bool}
     → Built code entries sets rows → entries ≤ length sets * 256
     → IsOpen code set → Built code entries (sets ++ set ∷ []) rows
-built_set {code} {sets} {set} b small o = let l = length-append sets (set ∷ []) in record {
+built_set {sets} {set} b small o = let l = length-append sets (set ∷ []) in record {
   some = omega (arith, l);
   front = λ number. rw (← get_or_append_left sets (set ∷ []) [] 0 b.some) at (b.front number);
   going = each_to (each_more b.going o refl) (omega (arith, l));
-  told = each_by b.told (λ place read h t. tells_more set (omega (arith, h, small)) t);
+  told = each_by b.told (λ place read h t. tells_more _ (omega (arith, h, small)) t);
 }
 
 -- the entry of a state and a byte by its place
 tells_at : {code : List Node} {sets : List (List Bool)} {place state byte read : ℕ} → place ≡ state * 256 + byte
-    → byte < 256
-    → Tells code sets state byte read ≡ Tells code sets (place / 256) (place % 256) read
-tells_at {code} {sets} {place} {state} {byte} {read} e h = search rules
+    → byte < 256 → Tells code sets state byte read ≡ Tells code sets (place / 256) (place % 256) read
+tells_at e h = search rules
 
-next_by : (code : List Node) {byte : ℕ} (One Other : ℕ → Type 0) → ((n : ℕ) → One n → Other n) → (number : ℕ)
+next_by : (code : List Node) {byte : ℕ} {One Other : ℕ → Type 0} → ((n : ℕ) → One n → Other n) → {number : ℕ}
     → Next code byte One number → Next code byte Other number
-next_by code One Other there number h = (h.0, elim h.1 [ inl s ↦ inl (s.0, there s.0 s.1, s.2) | inr e ↦ inr e ], h.2)
+next_by code there h = (h.0, elim h.1 [ inl s ↦ inl (s.0, there s.0 s.1, s.2) | inr e ↦ inr e ], h.2)
 
 -- two bytes that every node treats alike lead alike
-next_alike : (code : List Node) (one other : ℕ) (Set : ℕ → Type 0) (number : ℕ) → AreAlike code one other
+next_alike : (code : List Node) {one other : ℕ} {Set : ℕ → Type 0} {number : ℕ} → AreAlike code one other
     → Next code one Set number → Next code other Set number
-next_alike code one other Set number a n = (n.0, elim n.1 [ inl s ↦ inl (s.0, s.1, (s.2.0, s.2.1, sym (a s.0 s.2.0 s.2.1) ∙ s.2.2, s.2.3)) | inr e ↦ inr e ], n.2)
+next_alike code a n = (n.0, elim n.1 [ inl s ↦ inl (s.0, s.1, (s.2.0, s.2.1, sym (a s.0 s.2.0 s.2.1) ∙ s.2.2, s.2.3)) | inr e ↦ inr e ], n.2)
 
 -- the entry of a byte's twin is the byte's
 pub twin_entry : {code : List Node} {most place twin read : ℕ} (d : ℕ) {building : Building}
@@ -151,13 +147,13 @@ pub twin_entry : {code : List Node} {most place twin read : ℕ} (d : ℕ) {buil
     → read ≡ get_or building.rows.items (place / 256 * 256 + twin) d
     → Tells code building.sets.items (place / 256) (place % 256) read
 twin_entry {code} {place} {twin} {read} d {building} f a less e = record {
-  next = λ s. let n = t.next s in (n.0, λ number. (λ i. there number ((n.1 number).0 i), λ i. (n.1 number).1 (next_alike code (place % 256) twin (InSets building.sets.items (place / 256)) number a i)));
-  stop = λ s. there (length code) (t.stop s);
+  next = λ s. let n = t.next s in (n.0, λ number. (λ i. there number ((n.1 number).0 i), λ i. (n.1 number).1 (next_alike _ a i)));
+  stop = λ s. there _ (t.stop s);
 }
   where
     there : (number : ℕ) → Next code twin (InSets building.sets.items (place / 256)) number
         → Next code (place % 256) (InSets building.sets.items (place / 256)) number
-    there number n = next_alike code twin (place % 256) (InSets building.sets.items (place / 256)) number (λ number bytes h. sym (a number bytes h)) n
+    there number n = next_alike _ (λ number bytes h. sym (a number bytes h)) n
 
     t : Tells code building.sets.items (place / 256) twin read
     t =
@@ -172,15 +168,14 @@ record Grown (code : List Node) (place : ℕ) (sets sets' : List (List Bool)) (r
   same : set_at sets' (place / 256) ≡ set_at sets (place / 256)
 
 grown : {code : List Node} {place : ℕ} {sets sets' : List (List Bool)} {rows : List ℕ} {set : List Bool}
-    → Built code place sets rows → place ≤ length sets * 256
-    → place / 256 < length sets → (sets' ≡ sets) ⊎ ((sets' ≡ sets ++ set ∷ []) × IsOpen code set)
-    → Grown code place sets sets' rows
-grown {code} {place} {sets} {rows} b r k (inl e) = rw e (record { built = b; order = r; known = k; same = refl })
-grown {code} {place} {sets} {rows} {set} b r k (inr e) = let l = length-append sets (set ∷ []) in rw e.0 (record {
+    → Built code place sets rows → place ≤ length sets * 256 → place / 256 < length sets
+    → (sets' ≡ sets) ⊎ ((sets' ≡ sets ++ set ∷ []) × IsOpen code set) → Grown code place sets sets' rows
+grown b r k (inl e) = rw e (record { built = b; order = r; known = k; same = refl })
+grown {sets} {set} b r k (inr e) = let l = length-append sets (set ∷ []) in rw e.0 (record {
   built = built_set b r e.1;
   order = omega (arith, r, l);
   known = omega (arith, k, l);
-  same = get_or_append_left sets (set ∷ []) [] (place / 256) k;
+  same = get_or_append_left sets _ [] _ k;
 })
 
 -- a set has as many words as the code asks for
@@ -195,12 +190,12 @@ pub led_on : {code : List Node} {most place read : ℕ} {old new : Building} (be
     → ((number : ℕ) → IsIn words number ↔ Next code (place % 256) (IsIn before) number)
     → LeadsTo (length code) most words old.sets.items new.sets.items read → new.rows ≡ old.rows
     → new.words.items ≡ words → Led code most place new read
-led_on {code} {most} {place} {read} {old} {new} before {words} f k is size advanced l er ew = record {
+led_on {code} {place} {old} {new} before {words} f k is size advanced l er ew = record {
   so_far = record { built = rw (← er) at g.built; room = l.room; size = ap length ew ∙ size; order = g.order };
   known = g.known;
   tells = record {
     next = λ s. let k = l.next s in (k.0, λ number. rw (← k.1) at (exact number));
-    stop = λ e. (exact (length code)).0 ((flags_are words (length code)).1 (l.stop e));
+    stop = λ e. (exact _).0 ((flags_are _ _).1 (l.stop e));
   };
 }
   where
@@ -208,7 +203,7 @@ led_on {code} {most} {place} {read} {old} {new} before {words} f k is size advan
         ⊎ ((new.sets.items ≡ old.sets.items ++ flags_of words ∷ []) × IsOpen code (flags_of words))
     set = elim l.sets [
       | inl e ↦ inl e
-      | inr e ↦ inr (e.0, record { size = flags_length words ∙ ap (λ n. 64 * n) size; going = λ m. e.1 ((flags_are words (length code)).0 m) })
+      | inr e ↦ inr (e.0, record { size = flags_length _ ∙ ap (λ n. 64 * n) size; going = λ m. e.1 ((flags_are _ _).0 m) })
     ]
 
     g : Grown code place old.sets.items new.sets.items old.rows.items
@@ -217,15 +212,15 @@ led_on {code} {most} {place} {read} {old} {new} before {words} f k is size advan
     exact : (number : ℕ)
         → IsMarked (flags_of words) number ↔ Next code (place % 256) (InSets new.sets.items (place / 256)) number
     exact number = rw (← (is ∙ sym g.same)) (
-      λ m. next_by code (IsIn before) (IsMarked (flags_of before)) (λ n. (flags_are before n).1) number ((advanced number).0 ((flags_are words number).0 m)),
-      λ n. (flags_are words number).1 ((advanced number).1 (next_by code (IsMarked (flags_of before)) (IsIn before) (λ n. (flags_are before n).0) number n)),
+      λ m. next_by _ (λ n. (flags_are _ n).1) ((advanced _).0 ((flags_are _ _).0 m)),
+      λ n. (flags_are _ _).1 ((advanced _).1 (next_by _ (λ n. (flags_are _ n).0) n)),
     )
 
 -- one entry more
 pub building_more : {code : List Node} {most place read : ℕ} {old new : Building} → Led code most place old read
     → new.sets ≡ old.sets → new.words ≡ old.words → new.rows.items ≡ old.rows.items ++ read ∷ []
     → IsBuilding code most (place + 1) new
-building_more {code} {most} {place} {old} {new} l es ew er =
+building_more {code} {place} {old} {new} l es ew er =
     let b = l.so_far.built in
     let built : Built code (place + 1) old.sets.items new.rows.items = record { some = b.some; front = b.front; going = b.going; told = each_more b.told l.tells er } in
     rw es (record { built = built; room = l.so_far.room; size = ap (λ w. length w.items) ew ∙ l.so_far.size; order = omega (arith, l.known) })
@@ -234,7 +229,7 @@ building_more {code} {most} {place} {old} {new} l es ew er =
 pub front_built : {code : List Node} (words : List ℕ) {sets : List (List Bool)} → length words ≡ width code
     → ((number : ℕ) → IsIn words number ↔ FlowsOn code true false 0 number)
     → (IsIn words (length code) → ⊥) → sets ≡ flags_of words ∷ [] → Built code 0 sets []
-front_built {code} words size exact none e = search (rules, flags_are, each_more, flags_length)
+front_built words size exact none e = search (rules, flags_are, each_more, flags_length)
 
 -- what a byte leads to from a set, with all that follows
 pub advanced : {code : List Node} {byte : ℕ} {base : List ℕ} (old : List ℕ) {middle new : List ℕ} → IsBase code base
@@ -242,10 +237,10 @@ pub advanced : {code : List Node} {byte : ℕ} {base : List ℕ} (old : List ℕ
     → IsIn middle number ↔ (((before : ℕ) × IsIn old before × Passes code byte before number) ⊎ IsIn base number))
     → SpreadsOut code false false middle new
     → (number : ℕ) → IsIn new number ↔ Next code byte (IsIn old) number
-advanced {code} old b passed s number = (
+advanced old b passed s number = (
   λ h. let f = (s.exact number).0 h in elim ((passed f.0).0 f.1) [
     | inl led ↦ (f.0, inl led, f.2)
-    | inr based ↦ (0, inr refl, flows_join code false false f.2.0 0 f.0 number ((b.exact f.0).0 based) f.2.1)
+    | inr based ↦ (0, inr refl, flows_join _ _ ((b.exact f.0).0 based) f.2.1)
   ],
   λ n. (s.exact number).1 (n.0, (passed n.0).1 (elim n.1 [ inl led ↦ inl led | inr e ↦ inr ((b.exact n.0).1 (0, sym e)) ]), n.2),
 )
@@ -257,14 +252,14 @@ pub alike_below : (code : List Node) (n one other : ℕ) {node : Node}
     → ((bytes : List Bool) → node ≡ Take bytes → has bytes one ≡ has bytes other) → (m : ℕ) (bytes : List Bool)
     → m < n + 1 → At code m (Take bytes) → has bytes one ≡ has bytes other
 alike_below code n one other {node} before is h here m bytes l at = elim (cases_eq m n) [
-  | inl same ↦ here bytes (at_once code n node (Take bytes) (rw (← is) at (at_index code n node h)) (rw same at at))
+  | inl same ↦ here bytes (at_once code n (rw (← is) at (at_index code n node h)) (rw same at at))
   | inr differs ↦ before m bytes (omega (arith, l, differs)) at
 ]
 
-pub alike_all : (code : List Node) (n one other : ℕ) → length code ≤ n
+pub alike_all : (code : List Node) {n one other : ℕ} → length code ≤ n
     → ((m : ℕ) (bytes : List Bool) → m < n → At code m (Take bytes) → has bytes one ≡ has bytes other)
     → AreAlike code one other
-alike_all code n one other h before number bytes at = let l = at_least code number (Take bytes) at in before number bytes (omega (arith, l, h)) at
+alike_all code h before number bytes at = let l = at_least code number (Take bytes) at in before number bytes (omega (arith, l, h)) at
 
 -- what was seen of a set is so
 pub state_is : {code : List Node} {sets : List (List Bool)} {rows : List ℕ} {number : ℕ} {now last : List ℕ}
@@ -273,10 +268,10 @@ pub state_is : {code : List Node} {sets : List (List Bool)} {rows : List ℕ} {n
     → (IsTrue state.is_fixed → (byte : ℕ) → byte < 256 → entry rows number byte ≡ number)
     → state.last_positions ≡ positions_among code (flags_of last) → (IsTrue state.ends ↔ IsIn last (length code))
     → IsState code sets rows number state
-state_is {code} {now} {last} e s p f q x = search (rules, flags_are)
+state_is e s p f q x = search (rules, flags_are)
 
 -- a table that was built, with what is noted of each state
 pub table_is : {code : List Node} {sets : List (List Bool)} {table : Table}
     → Built code (length sets * 256) sets table.rows.items → length code ≤ 65536 → length sets < 65534
     → AreEach no_state (IsState code sets table.rows.items) (length sets) table.states.items → IsTable code table
-table_is {sets} b few small noted = search rules
+table_is b few small noted = search rules

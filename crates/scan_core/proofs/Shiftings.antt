@@ -35,59 +35,58 @@ pub record IsPlace (line : List ℕ) (place : ℕ) (at_first at_last : Bool) : T
   pub first : IsTrue at_first ↔ (place ≡ 0)
   pub last : IsTrue at_last ↔ (place ≡ length line)
 
-pub flow_goes : (node : Node) (line : List ℕ) {place : ℕ} {at_first at_last : Bool} (from to : ℕ)
-    → IsPlace line place at_first at_last
-    → LeadsOn node at_first at_last from to ↔ Leads node line from place to place
-flow_goes (Take bytes) line from to p = (λ h. absurd h, λ h. absurd (omega (arith, h.1)))
-flow_goes First line from to p = (λ h. (h.1, refl, p.first.0 h.0), λ h. (p.first.1 h.2, h.0))
-flow_goes Last line from to p = (λ h. (h.1, refl, p.last.0 h.0), λ h. (p.last.1 h.2, h.0))
-flow_goes (Choose skip) line from to p = (λ h. (h, refl), λ h. h.0)
-flow_goes (Back by) line from to p = (λ h. (h, refl), λ h. h.0)
+pub flow_goes : (node : Node) {line : List ℕ} {place : ℕ} {at_first at_last : Bool} (from to : ℕ)
+    → IsPlace line place at_first at_last → LeadsOn node at_first at_last from to ↔ Leads node line from place to place
+flow_goes (Take bytes) from to p = (λ h. absurd h, λ h. absurd (omega (arith, h.1)))
+flow_goes First from to p = (λ h. (h.1, refl, p.first.0 h.0), λ h. (p.first.1 h.2, h.0))
+flow_goes Last from to p = (λ h. (h.1, refl, p.last.0 h.0), λ h. (p.last.1 h.2, h.0))
+flow_goes (Choose skip) from to p = (λ h. (h, refl), λ h. h.0)
+flow_goes (Back by) from to p = (λ h. (h, refl), λ h. h.0)
 
 -- a step stays at its place or goes on by one
-leads_place : (node : Node) (line : List ℕ) (from place to place' : ℕ) → Leads node line from place to place'
+leads_place : (node : Node) (line : List ℕ) (from : ℕ) {place to place' : ℕ} → Leads node line from place to place'
     → (place' ≡ place)
     ⊎ ((place' ≡ place + 1) × (bytes : List Bool) × (node ≡ Take bytes) × (place < length line)
     × IsTrue (has bytes (slice_index line place)) × (to ≡ from + 1))
-leads_place (Take bytes) line from place to place' h = inr (h.1, bytes, refl, h.2, h.3, h.0)
-leads_place First line from place to place' h = inl h.1
-leads_place Last line from place to place' h = inl h.1
-leads_place (Choose skip) line from place to place' h = inl h.1
-leads_place (Back by) line from place to place' h = inl h.1
+leads_place (Take bytes) line from h = inr (h.1, bytes, refl, h.2, h.3, h.0)
+leads_place First line from h = inl h.1
+leads_place Last line from h = inl h.1
+leads_place (Choose skip) line from h = inl h.1
+leads_place (Back by) line from h = inl h.1
 
-walk_forward : (code : List Node) (line : List ℕ) (count at place to stop : ℕ) → Walks code line count at place to stop
-    → place ≤ stop
-walk_forward code line zero at place to stop w = omega (arith, w.1)
-walk_forward code line (suc count) at place to stop w =
-    let h = walk_forward code line count w.0 w.1 to stop w.3 in
-    elim (leads_place w.2.0 line at place w.0 w.1 w.2.2) [ inl e ↦ omega (arith, e, h) | inr e ↦ omega (arith, e.0, h) ]
+walk_forward : (code : List Node) (line : List ℕ) (count at : ℕ) {place : ℕ} (to : ℕ) {stop : ℕ}
+    → Walks code line count at place to stop → place ≤ stop
+walk_forward code line zero at to w = omega (arith, w.1)
+walk_forward code line (suc count) at to w =
+    let h = walk_forward code line count w.0 to w.3 in
+    elim (leads_place w.2.0 line at w.2.2) [ inl e ↦ omega (arith, e, h) | inr e ↦ omega (arith, e.0, h) ]
 
-pub entered_on : (code : List Node) (line : List ℕ) {at place to stop : ℕ} → Entered code line at place
+pub entered_on : (code : List Node) {line : List ℕ} {at place to stop : ℕ} → Entered code line at place
     → Goes code line at place to stop → Entered code line to stop
-entered_on code line {at} {place} {to} {stop} e g = (e.0, e.1, path_on code line 0 e.0 at place to stop e.2 (1, (to, stop, g, (refl, refl))))
+entered_on code {to} {stop} e g = (e.0, e.1, path_on _ e.2 (1, (to, stop, g, (refl, refl))))
 
-pub reaches_exact : (code : List Node) (line : List ℕ) {place : ℕ} {at_first at_last : Bool}
+pub reaches_exact : (code : List Node) {line : List ℕ} {place : ℕ} {at_first at_last : Bool}
     → IsPlace line place at_first at_last → (number : ℕ)
     → Reaches code line place at_first at_last number ↔ Entered code line number place
-reaches_exact code line {place} {at_first} {at_last} p number = (there number, here number)
+reaches_exact code {line} {place} {at_first} {at_last} p number = (there number, here number)
   where
     flows : (count from to : ℕ) → Entered code line from place → Parts (Flows code at_first at_last) count from to
         → Entered code line to place
     flows zero from to e q = rw q at e
-    flows (suc count) from to e q = entered_on code line (flows count from q.0 e q.1) (q.2.0, q.2.1, (flow_goes q.2.0 line q.0 to p).0 q.2.2)
+    flows (suc count) from to e q = entered_on _ (flows count from q.0 e q.1) (q.2.0, q.2.1, (flow_goes _ _ _ p).0 q.2.2)
 
     there : (number : ℕ) → Reaches code line place at_first at_last number → Entered code line number place
-    there number f = flows f.2.0 f.0 number (elim f.1 [ inl c ↦ entered_on code line c.3 c.4 | inr e ↦ (place, p.within, (0, (sym e, refl))) ]) f.2.1
+    there number f = flows f.2.0 f.0 number (elim f.1 [ inl c ↦ entered_on _ c.3 c.4 | inr e ↦ (place, p.within, (0, (sym e, refl))) ]) f.2.1
 
     step : (at from at' from' : ℕ) → from ≤ place → Entered code line at from
         → (from ≡ place → Reaches code line place at_first at_last at) → Goes code line at from at' from'
         → from' ≡ place → Reaches code line place at_first at_last at'
-    step at from at' from' l e h g q = elim (leads_place g.0 line at from at' from' g.2) [
+    step at from at' from' l e h g q = elim (leads_place _ _ _ g.2) [
       | inl same ↦
           let here : from ≡ place = omega (arith, same, q) in
           let was = h here in
           let led = subst (λ n. Leads g.0 line at n at' place) here (rw q at g.2) in
-          (was.0, was.1, (suc was.2.0, (at, was.2.1, (g.0, g.1, (flow_goes g.0 line at at' p).1 led))))
+          (was.0, was.1, (suc was.2.0, (at, was.2.1, (g.0, g.1, (flow_goes _ _ _ p).1 led))))
       | inr more ↦ (at', inl (from, omega (arith, more.0, q), at, e, rw q at g), (0, refl))
     ]
 
@@ -96,16 +95,16 @@ reaches_exact code line {place} {at_first} {at_last} p number = (there number, h
         → Reaches code line place at_first at_last number
     arrive zero at from number l w e h = subst (Reaches code line place at_first at_last) w.0 (h w.1)
     arrive (suc count) at from number l w e h =
-        arrive count w.0 w.1 number (walk_forward code line count w.0 w.1 number place w.3) w.3 (entered_on code line e w.2) (step at from w.0 w.1 l e h w.2)
+        arrive count w.0 w.1 number (walk_forward _ _ _ _ _ w.3) w.3 (entered_on _ e w.2) (step at from w.0 w.1 l e h w.2)
 
     here : (number : ℕ) → Entered code line number place → Reaches code line place at_first at_last number
     here number e =
-        let l = walk_forward code line e.2.0 0 e.0 number place e.2.1 in
+        let l = walk_forward _ _ _ 0 _ e.2.1 in
         arrive e.2.0 0 e.0 number l e.2.1 (e.0, e.1, (0, (refl, refl))) (λ q. (0, inr refl, (0, refl)))
 
-pub inner : (line : List ℕ) {place : ℕ} {at_first : Bool} → place < length line → at_first ≡ (place == 0)
+pub inner : {line : List ℕ} {place : ℕ} {at_first : Bool} → place < length line → at_first ≡ (place == 0)
     → IsPlace line place at_first false
-inner line {place} h f = search rules
+inner h f = search rules
 
 -- one place more is counted
 more_positions : (code : List Node) (sets : List (List Bool)) (set : List Bool)
@@ -113,11 +112,10 @@ more_positions : (code : List Node) (sets : List (List Bool)) (set : List Bool)
 more_positions code [] set = omega arith
 more_positions code (other ∷ sets) set = let r = more_positions code sets set in omega (arith, r)
 
-one_counted : {code : List Node} (line : List ℕ) {place steps steps' : ℕ} (set : List Bool)
+one_counted : {code : List Node} {line : List ℕ} {place steps steps' : ℕ} (set : List Bool)
     → AreSteps code line place steps → ((number : ℕ) → IsMarked set number ↔ Entered code line number place)
-    → steps' ≡ steps + positions_among code set
-    → AreSteps code line (place + 1) steps'
-one_counted {code} line {place} set a x e = record {
+    → steps' ≡ steps + positions_among code set → AreSteps code line (place + 1) steps'
+one_counted {code} {line} {place} set a x e = record {
   sets = a.sets ++ set ∷ [];
   all = let l = length-append a.sets (set ∷ []) in omega (arith, l, a.all);
   exact = λ p number h. elim (cases_eq p place) [
@@ -127,40 +125,41 @@ one_counted {code} line {place} set a x e = record {
   total = let m = more_positions code a.sets set in let t = a.total in omega (arith, m, t, e);
 }
 
-pub final : (line : List ℕ) {place : ℕ} {at_first : Bool} → place ≡ length line → at_first ≡ (length line == 0)
+pub final : {line : List ℕ} {place : ℕ} {at_first : Bool} → place ≡ length line → at_first ≡ (length line == 0)
     → IsPlace line place at_first true
-final line h f = search rules
+final h f = search rules
 
 -- what a byte leads to from all that was entered at a place
-pub came_exact : (code : List Node) (line : List ℕ) (place : ℕ) {byte : ℕ} (Now : ℕ → Type 0)
+pub came_exact : (code : List Node) {line : List ℕ} {place byte : ℕ} {Now : ℕ → Type 0}
     → ((number : ℕ) → Now number ↔ Entered code line number place) → place < length line → byte ≡ slice_index line place
     → (number : ℕ) → ((from : ℕ) × Now from × Passes code byte from number) ↔ Came code line (suc place) number
-came_exact code line place Now a h e number = search rules
+came_exact code a h e number = search rules
 
 -- one place more
-pub steps_more : (place steps count size : ℕ) → steps ≤ place * size → count ≤ size → steps + count ≤ (place + 1) * size
-steps_more place steps count size h k = let e : (place + 1) * size ≡ place * size + size = grind arith in omega (arith, h, k, e)
+pub steps_more : (place : ℕ) {steps count size : ℕ} → steps ≤ place * size → count ≤ size
+    → steps + count ≤ (place + 1) * size
+steps_more place {size} h k = let e : (place + 1) * size ≡ place * size + size = grind arith in omega (arith, h, k, e)
 
-pub steps_wider : (place most steps size : ℕ) → steps ≤ place * size → place ≤ most → steps ≤ most * size
-steps_wider place most steps size h k = search rules
+pub steps_wider : {place most steps : ℕ} (size : ℕ) → steps ≤ place * size → place ≤ most → steps ≤ most * size
+steps_wider size h k = search rules
 
 pub counted_more : {code : List Node} {line : List ℕ} {place steps : ℕ} (set : List Bool)
     → IsCounted code line place steps → ((number : ℕ) → IsMarked set number ↔ Entered code line number place)
     → (IsMarked set (length code) → ⊥) → IsCounted code line (place + 1) (steps + positions_among code set)
-counted_more {code} {line} {place} {steps} set s here never = record {
+counted_more {place} set s here never = record {
   none = λ before l k. elim (cases_eq before place) [
-    | inl same ↦ never ((here (length code)).1 (rw same at k))
+    | inl same ↦ never ((here _).1 (rw same at k))
     | inr other ↦ s.none before (omega (arith, l, other)) k
   ];
-  counted = one_counted line set s.counted here refl;
-  bound = let m = positions_most code set in steps_more place steps (positions_among code set) (weight code + 1) s.bound m;
+  counted = one_counted _ s.counted here refl;
+  bound = let m = positions_most _ _ in steps_more _ s.bound m;
 }
 
 -- the end is entered at a place
 pub counted_found : {code : List Node} {line : List ℕ} {place steps all : ℕ} → IsCounted code line place steps
     → place ≤ length line → Entered code line (length code) place → steps ≤ all
     → all ≤ (length line + 1) * (weight code + 1) → IsOutcome code line (record { found = true; steps = all })
-counted_found {place} {steps} s within ends least most = search rules
+counted_found s within ends least most = search rules
 
 -- the line's end
 pub counted_ends : {code : List Node} {line : List ℕ} {place steps : ℕ} {found : Bool} (set : List Bool)
@@ -169,73 +168,73 @@ pub counted_ends : {code : List Node} {line : List ℕ} {place steps : ℕ} {fou
     → IsOutcome code line (record { found = found; steps = steps + positions_among code set })
 counted_ends {code} {line} {place} {steps} set s here e test = record {
   exact = (
-    λ t. (place, omega (arith, e), (here (length code)).0 (test.0 t)),
+    λ t. (place, omega (arith, e), (here _).0 (test.0 t)),
     λ k. elim (cases_eq k.0 place) [
-      | inl same ↦ test.1 ((here (length code)).1 (rw same at k.2))
+      | inl same ↦ test.1 ((here _).1 (rw same at k.2))
       | inr other ↦ absurd (s.none k.0 (omega (arith, k.1, e, other)) k.2)
     ],
   );
-  counted = λ absent. rw e at (one_counted line set s.counted here refl);
-  least = λ t. (counted_found s (omega (arith, e)) ((here (length code)).0 (test.0 t)) (omega arith) all).least refl;
+  counted = λ absent. rw e at (one_counted _ s.counted here refl);
+  least = λ t. (counted_found s (omega (arith, e)) ((here _).0 (test.0 t)) (omega arith) all).least refl;
   bound = all;
 }
   where
     all : steps + positions_among code set ≤ (length line + 1) * (weight code + 1)
-    all = rw e at (steps_more place steps (positions_among code set) (weight code + 1) s.bound (positions_most code set))
+    all = rw e at (steps_more place s.bound (positions_most code set))
 
 -- The sets of the places along a line, and a table of them.
 
 -- at every place but the last
-pub inner_entered : (code : List Node) (line : List ℕ) (place : ℕ) → place < length line → (number : ℕ)
+pub inner_entered : (code : List Node) {line : List ℕ} (place : ℕ) → place < length line → {number : ℕ}
     → Inner code line place number ↔ Entered code line number place
-inner_entered code line zero h number = reaches_exact code line (inner line h refl) number
-inner_entered code line (suc place) h number = reaches_exact code line (inner line h (sym (ne_eqb (suc place) 0 (λ e. omega (arith, e))))) number
+inner_entered code zero h = reaches_exact _ (inner h refl) _
+inner_entered code (suc place) h = reaches_exact _ (inner h (sym (ne_eqb (suc place) 0 (λ e. omega (arith, e))))) _
 
 -- at the last place, after a byte
-pub last_entered : (code : List Node) (line : List ℕ) {place : ℕ} → suc place ≡ length line → (number : ℕ)
+pub last_entered : (code : List Node) {line : List ℕ} {place : ℕ} → suc place ≡ length line → {number : ℕ}
     → Entered code line number (suc place) ↔ ((from : ℕ) × Inner code line (suc place) from
     × FlowsOn code false true from number)
-last_entered code line {place} h number = let exact = reaches_exact code line (final line h (sym (ne_eqb (length line) 0 (λ e. omega (arith, e, h))))) number in (
+last_entered code {line} h = let exact = reaches_exact _ (final h (sym (ne_eqb (length line) 0 (λ e. omega (arith, e, h))))) _ in (
   λ e. let f = exact.1 e in (f.0, (f.0, f.1, (0, refl)), f.2),
   λ k.
-      let before = parts_anywhere code false true k.1.2.0 k.1.0 k.0 k.1.2.1 in
-      exact.0 (k.1.0, k.1.1, (k.1.2.0 + k.2.0, parts_join (Flows code false true) k.1.2.0 k.2.0 k.1.0 k.0 number before k.2.1)),
+      let before = parts_anywhere _ _ _ _ _ _ k.1.2.1 in
+      exact.0 (k.1.0, k.1.1, (k.1.2.0 + k.2.0, parts_join _ _ _ _ _ _ before k.2.1)),
 )
 
-pub walked_starts : {code : List Node} {sets : List (List Bool)} {table : Table} (line : List ℕ)
+pub walked_starts : {code : List Node} {sets : List (List Bool)} {table : Table} {line : List ℕ}
     → IsTableOf code sets table → Walked code sets line 0 0 0
-walked_starts {code} line t = search rules
+walked_starts t = search rules
 
 -- what is entered where the state's set is, and before
-walked_here : {code : List Node} {sets : List (List Bool)} (line : List ℕ) {place state steps : ℕ}
+walked_here : {code : List Node} {sets : List (List Bool)} {line : List ℕ} {place state steps : ℕ}
     → Walked code sets line place state steps
     → place < length line → (number : ℕ) → InSets sets state number ↔ Entered code line number place
-walked_here {code} line {place} w h number = search (rules, inner_entered)
+walked_here w h number = search (rules, inner_entered)
 
 -- what a byte leads to from the state's set
-next_inner : {code : List Node} {sets : List (List Bool)} (line : List ℕ) {place state steps : ℕ}
+next_inner : {code : List Node} {sets : List (List Bool)} {line : List ℕ} {place state steps : ℕ}
     → Walked code sets line place state steps → place < length line
-    → (number : ℕ) → Next code (slice_index line place) (InSets sets state) number ↔ Inner code line (suc place) number
-next_inner {code} {sets} line {place} {state} w h number = let came = came_exact code line place (InSets sets state) (walked_here line w h) h refl in (
+    → {number : ℕ} → Next code (slice_index line place) (InSets sets state) number ↔ Inner code line (suc place) number
+next_inner w h = let came = came_exact _ (walked_here w h) h refl in (
   λ n. (n.0, elim n.1 [ inl led ↦ inl ((came n.0).0 led) | inr e ↦ inr e ], n.2),
   λ f. (f.0, elim f.1 [ inl c ↦ inl ((came f.0).1 c) | inr e ↦ inr e ], f.2),
 )
 
 -- one byte more
-pub walked_more : {code : List Node} {sets : List (List Bool)} {table : Table} (line : List ℕ)
+pub walked_more : {code : List Node} {sets : List (List Bool)} {table : Table} {line : List ℕ}
     {place state next steps steps' : ℕ} → IsTableOf code sets table → Walked code sets line place state steps
     → place < length line → slice_index line place < 256
     → next ≡ entry table.rows.items state (slice_index line place) → next < 65534
     → steps' ≡ steps + positions_among code (set_at sets state) → Walked code sets line (suc place) next steps'
-walked_more {code} {sets} {table} line {place} {state} {steps} {steps'} t w h b e k p = record {
+walked_more {code} {sets} {table} {line} {place} {state} t w h b e k p = record {
   within = omega (arith, h);
   known = omega (arith, e, step.0);
   exact = λ number.
-      let n = next_inner line w h number in
+      let n = next_inner w h in
       rw e (λ i. n.0 ((step.1 number).0 i), λ i. (step.1 number).1 (n.1 i));
   so_far =
       let one : place + 1 ≡ suc place = omega arith in
-      rw one at (subst (IsCounted code line (place + 1)) (sym p) (counted_more (set_at sets state) w.so_far (walked_here line w h) (t.none state w.known)));
+      rw one at (subst (IsCounted code line (place + 1)) (sym p) (counted_more _ w.so_far (walked_here w h) (t.none state w.known)));
 }
   where
     step : (entry table.rows.items state (slice_index line place) < length sets)
@@ -244,119 +243,117 @@ walked_more {code} {sets} {table} line {place} {state} {steps} {steps'} t w h b 
         (slice_index line place) (InSets sets state) number)
     step = (t.told state (slice_index line place) w.known b).next (omega (arith, e, k))
 
-walked_stay : {code : List Node} {sets : List (List Bool)} {table : Table} (line : List ℕ) (more : ℕ)
+walked_stay : {code : List Node} {sets : List (List Bool)} {table : Table} {line : List ℕ} (more : ℕ)
     {place state steps : ℕ} → IsTableOf code sets table → Walked code sets line place state steps
     → place + more ≤ length line → ((k : ℕ) → k < length line → slice_index line k < 256)
     → ((k : ℕ) → place ≤ k → k < place + more → entry table.rows.items state (slice_index line k) ≡ state)
     → Walked code sets line (place + more) state (steps + positions_among code (set_at sets state) * more)
-walked_stay {code} {sets} line zero {place} {state} {steps} t w h b s = search rules
-walked_stay {code} {sets} line (suc more) {place} {state} {steps} t w h b s =
-    let before = walked_stay line more t w (omega (arith, h)) b (λ k l u. s k l (omega (arith, u))) in
+walked_stay zero t w h b s = search rules
+walked_stay {code} {sets} (suc more) {place} {state} t w h b s =
+    let before = walked_stay _ t w (omega (arith, h)) b (λ k l u. s k l (omega (arith, u))) in
     let m = t.most in
     let z : positions_among code (set_at sets state) * suc more ≡ positions_among code (set_at sets state) * more + positions_among code (set_at sets state) = mul-suc (positions_among code (set_at sets state)) more in
-    let last = walked_more line t before (omega (arith, h)) (b (place + more) (omega (arith, h)))
+    let last = walked_more t before (omega (arith, h)) (b (place + more) (omega (arith, h)))
     (sym (s (place + more) (omega arith) (omega arith))) (let l = w.known in omega (arith, m, l)) (omega (arith, z)) in
     let e : suc (place + more) ≡ place + suc more = omega arith in
     rw (← e) last
 
 -- what is entered after a byte is entered also where the line ends there
-entered_there : (code : List Node) (line : List ℕ) (place number : ℕ) → place < length line
+entered_there : (code : List Node) {line : List ℕ} {place number : ℕ} → place < length line
     → Inner code line (suc place) number → Entered code line number (suc place)
-entered_there code line place number h i = elim (cases_eq (suc place) (length line)) [
-  | inl same ↦ (last_entered code line same number).1 (number, i, (0, refl))
-  | inr other ↦ (inner_entered code line (suc place) (omega (arith, h, other)) number).0 i
+entered_there code {line} {place} {number} h i = elim (cases_eq (suc place) (length line)) [
+  | inl same ↦ (last_entered _ same).1 (number, i, (0, refl))
+  | inr other ↦ (inner_entered _ _ (omega (arith, h, other))).0 i
 ]
 
-pub entry_read : {table : Table} {code : List Node} {sets : List (List Bool)} (state byte : ℕ) {read : ℕ} (d : ℕ)
+pub entry_read : {table : Table} {code : List Node} {sets : List (List Bool)} {state byte read : ℕ} (d : ℕ)
     → IsTableOf code sets table → state < length sets → byte < 256
     → read ≡ get_or table.rows.items (state * 256 + byte) d → read ≡ entry table.rows.items state byte
-entry_read {table} state byte d t h b e = e ∙ get_or_default table.rows.items (state * 256 + byte) d 0 (let r = t.rows in omega (arith, h, b, r))
+entry_read {table} {state} {byte} d t h b e = e ∙ get_or_default table.rows.items (state * 256 + byte) d 0 (let r = t.rows in omega (arith, h, b, r))
 
 pub noted_read : {table : Table} {code : List Node} {sets : List (List Bool)} {state : ℕ} {read : State} (d : State)
     → IsTableOf code sets table → state < length sets → read ≡ get_or table.states.items state d
     → IsState code sets table.rows.items state read
-noted_read {table} {code} {sets} {state} d t h e = rw (← (e ∙ get_or_default table.states.items state d no_state (let s = t.states in omega (arith, h, s)))) at (t.noted state h)
+noted_read {state} d t h e = rw (← (e ∙ get_or_default _ state d no_state (let s = t.states in omega (arith, h, s)))) at (t.noted state h)
 
 -- along a line, by some table's sets
 abbrev pub WalkedOf : List Node → Table → List ℕ → ℕ → ℕ → ℕ → Type 0
 WalkedOf code table line place state steps = (sets : List (List Bool)) × IsTableOf code sets table × Walked code sets line place state steps
 
 -- a stretch in which the state stays
-pub walk_run : (code : List Node) (table : Table) (line : List ℕ) (from to : ℕ) {state : ℕ} (steps : ℕ) {added : ℕ}
+pub walk_run : {code : List Node} {table : Table} {line : List ℕ} {from to state steps added : ℕ}
     {noted : State} (d : State) → WalkedOf code table line from state steps → from ≤ to → to ≤ length line
     → ((k : ℕ) → k < length line → slice_index line k < 256)
     → ((k : ℕ) → from ≤ k → k < to → entry table.rows.items state (slice_index line k) ≡ state)
     → noted ≡ get_or table.states.items state d → added ≡ noted.positions * (to - from)
     → WalkedOf code table line to state (steps + added)
-walk_run code table line from to {state} steps {added} d w l h b s e a =
+walk_run {code} {line} {from} {to} {state} {steps} {added} d w l h b s e a =
     let n = noted_read d w.1 w.2.known e in
     let more : steps + positions_among code (set_at w.0 state) * (to - from) ≡ steps + added = ap (λ p. steps + p * (to - from)) (sym n.positions) ∙ ap (λ p. steps + p) (sym a) in
     let there : from + (to - from) ≡ to = omega (arith, l) in
-    let stays = walked_stay line (to - from) w.1 w.2 (omega (arith, l, h)) b (λ k m u. s k m (omega (arith, u, l))) in
+    let stays = walked_stay _ w.1 w.2 (omega (arith, l, h)) b (λ k m u. s k m (omega (arith, u, l))) in
     (w.0, w.1, rw more at (subst (λ p. Walked code w.0 line p state (steps + positions_among code (set_at w.0 state) * (to - from))) there stays))
 
-pub walk_next : (code : List Node) (table : Table) (line : List ℕ) (place state : ℕ) {next : ℕ} (steps d' : ℕ)
-    {noted : State} (d : State) → WalkedOf code table line place state steps → place < length line
-    → slice_index line place < 256
+pub walk_next : {code : List Node} {table : Table} {line : List ℕ} {place state next steps : ℕ} (d' : ℕ) {noted : State}
+    (d : State) → WalkedOf code table line place state steps → place < length line → slice_index line place < 256
     → next ≡ get_or table.rows.items (state * 256 + slice_index line place) d' → next < 65534
     → noted ≡ get_or table.states.items state d → WalkedOf code table line (place + 1) next (steps + noted.positions)
-walk_next code table line place state {next} steps d' {noted} d w h b e k f =
+walk_next {place} {steps} d' d w h b e k f =
     let n = noted_read d w.1 w.2.known f in
-    let r = entry_read state (slice_index line place) d' w.1 w.2.known b e in
+    let r = entry_read _ w.1 w.2.known b e in
     let one : suc place ≡ place + 1 = omega arith in
-    (w.0, w.1, rw one at (walked_more line w.1 w.2 h b r k (ap (λ p. steps + p) n.positions)))
+    (w.0, w.1, rw one at (walked_more w.1 w.2 h b r k (ap (λ p. steps + p) n.positions)))
 
 -- one place more
-pub walk_one : (code : List Node) (table : Table) (line : List ℕ) (place state steps : ℕ) {noted : State} (d : State)
+pub walk_one : {code : List Node} {table : Table} {line : List ℕ} {place state steps : ℕ} {noted : State} (d : State)
     → WalkedOf code table line place state steps → noted ≡ get_or table.states.items state d
     → steps + noted.positions ≤ (place + 1) * (weight code + 1)
-walk_one code table line place state steps {noted} d w f =
+walk_one {code} {place} {state} d w f =
     let n = noted_read d w.1 w.2.known f in
     let m = positions_most code (set_at w.0 state) in
-    steps_more place steps noted.positions (weight code + 1) w.2.so_far.bound (let p = n.positions in omega (arith, m, p))
+    steps_more place w.2.so_far.bound (let p = n.positions in omega (arith, m, p))
 
 -- a byte leads to the end
-pub walk_stops : {code : List Node} (table : Table) (line : List ℕ) (place state : ℕ) {next steps : ℕ} (d' : ℕ)
+pub walk_stops : {code : List Node} {table : Table} {line : List ℕ} {place state next steps : ℕ} (d' : ℕ)
     {noted : State} (d : State) → WalkedOf code table line place state steps → place < length line
-    → slice_index line place < 256
-    → next ≡ get_or table.rows.items (state * 256 + slice_index line place) d' → next ≡ 65535
-    → noted ≡ get_or table.states.items state d
+    → slice_index line place < 256 → next ≡ get_or table.rows.items (state * 256 + slice_index line place) d'
+    → next ≡ 65535 → noted ≡ get_or table.states.items state d
     → IsOutcome code line (record { found = true; steps = steps + noted.positions })
-walk_stops {code} table line place state {steps} d' {noted} d w h b e k f =
-    let r = entry_read state (slice_index line place) d' w.1 w.2.known b e in
+walk_stops {code} {line} {place} {state} {steps} d' d w h b e k f =
+    let r = entry_read _ w.1 w.2.known b e in
     let n = noted_read d w.1 w.2.known f in
-    let next = (next_inner line w.2 h (length code)).0 ((w.1.told state (slice_index line place) w.2.known b).stop (sym r ∙ k)) in
+    let next = (next_inner w.2 h).0 ((w.1.told state (slice_index line place) w.2.known b).stop (sym r ∙ k)) in
     let one : suc place ≡ place + 1 = omega arith in
-    let counted = subst (λ p. IsCounted code line (place + 1) (steps + p)) (sym n.positions) (counted_more (set_at w.0 state) w.2.so_far (walked_here line w.2 h) (w.1.none state w.2.known)) in
-    counted_found counted (omega (arith, h)) (rw one at (entered_there code line place (length code) h next)) (omega arith)
-    (steps_wider (place + 1) (length line + 1) (steps + noted.positions) (weight code + 1) (walk_one code table line place state steps d w f) (omega (arith, h)))
+    let counted = subst (λ p. IsCounted code line (place + 1) (steps + p)) (sym n.positions) (counted_more _ w.2.so_far (walked_here w.2 h) (w.1.none state w.2.known)) in
+    counted_found counted (omega (arith, h)) (rw one at (entered_there _ h next)) (omega arith)
+    (steps_wider _ (walk_one d w f) (omega (arith, h)))
 
 -- the line's end
-pub walk_ends : {code : List Node} (table : Table) (line : List ℕ) (place : ℕ) (state steps : ℕ) {noted : State}
+pub walk_ends : {code : List Node} {table : Table} {line : List ℕ} (place : ℕ) {state steps : ℕ} {noted : State}
     (d : State) → WalkedOf code table line place state steps → place ≡ length line → 0 < length line
     → noted ≡ get_or table.states.items state d
     → IsOutcome code line (record { found = noted.ends; steps = steps + noted.last_positions })
-walk_ends table line zero state steps d w h some e = absurd (omega (arith, h, some))
-walk_ends {code} table line (suc place) state steps {noted} d w h some e =
-    rw (← n.last_positions) at (counted_ends n.last w.2.so_far last h n.ends)
+walk_ends zero d w h some e = absurd (omega (arith, h, some))
+walk_ends {code} {table} {line} (suc place) {state} {noted} d w h some e =
+    rw (← n.last_positions) at (counted_ends _ w.2.so_far last h n.ends)
   where
     n : IsState code w.0 table.rows.items state noted
     n = noted_read d w.1 w.2.known e
 
     last : (number : ℕ) → IsMarked n.last number ↔ Entered code line number (suc place)
-    last number = let l = last_entered code line h number in (
+    last number = let l = last_entered _ h in (
       λ m. let k = (n.last_exact number).0 m in l.1 (k.0, (w.2.exact k.0).0 k.1, k.2),
       λ f. let k = l.0 f in (n.last_exact number).1 (k.0, (w.2.exact k.0).1 k.1, k.2),
     )
 
-pub bound_fits : (code : List Node) (places steps : ℕ) → length code ≤ 65536 → steps ≤ places * (weight code + 1)
+pub bound_fits : (code : List Node) {places steps : ℕ} → length code ≤ 65536 → steps ≤ places * (weight code + 1)
     → places ≤ 18446744073709551617 → steps < 340282366920938463463374607431768211456
-bound_fits code places steps few h p = search (rules, weight_length, mul-le-mul)
+bound_fits code few h p = search (rules, weight_length, mul-le-mul)
 
-pub walk_fits : (code : List Node) (table : Table) (line : List ℕ) (place state : ℕ) {steps : ℕ}
+pub walk_fits : {code : List Node} {table : Table} {line : List ℕ} {place state steps : ℕ}
     → WalkedOf code table line place state steps → place ≤ 18446744073709551616
     → steps < 340282366920938463463374607431768211456
-walk_fits code table line place state {steps} w p = bound_fits code place steps w.1.few w.2.so_far.bound (omega (arith, p))
+walk_fits w p = bound_fits _ w.1.few w.2.so_far.bound (omega (arith, p))
 
 -- a state that no byte changes
 pub fixed_stays : {code : List Node} {table : Table} (line : List ℕ) {state : ℕ} {noted : State} (d : State)
@@ -371,7 +368,7 @@ fixed_stays line d t h e f place b =
 pub six_more : (word offset state : ℕ) → offset < 64 → six_bits (word * 64 + offset) (suc state) ≡ six_bits word state
 six_more word offset state h =
     let e : 6 * suc state ≡ 6 + 6 * state = omega arith in
-    let a : (word * 64 + offset) / 2 ^ (6 * suc state) ≡ (word * 64 + offset) / 2 ^ 6 / 2 ^ (6 * state) = ap (λ k. (word * 64 + offset) / 2 ^ k) e ∙ sym (shr-shr (word * 64 + offset) 6 (6 * state)) in
+    let a : (word * 64 + offset) / 2 ^ (6 * suc state) ≡ (word * 64 + offset) / 2 ^ 6 / 2 ^ (6 * state) = ap (λ k. (word * 64 + offset) / 2 ^ k) e ∙ sym (shr-shr _ 6 _) in
     let b : (word * 64 + offset) / 2 ^ 6 ≡ word = shr_high word 6 offset h in
     ap (λ k. k % 64) (a ∙ ap (λ k. k / 2 ^ (6 * state)) b)
 
@@ -390,7 +387,7 @@ pub word_more : {rows : List ℕ} {count byte done word offset : ℕ} → IsBegu
 word_more {rows} {count} {byte} {done} {word} {offset} b h o i = record {
   small =
       let e : 6 * (done + 1) ≡ 6 + 6 * done = omega arith in
-      let p : 2 ^ (6 * (done + 1)) ≡ 2 ^ 6 * 2 ^ (6 * done) = ap (λ k. 2 ^ k) e ∙ pow-add 2 6 (6 * done) in
+      let p : 2 ^ (6 * (done + 1)) ≡ 2 ^ 6 * 2 ^ (6 * done) = ap (λ k. 2 ^ k) e ∙ pow-add 2 6 _ in
       let s = b.small in
       omega (arith, p, s, o);
   told = told;
@@ -401,7 +398,7 @@ word_more {rows} {count} {byte} {done} {word} {offset} b h o i = record {
     told state zero l e =
         let same : count - done ≡ state = omega (arith, l, e, h) in
         rw (← six_first word o) at (subst (λ s. IsOffset rows count s byte offset) same i)
-    told state (suc place) l e = rw (← six_more word offset place o) at (b.told state place l (omega (arith, e)))
+    told state (suc place) l e = rw (← six_more _ _ _ o) at (b.told state place l (omega (arith, e)))
 
 pub word_fits : {rows : List ℕ} {count byte done word : ℕ} → IsBegun rows count byte done word → done ≤ 9
     → word < 18014398509481984
@@ -412,8 +409,8 @@ word_fits {done} b h =
     let s = b.small in
     omega (arith, p, s)
 
-pub states_are_light : (code : List Node) (table : Table) → IsTable code table → AreLight table.states.items
-states_are_light code table t state h = search (rules, positions_most, weight_length)
+pub states_are_light : {code : List Node} {table : Table} → IsTable code table → AreLight table.states.items
+states_are_light t state h = search (rules, positions_most, weight_length)
 
 -- what was made of the table's rows and states
 pub shifted_is : {table : Table} {shifts : ShiftTable} {rows : List ℕ} {noted : List State} → rows ≡ table.rows.items
@@ -421,15 +418,15 @@ pub shifted_is : {table : Table} {shifts : ShiftTable} {rows : List ℕ} {noted 
     → AreEach 0 (IsWord rows (length noted)) 256 shifts.words.items
     → AreEach 0 (λ low. IsWeight noted (low % 64)) 256 shifts.weights.items → shifts.states.items ≡ noted
     → shifts.stop ≡ 6 * length noted → IsShifted table shifts
-shifted_is {table} {shifts} {noted} er en few complete words weights states stop = search rules
+shifted_is er en few complete words weights states stop = search rules
 
-pub at_starts : {code : List Node} {shifts : ShiftTable} (line : List ℕ) → IsShiftTable code shifts
+pub at_starts : {code : List Node} {shifts : ShiftTable} {line : List ℕ} → IsShiftTable code shifts
     → IsAt code shifts line 0 0 0
-at_starts {code} line t =
+at_starts {code} {line} t =
     let starts : IsStateAt code t.0 line 0 0 0 = record {
       within = omega arith;
       known = omega arith;
-      going = λ h. (t.1.0, t.1.1, walked_starts line t.1.1);
+      going = λ h. (t.1.0, t.1.1, walked_starts t.1.1);
       over = λ e. absurd (let s = t.1.1.states in let m = t.1.1.some in omega (arith, e, s, m));
       bound = omega arith;
     } in
@@ -438,53 +435,52 @@ at_starts {code} line t =
 -- the positions of a state, as the words have them
 weight_read : {table : Table} {shifts : ShiftTable} (word : ℕ) {added : ℕ} (e : ℕ) → IsShifted table shifts
     → added ≡ get_or shifts.weights.items (word % 256) e → IsWeight table.states.items (word % 64) added
-weight_read {table} {shifts} word {added} e i g = search (rules, get_or_default)
+weight_read word e i g = search (rules, get_or_default)
 
-weight_small : (code : List Node) (table : Table) (state : ℕ) {low added : ℕ} → IsTable code table
+weight_small : {code : List Node} {table : Table} {state low added : ℕ} → IsTable code table
     → IsWeight table.states.items low added → low ≡ 6 * state → state < length table.states.items
     → added ≤ weight code + 1
-weight_small code table state t w l h =
+weight_small {code} {state} t w l h =
     let e = w.exact state h l in
     let p = (t.1.noted state (let s = t.1.states in omega (arith, s, h))).positions in
     let m = positions_most code (set_at t.0 state) in
     omega (arith, e, p, m)
 
 -- the end that was entered stays entered, whatever steps come
-more_steps : {code : List Node} (line : List ℕ) {steps : ℕ} (added : ℕ) → HasStepsBefore code line steps
+more_steps : {code : List Node} {line : List ℕ} {steps : ℕ} (added : ℕ) → HasStepsBefore code line steps
     → HasStepsBefore code line (steps + added)
-more_steps line added has = record { place = has.place; within = has.within; ends = has.ends; first = has.first; before = has.before; counted = has.counted; least = let l = has.least in omega (arith, l) }
+more_steps added has = record { place = has.place; within = has.within; ends = has.ends; first = has.first; before = has.before; counted = has.counted; least = let l = has.least in omega (arith, l) }
 
-state_over : {code : List Node} {table : Table} (line : List ℕ) {place state steps : ℕ} (added : ℕ) → IsTable code table
+state_over : {code : List Node} {table : Table} {line : List ℕ} {place state steps added : ℕ} → IsTable code table
     → IsStateAt code table line place state steps → place < length line → HasStepsBefore code line (steps + added)
-    → added ≤ weight code + 1
-    → IsStateAt code table line (place + 1) (length table.states.items) (steps + added)
-state_over {code} line {place} {steps} added t a h e w = search rules
+    → added ≤ weight code + 1 → IsStateAt code table line (place + 1) (length table.states.items) (steps + added)
+state_over t a h e w = search rules
 
-state_going : {code : List Node} {table : Table} (line : List ℕ) {place state steps added : ℕ} → IsTable code table
+state_going : {code : List Node} {table : Table} {line : List ℕ} {place state steps added : ℕ} → IsTable code table
     → IsStateAt code table line place state steps → place < length line → slice_index line place < 256
     → state < length table.states.items
     → entry table.rows.items state (slice_index line place) < length table.states.items
     → added ≡ (get_or table.states.items state no_state).positions → added ≤ weight code + 1
     → IsStateAt code table line (place + 1) (entry table.rows.items state (slice_index line place)) (steps + added)
-state_going {code} {table} line {place} {state} {steps} {added} t a h b k n e w = record {
+state_going {steps} t a h b k n e w = record {
   within = omega (arith, h);
   known = omega (arith, n);
   going = λ l.
       let g = a.going k in
       let m = g.1.most in
       let s = g.1.states in
-      rw (ap (λ p. steps + p) (sym e)) at (walk_next code table line place state steps 0 no_state g h b refl (omega (arith, n, m, s)) refl);
+      rw (ap (λ p. steps + p) (sym e)) at (walk_next 0 no_state g h b refl (omega (arith, n, m, s)) refl);
   over = λ q. absurd (omega (arith, q, n));
-  bound = steps_more place steps added (weight code + 1) a.bound w;
+  bound = steps_more _ a.bound w;
 }
 
-state_ends : {code : List Node} {table : Table} (line : List ℕ) {place state steps added : ℕ}
+state_ends : {code : List Node} {table : Table} {line : List ℕ} {place state steps added : ℕ}
     → added ≡ (get_or table.states.items state no_state).positions → IsComplete table.rows.items
     → IsStateAt code table line place state steps → place < length line → slice_index line place < 256
     → state < length table.states.items
     → length table.states.items ≤ entry table.rows.items state (slice_index line place)
     → HasStepsBefore code line (steps + added)
-state_ends {code} {table} line {place} {state} {steps} same c a h b k n =
+state_ends {table} {line} {place} {state} same c a h b k n =
     let g = a.going k in
     let s = g.1.states in
     let r = g.1.rows in
@@ -492,94 +488,93 @@ state_ends {code} {table} line {place} {state} {steps} same c a h b k n =
       | inl less ↦ absurd (let m = ((g.1.told state (slice_index line place) g.2.known b).next less).0 in omega (arith, m, n, s))
       | inr more ↦ more
     ] in
-    let o = walk_stops table line place state 0 no_state g h b refl (c (state * 256 + slice_index line place) (omega (arith, k, b, r, s)) high) refl in
+    let o = walk_stops 0 no_state g h b refl (c (state * 256 + slice_index line place) (omega (arith, k, b, r, s)) high) refl in
     rw (← same) at (o.least refl)
 
-state_more : {code : List Node} {table : Table} (line : List ℕ) {place state steps added six : ℕ} → IsTable code table
+state_more : {code : List Node} {table : Table} {line : List ℕ} {place state steps added six : ℕ} → IsTable code table
     → IsComplete table.rows.items → IsStateAt code table line place state steps → place < length line
-    → slice_index line place < 256
-    → IsWeight table.states.items (6 * state) added
+    → slice_index line place < 256 → IsWeight table.states.items (6 * state) added
     → IsOffset table.rows.items (length table.states.items) state (slice_index line place) six
     → (n : ℕ) × (six ≡ 6 * n) × IsStateAt code table line (place + 1) n (steps + added)
-state_more {code} {table} line {place} {state} {added} t c a h b w o = elim (cases_lt state (length table.states.items)) [
+state_more {table} {line} {place} {state} t c a h b w o = elim (cases_lt state (length table.states.items)) [
   | inr over ↦
       let k = a.known in
       let same : state ≡ length table.states.items = omega (arith, over, k) in
-      (length table.states.items, o.stop (λ l. absurd (omega (arith, l, over))), state_over line added t a h (more_steps line added (a.over same)) (let z = w.stop (ap (λ n. 6 * n) same) in omega (arith, z)))
+      (length table.states.items, o.stop (λ l. absurd (omega (arith, l, over))), state_over t a h (more_steps _ (a.over same)) (let z = w.stop (ap (λ n. 6 * n) same) in omega (arith, z)))
   | inl below ↦ elim (cases_lt (entry table.rows.items state (slice_index line place)) (length table.states.items)) [
-    | inl less ↦ (entry table.rows.items state (slice_index line place), o.next below less, state_going line t a h b below less (w.exact state below refl) (weight_small code table state t w refl below))
-    | inr more ↦ (length table.states.items, o.stop (λ l. more), state_over line added t a h (state_ends line (w.exact state below refl) c a h b below more) (weight_small code table state t w refl below))
+    | inl less ↦ (entry table.rows.items state (slice_index line place), o.next below less, state_going t a h b below less (w.exact state below refl) (weight_small t w refl below))
+    | inr more ↦ (length table.states.items, o.stop (λ l. more), state_over t a h (state_ends (w.exact state below refl) c a h b below more) (weight_small t w refl below))
   ]
 ]
 
-pub at_moved : {code : List Node} {shifts : ShiftTable} (line : List ℕ) {place place' : ℕ} (word : ℕ) {steps steps' : ℕ}
+pub at_moved : {code : List Node} {shifts : ShiftTable} {line : List ℕ} {place place' : ℕ} (word : ℕ) {steps steps' : ℕ}
     → place ≡ place' → steps ≡ steps' → IsAt code shifts line place word steps
     → IsAt code shifts line place' word steps'
-at_moved {code} {shifts} line {place} word {steps'} p s a = rw p at (subst (λ n. IsAt code shifts line place word n) s a)
+at_moved {code} {shifts} {line} {place} word p s a = rw p at (subst (λ n. IsAt code shifts line place word n) s a)
 
 -- one byte more
-pub at_more : {code : List Node} {shifts : ShiftTable} (line : List ℕ) {place : ℕ} (word : ℕ) {word' steps read : ℕ}
+pub at_more : {code : List Node} {shifts : ShiftTable} {line : List ℕ} {place : ℕ} (word : ℕ) {word' steps read : ℕ}
     (d : ℕ) {added : ℕ} (e : ℕ) → IsAt code shifts line place word steps → place < length line
     → slice_index line place < 256
     → read ≡ get_or shifts.words.items (slice_index line place) d → word' ≡ read / 2 ^ (word % 64)
     → added ≡ get_or shifts.weights.items (word % 256) e → IsAt code shifts line (place + 1) word' (steps + added)
-at_more {shifts} line {place} word {read} d {added} e a h b r w g =
-    let o = subst (λ n. IsOffset a.0.rows.items (length a.0.states.items) a.3.0 (slice_index line place) (six_bits n a.3.0)) (get_or_default shifts.words.items (slice_index line place) 0 d (let s = a.2.words.size in omega (arith, s, b)) ∙ sym r)
+at_more {line} {place} word {read} d {added} e a h b r w g =
+    let o = subst (λ n. IsOffset a.0.rows.items (length a.0.states.items) a.3.0 (slice_index line place) (six_bits n a.3.0)) (get_or_default _ (slice_index line place) 0 d (let s = a.2.words.size in omega (arith, s, b)) ∙ sym r)
     (a.2.words.each (slice_index line place) b a.3.0 a.3.2.known) in
-    let i = subst (λ n. IsWeight a.0.states.items n added) a.3.1 (weight_read word e a.2 g) in
-    let m = state_more line a.1 a.2.complete a.3.2 h b i o in
+    let i = subst (λ n. IsWeight a.0.states.items n added) a.3.1 (weight_read _ e a.2 g) in
+    let m = state_more a.1 a.2.complete a.3.2 h b i o in
     (a.0, a.1, a.2, (m.0, ap (λ k. k % 64) (w ∙ ap (λ k. read / 2 ^ k) a.3.1) ∙ m.1, m.2))
 
-pub at_stop : {code : List Node} {shifts : ShiftTable} (line : List ℕ) {place : ℕ} (word : ℕ) {steps : ℕ}
+pub at_stop : {code : List Node} {shifts : ShiftTable} {line : List ℕ} {place : ℕ} (word : ℕ) {steps : ℕ}
     → IsAt code shifts line place word steps → word % 64 ≡ shifts.stop
     → IsOutcome code line (record { found = true; steps = steps })
-at_stop {code} line {place} word {steps} a e = search rules
+at_stop word a e = search rules
 
 -- the state, where the end wasn't entered
-state_here : {code : List Node} {shifts : ShiftTable} (line : List ℕ) {place : ℕ} (word : ℕ) {steps : ℕ}
+state_here : {code : List Node} {shifts : ShiftTable} {line : List ℕ} {place : ℕ} (word : ℕ) {steps : ℕ}
     (a : IsAt code shifts line place word steps) → (word % 64 ≡ shifts.stop → ⊥) → a.3.0 < length a.0.states.items
-state_here line word a n = search rules
+state_here word a n = search rules
 
-state_number : {code : List Node} {shifts : ShiftTable} (line : List ℕ) {place : ℕ} (word : ℕ) {steps : ℕ}
+state_number : {code : List Node} {shifts : ShiftTable} {line : List ℕ} {place : ℕ} (word : ℕ) {steps : ℕ}
     (a : IsAt code shifts line place word steps) → word % 64 / 6 ≡ a.3.0
-state_number line word a = let q = a.3.1 in omega (arith, q)
+state_number word a = let q = a.3.1 in omega (arith, q)
 
-pub at_known : {code : List Node} {shifts : ShiftTable} (line : List ℕ) {place : ℕ} (word : ℕ) {steps : ℕ}
+pub at_known : {code : List Node} {shifts : ShiftTable} {line : List ℕ} {place : ℕ} (word : ℕ) {steps : ℕ}
     → IsAt code shifts line place word steps → (word % 64 ≡ shifts.stop → ⊥)
     → word % 64 / 6 < length shifts.states.items
-at_known line word a n = search rules
+at_known word a n = search rules
 
 -- what is noted of the state
-noted_here : {code : List Node} {shifts : ShiftTable} (line : List ℕ) {place : ℕ} (word : ℕ) {steps : ℕ} {noted : State}
+noted_here : {code : List Node} {shifts : ShiftTable} {line : List ℕ} {place : ℕ} (word : ℕ) {steps : ℕ} {noted : State}
     (d : State) (a : IsAt code shifts line place word steps) → noted ≡ get_or shifts.states.items (word % 64 / 6) d
     → noted ≡ get_or a.0.states.items a.3.0 d
-noted_here {shifts} line word d a e = e ∙ ap (λ n. get_or shifts.states.items n d) (state_number line word a) ∙ ap (λ l. get_or l a.3.0 d) a.2.states
+noted_here {shifts} word d a e = e ∙ ap (λ n. get_or shifts.states.items n d) (state_number _ a) ∙ ap (λ l. get_or l a.3.0 d) a.2.states
 
-pub at_end : {code : List Node} {shifts : ShiftTable} (line : List ℕ) {place : ℕ} (word : ℕ) {steps : ℕ} {noted : State}
+pub at_end : {code : List Node} {shifts : ShiftTable} {line : List ℕ} {place : ℕ} (word : ℕ) {steps : ℕ} {noted : State}
     (d : State) → IsAt code shifts line place word steps → (word % 64 ≡ shifts.stop → ⊥) → place ≡ length line
     → 0 < length line → noted ≡ get_or shifts.states.items (word % 64 / 6) d
     → IsOutcome code line (record { found = noted.ends; steps = steps + noted.last_positions })
-at_end line word {steps} d a n h some e = walk_ends a.0 line _ a.3.0 steps d (a.3.2.going (state_here line word a n)) h some (noted_here line word d a e)
+at_end word d a n h some e = walk_ends _ d (a.3.2.going (state_here _ a n)) h some (noted_here _ d a e)
 
 -- no byte can change the state
-pub at_fixed : {code : List Node} {shifts : ShiftTable} (line : List ℕ) {place : ℕ} (word : ℕ) {steps rest : ℕ}
+pub at_fixed : {code : List Node} {shifts : ShiftTable} {line : List ℕ} {place : ℕ} (word : ℕ) {steps rest : ℕ}
     {noted : State} (d : State) → IsAt code shifts line place word steps → (word % 64 ≡ shifts.stop → ⊥)
     → 0 < length line → ((k : ℕ) → k < length line → slice_index line k < 256)
     → noted ≡ get_or shifts.states.items (word % 64 / 6) d → noted.is_fixed ≡ true
     → rest ≡ noted.positions * (length line - place)
     → IsOutcome code line (record { found = noted.ends; steps = steps + rest + noted.last_positions })
-at_fixed {code} line {place} word {steps} {rest} d a n some b e f r =
-    let k = state_here line word a n in
-    let q = noted_here line word d a e in
-    let w = walk_run code a.0 line place (length line) steps d (a.3.2.going k) a.3.2.within (omega arith) b (λ at l h. fixed_stays line d a.1 k q f at (b at h)) q r in
-    walk_ends a.0 line _ a.3.0 (steps + rest) d w refl some q
+at_fixed {line} word d a n some b e f r =
+    let k = state_here _ a n in
+    let q = noted_here _ d a e in
+    let w = walk_run d (a.3.2.going k) a.3.2.within (omega arith) b (λ at l h. fixed_stays line d a.1 k q f at (b at h)) q r in
+    walk_ends _ d w refl some q
 
-pub at_fits : {code : List Node} {shifts : ShiftTable} (line : List ℕ) {place : ℕ} (word : ℕ) {steps : ℕ}
+pub at_fits : {code : List Node} {shifts : ShiftTable} {line : List ℕ} {place : ℕ} (word : ℕ) {steps : ℕ}
     → IsAt code shifts line place word steps → place ≤ 18446744073709551616
     → steps < 340282366920938463463374607431768211456
-at_fits {code} line {place} word {steps} a p = bound_fits code place steps a.1.1.few a.3.2.bound (omega (arith, p))
+at_fits word a p = bound_fits _ a.1.1.few a.3.2.bound (omega (arith, p))
 
-pub outcome_fits : {code : List Node} (shifts : ShiftTable) (line : List ℕ) {found : Bool} {steps : ℕ}
+pub outcome_fits : {code : List Node} {shifts : ShiftTable} {line : List ℕ} {found : Bool} {steps : ℕ}
     → IsShiftTable code shifts → IsOutcome code line (record { found = found; steps = steps })
     → length line ≤ 18446744073709551615 → steps < 340282366920938463463374607431768211456
-outcome_fits {code} shifts line {steps} t o p = bound_fits code (length line + 1) steps t.1.1.few o.bound (omega (arith, p))
+outcome_fits t o p = bound_fits _ t.1.1.few o.bound (omega (arith, p))

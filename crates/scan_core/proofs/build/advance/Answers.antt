@@ -2,6 +2,6 @@ use Rattle.scan_core.proofs.Searchings.{advanced}
 use Rattle.scan_core.proofs.build.advance.Goals as goal
 
 pub returns-clause-exact : goal.returns-clause-exact
-returns-clause-exact c = advanced c.args.words.now c.requires.closures.base
+returns-clause-exact c = advanced _ c.requires.closures.base
     (rw c.deref.ensures.value at c.pass.ensures.exact)
     c.spread.ensures

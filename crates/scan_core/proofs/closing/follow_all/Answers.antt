@@ -12,7 +12,7 @@ pub loop-place-preserved : goal.loop-place-preserved
 loop-place-preserved c =
     let hops = c.args.closures.now.hops.onward.items in
     let inside : c.loop-place.place < length hops = omega (arith, c.loop-place-test.true) in
-    following_more c.follow-over.result c.loop-place.invariant c.follow-over.ensures (c.index-hop.ensures ∙ get_or_default hops c.loop-place.place _ no_hop inside)
+    following_more c.loop-place.invariant c.follow-over.ensures (c.index-hop.ensures ∙ get_or_default hops c.loop-place.place _ no_hop inside)
 
 pub returns : goal.returns
 returns c = following_ends c.loop-place.invariant c.requires.closures.hops.onward (omega arith)

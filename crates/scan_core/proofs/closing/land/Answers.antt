@@ -1,4 +1,4 @@
-use Rattle.std.proofs.Common.{rules, ◌<◌, ◌^◌, eqb, not, get_or, refl, ◌∙◌, arith, bit_and}
+use Rattle.std.proofs.Common.{rules, ◌<◌, ◌^◌, get_or, refl, ◌∙◌, arith}
 use Rattle.scan_core.{
   specs.inner.Hops.no_hop,
   proofs.Closings.{landing_more, landing_ends, led_is, not_zero, is_not_zero},
@@ -12,7 +12,7 @@ loop-place-preserved c =
     let s = c.loop-place.invariant in
     let fits : get_or c.loop-place.words (get_or c.args.landings.now c.loop-place.place no_hop).at 0 < 2 ^ 64 = search rules in
     let high : get_or c.loop-place.words (get_or c.args.landings.now c.loop-place.place no_hop).word 0 < 2 ^ 64 = search rules in
-    landing_more s is (led_is (not (eqb (bit_and (get_or c.loop-place.words hop.at 0) hop.from) 0)) is.leads (s.adds.size ∙ c.requires.size) fits high (not_zero _) is_not_zero refl) refl
+    landing_more s is (led_is is.leads (s.adds.size ∙ c.requires.size) fits high (not_zero) is_not_zero refl) refl
 
 pub returns : goal.returns
 returns c = landing_ends c.loop-place.invariant c.requires.landings (omega arith)

@@ -10,14 +10,14 @@ bits-smaller c =
     let all : c.bits.all < 2 ^ 64 = search rules in
     let l = and_le_l c.bits.all (bit_not w64 c.bits.done) in
     let lowest = bit_at-trailing_zeros w64 (bit_and c.bits.all (bit_not w64 c.bits.done)) (omega (arith, c.bits-test.true)) (omega (arith, l, all)) in
-    inside_smaller c.bits.all c.bits.done lowest.0 (search rules) lowest.1
+    inside_smaller _ lowest.0 (search rules) lowest.1
 
 pub bits-preserved : goal.bits-preserved
 bits-preserved c =
     let all : c.bits.all < 2 ^ 64 = search rules in
     let l = and_le_l c.bits.all (bit_not w64 c.bits.done) in
     let lowest = bit_at-trailing_zeros w64 (bit_and c.bits.all (bit_not w64 c.bits.done)) (omega (arith, c.bits-test.true)) (omega (arith, l, all)) in
-    inside_more c.bits.all c.bits.done c.targets-all.result c.bits.invariant lowest.0 (search rules) lowest.1 c.targets-all.ensures
+    inside_more _ c.bits.invariant lowest.0 (search rules) lowest.1 c.targets-all.ensures
 
 pub returns : goal.returns
-returns c = inside_ends c.bits.all c.bits.done c.bits.invariant (search rules) c.bits-test.false
+returns c = inside_ends c.bits.invariant (search rules) c.bits-test.false

@@ -3,7 +3,7 @@ use Rattle.scan_core.proofs.Closings.{plain_node, plain_beyond}
 use Rattle.scan_core.proofs.closures.is_plain.Goals as goal
 
 pub returns-then-number-nodes : goal.returns-then-number-nodes
-returns-then-number-nodes c = λ t. plain_beyond c.args.nodes.now c.args.number (omega arith)
+returns-then-number-nodes c = λ t. plain_beyond _ (omega arith)
 
 pub returns : goal.returns
-returns c = λ t. plain_node c.args.nodes.now c.index-nodes-number.is (omega arith) (c.is_anchor.ensures (not-true _ t))
+returns c = λ t. plain_node _ c.index-nodes-number.is (omega arith) (c.is_anchor.ensures (not-true _ t))

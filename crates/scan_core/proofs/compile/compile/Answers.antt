@@ -15,7 +15,7 @@ loop-place-init c = let first = c.new-compiling.result in record {
 
 pub take-requires-clause-order : goal.take-requires-clause-order
 take-requires-clause-order c =
-    bounded_at c.tokens-tokens.result.now (c.loop-place.place - 1) c.tokens-tokens.ensures.order (omega (arith, c.loop-place.auto, c.loop-place-test.true)) c.index-tokens-place.is
+    bounded_at _ _ c.tokens-tokens.ensures.order (omega (arith, c.loop-place.auto, c.loop-place-test.true)) c.index-tokens-place.is
 
 pub loop-place-preserved : goal.loop-place-preserved
 loop-place-preserved c = let w = c.loop-place.invariant.way in record {
@@ -24,7 +24,7 @@ loop-place-preserved c = let w = c.loop-place.invariant.way in record {
   way = (
     w.0,
     w.1,
-    way_more c.tokens-tokens.result.now (c.loop-place.place - 1) w.0 c.loop-place.compiling c.take.new.self (omega (arith, c.loop-place-test.true))
+    way_more c.tokens-tokens.result.now w.0 c.loop-place.compiling c.take.new.self (omega (arith, c.loop-place-test.true))
         (omega (arith, c.loop-place.auto, c.loop-place-test.true)) c.index-tokens-place.is w.2 c.in_ok-take.ensures.ok,
   );
 }
@@ -37,4 +37,4 @@ returns-clause-ok c =
     (rw front at w.2)
 
 pub returns-clause-order : goal.returns-clause-order
-returns-clause-order c = ordered c.args.expression.now (rw c.tokens-tokens.ensures.written at c.tokens-tokens.ensures.order)
+returns-clause-order c = ordered _ (rw c.tokens-tokens.ensures.written at c.tokens-tokens.ensures.order)

@@ -4,7 +4,7 @@ use Rattle.scan_core.proofs.emit.write_bounded.Goals as goal
 
 pub returns-then-low-high-clause-ok : goal.returns-then-low-high-clause-ok
 returns-then-low-high-clause-ok c = on_ok_weaker c.copy_times.result
-    (λ e before code b n. exact_out before code b n (omega (arith, c.len.ensures)) c.if-low-high.true c.requires.some e) c.copy_times.ensures.ok
+    (λ e before code b n. exact_out _ _ b n (omega (arith, c.len.ensures)) c.if-low-high.true c.requires.some e) c.copy_times.ensures.ok
 
 pub copy-requires : goal.copy-requires
 copy-requires c = grind (arith, common_steps)
@@ -14,7 +14,7 @@ loop-more-init c = grind (arith, common_steps)
 
 pub loop-more-preserved : goal.loop-more-preserved
 loop-more-preserved c = let g = c.loop-more.invariant.grown in record {
-  grown = grown_on c.args.nodes.now.items g.0 _ _ g.1 c.in_ok-copy.ensures.ok c.in_ok-choose-2.ensures.ok;
+  grown = grown_on _ _ _ _ g.1 c.in_ok-copy.ensures.ok c.in_ok-choose-2.ensures.ok;
   written = λ before code b n. optional_more g.0 before code c.loop-more._more b n (omega (arith, c.len.ensures)) g.1
       (c.loop-more.invariant.written before code b n) c.in_ok-copy.ensures.ok c.in_ok-choose-2.ensures.ok;
 }

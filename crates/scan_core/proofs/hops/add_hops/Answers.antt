@@ -6,4 +6,4 @@ pub returns-then-not-is_open-clause-met : goal.returns-then-not-is_open-clause-m
 returns-then-not-is_open-clause-met c = λ to f. absurd (false≢true (sym c.if-not-is_open.true ∙ c.is_open.ensures.1 ((c.way_of-way.ensures.exact false false to).0 f).0))
 
 pub returns-clause-met : goal.returns-clause-met
-returns-clause-met c = both_met _ _ _ c.add_hop-2.result c.way_of-way.ensures c.in_ok-add_hop.ensures.met c.add_hop-2.ensures.grown c.add_hop-2.ensures.met
+returns-clause-met c = both_met _ _ _ _ c.way_of-way.ensures c.in_ok-add_hop.ensures.met c.add_hop-2.ensures.grown c.add_hop-2.ensures.met

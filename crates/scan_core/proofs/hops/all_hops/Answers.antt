@@ -5,7 +5,7 @@ use Rattle.scan_core.proofs.hops.all_hops.Goals as goal
 pub loop-number-preserved : goal.loop-number-preserved
 loop-number-preserved c = let added = c.in_ok-add_hops.ensures in record {
   sound = added.sound;
-  met = all_met c.args.nodes.now _ _ _ c.loop-number.invariant.met added.grown added.met;
+  met = all_met _ _ _ _ c.loop-number.invariant.met added.grown added.met;
 }
 
 pub returns-clause-met : goal.returns-clause-met

@@ -3,7 +3,7 @@ use Rattle.scan_core.proofs.Shiftings.{at_more, at_moved}
 use Rattle.scan_core.proofs.shift_walk.stride.Goals as goal
 
 pub loop-done-init : goal.loop-done-init
-loop-done-init c = record { small = omega arith; at = λ before a. at_moved c.args.line.now c.args.word (omega arith) (omega arith) a }
+loop-done-init c = record { small = omega arith; at = λ before a. at_moved _ (omega arith) (omega arith) a }
 
 pub overflow_add-steps : goal.overflow_add-steps
 overflow_add-steps c =
@@ -19,9 +19,9 @@ loop-done-preserved c =
     let b : slice_index c.args.line.now (c.args.from + c.loop-done.done) < 256 = search (rules, c.type_inv.line) in
     record {
       small = omega (arith, l, e, c.loop-done.invariant.small);
-      at = λ before a. at_moved c.args.line.now _ (omega arith) (omega arith) (at_more c.args.line.now c.loop-done.word _ _ (c.loop-done.invariant.at before a)
+      at = λ before a. at_moved _ (omega arith) (omega arith) (at_more _ _ _ (c.loop-done.invariant.at before a)
           (omega (arith, c.loop-done-test.true, c.requires.within)) b c.index-in-loop-done.ensures refl c.index.ensures);
     }
 
 pub returns-clause-at : goal.returns-clause-at
-returns-clause-at c = λ before a. at_moved c.args.line.now _ (omega (arith, c.loop-done-test.false, c.loop-done.auto.done-end)) (omega arith) (c.loop-done.invariant.at before a)
+returns-clause-at c = λ before a. at_moved _ (omega (arith, c.loop-done-test.false, c.loop-done.auto.done-end)) (omega arith) (c.loop-done.invariant.at before a)

@@ -6,4 +6,4 @@ pub returns : goal.returns
 returns c =
     let m : c.min.result ≡ min c.args.on c.args.number = search rules in
     let f : slice_index_or c.args.words.now (c.args.number / 64) 0 < 2 ^ 64 = search rules in
-    grows_one c.args.number c.requires (λ h. false≢true (sym c.if-has.false ∙ c.has.ensures.1 h)) refl f refl m
+    grows_one c.requires (λ h. false≢true (sym c.if-has.false ∙ c.has.ensures.1 h)) refl f refl m

@@ -5,7 +5,7 @@ use Rattle.scan_core.proofs.words.pass.Goals as goal
 pub loop-at-preserved : goal.loop-at-preserved
 loop-at-preserved c =
     let f : slice_index_or c.loop-at.words c.loop-at.at 0 < 2 ^ 64 = search rules in
-    let takes = takes_word c.args.nodes.now c.args.takes.now c.args.byte c.loop-at.at c.requires.takes c.requires.size (omega arith) (omega (arith, c.loop-at-test.true, c.requires.size)) in
+    let takes = takes_word _ c.requires.takes c.requires.size (omega arith) (omega (arith, c.loop-at-test.true, c.requires.size)) in
     let l = and_le_l (slice_index_or c.loop-at.words c.loop-at.at 0) (slice_index_or c.args.takes.now (c.args.byte * length c.args.words.now + c.loop-at.at) 0) in
     passing_more _ c.loop-at.invariant takes (omega arith) refl (omega (arith, f, l)) refl
 

@@ -6,4 +6,4 @@ pub returns-in-Some-clause-clear : goal.returns-in-Some-clause-clear
 returns-in-Some-clause-clear c =
     let bytes : AreBytes c.args.text.now = λ k h. search (rules, c.type_inv.text) in
     let needle = subst (λ code. IsNeedle code c.in-Some.needle) c.self.invariant.0 (rw c.in-Some.is at c.self.invariant.7) in
-    rw c.self.view_is at (clear_of c.self.inside.expression c.in-Some.needle c.args.text.now c.find.result c.self.invariant.1 bytes needle c.find.ensures.lacks)
+    rw c.self.view_is at (clear_of _ _ c.self.invariant.1 bytes needle c.find.ensures.lacks)

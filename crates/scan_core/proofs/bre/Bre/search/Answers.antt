@@ -5,25 +5,25 @@ use Rattle.scan_core.proofs.bre.Bre.search.Goals as goal
 
 pub slice_bounds-search-end : goal.slice_bounds-search-end
 slice_bounds-search-end c =
-    let e = enough_room c.self.inside.expression c.self.invariant.1 in
+    let e = enough_room _ c.self.invariant.1 in
     let l = ap length c.self.invariant.0 in
     let p = ap positions_of c.self.view_is in
     omega (arith, e, l, p, c.requires)
 
 pub slice_bounds-search-end-2 : goal.slice_bounds-search-end-2
 slice_bounds-search-end-2 c =
-    let e = enough_room c.self.inside.expression c.self.invariant.1 in
+    let e = enough_room _ c.self.invariant.1 in
     let l = ap length c.self.invariant.0 in
     let p = ap positions_of c.self.view_is in
     let h : c.len.result / 64 + 1 ≤ length c.args.words.now = omega (arith, e, l, p, c.requires) in
     search (rules, h)
 
 pub search-requires-clause-code : goal.search-requires-clause-code
-search-requires-clause-code c = rw (← (c.deref.ensures.value ∙ c.self.invariant.0)) at (is_code c.self.inside.expression c.self.invariant.1)
+search-requires-clause-code c = rw (← (c.deref.ensures.value ∙ c.self.invariant.0)) at (is_code _ c.self.invariant.1)
 
 pub search-requires-clause-room : goal.search-requires-clause-room
 search-requires-clause-room c =
-    let e = enough_room c.self.inside.expression c.self.invariant.1 in
+    let e = enough_room _ c.self.invariant.1 in
     let l = ap length c.self.invariant.0 in
     let p = ap positions_of c.self.view_is in
     let h : c.len.result / 64 + 1 ≤ length c.args.words.now = omega (arith, e, l, p, c.requires) in

@@ -14,7 +14,7 @@ returns-clause-ok c =
     let none : IsIn c.begin.new.words (length c.args.nodes.now) → ⊥ = λ h.
     false≢true (sym c.if-has.false ∙ c.has.ensures.1 (rw (← (c.deref.ensures.value ∙ whole)) at h)) in
     record {
-      built = rw (← c.new.ensures.items) at (front_built c.begin.new.words size c.begin.ensures.exact none sets);
+      built = rw (← c.new.ensures.items) at (front_built _ size c.begin.ensures.exact none sets);
       room = let l = ap length sets in omega (arith, l, c.requires.most);
       size = ap length whole ∙ size;
       order = omega arith;

@@ -17,7 +17,7 @@ returns-then-twin-byte-clause-ok c = let f = c.requires.so_far in record { so_fa
 pub copy_from_slice-requires : goal.copy_from_slice-requires
 copy_from_slice-requires c =
     let f = c.requires.so_far in
-    let set = c.set.view_is ∙ c.index-set.ensures ∙ get_or_default c.args.self.now.sets.items (c.args.place / 256) c.index-set.result.now [] c.requires.known in
+    let set = c.set.view_is ∙ c.index-set.ensures ∙ get_or_default _ _ _ [] c.requires.known in
     let size = set_size _ f.built.going c.requires.known set in
     let l = ap length c.deref.ensures.value in
     omega (arith, size, l, f.size, c.args.self.now.words.ok.0)
@@ -26,7 +26,7 @@ pub returns-clause-ok : goal.returns-clause-ok
 returns-clause-ok c =
     let f = c.requires.so_far in
     let set : flags_of c.set.inside.words.items ≡ set_at c.args.self.now.sets.items (c.args.place / 256) =
-    c.set.view_is ∙ c.index-set.ensures ∙ get_or_default c.args.self.now.sets.items (c.args.place / 256) c.index-set.result.now [] c.requires.known in
+    c.set.view_is ∙ c.index-set.ensures ∙ get_or_default _ _ _ [] c.requires.known in
     let before : c.deref_mut.result.now ≡ c.set.inside.words.items = c.deref_mut.ensures.value ∙ c.copy_from_slice.ensures.items ∙ c.deref.ensures.value in
     let whole = with_items_is c.copy_from_slice.new.self c.advance.new.words (c.advance.ensures.size ∙ c.deref_mut.ensures.len) in
     let new : Building = record { sets = c.lead_to.new.sets; rows = c.args.self.now.rows; words = with_items c.copy_from_slice.new.self c.advance.new.words } in
