@@ -39,7 +39,7 @@ begun_first delim byte (suc (suc place)) x some = ap (λ more. byte ∷ more) (s
 
 pub begun_some : (unit : Unit) (delim place : ℕ) (x : List ℕ) → 0 < place → 0 < length x
     → 0 < length (begun_before unit delim place x)
-begun_some Bytes delim place x some has = omega (arith, length-take place x, some, has)
+begun_some Bytes delim place x some has = omega (arith, length-take place x)
 begun_some Lines delim place [] some has = absurd (omega (arith, has))
 begun_some Lines delim place (byte ∷ x) some has = rw (begun_first delim byte place x some) (omega arith)
 
@@ -62,13 +62,7 @@ open_end delim byte x ends =
 
 open_more : (delim byte : ℕ) (x : List ℕ) → eqb byte delim ≡ false → 0 < open_from Lines delim x
     → open_from Lines delim (byte ∷ x) ≡ open_from Lines delim x + 1
-open_more delim byte x goes some = by (delimiters delim x) refl where
-  by : (d : ℕ) → delimiters delim x ≡ d → open_from Lines delim (byte ∷ x) ≡ open_from Lines delim x + 1
-  by zero is = absurd (omega (arith, none_open delim x is))
-  by (suc d) is =
-      let more : delimiters delim (byte ∷ x) ≡ suc d = rw goes is in
-      ap (λ n. length (first_lines delim n (byte ∷ x))) more
-      ∙ ap length (first_lines-cons delim byte d x) ∙ rw (goes, is) (omega arith)
+open_more delim byte x goes some = grind (arith, none_open, first_lines-cons)
 
 open_still : (delim byte : ℕ) (x : List ℕ) → eqb byte delim ≡ false → open_from Lines delim x ≡ 0
     → open_from Lines delim (byte ∷ x) ≡ 0
