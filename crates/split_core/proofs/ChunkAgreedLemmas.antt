@@ -159,18 +159,18 @@ drop_run : (c : ℕ) (x y : List ℕ) (n : ℕ) (front : List ℕ) → IsBeginni
     → IsRun c (drop n front)
 drop_run c [] y n front begins past run = run_drop c n front (run_begins c front y begins run)
 drop_run c (byte ∷ x) y n [] begins past run = drop_none c n
-drop_run c (byte ∷ x) y zero (next ∷ front) begins past run = absurd (omega (arith, past))
+drop_run c (byte ∷ x) y zero (next ∷ front) begins past run = absurd (omega arith)
 drop_run c (byte ∷ x) y (suc n) (next ∷ front) begins past run =
-    drop_run c x y n front (begins_tail next byte front (x ++ y) begins) (omega (arith, past)) run
+    drop_run c x y n front (begins_tail next byte front (x ++ y) begins) (omega arith) run
 
 runs_from : (c : ℕ) (f : ℕ → List ℕ) (a n : ℕ) → ((i : ℕ) → a ≤ i → IsRun c (f i))
     → AreRuns c (map f (range_with_len a n))
 runs_from c f a zero run = tt
-runs_from c f a (suc n) run = (run a (omega arith), runs_from c f (a + 1) n (λ i from. run i (omega (arith, from))))
+runs_from c f a (suc n) run = (run a (omega arith), runs_from c f (a + 1) n (λ i from. run i (omega arith)))
 
 front_of : (unit : Which) (delim place byte : ℕ) (y : List ℕ) → 0 < place
     → (more : List ℕ) × (begun_before unit delim place (byte ∷ y) ≡ byte ∷ more)
-front_of Bytes delim zero byte y some = absurd (omega (arith, some))
+front_of Bytes delim zero byte y some = absurd (omega arith)
 front_of Bytes delim (suc place) byte y some = (take place y, refl)
 front_of Lines delim place byte y some = (_, begun_first delim byte place y some)
 
@@ -227,10 +227,10 @@ pub files_split : (elide : Bool) (chunks : Chunks) (size : ℕ) (w : List ℕ) (
     ≡ kept elide (map (chunk_at chunks size w) (range_with_len 0 p))
     ++ kept elide (map (chunk_at chunks size w) (range_with_len p (suc m)))
 files_split elide chunks size w p m some long is = let f = chunk_at chunks size w in
-    ap (files_by elide) (cut_all chunks size w some (omega (arith, long)))
+    ap (files_by elide) (cut_all chunks size w some (omega arith))
     ∙ append-nil (kept elide (map (chunk_at chunks size (take size w)) (range_with_len 0 chunks.count)))
     ∙ ap (λ z. kept elide (map (chunk_at chunks size z) (range_with_len 0 chunks.count)))
-    (take_all size w (omega (arith, long)))
+    (take_all size w (omega arith))
     ∙ ap (λ n. kept elide (map f (range_with_len 0 n))) (sym is)
     ∙ ap (kept elide) (parts_split f p m)
     ∙ kept-append elide (map f (range_with_len 0 p)) (map f (range_with_len p (suc m)))
@@ -241,15 +241,8 @@ files_split elide chunks size w p m some long is = let f = chunk_at chunks size 
 pub chunks_left : (chunks : Chunks) (size : ℕ) (x : List ℕ) → 0 < chunks.count → length x < size
     → (m : ℕ) × (ended chunks size x + suc m ≡ chunks.count)
 chunks_left chunks size x some short = let p = ended chunks size x in elim (cases_lt p chunks.count) [
-  | inl less ↦ (chunks.count - p - 1, omega (arith, less))
-  | inr last ↦ absurd (omega (
-    arith,
-    short,
-    start_past chunks.count size p some last,
-    (ended_is chunks size x).before,
-    passed_open chunks size x short,
-    open_within chunks.unit chunks.delim x,
-  ))
+  | inl less ↦ (chunks.count - p - 1, omega arith)
+  | inr last ↦ absurd (omega (arith, start_past chunks.count size p some last, (ended_is chunks size x).before, passed_open chunks size x short, open_within chunks.unit chunks.delim x))
 ]
 
 -- in the end there are the files of those that have ended, and then those of all others
@@ -262,8 +255,8 @@ said_split elide chunks size x y m some short long is =
     let here : HaveEnded chunks size x p = ended_is chunks size x in
     files_split elide chunks size (x ++ y) p m some long is
     ∙ ap (λ front. kept elide front ++ kept elide (map (chunk_at chunks size (x ++ y)) (range_with_len p (suc m))))
-    (full_stays chunks size p x y (omega (arith, long)) here.before
-    ∙ sym (ap (λ cut. cut.full) (chunks_are chunks size x some (omega (arith, short)) here)))
+    (full_stays chunks size p x y (omega arith) here.before
+    ∙ sym (ap (λ cut. cut.full) (chunks_are chunks size x some (omega arith) here)))
 
 -- the files where a text goes on with one byte alone
 abbrev pub TailFiles : Bool → Chunks → ℕ → List ℕ → ℕ → List ℕ → List (List ℕ) → List ℕ → Type 0
@@ -281,9 +274,9 @@ said_files elide chunks size x y c some short long run =
       kept elide those,
       tail_kept elide c (chunks_of chunks size x).rest those
           (subst (λ (cut : CutUp). IsTail c cut.rest those)
-          (sym (chunks_are chunks size x some (omega (arith, short)) here))
-          (tail_is chunks size x y c p m run (before_stays chunks size p x (c ∷ y) (omega (arith, long)) here.before)
-          (omega (arith, here.next (omega (arith, is)), passed_open chunks size x short)))),
+          (sym (chunks_are chunks size x some (omega arith) here))
+          (tail_is chunks size x y c p m run (before_stays chunks size p x (c ∷ y) (omega arith) here.before)
+          (omega (arith, here.next (omega arith), passed_open chunks size x short)))),
       said_split elide chunks size x (c ∷ y) m some short long is,
     )
 
@@ -302,7 +295,7 @@ abbrev pub fill : ℕ → List ℕ → ℕ → List ℕ
 fill size x c = replicate (size - length x - 1) c
 
 pub fills : (size : ℕ) (x : List ℕ) (c : ℕ) → length x < size → length (x ++ c ∷ fill size x c) ≡ size
-fills size x c short = omega (arith, length-append x (c ∷ fill size x c), length-replicate (size - length x - 1) c, short)
+fills size x c short = omega (arith, length-append x (c ∷ fill size x c), length-replicate (size - length x - 1) c)
 
 pub said_filled : (elide : Bool) (chunks : Chunks) (size : ℕ) (x : List ℕ) (c : ℕ) → 0 < chunks.count → length x < size
     → TailFiles elide chunks size x c (fill size x c) (kept elide (chunks_of chunks size x).full)
@@ -320,7 +313,7 @@ said_longest elide chunks size x place some within = elim (cases_lt (length x) s
         z = 1 ∷ fill size x 1;
         comes = (copies_come (suc (size - length x - 1)) 0 (omega arith), eq-eqb _ _ (fills size x 0 short));
         also = (copies_come (suc (size - length x - 1)) 1 (omega arith), eq-eqb _ _ (fills size x 1 short));
-        longest = λ front first second. tails_apart 0 1 (λ same. omega (arith, same))
+        longest = λ front first second. tails_apart 0 1 (λ same. omega arith)
             (kept elide (chunks_of chunks size x).full) (chunks_of chunks size x).rest one.0 two.0 one.1 two.1 place
             front
             (rw one.2 at first)
@@ -329,8 +322,8 @@ said_longest elide chunks size x place some within = elim (cases_lt (length x) s
   | inr full ↦ record {
     y = [];
     z = [];
-    comes = (none_comes, eq-eqb _ _ (omega (arith, length-append x [], within, full)));
-    also = (none_comes, eq-eqb _ _ (omega (arith, length-append x [], within, full)));
+    comes = (none_comes, eq-eqb _ _ (omega (arith, length-append x [])));
+    also = (none_comes, eq-eqb _ _ (omega (arith, length-append x [])));
     longest = λ front first second. beginning_short _ _ (rw (append-nil x) at first);
   }
 ]
@@ -359,7 +352,7 @@ pub far : (n size : ℕ) → 0 < n → size < chunk_start n (size + suc size * n
 far n size some =
     let enough : suc size ≤ (size + suc size * n) / n = le-div (suc size) (size + suc size * n) n some (omega arith) in
     let one : (0 + 1) * ((size + suc size * n) / n) ≡ (size + suc size * n) / n = one-mul _ in
-    omega (arith, enough, one)
+    omega arith
 
 pub none_before_first : (chunks : Chunks) (size : ℕ) (x : List ℕ) → before_chunk chunks size 0 x ≡ []
 none_before_first chunks size x = ap (λ at. begun_before chunks.unit chunks.delim at x) (start_first chunks.count size)
@@ -436,10 +429,10 @@ first_file elide chunks byte x some = by chunks.count refl where
 
   by : (n : ℕ) → chunks.count ≡ n → (more : List (List ℕ))
       × (files_by elide (chunks_of chunks (length all) all) ≡ before_chunk chunks (length all) 1 all ∷ more)
-  by zero is = absurd (omega (arith, some, is))
+  by zero is = absurd (omega arith)
   by (suc m) is = (
     kept elide (map f (range_with_len (0 + 1) m)),
-    files_split elide chunks (length all) all 0 m some refl (omega (arith, is))
+    files_split elide chunks (length all) all 0 m some refl (omega arith)
         ∙ ap (λ front. front ++ kept elide (map f (range_with_len 0 (suc m)))) (none_kept elide)
         ∙ first_kept elide (f 0) (map f (range_with_len (0 + 1) m)) filled
         ∙ ap (λ piece. piece ∷ kept elide (map f (range_with_len (0 + 1) m))) one,
@@ -532,19 +525,13 @@ shares_filed filing count closed those named few =
 
 few_kept : (elide : Bool) (cut : CutUp) (count : ℕ) → length (files_by false cut) ≤ count
     → length (files_by elide cut) ≤ count
-few_kept elide cut count few = omega (
-  arith,
-  few,
-  length-kept elide cut.full,
-  length-append (kept elide cut.full) (unless_empty cut.rest),
-  length-append cut.full (unless_empty cut.rest),
-)
+few_kept elide cut count few = omega (arith, length-kept elide cut.full, length-append (kept elide cut.full) (unless_empty cut.rest), length-append cut.full (unless_empty cut.rest))
 
 pub few_decided : (elide : Bool) (chunks : Chunks) (said : Option ℕ) (x : List ℕ) → 0 < chunks.count
     → length (files_by elide (decided chunks 1 said x)) ≤ chunks.count
 few_decided elide chunks None x some =
     few_kept elide (decided chunks 1 None x) chunks.count
-    (omega (arith, made_few (before_chunk chunks (length x) 1 x), some))
+    (omega (arith, made_few (before_chunk chunks (length x) 1 x)))
 few_decided elide chunks (Some size) x some = few_kept elide (chunks_of chunks size x) chunks.count
     (few_files chunks size x some)
 
@@ -575,7 +562,7 @@ agree_by work agreed at those same enough = (
   those.comes,
   those.also,
   λ front first second.
-      omega (arith, enough, those.longest front (same those.y front first) (same those.z front second)),
+      omega (arith, those.longest front (same those.y front first) (same those.z front second)),
 )
 
 none_told : (part : Part) → (verbose : Bool) → verbose ≡ false → part.out ≡ told_of_files (output_by verbose) part.files
@@ -648,13 +635,13 @@ chunk_longest : (place : ℕ) (chunks : Chunks) (said : Option ℕ) (x : List �
     → HasNoMore (CanFollow said x) (chunk_work place chunks said) x ((chunk_work place chunks said).settled x) at
 chunk_longest place chunks said x within fits zero =
     agree_by (chunk_work place chunks said) ((chunk_work place chunks said).settled x) 0
-    (files_longest false chunks said x place (omega (arith, within)) fits)
+    (files_longest false chunks said x place (omega arith) fits)
     (λ y front begins. let cut = in_the_end chunks said (x ++ y) in
     subst (IsBeginning front) (same_pieces cut.full cut.rest place) begins)
     (piece_made place chunks said x)
 chunk_longest place chunks said x within fits (suc at) =
     nothing_at (chunk_work place chunks said) ((chunk_work place chunks said).settled x) (suc at)
-    (files_longest false chunks said x place (omega (arith, within)) fits) (λ y. refl)
+    (files_longest false chunks said x place (omega arith) fits) (λ y. refl)
 
 pub chunk_agreed : (place : ℕ) (chunks : Chunks) (said : Option ℕ) (x : List ℕ) → place < chunks.count
     → is_longer said x ≡ false

@@ -62,17 +62,17 @@ join_chunks chunks x some =
 pub chunk_in : (chunks : Chunks) (x : List ℕ) (place : ℕ) → place < chunks.count
     → get_or (chunks_in chunks x) place [] ≡ chunk_at chunks (length x) x place
 chunk_in chunks x place within =
-    ap (λ pieces. get_or pieces place []) (chunks_in_are chunks x (omega (arith, within)))
+    ap (λ pieces. get_or pieces place []) (chunks_in_are chunks x (omega arith))
     ∙ get_or-map-range_with_len (chunk_at chunks (length x) x) 0 chunks.count place place [] within (omega arith)
 
 -- those of bytes
 
 drop_take : (k n : ℕ) (x : List ℕ) → k ≤ n → drop (length (take k x)) (take n x) ≡ take (n - k) (drop k x)
 drop_take zero n x within = ap (λ m. take m x) (omega arith)
-drop_take (suc k) zero x within = absurd (omega (arith, within))
+drop_take (suc k) zero x within = absurd (omega arith)
 drop_take (suc k) (suc n) [] within = grind (arith, common_steps)
 drop_take (suc k) (suc n) (byte ∷ x) within =
-    let e : suc n - suc k ≡ n - k = omega arith in drop_take k n x (omega (arith, within))
+    let e : suc n - suc k ≡ n - k = omega arith in drop_take k n x (omega arith)
     ∙ ap (λ m. take m (drop k x)) (sym e)
 
 pub bytes_in_chunk : (chunks : Chunks) (x : List ℕ) (place : ℕ) → place < chunks.count → chunks.unit ≡ Bytes
@@ -93,7 +93,7 @@ chunk_length chunks x place within is = let at = chunk_start chunks.count (lengt
     ∙ length-take-le (at (place + 1) - at place) (drop (at place) x) (omega (
       arith,
       length-drop (at place) x,
-      start_within chunks.count (length x) (place + 1) (omega (arith, within)) (omega (arith, within)),
+      start_within chunks.count (length x) (place + 1) (omega arith) (omega arith),
     ))
 
 pub longer_chunk : (chunks : Chunks) (x : List ℕ) (place : ℕ) → place < chunks.count → chunks.unit ≡ Bytes
@@ -161,22 +161,14 @@ lines_in_chunks chunks x some is = ap (flat_map (lines_of chunks.delim)) (chunks
 -- a line that begins before a place stands in what begins before it, and no other
 line_before : (delim : ℕ) (x : List ℕ) (place i : ℕ) → i < line_count delim x → length (first_lines delim i x) < place
     → length (first_lines delim i x) < length (begun_before Lines delim place x)
-line_before delim x zero i within before = absurd (omega (arith, before))
+line_before delim x zero i within before = absurd (omega arith)
 line_before delim x (suc q) i within before =
     let lines = length-append (first_lines delim i x) (after_lines delim i x) in
     let begun = length-append (take q x) (first_lines delim 1 (drop q x)) in
-    let proper : length (first_lines delim i x) < length x = omega (
-      arith,
-      within,
-      line_count-le-length delim (after_lines delim i x),
-      ap length (lines_of-after_lines delim i x),
-      length-drop i (lines_of delim x),
-      ap length (first_lines_then_rest delim i x),
-      lines,
-    ) in elim (cases_lt q (length x)) [
-      | inl less ↦ (let more = begun_some Lines delim 1 (drop q x) (omega arith) (omega (arith, length-drop q x, less)) in
-          omega (arith, before, begun, length-take q x, more))
-      | inr all ↦ omega (arith, proper, begun, length-take q x, all)
+    let proper : length (first_lines delim i x) < length x = omega (arith, line_count-le-length delim (after_lines delim i x), ap length (lines_of-after_lines delim i x), length-drop i (lines_of delim x), ap length (first_lines_then_rest delim i x)) in elim (cases_lt q (length x)) [
+      | inl less ↦ (let more = begun_some Lines delim 1 (drop q x) (omega arith) (omega (arith, length-drop q x)) in
+          omega (arith, length-take q x))
+      | inr all ↦ omega (arith, length-take q x)
     ]
 
 line_after : (delim : ℕ) (x : List ℕ) (place i : ℕ) → place ≤ length (first_lines delim i x)
@@ -188,10 +180,10 @@ line_after delim x place i past = let first = first_lines delim i x in elim (cas
       let all = first_lines_then_rest delim i x in
       let counted = delimiters-first_lines delim i x few in
       let whole : open_from Lines delim first ≡ length first = ap (λ n. length (first_lines delim n first)) counted
-      ∙ ap length (sym (first_lines-full delim i first rest (omega (arith, counted))) ∙ ap (first_lines delim i) all) in
+      ∙ ap length (sym (first_lines-full delim i first rest (omega arith)) ∙ ap (first_lines delim i) all) in
       omega (
         arith,
-        ap length (ap (begun_before Lines delim place) (sym all) ∙ begun_stays Lines delim place first rest (omega (arith, whole, past))),
+        ap length (ap (begun_before Lines delim place) (sym all) ∙ begun_stays Lines delim place first rest (omega arith)),
         begun_within Lines delim place first,
       ))
 ]
@@ -202,15 +194,15 @@ pub line_in_chunk : (chunks : Chunks) (x : List ℕ) (place i : ℕ) → place <
     → IsInChunk chunks.count (length x) place (length (first_lines chunks.delim i x))
     → IsInPiece (chunks_in chunks x) place (length (first_lines chunks.delim i x))
 line_in_chunk chunks x place i within is less (from, to) =
-    let some : 0 < chunks.count = omega (arith, within) in
+    let some : 0 < chunks.count = omega arith in
     let at = chunk_start chunks.count (length x) in
     let begun : (n : ℕ) → n ≤ chunks.count
     → joined (take n (chunks_in chunks x)) ≡ begun_before Lines chunks.delim (at n) x =
     λ n few. join_first chunks x n some few ∙ ap (λ unit. begun_before unit chunks.delim (at n) x) is in (
-      omega (arith, ap length (begun place (omega (arith, within))), line_after chunks.delim x (at place) i from),
+      omega (arith, ap length (begun place (omega arith)), line_after chunks.delim x (at place) i from),
       omega (
         arith,
-        ap length (begun (place + 1) (omega (arith, within))),
+        ap length (begun (place + 1) (omega arith)),
         line_before chunks.delim x (at (place + 1)) i less to,
       ),
     )

@@ -142,9 +142,9 @@ files_then : (filing : Filing) (count place : ℕ) (front rest : List Share) →
 files_then filing count place [] rest named few =
     ap (λ n. files_from (manner_of filing) n rest) (let e : place ≡ place + 0 = omega arith in e)
 files_then filing count place (one ∷ front) rest named few = cc (
-  named_at filing.names count place named (omega (arith, few)),
+  named_at filing.names count place named (omega arith),
   one_on place (length front),
-  files_then filing count (place + 1) front rest named (omega (arith, few)),
+  files_then filing count (place + 1) front rest named (omega arith),
 )
 
 bytes_at : (files : List File) (n : ℕ)
@@ -260,12 +260,12 @@ chunk_complete place chunks (Some size) x within has at before y z = stays y ∙
   ended_too = le-leb _ _ (omega (
     arith,
     leb-true _ _ has,
-    start_grows chunks.count size (at + 1) (place + 1) (omega (arith, before)),
+    start_grows chunks.count size (at + 1) (place + 1) (omega arith),
   ))
 
   stays : (y : List ℕ) → (chunk_work at chunks (Some size)).whole (x ++ y)
       ≡ (chunk_work at chunks (Some size)).settled x
-  stays y = ((chunk_lawful at chunks (Some size) (omega (arith, before, within))).stays x y ended_too).whole_stays
+  stays y = ((chunk_lawful at chunks (Some size) (omega arith)).stays x y ended_too).whole_stays
 
 still_going : (chunks : Chunks) (said : Option ℕ) (x : List ℕ) → Grows false chunks said x
     → TwoDiffer (CanFollow said x)
@@ -289,14 +289,14 @@ pub chunk_going : (place : ℕ) (chunks : Chunks) (said : Option ℕ) (x : List 
     → is_longer said x ≡ false → (chunk_work place chunks said).is_complete x ≡ false
     → (at : ℕ) × (at ≤ place) × TwoDiffer (CanFollow said x) (λ y. (chunk_work at chunks said).whole (x ++ y))
 chunk_going place chunks None x within fits going =
-    (0, omega arith, still_going chunks None x (none_grows false chunks x (omega (arith, within))))
+    (0, omega arith, still_going chunks None x (none_grows false chunks x (omega arith)))
 chunk_going place chunks (Some size) x within fits going = (
   length (chunks_of chunks size x).full,
   omega (arith, count, few),
   still_going chunks (Some size) x (said_grows false chunks size x some short),
 ) where
   some : 0 < chunks.count
-  some = omega (arith, within)
+  some = omega arith
 
   few : ended chunks size x ≤ place
   few = elim (cases_lt place (ended chunks size x)) [

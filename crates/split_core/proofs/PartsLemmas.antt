@@ -91,7 +91,7 @@ pub met_closing : (verbose : Bool) (Why : Verdict → Type 0) (old new : List Sl
     → IsMet (split_means verbose false) (split_means verbose false).closing (Unit {0}) Why old new fault
 met_closing verbose Why old new (slot, is, two, rose) =
     subst (IsMet (split_means verbose false) (split_means verbose false).closing (Unit {0}) Why old new) (sym is)
-    (λ none. absurd (omega (arith, none, two)), (λ none. absurd (cc)), rose)
+    (λ none. absurd (omega arith), (λ none. absurd (cc)), rose)
 
 -- sizes aren't counted
 pub always_counts : {tells : Tells} (size : ℕ) (bytes : List ℕ) → TellsNoSizes tells → CanCount tells size bytes
@@ -405,8 +405,8 @@ pub waited : (told : Bool) (state next : PartsState) (piece : List ℕ) (slots :
     → OnOk result (next ≡ record state { left = state.left - length piece; waiting = state.waiting ++ piece })
     → IfErr result (λ f. (f ≡ Memory) × (next ≡ state)) → Steps told state piece slots slots next result
 waited told state next piece slots (Ok n) some leads ready count waits err = (
-  omega (arith, some, count),
-  omega (arith, count),
+  omega arith,
+  omega arith,
   rw (count, take-length piece, waits) (waits_on told state piece leads ready),
 )
 waited told state next piece slots (Err f) some leads ready count waits err = rw (err.0, err.1) (no_room told state piece ready)

@@ -178,7 +178,7 @@ line_bytes_once some (one _ has short) none = search rules
 line_bytes_once some (one x has short) (one _ _ _) = refl
 line_bytes_once some (one x has short) (more _ _ enough past) = search rules
 line_bytes_once some (more _ _ enough past) none = search rules
-line_bytes_once some (more x _ enough past) (one _ has short) = absurd (omega (arith, short, enough))
+line_bytes_once some (more x _ enough past) (one _ has short) = absurd (omega arith)
 line_bytes_once {delim} {n} some (more x these enough past) (more _ those _ other) =
     ap (λ rest. whole_lines delim (take n x) ∷ rest) (line_bytes_once some past other)
 
@@ -289,7 +289,7 @@ nth_step : (n : ℕ) {file : ℕ} (place left k : ℕ) (line : List ℕ) (lines 
 nth_step n {file} place left zero line lines true few at is next = grind (arith, common_steps, nothing_between, eqb-true, zero-mul, get_or)
 nth_step n {file} place left (suc k) line lines true few at is next =
     let none : left ≡ 0 = nothing_between n place few (at ∙ sym (eqb-true (place % n) file is)) in
-    let there : left + suc k * n ≡ suc (n - 1 + k * n) = omega (arith, none, suc-mul k n, few) in
+    let there : left + suc k * n ≡ suc (n - 1 + k * n) = omega (arith, none, suc-mul k n) in
     let around : place + 1 + (n - 1) ≡ place + n = omega arith in
     cc (next (n - 1) k (omega arith) (ap (λ at. at % n) around ∙ add-mod_right place n ∙ eqb-true (place % n) file is), there)
 nth_step n {file} place zero k line lines false few at is next = grind (arith, common_steps)
@@ -315,7 +315,7 @@ none_gets : (had : ℕ → List ℕ) (line : List ℕ) (place start count : ℕ)
     → joined (map (λ file. cond (eqb place file) (line ++ had file) (had file)) (range_with_len start count))
     ≡ joined (map had (range_with_len start count))
 none_gets had line place start zero before = refl
-none_gets had line place start (suc count) before = cc (ne_eqb place start (λ is. omega (arith, is)), none_gets had line place (start + 1) count (omega arith))
+none_gets had line place start (suc count) before = cc (ne_eqb place start (λ is. omega arith), none_gets had line place (start + 1) count (omega arith))
 
 one_gets : (had : ℕ → List ℕ) (line : List ℕ) (place start count : ℕ) → start ≤ place → place < start + count
     → length (joined (map (λ file. cond (eqb place file) (line ++ had file) (had file)) (range_with_len start count)))
@@ -325,12 +325,12 @@ one_gets had line place start (suc count) from before = elim (cases_eq place sta
   | inl here ↦
       cc (
         eq-eqb place start here,
-        none_gets had line place (start + 1) count (omega (arith, here)),
+        none_gets had line place (start + 1) count (omega arith),
         three line (had start) (joined (map had (range_with_len (start + 1) count))),
       )
   | inr other ↦
       ap (λ gets. length (cond gets (line ++ had start) (had start) ++ joined (map (λ file. cond (eqb place file) (line ++ had file) (had file)) (range_with_len (start + 1) count)))) (ne_eqb place start other)
-      ∙ omega (arith, one_gets had line place (start + 1) count (omega (arith, other)) (omega arith), length-append {A = ℕ})
+      ∙ omega (arith, one_gets had line place (start + 1) count (omega arith) (omega arith), length-append {A = ℕ})
 ] where
   three : (line first rest : List ℕ) → length ((line ++ first) ++ rest) ≡ length line + length (first ++ rest)
   three line first rest = omega (arith, length-append (line ++ first) rest, length-append line first, length-append first rest)
@@ -354,9 +354,9 @@ pub first_files : (delim n : ℕ) (x : List ℕ)
     → dealt_files delim true n x ≡ take (line_count delim x) (round_robin delim n x)
 first_files delim n x = dealt_files_are delim true n x ∙ elim (cases_lt (line_count delim x) n) [
   | inl fewer ↦
-      let here : min n (line_count delim x) ≡ line_count delim x = omega (arith, fewer) in
-      ap (λ count. map (share_of delim n x) (range_with_len 0 count)) here ∙ sym (take-map-range_with_len (share_of delim n x) 0 n (line_count delim x) (omega (arith, fewer)))
+      let here : min n (line_count delim x) ≡ line_count delim x = omega arith in
+      ap (λ count. map (share_of delim n x) (range_with_len 0 count)) here ∙ sym (take-map-range_with_len (share_of delim n x) 0 n (line_count delim x) (omega arith))
   | inr many ↦
-      let here : min n (line_count delim x) ≡ n = omega (arith, many) in
-      cc (here, take_all (line_count delim x) (round_robin delim n x) (omega (arith, length-map-range_with_len (share_of delim n x) 0 n, many)))
+      let here : min n (line_count delim x) ≡ n = omega arith in
+      cc (here, take_all (line_count delim x) (round_robin delim n x) (omega (arith, length-map-range_with_len (share_of delim n x) 0 n)))
 ]

@@ -26,7 +26,7 @@ use Rattle.split_core.specs.{Chunks.{begun_before, open_from}, laws.ShareLaws.fi
 pub begun_first : (delim byte place : ℕ) (x : List ℕ) → 0 < place
     → begun_before Lines delim place (byte ∷ x) ≡ byte ∷ cond (eqb byte delim) (begun_before Lines delim (place - 1) x)
     (begun_before Lines delim (max (place - 1) 1) x)
-begun_first delim byte zero x some = absurd (omega (arith, some))
+begun_first delim byte zero x some = absurd (omega arith)
 begun_first delim byte (suc zero) x some = first_lines-cons delim byte 0 x
 begun_first delim byte (suc (suc place)) x some = ap (λ more. byte ∷ more) (same (eqb byte delim)) where
   to : {at : ℕ} → suc place ≡ at → begun_before Lines delim (suc place) x ≡ begun_before Lines delim at x
@@ -40,7 +40,7 @@ begun_first delim byte (suc (suc place)) x some = ap (λ more. byte ∷ more) (s
 pub begun_some : (unit : Unit) (delim place : ℕ) (x : List ℕ) → 0 < place → 0 < length x
     → 0 < length (begun_before unit delim place x)
 begun_some Bytes delim place x some has = omega (arith, length-take place x)
-begun_some Lines delim place [] some has = absurd (omega (arith, has))
+begun_some Lines delim place [] some has = absurd (omega arith)
 begun_some Lines delim place (byte ∷ x) some has = rw (begun_first delim byte place x some) (omega arith)
 
 -- From where on it may still get bytes
@@ -82,7 +82,7 @@ stays_step delim byte place x y again within some true is =
     again (place - 1) (omega (arith, open_end delim byte x is))
 stays_step delim byte place x y again within some false is = elim (cases_lt 0 (open_from Lines delim x)) [
   | inl open_later ↦ again (max (place - 1) 1) (omega (arith, open_more delim byte x is open_later))
-  | inr none ↦ absurd (omega (arith, open_still delim byte x is (omega (arith, none))))
+  | inr none ↦ absurd (omega (arith, open_still delim byte x is (omega arith)))
 ]
 
 begun_stays_lines : (delim place : ℕ) (x y : List ℕ) → place ≤ open_from Lines delim x
@@ -93,7 +93,7 @@ begun_stays_lines delim place (byte ∷ x) y within = elim (cases_lt 0 place) [
   | inl some ↦ begun_first delim byte place (x ++ y) some
       ∙ ap (λ more. byte ∷ more) (stays_step delim byte place x y (λ at. begun_stays_lines delim at x y) within some
       (eqb byte delim) refl) ∙ sym (begun_first delim byte place x some)
-  | inr none ↦ (let e : place ≡ 0 = omega (arith, none) in
+  | inr none ↦ (let e : place ≡ 0 = omega arith in
       rw e refl)
 ]
 
@@ -163,21 +163,21 @@ begun_all unit delim place x past =
 pub begun_long : (unit : Unit) (delim place : ℕ) (x : List ℕ) → length x ≤ place → begun_before unit delim place x ≡ x
 begun_long Bytes delim place x long = take_all place x long
 begun_long Lines delim zero [] long = refl
-begun_long Lines delim zero (byte ∷ x) long = absurd (omega (arith, long))
+begun_long Lines delim zero (byte ∷ x) long = absurd (omega arith)
 begun_long Lines delim (suc place) x long =
     ap (λ rest. take place x ++ rest) (first_lines-all delim 1
-    (omega (arith, line_count-le-length delim (drop place x), length-drop place x, long)))
+    (omega (arith, line_count-le-length delim (drop place x), length-drop place x)))
     ∙ take-append-drop place x
 
 -- the lines that begin before a place are the first ones of those that begin before a later one
 pub begun_lines : (delim place other : ℕ) (x : List ℕ) → place ≤ other → (n : ℕ) × (0 < place → 0 < n)
     × (begun_before Lines delim place x ≡ first_lines delim n (begun_before Lines delim other x))
-begun_lines delim zero other x within = (0, (λ none. absurd (omega (arith, none))), refl)
+begun_lines delim zero other x within = (0, (λ none. absurd (omega arith)), refl)
 begun_lines delim (suc place) other [] within =
     (1, (λ some. omega arith), rw (begun_of_none Lines delim (suc place), begun_of_none Lines delim other) refl)
 begun_lines delim (suc place) other (byte ∷ x) within = by (eqb byte delim) refl
-    (begun_lines delim (suc place - 1) (other - 1) x (omega (arith, within)))
-    (begun_lines delim (max (suc place - 1) 1) (max (other - 1) 1) x (omega (arith, within))) where
+    (begun_lines delim (suc place - 1) (other - 1) x (omega arith))
+    (begun_lines delim (max (suc place - 1) 1) (max (other - 1) 1) x (omega arith)) where
       Early : ℕ → ℕ → List ℕ → Type 0
       Early at to x = (n : ℕ) × (0 < at → 0 < n)
           × (begun_before Lines delim at x ≡ first_lines delim n (begun_before Lines delim to x))
@@ -199,7 +199,7 @@ begun_lines delim (suc place) other (byte ∷ x) within = by (eqb byte delim) re
         (λ has. omega arith),
         begun (suc place) (omega arith) true is
             ∙ ap (λ more. byte ∷ more) here
-            ∙ sym (ap (first_lines delim (suc n)) (begun other (omega (arith, within)) true is)
+            ∙ sym (ap (first_lines delim (suc n)) (begun other (omega arith) true is)
             ∙ lines n (begun_before Lines delim (other - 1) x) true is),
       )
       by false is here (zero, some, later) = absurd (omega (arith, some (omega arith)))
@@ -208,7 +208,7 @@ begun_lines delim (suc place) other (byte ∷ x) within = by (eqb byte delim) re
         (λ has. omega arith),
         begun (suc place) (omega arith) false is
             ∙ ap (λ more. byte ∷ more) later
-            ∙ sym (ap (first_lines delim (suc n)) (begun other (omega (arith, within)) false is)
+            ∙ sym (ap (first_lines delim (suc n)) (begun other (omega arith) false is)
             ∙ lines n (begun_before Lines delim (max (other - 1) 1) x) false is),
       )
 
@@ -260,7 +260,7 @@ begun_again_lines delim place (byte ∷ x) = elim (cases_lt 0 place) [
       ∙ begun_first delim byte place _ some
       ∙ ap (λ more. byte ∷ more) (again_step delim place x (λ at. begun_again_lines delim at x) (eqb byte delim))
       ∙ sym (begun_first delim byte place x some)
-  | inr none ↦ (let e : place ≡ 0 = omega (arith, none) in
+  | inr none ↦ (let e : place ≡ 0 = omega arith in
       rw e refl)
 ]
 
@@ -283,8 +283,8 @@ open_grows_lines delim x y =
     let more = length-append (first_lines delim (delimiters delim (x ++ y)) x)
     (first_lines delim (delimiters delim (x ++ y) - delimiters delim x) y) in
     let front = beginning_short _ _ (first_lines_begin delim (delimiters delim x) (delimiters delim (x ++ y)) x
-    (omega (arith, d))) in
-    omega (arith, ap length on, more, front)
+    (omega arith)) in
+    omega (arith, ap length on)
 
 pub open_grows : (unit : Unit) (delim : ℕ) (x y : List ℕ) → open_from unit delim x ≤ open_from unit delim (x ++ y)
 open_grows Bytes delim x y = omega (arith, length-append x y)
@@ -295,27 +295,17 @@ append_by : (delim byte : ℕ) (x y : List ℕ) (more : Bool) → nat_lt 0 (deli
     → (ends : Bool) → eqb byte delim ≡ ends → open_from Lines delim ((byte ∷ x) ++ y)
     ≡ cond more (length (byte ∷ x) + open_from Lines delim y) (open_from Lines delim (byte ∷ x))
 append_by delim byte x y true has again true is =
-    omega (arith, open_end delim byte (x ++ y) is, again)
+    omega (arith, open_end delim byte (x ++ y) is)
 append_by delim byte x y false has again true is =
-    omega (arith, open_end delim byte (x ++ y) is, open_end delim byte x is, again)
+    omega (arith, open_end delim byte (x ++ y) is, open_end delim byte x is)
 append_by delim byte x y true has again false is =
-    omega (
-      arith,
-      open_more delim byte (x ++ y) is
-          (omega (arith, again, some_open delim y (ltb-true _ _ has))),
-      again,
-    )
+    omega (arith, open_more delim byte (x ++ y) is (omega (arith, again, some_open delim y (ltb-true _ _ has))))
 append_by delim byte x y false has again false is = elim (cases_lt 0 (open_from Lines delim x)) [
-  | inl some ↦ omega (
-    arith,
-    open_more delim byte (x ++ y) is (omega (arith, again, some)),
-    open_more delim byte x is some,
-    again,
-  )
+  | inl some ↦ omega (arith, open_more delim byte (x ++ y) is (omega (arith, again, some)), open_more delim byte x is some)
   | inr none ↦ omega (
     arith,
-    open_still delim byte (x ++ y) is (omega (arith, again, none)),
-    open_still delim byte x is (omega (arith, none)),
+    open_still delim byte (x ++ y) is (omega arith),
+    open_still delim byte x is (omega arith),
   )
 ]
 

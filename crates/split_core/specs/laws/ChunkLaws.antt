@@ -64,7 +64,7 @@ passed_grows chunks size x y = elim (cases_lt (length (x ++ y)) size) [
     arith,
     length-append x y,
     passed_open chunks size (x ++ y) short,
-    passed_open chunks size x (omega (arith, length-append x y, short)),
+    passed_open chunks size x (omega (arith, length-append x y)),
     open_grows chunks.unit chunks.delim x y,
   )
   | inr full ↦ omega (arith, passed_full chunks size (x ++ y) full, passed_within chunks size x)
@@ -74,27 +74,27 @@ passed_grows chunks size x y = elim (cases_lt (length (x ++ y)) size) [
 
 counted : (test : ℕ → Bool) (a n p : ℕ) → p ≤ n → ((i : ℕ) → a ≤ i → i < a + p → test i ≡ true)
     → ((i : ℕ) → a + p ≤ i → i < a + n → test i ≡ false) → length (filter test (range_with_len a n)) ≡ p
-counted test a zero p within holds fails = omega (arith, within)
+counted test a zero p within holds fails = omega arith
 counted test a (suc n) zero within holds fails = rw (fails a (omega arith) (omega arith))
-    (counted test (a + 1) n 0 (omega arith) (λ i from to. absurd (omega (arith, from, to)))
-    (λ i from to. fails i (omega (arith, from)) (omega (arith, to))))
+    (counted test (a + 1) n 0 (omega arith) (λ i from to. absurd (omega arith))
+    (λ i from to. fails i (omega arith) (omega arith)))
 counted test a (suc n) (suc p) within holds fails = rw (holds a (omega arith) (omega arith))
-    (ap suc (counted test (a + 1) n p (omega arith) (λ i from to. holds i (omega (arith, from)) (omega (arith, to)))
-    (λ i from to. fails i (omega (arith, from)) (omega (arith, to)))))
+    (ap suc (counted test (a + 1) n p (omega arith) (λ i from to. holds i (omega arith) (omega arith))
+    (λ i from to. fails i (omega arith) (omega arith))))
 
 found : (n size at k : ℕ) → (p : ℕ) × (p ≤ k) × (chunk_start n size p ≤ at)
     × (p < k → at < chunk_start n size (p + 1))
-found n size at zero = (0, omega arith, omega (arith, start_first n size), λ less. absurd (omega (arith, less)))
+found n size at zero = (0, omega arith, omega (arith, start_first n size), λ less. absurd (omega arith))
 found n size at (suc k) = elim (cases_lt at (chunk_start n size (suc k))) [
-  | inr past ↦ (suc k, omega arith, past, λ less. absurd (omega (arith, less)))
+  | inr past ↦ (suc k, omega arith, past, λ less. absurd (omega arith))
   | inl before ↦ (let (p, within, from, next) = found n size at k in (
     p,
-    omega (arith, within),
+    omega arith,
     from,
     λ less.
         elim (cases_lt p k) [
           | inl earlier ↦ next earlier
-          | inr last ↦ (let e : p + 1 ≡ suc k = omega (arith, last, within) in rw e before)
+          | inr last ↦ (let e : p + 1 ≡ suc k = omega arith in rw e before)
         ],
   ))
 ]
@@ -104,14 +104,8 @@ pub ended_only : {chunks : Chunks} {size : ℕ} {x : List ℕ} {p : ℕ} → Hav
     → ended chunks size x ≡ p
 ended_only {chunks} {size} {x} {p} is = counted (has_ended chunks size x) 0 chunks.count p is.within
     (λ i from to. le-leb _ _
-    (omega (arith, to, is.before, start_grows chunks.count size (i + 1) p (omega (arith, to)))))
-    (λ i from to. lt-leb _ _ (omega (
-      arith,
-      from,
-      to,
-      is.next (omega (arith, from, to)),
-      start_grows chunks.count size (p + 1) (i + 1) (omega (arith, from)),
-    )))
+    (omega (arith, start_grows chunks.count size (i + 1) p (omega (arith, to)))))
+    (λ i from to. lt-leb _ _ (omega (arith, is.next (omega (arith, from, to)), start_grows chunks.count size (p + 1) (i + 1) (omega (arith, from)))))
 
 pub ended_is : (chunks : Chunks) (size : ℕ) (x : List ℕ) → HaveEnded chunks size x (ended chunks size x)
 ended_is chunks size x = let (p, within, from, next) = found chunks.count size (passed chunks size x) chunks.count in
@@ -127,7 +121,7 @@ pub has_ended_before : (chunks : Chunks) (size : ℕ) (x : List ℕ) (place : �
 has_ended_before chunks size x place before = le-leb _ _ (omega (
   arith,
   (ended_is chunks size x).before,
-  start_grows chunks.count size (place + 1) (ended chunks size x) (omega (arith, before)),
+  start_grows chunks.count size (place + 1) (ended chunks size x) (omega arith),
 ))
 
 pub ended_after : (chunks : Chunks) (size : ℕ) (x : List ℕ) (place : ℕ) → place < chunks.count
@@ -137,8 +131,8 @@ ended_after chunks size x place within has = elim (cases_lt place (ended chunks 
   | inr past ↦ absurd (omega (
     arith,
     leb-true _ _ has,
-    (ended_is chunks size x).next (omega (arith, past, within)),
-    start_grows chunks.count size (ended chunks size x + 1) (place + 1) (omega (arith, past)),
+    (ended_is chunks size x).next (omega arith),
+    start_grows chunks.count size (ended chunks size x + 1) (place + 1) (omega arith),
   ))
 ]
 
@@ -146,14 +140,7 @@ ended_after chunks size x place within has = elim (cases_lt place (ended chunks 
 pub ended_grows : (chunks : Chunks) (size : ℕ) (x y : List ℕ) → ended chunks size x ≤ ended chunks size (x ++ y)
 ended_grows chunks size x y = let here = ended_is chunks size x in let there = ended_is chunks size (x ++ y) in
     elim (cases_lt (ended chunks size (x ++ y)) (ended chunks size x)) [
-      | inl fewer ↦ absurd (omega (
-        arith,
-        fewer,
-        there.next (omega (arith, fewer, here.within)),
-        here.before,
-        passed_grows chunks size x y,
-        start_grows chunks.count size (ended chunks size (x ++ y) + 1) (ended chunks size x) (omega (arith, fewer)),
-      ))
+      | inl fewer ↦ absurd (omega (arith, there.next (omega (arith, fewer, here.within)), passed_grows chunks size x y, start_grows chunks.count size (ended chunks size (x ++ y) + 1) (ended chunks size x) (omega (arith, fewer))))
       | inr enough ↦ enough
     ]
 
@@ -165,14 +152,14 @@ ended_all chunks {size} x some full = ended_only is where
   is = record {
     within = omega arith;
     before = omega (arith, passed_full chunks size x full, start_last chunks.count size some);
-    next = λ less. absurd (omega (arith, less));
+    next = λ less. absurd (omega arith);
   }
 
 -- What goes with a chunk
 
 pub no_more : (x y : List ℕ) (size : ℕ) → length (x ++ y) ≤ size → size ≤ length x → y ≡ []
 no_more x [] size within full = refl
-no_more x (byte ∷ y) size within full = absurd (omega (arith, within, full, length-append x (byte ∷ y)))
+no_more x (byte ∷ y) size within full = absurd (omega (arith, length-append x (byte ∷ y)))
 
 begin_same : (low high : List ℕ) → IsBeginning low high → length high ≤ length low → low ≡ high
 begin_same low high (rest, is) long =
@@ -188,7 +175,7 @@ pub before_stays : (chunks : Chunks) (size place : ℕ) (x y : List ℕ) → len
     → chunk_start chunks.count size place ≤ passed chunks size x
     → before_chunk chunks size place (x ++ y) ≡ before_chunk chunks size place x
 before_stays chunks size place x y within reached = elim (cases_lt (length x) size) [
-  | inl short ↦ begun_stays chunks.unit chunks.delim _ x y (omega (arith, reached, passed_open chunks size x short))
+  | inl short ↦ begun_stays chunks.unit chunks.delim _ x y (omega (arith, passed_open chunks size x short))
   | inr full ↦ ap (λ more. before_chunk chunks size place (x ++ more)) (no_more x y size within full)
       ∙ ap (before_chunk chunks size place) (append-nil x)
 ]
@@ -200,10 +187,10 @@ before_next chunks size x place some within is = elim (cases_lt place chunks.cou
   | inl less ↦ elim (cases_lt (length x) size) [
     | inl short ↦ begun_all chunks.unit chunks.delim _ x (omega (arith, is.next less, passed_open chunks size x short))
     | inr full ↦ begun_long chunks.unit chunks.delim _ x
-        (omega (arith, within, is.next less, passed_full chunks size x full))
+        (omega (arith, is.next less, passed_full chunks size x full))
   ]
   | inr last ↦ begun_long chunks.unit chunks.delim _ x
-      (omega (arith, within, start_past chunks.count size (place + 1) some (omega (arith, last))))
+      (omega (arith, start_past chunks.count size (place + 1) some (omega (arith, last))))
 ]
 
 -- a text that has no more than its size, cut up before a place
@@ -231,7 +218,7 @@ pub chunk_stays : (chunks : Chunks) (size place : ℕ) (x y : List ℕ) → leng
 chunk_stays chunks size place x y within reached =
     let low = start_grows chunks.count size place (place + 1) (omega arith) in
     ap (λ low. drop (length low) (before_chunk chunks size (place + 1) (x ++ y)))
-    (before_stays chunks size place x y within (omega (arith, low, reached)))
+    (before_stays chunks size place x y within (omega arith))
     ∙ ap (drop (length (before_chunk chunks size place x))) (before_stays chunks size (place + 1) x y within reached)
 
 pub map_same : (f g : ℕ → List ℕ) (a n : ℕ) → ((i : ℕ) → a ≤ i → i < a + n → f i ≡ g i)
@@ -239,7 +226,7 @@ pub map_same : (f g : ℕ → List ℕ) (a n : ℕ) → ((i : ℕ) → a ≤ i �
 map_same f g a zero same = refl
 map_same f g a (suc n) same = rw (same a (omega arith) (omega arith))
     (ap (λ more. g a ∷ more)
-    (map_same f g (a + 1) n (λ i from to. same i (omega (arith, from)) (omega (arith, to)))))
+    (map_same f g (a + 1) n (λ i from to. same i (omega arith) (omega arith))))
 
 pub full_stays : (chunks : Chunks) (size place : ℕ) (x y : List ℕ) → length (x ++ y) ≤ size
     → chunk_start chunks.count size place ≤ passed chunks size x
@@ -248,7 +235,7 @@ pub full_stays : (chunks : Chunks) (size place : ℕ) (x y : List ℕ) → lengt
 full_stays chunks size place x y within reached =
     map_same (chunk_at chunks size (x ++ y)) (chunk_at chunks size x) 0 place
     (λ i from to. chunk_stays chunks size i x y within
-    (omega (arith, reached, start_grows chunks.count size (i + 1) place (omega (arith, to)))))
+    (omega (arith, start_grows chunks.count size (i + 1) place (omega (arith, to)))))
 
 -- a text goes on, and no further chunk ends: all of it goes with the one that was begun
 pub goes_on : (chunks : Chunks) (size : ℕ) (x y : List ℕ) → 0 < chunks.count → length (x ++ y) ≤ size
@@ -260,7 +247,7 @@ goes_on chunks size x y some within same =
     let here : HaveEnded chunks size x place = ended_is chunks size x in
     let there : HaveEnded chunks size (x ++ y) place =
     subst (HaveEnded chunks size (x ++ y)) same (ended_is chunks size (x ++ y)) in
-    let less : length x ≤ size = omega (arith, within, length-append x y) in
+    let less : length x ≤ size = omega (arith, length-append x y) in
     let begun = before_chunk chunks size place x in
     chunks_are chunks size (x ++ y) some within there
     ∙ ap (λ front. record { full = front; rest = drop (length (before_chunk chunks size place (x ++ y))) (x ++ y) })
@@ -278,7 +265,7 @@ empty_pieces : (f : ℕ → List ℕ) (a n : ℕ) → ((i : ℕ) → a ≤ i →
 empty_pieces f a zero none = refl
 empty_pieces f a (suc n) none = rw (none a (omega arith) (omega arith))
     (ap (λ more. [] ∷ more)
-    (empty_pieces f (a + 1) n (λ i from to. none i (omega (arith, from)) (omega (arith, to)))))
+    (empty_pieces f (a + 1) n (λ i from to. none i (omega arith) (omega arith))))
 
 -- once all that came in stands before a place, it does before a later one
 pub before_later : (chunks : Chunks) (size : ℕ) (x : List ℕ) (place other : ℕ) → place ≤ other
@@ -332,7 +319,7 @@ ends_here chunks size x y more some within all ends =
       there = subst (HaveEnded chunks size (x ++ y)) (sym ends) (ended_is chunks size (x ++ y))
 
       less : length x ≤ size
-      less = omega (arith, within, length-append x y)
+      less = omega (arith, length-append x y)
 
       begun : List ℕ
       begun = before_chunk chunks size place x
@@ -360,7 +347,7 @@ ends_here chunks size x y more some within all ends =
 
       none : map f (range_with_len (0 + place + 1) more) ≡ replicate more []
       none = empty_pieces f (0 + place + 1) more
-          (λ i from to. chunk_none chunks size (x ++ y) i (later i (omega (arith, from))))
+          (λ i from to. chunk_none chunks size (x ++ y) i (later i (omega arith)))
 
       pieces : map f (range_with_len 0 (place + suc more)) ≡ front ++ (drop (length begun) x ++ y) ∷ replicate more []
       pieces = map_parts f 0 place more
@@ -415,9 +402,9 @@ cut_all chunks size x some full =
     let long : length z ≡ size = length-take-le size x full in
     let past : size ≤ chunk_start chunks.count size chunks.count = omega (arith, start_last chunks.count size some) in
     let all : before_chunk chunks size chunks.count z ≡ z =
-    begun_long chunks.unit chunks.delim _ z (omega (arith, long, past)) in
+    begun_long chunks.unit chunks.delim _ z (omega arith) in
     ap (λ p. record { full = map (chunk_at chunks size z) (range_with_len 0 p); rest = chunk_at chunks size z p })
-    (ended_all chunks z some (omega (arith, long)))
+    (ended_all chunks z some (omega arith))
     ∙ ap (λ left. record { full = map (chunk_at chunks size z) (range_with_len 0 chunks.count); rest = left })
     (chunk_none chunks size z chunks.count all)
 
@@ -433,9 +420,9 @@ start_by_size n size more place some within less = by (cases_lt (size / n) (more
   by : (size / n < more / n) ⊎ (more / n ≤ size / n) → chunk_start n size place ≤ chunk_start n more place
   by (inl longer) = omega (arith, mul-le-mul_left place longer)
   by (inr fewer) =
-      let enough : size / n ≤ more / n = le-div (size / n) more n some (omega (arith, less, div-mul-le_self size n)) in
-      let same : size / n ≡ more / n = omega (arith, fewer, enough) in
-      omega (arith, div-add-mod' size n, div-add-mod' more n, ap (λ q. place * q) same, ap (λ q. q * n) same, less)
+      let enough : size / n ≤ more / n = le-div (size / n) more n some (omega (arith, div-mul-le_self size n)) in
+      let same : size / n ≡ more / n = omega arith in
+      omega (arith, div-add-mod' size n, div-add-mod' more n, ap (λ q. place * q) same, ap (λ q. q * n) same)
 
 pub decided_grows : (chunks : Chunks) (first : ℕ) (x y : List ℕ) → 0 < chunks.count → first ≤ chunks.count
     → IsBeginning (before_chunk chunks (length x) first x) (before_chunk chunks (length (x ++ y)) first (x ++ y))
@@ -454,7 +441,7 @@ first_pieces chunks first x some within =
     sym (joined_chunks chunks (length x) x first)
     ∙ ap joined (sym (take-map-range_with_len f 0 chunks.count first within)
     ∙ sym (take-append-le first (map f (range_with_len 0 chunks.count)) ([] ∷ [])
-    (omega (arith, within, length-map-range_with_len f 0 chunks.count)))
+    (omega (arith, length-map-range_with_len f 0 chunks.count)))
     ∙ ap (λ z. take first (map (chunk_at chunks (length x) z) (range_with_len 0 chunks.count) ++ [] ∷ [])) (sym whole)
     ∙ ap (λ cut. take first (pieces_in cut)) (sym (cut_all chunks (length x) x some (omega arith))))
 

@@ -54,7 +54,7 @@ goes_past chunks size x y more some within ends =
       place = ended chunks size x
 
       less : length x ≤ size
-      less = omega (arith, within, length-append x y)
+      less = omega (arith, length-append x y)
 
       here : HaveEnded chunks size x place
       here = ended_is chunks size x
@@ -92,9 +92,9 @@ goes_within : (chunks : Chunks) (size : ℕ) (x y : List ℕ) → 0 < chunks.cou
     → GoesOn (chunks_of chunks size x) (chunks_of chunks size (x ++ y))
 goes_within chunks size x y some within = elim (cases_lt (ended chunks size x) (ended chunks size (x ++ y))) [
   | inl less ↦ goes_past chunks size x y (ended chunks size (x ++ y) - ended chunks size x - 1) some within
-      (omega (arith, less))
+      (omega arith)
   | inr same ↦ subst (GoesOn (chunks_of chunks size x)) (sym (goes_on chunks size x y some within
-      (omega (arith, same, ended_grows chunks size x y)))) (record {
+      (omega (arith, ended_grows chunks size x y)))) (record {
         more = [];
         full = sym (append-nil (chunks_of chunks size x).full);
         rest = begins_more (chunks_of chunks size x).rest y;
@@ -123,7 +123,7 @@ decided_goes_on chunks first (Some size) x y some within = chunks_go_on chunks s
 
 begins_pieces : (f : ℕ → List ℕ) (n : ℕ) (low last : List ℕ) → 0 < n → IsBeginning low (f 0)
     → BeginsFirst low (map f (range_with_len 0 n)) last
-begins_pieces f zero low last some begins = absurd (omega (arith, some))
+begins_pieces f zero low last some begins = absurd (omega arith)
 begins_pieces f (suc n) low last some begins = begins
 
 -- and in the end
@@ -208,21 +208,21 @@ chunks_stay : (plan : ChunksPlan) (said : Option ℕ) (x y : List ℕ) → 0 < p
 chunks_stay plan None x y some never = absurd (false≢true never)
 chunks_stay plan (Some size) x y some is =
     let longer : size < length x = ltb-true _ _ is in
-    let more : size < length (x ++ y) = omega (arith, longer, length-append x y) in
+    let more : size < length (x ++ y) = omega (arith, length-append x y) in
     let manner = manner_of plan.filing in
-    let same = cut_stays plan.chunks size x y (omega (arith, longer)) in record {
+    let same = cut_stays plan.chunks size x y (omega arith) in record {
       still = lt-ltb _ _ more;
       settled_stays = ap (λ cut. draft_part manner (draft_by plan.elide cut)) same;
       whole_stays = ap (λ cut. part_of manner (map (share Closed) (files_by plan.elide cut))) same
           ∙ whole_is manner plan.elide (chunks_of plan.chunks size x)
-          (rest_none plan.chunks size x some (omega (arith, longer)));
+          (rest_none plan.chunks size x some (omega arith));
       verdict_stays = rw (longer_differs size x longer, longer_differs size (x ++ y) more) refl;
     }
 
 pub chunks_lawful : (plan : ChunksPlan) (said : Option ℕ) → 0 < plan.chunks.count → IsLawful (chunks_work plan said)
 chunks_lawful plan said some = record {
   grows = λ x y. part_begins plan.filing _ _ (shares_on plan.elide Open
-      (decided_goes_on plan.chunks 1 said x y some (omega (arith, some))));
+      (decided_goes_on plan.chunks 1 said x y some (omega arith)));
   ends = λ x. part_begins plan.filing _ _ (subst (SharesBegin (shares_of (draft_by plan.elide
       (decided plan.chunks 1 said x)))) (sym (map-append (share Closed)
       (kept plan.elide (in_the_end plan.chunks said x).full) (unless_empty (in_the_end plan.chunks said x).rest)))
@@ -252,14 +252,14 @@ piece_on place {low} {high} on =
 
 pub same_piece : (front one other : List (List ℕ)) (place : ℕ) → place < length front
     → get_or (front ++ one) place [] ≡ get_or (front ++ other) place []
-same_piece [] one other place within = absurd (omega (arith, within))
+same_piece [] one other place within = absurd (omega arith)
 same_piece (first ∷ front) one other zero within = refl
-same_piece (first ∷ front) one other (suc place) within = same_piece front one other place (omega (arith, within))
+same_piece (first ∷ front) one other (suc place) within = same_piece front one other place (omega arith)
 
 passed_taken : (chunks : Chunks) (size : ℕ) (x : List ℕ) → passed chunks size (take size x) ≡ passed chunks size x
 passed_taken chunks size x = elim (cases_lt (length x) size) [
-  | inl short ↦ ap (passed chunks size) (take_all size x (omega (arith, short)))
-  | inr full ↦ passed_full chunks size (take size x) (omega (arith, length-take size x, full))
+  | inl short ↦ ap (passed chunks size) (take_all size x (omega arith))
+  | inr full ↦ passed_full chunks size (take size x) (omega (arith, length-take size x))
       ∙ sym (passed_full chunks size x full)
 ]
 
@@ -270,12 +270,12 @@ piece_stays : (chunks : Chunks) (size place : ℕ) (x y : List ℕ) → place < 
 piece_stays chunks size place x y within has =
     let z = take size x in
     let low = chunks_of chunks size x in
-    let on = chunks_go_on chunks size x y (omega (arith, within)) in
+    let on = chunks_go_on chunks size x y (omega arith) in
     let long : length low.full ≡ ended chunks size z =
     length-map-range_with_len (chunk_at chunks size z) 0 (ended chunks size z) in
     let also : has_ended chunks size z place ≡ true =
     ap (nat_le (chunk_start chunks.count size (place + 1))) (passed_taken chunks size x) ∙ has in
-    let before : place < length low.full = omega (arith, long, ended_after chunks size z place within also) in
+    let before : place < length low.full = omega (arith, ended_after chunks size z place within also) in
     ap only_out (ap (λ pieces. get_or pieces place []) (pieces_on on)
     ∙ same_piece low.full _ (low.rest ∷ []) place before)
 
@@ -301,8 +301,8 @@ chunk_stays place chunks (Some size) x y within has =
 pub chunk_lawful : (place : ℕ) (chunks : Chunks) (said : Option ℕ) → place < chunks.count
     → IsLawful (chunk_work place chunks said)
 chunk_lawful place chunks said within = record {
-  grows = λ x y. out_begins _ _ (piece_on place (decided_goes_on chunks (max place 1) said x y (omega (arith, within))
-      (omega (arith, within))));
+  grows = λ x y. out_begins _ _ (piece_on place (decided_goes_on chunks (max place 1) said x y (omega arith)
+      (omega arith)));
   ends = λ x. out_begins _ _ (piece_ends place chunks said x within);
   stays = λ x y. chunk_stays place chunks said x y within;
 }

@@ -71,12 +71,12 @@ dealt_some n file place [] each from before within = absurd (omega arith)
 dealt_some n file place (line ∷ lines) each from before within = elim (cases_eq place file) [
   | inl here ↦ found here
   | inr other ↦ some_either (eqb (place % n) file) line (dealt n file (place + 1) lines)
-      (dealt_some n file (place + 1) lines each.1 (omega (arith, other)) (omega arith) within)
+      (dealt_some n file (place + 1) lines each.1 (omega arith) (omega arith) within)
 ] where
   found : place ≡ file → 0 < length (dealt n file place (line ∷ lines))
   found here =
       let same : eqb (place % n) file ≡ true = eq-eqb (place % n) file (mod-eq_of_lt (omega arith) ∙ here) in
-      rw same (omega (arith, each.0, length-append line (dealt n file (place + 1) lines)))
+      rw same (omega (arith, length-append line (dealt n file (place + 1) lines)))
 
 each_step : (ends : Bool) (byte : ℕ) (lines : List (List ℕ)) → EachSome lines
     → EachSome (cond ends ((byte ∷ []) ∷ lines) (onto_first byte lines))
