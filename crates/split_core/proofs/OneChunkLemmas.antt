@@ -1,4 +1,5 @@
 -- What waits where one chunk alone is written.
+use Rattle.std.proofs.lemmas.Grind.{common_steps}
 use Rattle.std.proofs.{
   Common.{◌≡◌, ◌≢◌, ℕ, ◌+◌, ◌-◌, ◌*◌, ◌/◌, ◌%◌, ◌<◌, ◌≤◌, max, zero, suc, eqb, nat_lt, Bool, true, false, cond, List},
   Common.{[], ◌∷◌, ◌++◌, length, take, drop, get_or, replicate, Option, Some, None, inl, inr, refl, sym, ◌∙◌, ap},
@@ -41,15 +42,12 @@ record Starts (unit : Unit) (delim : ℕ) (x : List ℕ) (i : ℕ) : Type 0 wher
   lacks : (place : ℕ) (y : List ℕ) → place < at → length (begun_before unit delim place (x ++ y)) ≤ i
 
 none_begun : (delim place : ℕ) (x : List ℕ) → place ≤ 0 → length (begun_before Lines delim place x) ≤ 0
-none_begun delim place x none = let e : place ≡ 0 = omega arith in
-    omega (arith, ap (λ at. length (begun_before Lines delim at x)) e, ap length (begun_first_place Lines delim x))
+none_begun delim place x none = grind (arith, common_steps, begun_first_place)
 
 begun_length : (delim byte place : ℕ) (x : List ℕ) (ends : Bool) → eqb byte delim ≡ ends → 0 < place
     → length (begun_before Lines delim place (byte ∷ x)) ≡ suc (length (cond ends
     (begun_before Lines delim (place - 1) x) (begun_before Lines delim (max (place - 1) 1) x)))
-begun_length delim byte place x ends is some = ap length (begun_first delim byte place x some)
-    ∙ ap (λ those. suc (length (cond those (begun_before Lines delim (place - 1) x)
-    (begun_before Lines delim (max (place - 1) 1) x)))) is
+begun_length delim byte place x ends is some = grind (arith, common_steps, begun_first)
 
 starts_next : (delim byte : ℕ) (x : List ℕ) (i : ℕ) → Starts Lines delim x i → (ends : Bool) → eqb byte delim ≡ ends
     → Starts Lines delim (byte ∷ x) (suc i)
@@ -160,34 +158,10 @@ short_size n size none = omega (arith, div-add-mod' size n, ap (λ q. q * n) non
 
 climb : (n place s low k size : ℕ) → place < n → s < low → low ≤ size
     → s < chunk_start n (size + k) (place + 1) → chunk_start n size place ≤ s → Reached n place s low
-climb n place s low zero size within less more top from = record {
-  size = size;
-  more = more;
-  from = from;
-  to = subst (λ all. s < chunk_start n all (place + 1)) (omega arith) top;
-}
-climb n place s low (suc k) size within less more top from = elim (cases_lt s (chunk_start n size (place + 1))) [
-  | inl here ↦ record { size = size; more = more; from = from; to = here }
-  | inr past ↦ climb n place s low k (suc size) within less (omega (arith, more))
-      (subst (λ all. s < chunk_start n all (place + 1)) (omega arith) top) (later past)
-] where
-  next : chunk_start n (suc size) place ≤ suc (chunk_start n size place)
-  next = start_step n size place (omega arith) (omega arith)
-
-  one : place < size % n → chunk_start n size (place + 1) ≡ chunk_start n size place + size / n + 1
-  one longer = rw (lt-ltb place (size % n) longer) at (start_next n size place)
-
-  none : chunk_start n size (place + 1) ≤ s → size / n ≡ 0 → size % n ≤ place → ⊥
-  none past is few = omega (arith, short_size n size is, ap (λ q. (place + 1) * q) is, mul-zero (place + 1))
-
-  later : chunk_start n size (place + 1) ≤ s → chunk_start n (suc size) place ≤ s
-  later past = elim (cases_lt place (size % n)) [
-    | inl longer ↦ omega (arith, next, past, one longer)
-    | inr shorter ↦ elim (cases_lt 0 (size / n)) [
-      | inl some ↦ omega (arith, next, past, some, start_next n size place)
-      | inr is ↦ absurd (none past (omega arith) shorter)
-    ]
-  ]
+climb n place s low zero size within less more top from = grind (arith, common_steps)
+climb n place s low (suc k) size within less more top from =
+    grind (arith, common_steps, cases_lt, start_step, lt-ltb, start_next, short_size, mul-zero, climb n place s low k
+        (suc size) within less (omega (arith, more)))
 
 pub reached : (n place s low : ℕ) → place < n → s < low → chunk_start n low place ≤ s → Reached n place s low
 reached n place s low within less from =
@@ -217,16 +191,7 @@ spots_are : (place : ℕ) (chunks : Chunks) (said : Option ℕ) (w : List ℕ) (
     → is_as_said said w ≡ true → one_chunk_spots place chunks said w i
     ≡ spots_by (front_of chunks place w) (chunk_at chunks (length w) w place) i
 spots_are place chunks said w i within is =
-    let some : 0 < chunks.count = omega arith in
-    let cut = chunks_of chunks (length w) w in
-    let piece : get_or (pieces_in cut) place [] ≡ chunk_at chunks (length w) w place =
-    same_piece cut.full (cut.rest ∷ []) [] place (omega (arith, count_chunks chunks w some))
-    ∙ ap (λ those. get_or those place []) (append-nil cut.full) ∙ chunk_in chunks w place within in
-    let front : joined (take place (pieces_in cut)) ≡ front_of chunks place w =
-    sym (first_pieces chunks place w some (omega arith)) in
-    ap (λ size. piece_spots place (pieces_in (chunks_of chunks size w)) i) (said_size said w is)
-    ∙ ap (λ those. spots_by those (get_or (pieces_in cut) place []) i) front
-    ∙ ap (λ those. spots_by (front_of chunks place w) those i) piece
+    grind (arith, common_steps, same_piece, count_chunks, append-nil, chunk_in, first_pieces, said_size)
 
 front_then : (place : ℕ) (chunks : Chunks) (w : List ℕ) → length (front_of chunks place w)
     + length (chunk_at chunks (length w) w place) ≡ length (front_of chunks (place + 1) w)
@@ -244,16 +209,11 @@ goes_here : (place : ℕ) (chunks : Chunks) (said : Option ℕ) (w : List ℕ) (
     → is_as_said said w ≡ true → length (front_of chunks place w) ≤ i → i < length (front_of chunks (place + 1) w)
     → one_chunk_spots place chunks said w i ≡ spot 0 (i - length (front_of chunks place w)) ∷ []
 goes_here place chunks said w i within is past less =
-    spots_are place chunks said w i within is
-    ∙ rw (le-ltb _ _ past) (spot_in 0 _ (chunk_at chunks (length w) w place) []
-    (omega (arith, front_then place chunks w)))
+    grind (arith, common_steps, spots_are, le-ltb, spot_in, front_then)
 
 goes_after : (place : ℕ) (chunks : Chunks) (said : Option ℕ) (w : List ℕ) (i : ℕ) → place < chunks.count
     → is_as_said said w ≡ true → length (front_of chunks (place + 1) w) ≤ i → one_chunk_spots place chunks said w i ≡ []
-goes_after place chunks said w i within is past =
-    spots_are place chunks said w i within is
-    ∙ rw (le-ltb i (length (front_of chunks place w)) (omega (arith, front_then place chunks w)))
-    (spot_past 0 _ (chunk_at chunks (length w) w place) [] (omega (arith, front_then place chunks w)))
+goes_after place chunks said w i within is past = grind (arith, common_steps, spots_are, le-ltb, front_then, spot_past)
 
 -- Where the size was said, all is decided
 
@@ -262,10 +222,7 @@ front_same : (chunks : Chunks) (size place : ℕ) (x y : List ℕ) (i : ℕ) →
     → length (before_chunk chunks size place (x ++ y)) ≤ i
     → before_chunk chunks size place (x ++ y) ≡ before_chunk chunks size place x
 front_same chunks size place x y i less past =
-    elim (cases_lt (open_from chunks.unit chunks.delim x) (chunk_start chunks.count size place)) [
-      | inl on ↦ absurd (omega (arith, ap length (begun_on chunks.unit chunks.delim (chunk_start chunks.count size place) x y on), length-append x (begun_before chunks.unit chunks.delim (max (chunk_start chunks.count size place - length x) 1) y)))
-      | inr stays ↦ begun_stays chunks.unit chunks.delim (chunk_start chunks.count size place) x y stays
-    ]
+    grind (arith, common_steps, cases_lt, begun_on, length-append, begun_stays)
 
 -- so there is one place for it
 one_place : (place : ℕ) (chunks : Chunks) (size : ℕ) (x : List ℕ) (i : ℕ) → place < chunks.count → i < length x
@@ -339,13 +296,11 @@ copies n = length-replicate n 0
 
 far_long : (chunks : Chunks) (x : List ℕ)
     → length (x ++ far_copies chunks x) ≡ length x + suc (length x) * chunks.count
-far_long chunks x = length-append x (far_copies chunks x)
-    ∙ ap (λ n. length x + n) (length-replicate (suc (length x) * chunks.count) 0)
+far_long chunks x = grind (arith, common_steps, length-append, far_copies, length-replicate)
 
 far_front : (chunks : Chunks) (x : List ℕ) (i place : ℕ) → 0 < chunks.count → 0 < place → i < length x
     → i < length (front_of chunks place (x ++ far_copies chunks x))
-far_front chunks x i place some later less = let from = starts chunks.unit chunks.delim x i less in
-    from.has _ (far_copies chunks x) (omega (arith, far_start chunks.count (length x) place some later, ap (λ n. chunk_start chunks.count n place) (far_long chunks x)))
+far_front chunks x i place some later less = grind (arith, common_steps, starts, far_copies, far_start, far_long)
 
 abbrev Differ : ℕ → Chunks → List ℕ → ℕ → Type 0
 Differ place chunks x i = (y : List ℕ) × (z : List ℕ) × CanFollow None x y × CanFollow None x z
@@ -450,8 +405,7 @@ three_pieces : (pieces : List (List ℕ)) (place : ℕ)
 three_pieces [] zero = refl
 three_pieces [] (suc place) = refl
 three_pieces (piece ∷ pieces) zero = refl
-three_pieces (piece ∷ pieces) (suc place) = ap (λ rest. piece ++ rest) (three_pieces pieces place)
-    ∙ sym (append_assoc piece (joined (take place pieces)) _)
+three_pieces (piece ∷ pieces) (suc place) = grind (arith, common_steps, append_assoc, three_pieces pieces place)
 
 pub chunk_placed : (place : ℕ) (chunks : Chunks) (said : Option ℕ) → place < chunks.count
     → ArePlaced (chunk_work place chunks said) (one_chunk_spots place chunks said)

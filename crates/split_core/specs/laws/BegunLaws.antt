@@ -1,4 +1,5 @@
 -- Laws that traits cite: what of a text that goes on begins before a place.
+use Rattle.std.proofs.lemmas.Grind.{common_steps}
 use Rattle.std.{
   proofs.lemmas.{
     Bool.{cases_lt, ltb-true, ltb-false},
@@ -28,14 +29,7 @@ pub begun_first : (delim byte place : ℕ) (x : List ℕ) → 0 < place
     (begun_before Lines delim (max (place - 1) 1) x)
 begun_first delim byte zero x some = absurd (omega arith)
 begun_first delim byte (suc zero) x some = first_lines-cons delim byte 0 x
-begun_first delim byte (suc (suc place)) x some = ap (λ more. byte ∷ more) (same (eqb byte delim)) where
-  to : {at : ℕ} → suc place ≡ at → begun_before Lines delim (suc place) x ≡ begun_before Lines delim at x
-  to is = ap (λ at. begun_before Lines delim at x) is
-
-  same : (ends : Bool) → begun_before Lines delim (suc place) x ≡ cond ends
-      (begun_before Lines delim (suc (suc place) - 1) x) (begun_before Lines delim (max (suc (suc place) - 1) 1) x)
-  same true = to (omega arith)
-  same false = to (omega arith)
+begun_first delim byte (suc (suc place)) x some = grind (arith, common_steps)
 
 pub begun_some : (unit : Unit) (delim place : ℕ) (x : List ℕ) → 0 < place → 0 < length x
     → 0 < length (begun_before unit delim place x)
@@ -55,10 +49,7 @@ some_open delim x some =
 
 open_end : (delim byte : ℕ) (x : List ℕ) → eqb byte delim ≡ true
     → open_from Lines delim (byte ∷ x) ≡ open_from Lines delim x + 1
-open_end delim byte x ends =
-    let d : delimiters delim (byte ∷ x) ≡ suc (delimiters delim x) = rw ends (omega arith) in
-    ap (λ n. length (first_lines delim n (byte ∷ x))) d
-    ∙ ap length (first_lines-cons delim byte (delimiters delim x) x) ∙ rw ends (omega arith)
+open_end delim byte x ends = grind (arith, common_steps, first_lines-cons)
 
 open_more : (delim byte : ℕ) (x : List ℕ) → eqb byte delim ≡ false → 0 < open_from Lines delim x
     → open_from Lines delim (byte ∷ x) ≡ open_from Lines delim x + 1
@@ -66,10 +57,7 @@ open_more delim byte x goes some = grind (arith, none_open, first_lines-cons)
 
 open_still : (delim byte : ℕ) (x : List ℕ) → eqb byte delim ≡ false → open_from Lines delim x ≡ 0
     → open_from Lines delim (byte ∷ x) ≡ 0
-open_still delim byte x goes none = by (delimiters delim x) refl where
-  by : (d : ℕ) → delimiters delim x ≡ d → open_from Lines delim (byte ∷ x) ≡ 0
-  by zero is = none_open delim (byte ∷ x) (rw goes is)
-  by (suc d) is = absurd (omega (arith, some_open delim x (omega arith)))
+open_still delim byte x goes none = grind (arith, common_steps, none_open, some_open)
 
 -- A text that goes on
 
@@ -80,10 +68,8 @@ stays_step : (delim byte place : ℕ) (x y : List ℕ)
     ≡ cond ends (begun_before Lines delim (place - 1) x) (begun_before Lines delim (max (place - 1) 1) x)
 stays_step delim byte place x y again within some true is =
     again (place - 1) (omega (arith, open_end delim byte x is))
-stays_step delim byte place x y again within some false is = elim (cases_lt 0 (open_from Lines delim x)) [
-  | inl open_later ↦ again (max (place - 1) 1) (omega (arith, open_more delim byte x is open_later))
-  | inr none ↦ absurd (omega (arith, open_still delim byte x is (omega arith)))
-]
+stays_step delim byte place x y again within some false is =
+    grind (arith, common_steps, cases_lt, open_more, open_still)
 
 begun_stays_lines : (delim place : ℕ) (x y : List ℕ) → place ≤ open_from Lines delim x
     → begun_before Lines delim place (x ++ y) ≡ begun_before Lines delim place x
@@ -109,18 +95,8 @@ on_step : (delim byte place : ℕ) (x y : List ℕ)
     → open_from Lines delim (byte ∷ x) < place → (ends : Bool) → eqb byte delim ≡ ends
     → cond ends (begun_before Lines delim (place - 1) (x ++ y)) (begun_before Lines delim (max (place - 1) 1) (x ++ y))
     ≡ x ++ begun_before Lines delim (max (place - suc (length x)) 1) y
-on_step delim byte place x y again past true is =
-    let e : max (place - 1 - length x) 1 ≡ max (place - suc (length x)) 1 = omega arith in
-    again (place - 1) (omega (arith, open_end delim byte x is))
-    ∙ ap (λ at. x ++ begun_before Lines delim at y) e
-on_step delim byte place x y again past false is =
-    let e : max (max (place - 1) 1 - length x) 1 ≡ max (place - suc (length x)) 1 = omega arith in
-    again (max (place - 1) 1) (before (cases_lt 0 (open_from Lines delim x)))
-    ∙ ap (λ at. x ++ begun_before Lines delim at y) e where
-      before : (0 < open_from Lines delim x) ⊎ (open_from Lines delim x ≤ 0)
-          → open_from Lines delim x < max (place - 1) 1
-      before (inl some) = omega (arith, open_more delim byte x is some)
-      before (inr none) = omega arith
+on_step delim byte place x y again past true is = grind (arith, common_steps, open_end)
+on_step delim byte place x y again past false is = grind (arith, common_steps, cases_lt, open_more)
 
 begun_on_lines : (delim place : ℕ) (x y : List ℕ) → open_from Lines delim x < place
     → begun_before Lines delim place (x ++ y) ≡ x ++ begun_before Lines delim (max (place - length x) 1) y
@@ -278,13 +254,8 @@ open_within Lines delim x = length-first_lines-le delim (delimiters delim x) x
 
 open_grows_lines : (delim : ℕ) (x y : List ℕ) → open_from Lines delim x ≤ open_from Lines delim (x ++ y)
 open_grows_lines delim x y =
-    let d = delimiters-append delim x y in
-    let on = first_lines-append delim (delimiters delim (x ++ y)) x y in
-    let more = length-append (first_lines delim (delimiters delim (x ++ y)) x)
-    (first_lines delim (delimiters delim (x ++ y) - delimiters delim x) y) in
-    let front = beginning_short _ _ (first_lines_begin delim (delimiters delim x) (delimiters delim (x ++ y)) x
-    (omega arith)) in
-    omega (arith, ap length on)
+    grind (arith, common_steps, delimiters-append, first_lines-append, length-append, beginning_short,
+        first_lines_begin)
 
 pub open_grows : (unit : Unit) (delim : ℕ) (x y : List ℕ) → open_from unit delim x ≤ open_from unit delim (x ++ y)
 open_grows Bytes delim x y = omega (arith, length-append x y)
@@ -298,24 +269,11 @@ append_by delim byte x y true has again true is =
     omega (arith, open_end delim byte (x ++ y) is)
 append_by delim byte x y false has again true is =
     omega (arith, open_end delim byte (x ++ y) is, open_end delim byte x is)
-append_by delim byte x y true has again false is =
-    omega (arith, open_more delim byte (x ++ y) is (omega (arith, again, some_open delim y (ltb-true _ _ has))))
-append_by delim byte x y false has again false is = elim (cases_lt 0 (open_from Lines delim x)) [
-  | inl some ↦ omega (arith, open_more delim byte (x ++ y) is (omega (arith, again, some)), open_more delim byte x is some)
-  | inr none ↦ omega (
-    arith,
-    open_still delim byte (x ++ y) is (omega arith),
-    open_still delim byte x is (omega arith),
-  )
-]
+append_by delim byte x y true has again false is = grind (arith, common_steps, open_more, some_open, ltb-true)
+append_by delim byte x y false has again false is = grind (arith, common_steps, cases_lt, open_more, open_still)
 
 -- a text that goes on has its open line after the last delimiter of what follows
 pub open_append : (delim : ℕ) (x y : List ℕ) → open_from Lines delim (x ++ y)
     ≡ cond (nat_lt 0 (delimiters delim y)) (length x + open_from Lines delim y) (open_from Lines delim x)
-open_append delim [] y = by (nat_lt 0 (delimiters delim y)) refl where
-  by : (more : Bool) → nat_lt 0 (delimiters delim y) ≡ more
-      → open_from Lines delim y ≡ cond more (0 + open_from Lines delim y) 0
-  by true has = omega arith
-  by false none = none_open delim y (omega (arith, ltb-false _ _ none))
-open_append delim (byte ∷ x) y = append_by delim byte x y (nat_lt 0 (delimiters delim y)) refl (open_append delim x y)
-    (eqb byte delim) refl
+open_append delim [] y = grind (arith, common_steps, none_open, ltb-false)
+open_append delim (byte ∷ x) y = grind (arith, common_steps, append_by, open_append delim x y)
