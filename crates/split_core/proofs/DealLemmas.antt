@@ -111,7 +111,7 @@ sees_further {delim} {x} {ahead} passed sees none is wide marked = grind (arith,
 -- where all of the text is known and no bit is set, it has no delimiter
 pub none_seen : {delim : ℕ} {x : List ℕ} {ahead : Ahead} → Sees delim x ahead → ahead.mask ≡ 0
     → ahead.passed + ahead.width ≡ length x → delimiters delim x ≡ 0
-none_seen {delim} {x} {ahead} sees none all = delimiters-none delim x (subst (HasNone delim) (take_all (ahead.passed + ahead.width) x (omega arith)) (all_passed sees none))
+none_seen {delim} {x} {ahead} sees none all = grind (arith, common_steps, delimiters-none, take_all, all_passed)
 
 -- the first delimiter
 
@@ -152,8 +152,7 @@ sees_rest {delim} {x} {ahead} at sees inside is = grind (arith, common_steps, se
 pub mask_padded : (delim other : ℕ) (x : List ℕ) (n : ℕ) → eqb other delim ≡ false
     → delimiter_mask delim (x ++ replicate n other) ≡ delimiter_mask delim x
 mask_padded delim other [] zero differs = refl
-mask_padded delim other [] (suc n) differs = let rest : delimiter_mask delim (replicate n other) ≡ 0 = mask_padded delim other [] n differs in
-    ap (λ is. cond is 1 0 + 2 * delimiter_mask delim (replicate n other)) differs ∙ omega arith
+mask_padded delim other [] (suc n) differs = grind (arith, common_steps, mask_padded delim other [] n differs)
 mask_padded delim other (byte ∷ x) n differs = ap (λ rest. cond (eqb byte delim) 1 0 + 2 * rest) (mask_padded delim other x n differs)
 
 lowest_bit : {delim : ℕ} {x : List ℕ} {ahead : Ahead} → Sees delim x ahead → 0 < ahead.mask
@@ -214,7 +213,8 @@ get_or-changed place line [] file inside = absurd (omega arith)
 get_or-changed zero line (x ∷ xs) zero inside = refl
 get_or-changed zero line (x ∷ xs) (suc file) inside = grind (arith, nat_tests)
 get_or-changed (suc place) line (x ∷ xs) zero inside = grind (arith, nat_tests)
-get_or-changed (suc place) line (x ∷ xs) (suc file) inside = get_or-changed place line xs file (omega arith) ∙ ap (λ is. cond is (get_or xs file [] ++ line) (get_or xs file [])) (sym (eqb-suc-suc place file))
+get_or-changed (suc place) line (x ∷ xs) (suc file) inside =
+    grind (arith, common_steps, eqb-suc-suc, get_or-changed place line xs file (omega arith))
 
 -- a line was appended to what its file had
 came : (gets : Bool) (had line rest : List ℕ)

@@ -49,8 +49,8 @@ runs_bound : {X : Type 0} (low high n : ℕ) (xs : List X) → 0 < n → length 
 runs_bound zero (suc high) n (x ∷ xs) some few little = absurd (omega arith)
 runs_bound (suc low) zero n (x ∷ xs) some few little = absurd (omega arith)
 runs_bound (suc low) (suc high) n (x ∷ xs) some few little =
-    ap (λ runs. take n (x ∷ xs) ∷ runs) (runs_bound low high n (drop n (x ∷ xs)) some (omega (arith, length-drop n (x ∷ xs)))
-    (omega (arith, length-drop n (x ∷ xs))))
+    grind (arith, common_steps, length-drop, runs_bound low high n (drop n (x ∷ xs)) some (omega (arith, length-drop n
+        (x ∷ xs))))
 runs_bound low high n xs some few little = refl
 
 -- a run, and then the runs of what stands after it
@@ -96,7 +96,8 @@ count_within : {X : Type 0} (bound n : ℕ) (xs : List X) → 0 < n → length x
     → AreFewest (length (runs_within bound n xs)) n (length xs)
 count_within zero n (x ∷ xs) some few = absurd (omega arith)
 count_within (suc bound) n (x ∷ xs) some few =
-    one_more (length (runs_within bound n (drop n (x ∷ xs)))) n (suc (length xs)) (length-drop n (x ∷ xs)) (omega arith) (count_within bound n (drop n (x ∷ xs)) some (omega (arith, length-drop n (x ∷ xs))))
+    grind (arith, common_steps, one_more, length-drop, count_within bound n (drop n (x ∷ xs)) some (omega (arith,
+        length-drop n (x ∷ xs))))
 count_within bound n xs some few = grind (arith, common_steps)
 
 -- there are as few runs as can hold all members
@@ -117,8 +118,7 @@ lines_cut : (delim n : ℕ) {x : List ℕ} {full : List (List ℕ)} {rest : List
     → full ++ unless_empty rest ≡ line_parts delim n x
 lines_cut delim n {x} some (stops _ short) = last_lines delim n x (short_some (Lines n delim) x short some)
 lines_cut delim n {x} some (goes _ full _ is past) =
-    let enough : n ≤ delimiters delim x = (full_some (Lines n delim) x is).1 in
-    cc (lines_cut delim n some past, lines_of-after delim n x enough, runs_next n (lines_of delim x) some (omega (arith, (line_count_near delim x).0)))
+    grind (arith, common_steps, full_some, lines_of-after, runs_next, line_count_near, lines_cut delim n some past)
 
 pub lines_are_runs : (delim n : ℕ) (x : List ℕ) → 0 < n → parts (Lines n delim) x ≡ line_parts delim n x
 lines_are_runs delim n x some = lines_cut delim n some (cuts_up)
@@ -131,8 +131,7 @@ bytes_cut : (n : ℕ) {x : List ℕ} {full : List (List ℕ)} {rest : List ℕ} 
     → full ++ unless_empty rest ≡ byte_parts n x
 bytes_cut n {x} some (stops _ short) = last_bytes n x (short_some (Bytes n) x short some)
 bytes_cut n {x} some (goes _ full _ is past) =
-    let enough : n ≤ length x = (full_some (Bytes n) x is).1 in
-    cc (bytes_cut n some past, length-take-le n x enough, runs_next n x some (omega arith))
+    grind (arith, common_steps, full_some, length-take-le, runs_next, bytes_cut n some past)
 
 pub bytes_are_runs : (n : ℕ) (x : List ℕ) → 0 < n → parts (Bytes n) x ≡ byte_parts n x
 bytes_are_runs n x some = bytes_cut n some (cuts_up)
@@ -194,8 +193,8 @@ pub line_bytes_within : (delim n : ℕ) (x : List ℕ) (those : List (List ℕ))
 line_bytes_within delim n _ _ some none = grind (arith, common_steps)
 line_bytes_within delim n _ _ some (one x has short) = grind (arith, common_steps)
 line_bytes_within delim n _ _ some (more x those enough past) =
-    All-cons (λ part. (0 < length part) × (length part ≤ n)) (whole_lines delim (take n x)) those (line_bytes_first delim n x some enough)
-    (line_bytes_within delim n (drop (length (whole_lines delim (take n x))) x) those some past)
+    grind (arith, common_steps, line_bytes_first, line_bytes_within delim n (drop (length (whole_lines delim (take n
+        x))) x) those some past)
 
 -- Texts that go on
 
@@ -223,9 +222,7 @@ settled_list limit x = (cut_up limit x).full ++ unless_empty (settled_rest limit
 
 pub settled_bytes : (limit : Limit) (x : List ℕ)
     → map (λ (file : Share). file.bytes) (settled_parts limit x) ≡ settled_list limit x
-settled_bytes limit x =
-    let full = (cut_up limit x).full in let rest = (cut_up limit x).rest in
-    cc (map-append (λ (file : Share). file.bytes) (map (share Closed) full) (map (share Open) (unless_empty (settled_rest limit rest))), bytes_of_shares Closed full, bytes_of_shares Open (unless_empty (settled_rest limit rest)))
+settled_bytes limit x = grind (arith, common_steps, map-append, bytes_of_shares)
 
 pub list_all : (limit : Limit) (x : List ℕ)
     → joined (settled_list limit x) ++ waiting_rest limit (cut_up limit x).rest ≡ x
@@ -235,7 +232,7 @@ list_all limit x = grind (arith, common_steps, joined-append, joined_one, settle
 pub settled_all : (limit : Limit) (x : List ℕ)
     → joined (map (λ (file : Share). file.bytes) (settled_parts limit x)) ++ waiting_rest limit (cut_up limit x).rest
     ≡ x
-settled_all limit x = ap (λ those. joined those ++ waiting_rest limit (cut_up limit x).rest) (settled_bytes limit x) ∙ list_all limit x
+settled_all limit x = grind (arith, common_steps, settled_bytes, list_all)
 
 -- the lines that one of n files gets, where the first of all lines stands at this place
 abbrev pub lines_dealt : ℕ → ℕ → ℕ → List (List ℕ) → List (List ℕ)
@@ -268,8 +265,8 @@ are_dealt : (delim n file place : ℕ) (lines : List (List ℕ)) → AreLines de
     → AreLines delim (lines_dealt n file place lines)
 are_dealt delim n file place [] each = tt
 are_dealt delim n file place (line ∷ lines) each =
-    let rest = are_dealt delim n file (place + 1) lines (others delim line lines each) in
-    cond_both (eqb (place % n) file) _ _ (AreLines delim) (λ is. before_some delim line lines _ each (few_dealt n file (place + 1) lines) rest) (λ is. rest)
+    grind (arith, common_steps, others, cond_both, before_some, few_dealt, are_dealt delim n file (place + 1) lines
+        (others delim line lines each))
 
 lines_of-dealt : (delim n file place : ℕ) (lines : List (List ℕ)) → AreLines delim lines
     → lines_of delim (dealt n file place lines) ≡ lines_dealt n file place lines

@@ -1,4 +1,5 @@
 -- Laws that traits cite: those of the work on chunks, and of lines dealt in turn of which one file's are written.
+use Rattle.std.proofs.lemmas.Grind.{common_steps}
 use Rattle.std.{
   proofs.lemmas.Bool.{cases_lt, false≢true, le-leb, leb-true, lt-ltb, ltb-true, Decides.nat_tests},
   proofs.lemmas.List.{append-nil, append_assoc, drop-append-le, length-append, length-take, map-append, take_all},
@@ -131,19 +132,7 @@ pub decided_ends : (chunks : Chunks) (said : Option ℕ) (x : List ℕ) → 0 < 
     → GoesOn (decided chunks 1 said x) (in_the_end chunks said x)
 decided_ends chunks (Some size) x some = goes_itself (chunks_of chunks size x)
 decided_ends chunks None x some =
-    let f = chunk_at chunks (length x) (take (length x) x) in
-    let low = before_chunk chunks (length x) 1 x in
-    let none : before_chunk chunks (length x) 0 (take (length x) x) ≡ [] =
-    ap (λ at. begun_before chunks.unit chunks.delim at (take (length x) x)) (start_first chunks.count (length x))
-    ∙ begun_first_place chunks.unit chunks.delim (take (length x) x) in
-    let one : f 0 ≡ low =
-    ap (λ front. drop (length front) (before_chunk chunks (length x) (0 + 1) (take (length x) x))) none
-    ∙ ap (before_chunk chunks (length x) 1) (take_all (length x) x (omega arith)) in
-    subst (GoesOn (uncut low)) (sym (cut_all chunks (length x) x some (omega arith))) (record {
-      more = map f (range_with_len 0 chunks.count);
-      full = refl;
-      rest = begins_pieces f chunks.count low [] some (subst (IsBeginning low) (sym one) (begins_itself low));
-    })
+    grind (arith, common_steps, start_first, begun_first_place, take_all, cut_all, begins_pieces, begins_itself)
 
 -- What files get of it
 
@@ -180,21 +169,12 @@ pub shares_on : (elide : Bool) (state : State) {low high : CutUp} → GoesOn low
     → SharesBegin (shares_of (draft_by elide low))
     (map (share Closed) (kept elide high.full) ++ map (share state) (unless_empty high.rest))
 shares_on elide state {low} {high} on =
-    subst (SharesBegin (shares_of (draft_by elide low))) (sym (ap (λ full. map (share Closed) full
-    ++ map (share state) (unless_empty high.rest)) (ap (kept elide) on.full ∙ kept-append elide low.full on.more)
-    ∙ ap (λ shares. shares ++ map (share state) (unless_empty high.rest))
-    (map-append (share Closed) (kept elide low.full) (kept elide on.more))
-    ∙ append_assoc (map (share Closed) (kept elide low.full)) (map (share Closed) (kept elide on.more))
-    (map (share state) (unless_empty high.rest))))
-    (shares_after (map (share Closed) (kept elide low.full)) _ _
-    (rest_on elide state low.rest on.more high.rest on.rest))
+    grind (arith, common_steps, kept-append, map-append, append_assoc, shares_after, rest_on)
 
 -- once all is there, it is the same
 whole_is : (manner : Manner) (elide : Bool) (cut : CutUp) → cut.rest ≡ []
     → part_of manner (map (share Closed) (files_by elide cut)) ≡ draft_part manner (draft_by elide cut)
-whole_is manner elide cut none = rw none (ap (λ files. part_of manner (map (share Closed) files))
-    (append-nil (kept elide cut.full))
-    ∙ ap (part_of manner) (sym (append-nil (map (share Closed) (kept elide cut.full)))))
+whole_is manner elide cut none = grind (arith, common_steps, append-nil)
 
 cut_stays : (chunks : Chunks) (size : ℕ) (x y : List ℕ) → size ≤ length x
     → chunks_of chunks size (x ++ y) ≡ chunks_of chunks size x
@@ -207,17 +187,7 @@ chunks_stay : (plan : ChunksPlan) (said : Option ℕ) (x y : List ℕ) → 0 < p
     → (chunks_work plan said).is_complete x ≡ true → IsComplete (chunks_work plan said) x y
 chunks_stay plan None x y some never = absurd (false≢true never)
 chunks_stay plan (Some size) x y some is =
-    let longer : size < length x = ltb-true _ _ is in
-    let more : size < length (x ++ y) = omega (arith, length-append x y) in
-    let manner = manner_of plan.filing in
-    let same = cut_stays plan.chunks size x y (omega arith) in record {
-      still = lt-ltb _ _ more;
-      settled_stays = ap (λ cut. draft_part manner (draft_by plan.elide cut)) same;
-      whole_stays = ap (λ cut. part_of manner (map (share Closed) (files_by plan.elide cut))) same
-          ∙ whole_is manner plan.elide (chunks_of plan.chunks size x)
-          (rest_none plan.chunks size x some (omega arith));
-      verdict_stays = rw (longer_differs size x longer, longer_differs size (x ++ y) more) refl;
-    }
+    grind (arith, common_steps, ltb-true, length-append, cut_stays, lt-ltb, whole_is, rest_none, longer_differs)
 
 pub chunks_lawful : (plan : ChunksPlan) (said : Option ℕ) → 0 < plan.chunks.count → IsLawful (chunks_work plan said)
 chunks_lawful plan said some = record {
@@ -257,11 +227,7 @@ same_piece (first ∷ front) one other zero within = refl
 same_piece (first ∷ front) one other (suc place) within = same_piece front one other place (omega arith)
 
 passed_taken : (chunks : Chunks) (size : ℕ) (x : List ℕ) → passed chunks size (take size x) ≡ passed chunks size x
-passed_taken chunks size x = elim (cases_lt (length x) size) [
-  | inl short ↦ ap (passed chunks size) (take_all size x (omega arith))
-  | inr full ↦ passed_full chunks size (take size x) (omega (arith, length-take size x))
-      ∙ sym (passed_full chunks size x full)
-]
+passed_taken chunks size x = grind (arith, common_steps, cases_lt, take_all, passed_full, length-take)
 
 -- a piece that has ended stays
 piece_stays : (chunks : Chunks) (size place : ℕ) (x y : List ℕ) → place < chunks.count
@@ -290,13 +256,7 @@ chunk_stays : (place : ℕ) (chunks : Chunks) (said : Option ℕ) (x y : List �
     → is_written place chunks said x ≡ true → IsComplete (chunk_work place chunks said) x y
 chunk_stays place chunks None x y within never = absurd (false≢true never)
 chunk_stays place chunks (Some size) x y within has =
-    let still : has_ended chunks size (x ++ y) place ≡ true =
-    le-leb _ _ (omega (arith, leb-true _ _ has, passed_grows chunks size x y)) in record {
-      still = still;
-      settled_stays = piece_stays chunks size place x y within has;
-      whole_stays = piece_stays chunks size place x y within has;
-      verdict_stays = rw (has, still) refl;
-    }
+    grind (arith, common_steps, le-leb, leb-true, passed_grows, piece_stays)
 
 pub chunk_lawful : (place : ℕ) (chunks : Chunks) (said : Option ℕ) → place < chunks.count
     → IsLawful (chunk_work place chunks said)

@@ -97,8 +97,7 @@ share_none delim n x file short within = dealt_none n file 0 (lines_of delim x) 
 
 pub share_some : (delim n : ℕ) (x : List ℕ) (file : ℕ) → file < line_count delim x → file < n
     → has_bytes (share_of delim n x file) ≡ true
-share_some delim n x file before within = has_bytes_of _
-    (dealt_some n file 0 (lines_of delim x) (each_line delim x) (omega arith) (omega arith) within)
+share_some delim n x file before within = grind (arith, common_steps, has_bytes_of, dealt_some, each_line)
 
 -- where members up to a place aren't empty and those from there on are, the filter leaves those up to that place
 filter_first : (f : ℕ → List ℕ) (n end : ℕ) → ((file : ℕ) → file < n → file < end → has_bytes (f file) ≡ true)

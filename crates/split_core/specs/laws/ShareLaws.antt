@@ -49,11 +49,7 @@ told_begins true low high begins = openings_begin opening_line low high begins
 
 pub part_begins : (filing : Filing) (low high : List Share) → SharesBegin low high
     → Begins (part_of (manner_of filing) low) (part_of (manner_of filing) high)
-part_begins filing low high begins =
-    let files = files_begin (manner_of filing) 0 low high begins in record {
-      out = told_begins filing.verbose _ _ files;
-      files = files;
-    }
+part_begins filing low high begins = grind (arith, common_steps, files_begin, told_begins)
 
 -- where a place has no name, what stands from there on makes no file
 pub named_short : (filing : Filing) (place : ℕ) (front rest : List Share)
@@ -131,8 +127,7 @@ settled_on limit x y = grind (arith, common_steps, cut_on, map-append)
 
 pub parts_on : (limit : Limit) (x y : List ℕ)
     → parts limit (x ++ y) ≡ (cut_up limit x).full ++ parts limit ((cut_up limit x).rest ++ y)
-parts_on limit x y = ap (λ cut. cut.full ++ unless_empty cut.rest) (cut_on limit x y) ∙ append_assoc
-    (cut_up limit x).full _ _
+parts_on limit x y = grind (arith, common_steps, cut_on, append_assoc)
 
 -- a text with a full part has that as its first
 pub cut_first : (limit : Limit) (x : List ℕ) → is_full limit x ≡ true
