@@ -227,7 +227,7 @@ pub chunks_left : (chunks : Chunks) (size : ℕ) (x : List ℕ) → 0 < chunks.c
     → (m : ℕ) × (ended chunks size x + suc m ≡ chunks.count)
 chunks_left chunks size x some short = let p = ended chunks size x in elim (cases_lt p chunks.count) [
   | inl less ↦ (chunks.count - p - 1, omega arith)
-  | inr last ↦ absurd (omega (arith, start_past chunks.count size p some last, (ended_is chunks size x).before, passed_open chunks size x short, open_within chunks.unit chunks.delim x))
+  | inr last ↦ absurd (omega (arith, start_past, (ended_is chunks size x).before, passed_open, open_within))
 ]
 
 -- in the end there are the files of those that have ended, and then those of all others
@@ -261,7 +261,7 @@ said_files elide chunks size x y c some short long run =
           (subst (λ (cut : CutUp). IsTail c cut.rest those)
           (sym (chunks_are chunks size x some (omega arith) here))
           (tail_is chunks size x y c p m run (before_stays chunks size p x (c ∷ y) (omega arith) here.before)
-          (omega (arith, here.next (omega arith), passed_open chunks size x short)))),
+          (omega (arith, here.next (omega arith), passed_open)))),
       said_split elide chunks size x (c ∷ y) m some short long is,
     )
 

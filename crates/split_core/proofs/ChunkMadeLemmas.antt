@@ -296,7 +296,7 @@ chunk_going place chunks (Some size) x within fits going = (
   short : length x < size
   short = elim (cases_lt (length x) size) [
     | inl fewer ↦ fewer
-    | inr full ↦ absurd (omega (arith, ended_all chunks x some full, few, within))
+    | inr full ↦ absurd (omega (arith, ended_all, few, within))
   ]
 
   count : length (chunks_of chunks size x).full ≡ ended chunks size x

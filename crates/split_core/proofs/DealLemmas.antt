@@ -129,7 +129,7 @@ pub first_seen : {delim : ℕ} {x : List ℕ} {ahead : Ahead} {at : ℕ} → See
     → IsFirstAt delim x (ahead.passed + at) × (at < ahead.width)
 first_seen {delim} {x} {ahead} {at} sees is some = (
   first_of_text ahead.passed ahead.width sees.within sees.none first,
-  (omega (arith, first.within, length-window ahead.passed x sees.within)),
+  (omega (arith, first.within, length-window)),
 ) where
   first : IsFirstAt delim (take ahead.width (drop ahead.passed x)) at
   first = rw (← is) at (first_marked (take ahead.width (drop ahead.passed x)) (subst (λ n. 0 < n) sees.marked some))

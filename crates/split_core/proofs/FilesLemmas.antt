@@ -674,7 +674,7 @@ written told {files} {old} {new} place bytes (Err _) ready within (short.broke n
       (grow_by place (place + 1) (only_at place (drop n bytes)) (length files.outputs) (none_outside place (drop n bytes))
       (λ i. are i ∙ ap (λ those. had i ++ those) (parted i) ∙ sym (append_assoc (had i) (only_at place (take n bytes) i) (only_at place (drop n bytes) i))))
       (writes told place (take n bytes) within refl at (λ i. refl))
-      (omega (arith, length-changed_at slot (adds (told_of told (take n bytes))) old, output_within place ready within), cut.slots)
+      (omega (arith, length-changed_at, output_within), cut.slots)
       (inr (at.owns.stand place within));
 } where
   slot : ℕ

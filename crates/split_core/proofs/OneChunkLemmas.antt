@@ -66,7 +66,7 @@ starts_next delim byte x i from true is = record {
       begun_length delim byte place (x ++ y) true is some,
       from.lacks (place - 1) y (omega arith),
     )
-    | inr none ↦ omega (arith, none_begun delim place (byte ∷ (x ++ y)) none)
+    | inr none ↦ omega (arith, none_begun)
   ];
 }
 starts_next delim byte x i from false is = elim (cases_lt 1 from.at) [
@@ -85,7 +85,7 @@ starts_next delim byte x i from false is = elim (cases_lt 1 from.at) [
         begun_length delim byte place (x ++ y) false is some,
         from.lacks (max (place - 1) 1) y (omega arith),
       )
-      | inr none ↦ omega (arith, none_begun delim place (byte ∷ (x ++ y)) none)
+      | inr none ↦ omega (arith, none_begun)
     ];
   }
   | inr first ↦ record {
@@ -97,7 +97,7 @@ starts_next delim byte x i from false is = elim (cases_lt 1 from.at) [
       begun_length delim byte place (x ++ y) false is (omega arith),
       from.has (max (place - 1) 1) y (omega arith),
     );
-    lacks = λ place y before. omega (arith, none_begun delim place (byte ∷ (x ++ y)) (omega arith));
+    lacks = λ place y before. omega (arith, none_begun);
   }
 ]
 
@@ -133,15 +133,15 @@ start_step n size place some within = elim (cases_lt (suc (size % n)) n) [
       let same : suc size / n ≡ size / n =
       ap (λ k. k / n) (omega arith) ∙ div-mul-add (size / n) n (suc (size % n)) less in
       let left : suc size % n ≡ suc (size % n) =
-      omega (arith, div-add-mod' (suc size) n, ap (λ q. q * n) same) in
+      omega (arith, div-add-mod', ap (λ q. q * n) same) in
       omega (arith, ap (λ q. place * q) same))
   | inr full ↦ (
-      let last : suc (size % n) ≡ n = omega (arith, mod-lt size some) in
+      let last : suc (size % n) ≡ n = omega (arith, mod-lt) in
       let more : suc size / n ≡ suc (size / n) = ap (λ k. k / n)
-      (omega (arith, suc-mul (size / n) n)) ∙ div-mul-add (suc (size / n)) n 0 some in
+      (omega (arith, suc-mul)) ∙ div-mul-add (suc (size / n)) n 0 some in
       let left : suc size % n ≡ 0 =
-      omega (arith, div-add-mod' (suc size) n, ap (λ q. q * n) more, suc-mul (size / n) n) in
-      omega (arith, ap (λ q. place * q) more, mul-suc place (size / n)))
+      omega (arith, div-add-mod', ap (λ q. q * n) more, suc-mul) in
+      omega (arith, ap (λ q. place * q) more, mul-suc))
 ] where
   whole : size / n * n + size % n ≡ size
   whole = div-add-mod' size n
@@ -154,7 +154,7 @@ pub record Reached (n place s low : ℕ) : Type 0 where
   to : s < chunk_start n size (place + 1)
 
 short_size : (n size : ℕ) → size / n ≡ 0 → size % n ≡ size
-short_size n size none = omega (arith, div-add-mod' size n, ap (λ q. q * n) none, zero-mul n)
+short_size n size none = omega (arith, div-add-mod', ap (λ q. q * n) none, zero-mul)
 
 climb : (n place s low k size : ℕ) → place < n → s < low → low ≤ size
     → s < chunk_start n (size + k) (place + 1) → chunk_start n size place ≤ s → Reached n place s low
@@ -165,12 +165,7 @@ climb n place s low (suc k) size within less more top from =
 
 pub reached : (n place s low : ℕ) → place < n → s < low → chunk_start n low place ≤ s → Reached n place s low
 reached n place s low within less from =
-    climb n place s low (s + suc s * n) low within less (omega arith) (omega (
-      arith,
-      past,
-      grows,
-      start_grows n (low + (s + suc s * n)) (0 + 1) (place + 1) (omega arith),
-    )) from where
+    climb n place s low (s + suc s * n) low within less (omega arith) (omega (arith, past, grows, start_grows)) from where
       past : s < chunk_start n (s + suc s * n) (0 + 1)
       past = far n s (omega (arith, within))
 

@@ -77,7 +77,7 @@ run_within (suc bound) n zero (x ∷ xs) some few = grind (arith, common_steps)
 run_within (suc bound) n (suc i) (x ∷ xs) some few =
     cc (run_within bound n i (drop n (x ∷ xs)) some (omega (arith, length-drop n (x ∷ xs))), drop-drop (i * n) n (x ∷ xs), next_place i n) where
       next_place : (i n : ℕ) → suc i * n ≡ n + i * n
-      next_place i n = omega (arith, suc-mul i n)
+      next_place i n = omega (arith, suc-mul)
 
 -- the run at a place has the members from i * n to less than (i + 1) * n
 pub run_at : {X : Type 0} (n i : ℕ) (xs : List X) → 0 < n → get_or (runs_of n xs) i [] ≡ take n (drop (i * n) xs)
@@ -286,7 +286,7 @@ nth_step : (n : ℕ) {file : ℕ} (place left k : ℕ) (line : List ℕ) (lines 
 nth_step n {file} place left zero line lines true few at is next = grind (arith, common_steps, nothing_between, eqb-true, zero-mul, get_or)
 nth_step n {file} place left (suc k) line lines true few at is next =
     let none : left ≡ 0 = nothing_between n place few (at ∙ sym (eqb-true (place % n) file is)) in
-    let there : left + suc k * n ≡ suc (n - 1 + k * n) = omega (arith, none, suc-mul k n) in
+    let there : left + suc k * n ≡ suc (n - 1 + k * n) = omega (arith, none, suc-mul) in
     let around : place + 1 + (n - 1) ≡ place + n = omega arith in
     cc (next (n - 1) k (omega arith) (ap (λ at. at % n) around ∙ add-mod_right place n ∙ eqb-true (place % n) file is), there)
 nth_step n {file} place zero k line lines false few at is next = grind (arith, common_steps)
@@ -339,7 +339,7 @@ none_of_none start (suc count) = none_of_none (start + 1) count
 all_from : (n place : ℕ) (lines : List (List ℕ)) → 0 < n
     → length (joined (map (λ file. dealt n file place lines) (range_with_len 0 n))) ≡ length (joined lines)
 all_from n place [] some = none_of_none 0 n
-all_from n place (line ∷ lines) some = one_gets (λ file. dealt n file (place + 1) lines) line (place % n) 0 n (omega arith) (omega (arith, mod-lt place some))
+all_from n place (line ∷ lines) some = one_gets (λ file. dealt n file (place + 1) lines) line (place % n) 0 n (omega arith) (omega (arith, mod-lt))
     ∙ ap (λ rest. length line + rest) (all_from n (place + 1) lines some) ∙ sym (length-append line (joined lines))
 
 -- all bytes are dealt
@@ -355,5 +355,5 @@ first_files delim n x = dealt_files_are delim true n x ∙ elim (cases_lt (line_
       ap (λ count. map (share_of delim n x) (range_with_len 0 count)) here ∙ sym (take-map-range_with_len (share_of delim n x) 0 n (line_count delim x) (omega arith))
   | inr many ↦
       let here : min n (line_count delim x) ≡ n = omega arith in
-      cc (here, take_all (line_count delim x) (round_robin delim n x) (omega (arith, length-map-range_with_len (share_of delim n x) 0 n)))
+      cc (here, take_all (line_count delim x) (round_robin delim n x) (omega (arith, length-map-range_with_len)))
 ]

@@ -67,7 +67,7 @@ stays_step : (delim byte place : ℕ) (x y : List ℕ)
     → cond ends (begun_before Lines delim (place - 1) (x ++ y)) (begun_before Lines delim (max (place - 1) 1) (x ++ y))
     ≡ cond ends (begun_before Lines delim (place - 1) x) (begun_before Lines delim (max (place - 1) 1) x)
 stays_step delim byte place x y again within some true is =
-    again (place - 1) (omega (arith, open_end delim byte x is))
+    again (place - 1) (omega (arith, open_end))
 stays_step delim byte place x y again within some false is =
     grind (arith, common_steps, cases_lt, open_more, open_still)
 
@@ -266,9 +266,9 @@ append_by : (delim byte : ℕ) (x y : List ℕ) (more : Bool) → nat_lt 0 (deli
     → (ends : Bool) → eqb byte delim ≡ ends → open_from Lines delim ((byte ∷ x) ++ y)
     ≡ cond more (length (byte ∷ x) + open_from Lines delim y) (open_from Lines delim (byte ∷ x))
 append_by delim byte x y true has again true is =
-    omega (arith, open_end delim byte (x ++ y) is)
+    omega (arith, open_end)
 append_by delim byte x y false has again true is =
-    omega (arith, open_end delim byte (x ++ y) is, open_end delim byte x is)
+    omega (arith, open_end)
 append_by delim byte x y true has again false is = grind (arith, common_steps, open_more, some_open, ltb-true)
 append_by delim byte x y false has again false is = grind (arith, common_steps, cases_lt, open_more, open_still)
 

@@ -31,7 +31,7 @@ pub start_first : (n size : ℕ) → chunk_start n size 0 ≡ 0
 start_first n size = omega arith
 
 pub start_last : (n size : ℕ) → 0 < n → chunk_start n size n ≡ size
-start_last n size some = omega (arith, div-add-mod' size n, mod-lt size some)
+start_last n size some = omega (arith, div-add-mod', mod-lt)
 
 pub start_within : (n size place : ℕ) → 0 < n → place ≤ n → chunk_start n size place ≤ size
 start_within n size place some within = omega (arith, start_grows n size place n within, start_last n size some)
@@ -74,7 +74,7 @@ counted test a (suc n) (suc p) within holds fails = rw (holds a (omega arith) (o
 
 found : (n size at k : ℕ) → (p : ℕ) × (p ≤ k) × (chunk_start n size p ≤ at)
     × (p < k → at < chunk_start n size (p + 1))
-found n size at zero = (0, omega arith, omega (arith, start_first n size), λ less. absurd (omega arith))
+found n size at zero = (0, omega arith, omega (arith, start_first), λ less. absurd (omega arith))
 found n size at (suc k) = elim (cases_lt at (chunk_start n size (suc k))) [
   | inr past ↦ (suc k, omega arith, past, λ less. absurd (omega arith))
   | inl before ↦ (let (p, within, from, next) = found n size at k in (
@@ -125,7 +125,7 @@ ended_all chunks {size} x some full = ended_only is where
   is : HaveEnded chunks size x chunks.count
   is = record {
     within = omega arith;
-    before = omega (arith, passed_full chunks size x full, start_last chunks.count size some);
+    before = omega (arith, passed_full, start_last);
     next = λ less. absurd (omega arith);
   }
 
@@ -338,9 +338,9 @@ start_by_size n size more place some within less = by (cases_lt (size / n) (more
   by : (size / n < more / n) ⊎ (more / n ≤ size / n) → chunk_start n size place ≤ chunk_start n more place
   by (inl longer) = omega (arith, mul-le-mul_left place longer)
   by (inr fewer) =
-      let enough : size / n ≤ more / n = le-div (size / n) more n some (omega (arith, div-mul-le_self size n)) in
+      let enough : size / n ≤ more / n = le-div (size / n) more n some (omega (arith, div-mul-le_self)) in
       let same : size / n ≡ more / n = omega arith in
-      omega (arith, div-add-mod' size n, div-add-mod' more n, ap (λ q. place * q) same, ap (λ q. q * n) same)
+      omega (arith, div-add-mod', ap (λ q. place * q) same, ap (λ q. q * n) same)
 
 pub decided_grows : (chunks : Chunks) (first : ℕ) (x y : List ℕ) → 0 < chunks.count → first ≤ chunks.count
     → IsBeginning (before_chunk chunks (length x) first x) (before_chunk chunks (length (x ++ y)) first (x ++ y))

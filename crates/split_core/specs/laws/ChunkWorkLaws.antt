@@ -95,7 +95,7 @@ goes_within chunks size x y some within = elim (cases_lt (ended chunks size x) (
   | inl less ↦ goes_past chunks size x y (ended chunks size (x ++ y) - ended chunks size x - 1) some within
       (omega arith)
   | inr same ↦ subst (GoesOn (chunks_of chunks size x)) (sym (goes_on chunks size x y some within
-      (omega (arith, ended_grows chunks size x y)))) (record {
+      (omega (arith, ended_grows)))) (record {
         more = [];
         full = sym (append-nil (chunks_of chunks size x).full);
         rest = begins_more (chunks_of chunks size x).rest y;
@@ -114,7 +114,7 @@ chunks_go_on chunks size x y some = by (begun_grows Bytes 0 size x y) where
   by (rest, is) = rw (again x) at (subst (GoesOn (chunks_of chunks size (take size x)))
       (ap (chunks_of chunks size) (sym is) ∙ again (x ++ y))
       (goes_within chunks size (take size x) rest some
-      (omega (arith, sym (ap length is), take_within size (x ++ y)))))
+      (omega (arith, sym (ap length is), take_within))))
 
 pub decided_goes_on : (chunks : Chunks) (first : ℕ) (said : Option ℕ) (x y : List ℕ) → 0 < chunks.count
     → first ≤ chunks.count → GoesOn (decided chunks first said x) (decided chunks first said (x ++ y))

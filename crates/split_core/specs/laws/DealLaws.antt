@@ -131,5 +131,5 @@ dealt_files_are delim false n x = refl
 
 pub opened_by-grows : (delim : ℕ) (elide : Bool) (n : ℕ) (x y : List ℕ)
     → opened_by delim elide n x ≤ opened_by delim elide n (x ++ y)
-opened_by-grows delim true n x y = omega (arith, line_count-grows delim x y)
+opened_by-grows delim true n x y = omega (arith, line_count-grows)
 opened_by-grows delim false n x y = omega arith

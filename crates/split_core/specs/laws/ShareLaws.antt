@@ -75,7 +75,7 @@ whole_begins_by delim x y (suc k) (suc m) here all = rw (← (whole_of_lines del
     (λ high. IsBeginning (first_lines delim (delimiters delim x) (x ++ y)) high)
     (sym (whole_of_lines delim (x ++ y) (omega arith)))
     (first_lines_begin delim (delimiters delim x) (delimiters delim (x ++ y)) (x ++ y)
-    (omega (arith, delimiters-append delim x y))))
+    (omega (arith, delimiters-append))))
 whole_begins_by delim x y zero (suc m) here all = rw (whole_of_none delim x here) (
   _,
   whole_of_lines delim (x ++ y) (omega arith) ∙ first_lines-append delim (delimiters delim (x ++ y)) x y
@@ -84,7 +84,7 @@ whole_begins_by delim x y zero (suc m) here all = rw (whole_of_none delim x here
 )
 whole_begins_by delim x y zero zero here all =
     rw (whole_of_none delim x here) (y, whole_of_none delim (x ++ y) all)
-whole_begins_by delim x y (suc k) zero here all = absurd (omega (arith, delimiters-append delim x y))
+whole_begins_by delim x y (suc k) zero here all = absurd (omega (arith, delimiters-append))
 
 pub whole_begins : (delim : ℕ) (x y : List ℕ) → IsBeginning (whole_lines delim x) (whole_lines delim (x ++ y))
 whole_begins delim x y = whole_begins_by delim x y (delimiters delim x) (delimiters delim (x ++ y)) refl refl
