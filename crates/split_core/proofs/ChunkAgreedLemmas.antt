@@ -1,15 +1,6 @@
 -- What is settled of chunks is what all continuations agree on.
 use Rattle.std.proofs.lemmas.Grind.{common_steps}
-use Rattle.std.proofs.{
-  Common.{◌≡◌, ◌≢◌, ℕ, ◌+◌, ◌-◌, ◌*◌, ◌/◌, ◌<◌, ◌≤◌, max, zero, suc, Bool, true, false, cond, List, [], ◌∷◌, ◌++◌},
-  Common.{length, take, drop, map, get_or, replicate, Option, Some, None, inl, inr, refl, sym, ◌∙◌, ap, subst, arith},
-  lemmas.{
-    Bool.{cases_lt, eq-eqb, ltb-false},
-    List.{append-nil, drop-append-le, length-append, length-replicate, map-append, take_all},
-    Nat.le-div,
-  },
-  Math.Nat.one-mul,
-}
+use Rattle.std.proofs.{Common.{◌≡◌, ◌≢◌, ℕ, ◌+◌, ◌-◌, ◌*◌, ◌<◌, ◌≤◌, max, zero, suc, Bool, true, false, List, [], ◌∷◌, ◌++◌}, Common.{length, take, drop, map, get_or, replicate, Option, Some, None, inl, inr, refl, sym, ◌∙◌, ap, subst, arith}, lemmas.{Bool.{cases_lt, eq-eqb, ltb-false}, List.{append-nil, drop-append-le, length-append, length-replicate, map-append, take_all}, Nat.le-div}, Math.Nat.one-mul}
 use Rattle.std.specs.List.{filter, range_with_len}
 use Rattle.seg_core.{
   specs.{Line.joined, declared.{cut.Chunks.Chunks, unit.Unit.{Unit as Which, TheVariants.{Bytes, Lines}}}},
@@ -88,8 +79,14 @@ apart_after : (a b : ℕ) → a ≢ b → (r front one other : List ℕ) → IsB
 apart_after a b differ [] front one other first second run also = apart a b differ front one other first second run also
 apart_after a b differ (byte ∷ r) [] one other first second run also = omega arith
 apart_after a b differ (byte ∷ r) (next ∷ front) one other first second run also =
-    grind (arith, common_steps, other, begins_tail, apart_after a b differ r front one other (begins_tail next byte
-        front (r ++ one) first))
+    grind (
+      arith,
+      common_steps,
+      other,
+      begins_tail,
+      apart_after a b differ r front one other (begins_tail next byte
+          front (r ++ one) first),
+    )
 
 -- Files, of which the first has r and then this byte, and only it from there on, and so have all after it
 

@@ -1,22 +1,5 @@
 -- The parts of a text in other words: runs of lines or bytes, whole lines within a number of bytes, and where each line is dealt to.
-use Rattle.std.proofs.{
-  lemmas.Grind.common_steps,
-  lemmas.List.{
-    append-nil,
-    take_all,
-    drop-drop,
-    length-map,
-    length-take-le,
-    map-append,
-    Elements.All-cons,
-    FromFn.{length-map-range_with_len, get_or-map-range_with_len, take-map-range_with_len},
-  },
-  lemmas.Bool.{cond_both, cases_eq, cases_lt, eq-eqb, ne_eqb, eqb-true, Decides.nat_tests},
-  Common.{◌≡◌, ℕ, ◌+◌, ◌-◌, ◌*◌, ◌<◌, ◌≤◌, zero, suc, List, [], ◌∷◌, ◌++◌, length, take, drop, map, get_or, false},
-  Common.{refl, sym, ◌∙◌, ap, arith, length-append, length-drop, rules, ◌%◌, min, Bool, true, cond, eqb, if◌then◌else◌},
-  Common.{◌==◌, inl, inr},
-  Math.{ListN.get_or-map, Nat.{suc-mul, zero-mul, mod-lt, mod-eq_of_lt, add-mod_right}},
-}
+use Rattle.std.proofs.{lemmas.Grind.common_steps, lemmas.List.{append-nil, take_all, drop-drop, length-map, length-take-le, map-append, FromFn.{length-map-range_with_len, get_or-map-range_with_len, take-map-range_with_len}}, lemmas.Bool.{cond_both, cases_eq, cases_lt, eq-eqb, ne_eqb, eqb-true, Decides.nat_tests}, Common.{◌≡◌, ℕ, ◌+◌, ◌-◌, ◌*◌, ◌<◌, ◌≤◌, zero, suc, List, [], ◌∷◌, ◌++◌, length, take, drop, map, get_or, false}, Common.{refl, sym, ◌∙◌, ap, arith, length-append, length-drop, rules, ◌%◌, min, Bool, true, cond, eqb, if◌then◌else◌}, Common.{◌==◌, inl, inr}, Math.{ListN.get_or-map, Nat.{suc-mul, zero-mul, mod-lt, mod-eq_of_lt, add-mod_right}}}
 use Rattle.std.specs.List.{All, range_with_len}
 use Rattle.seg_core.{
   specs.{
@@ -28,17 +11,7 @@ use Rattle.seg_core.{
   proofs.LineCounts.{line_count-some, line_count_near},
   proofs.LinesOf.{joined-lines_of, lines_of-joined, AreLines-lines_of},
 }
-use Rattle.ports_core.specs.declared.slot.State.TheVariants.{Open, Closed}
-use Rattle.split_core.specs.{
-  Parts.{whole_lines, open_line, is_full, cut_up, unless_empty, parts, settled_rest, waiting_rest, dealt, round_robin},
-  Sections.{runs_within, runs_of, line_parts, byte_parts, AreLineByteParts, none, one, more},
-  Split.{Share, share, settled_parts, dealt_files},
-  laws.{
-    CutLaws.{short_some, full_some, whole_some, whole_then_open, settled_then_waiting, rest_short, cuts_up},
-    DealLaws.dealt_files_are,
-  },
-  inner.{CutLaws.{Cuts, stops, goes}, Dealt.share_of},
-}
+use Rattle.split_core.specs.{Parts.{whole_lines, open_line, is_full, cut_up, unless_empty, parts, settled_rest, waiting_rest, dealt, round_robin}, Sections.{runs_within, runs_of, line_parts, byte_parts, AreLineByteParts, none, one, more}, Split.{Share, settled_parts, dealt_files}, laws.{CutLaws.{short_some, full_some, whole_some, whole_then_open, settled_then_waiting, rest_short, cuts_up}, DealLaws.dealt_files_are}, inner.{CutLaws.{Cuts, stops, goes}, Dealt.share_of}}
 use Rattle.split_core.proofs.CutLaws.{bytes_of_shares, cut_all}
 
 -- Runs of any list
@@ -49,8 +22,16 @@ runs_bound : {X : Type 0} (low high n : ℕ) (xs : List X) → 0 < n → length 
 runs_bound zero (suc high) n (x ∷ xs) some few little = absurd (omega arith)
 runs_bound (suc low) zero n (x ∷ xs) some few little = absurd (omega arith)
 runs_bound (suc low) (suc high) n (x ∷ xs) some few little =
-    grind (arith, common_steps, length-drop, runs_bound low high n (drop n (x ∷ xs)) some (omega (arith, length-drop n
-        (x ∷ xs))))
+    grind (
+      arith,
+      common_steps,
+      length-drop,
+      runs_bound low high n (drop n (x ∷ xs)) some (omega (
+        arith,
+        length-drop n
+            (x ∷ xs),
+      )),
+    )
 runs_bound low high n xs some few little = refl
 
 -- a run, and then the runs of what stands after it
@@ -96,8 +77,16 @@ count_within : {X : Type 0} (bound n : ℕ) (xs : List X) → 0 < n → length x
     → AreFewest (length (runs_within bound n xs)) n (length xs)
 count_within zero n (x ∷ xs) some few = absurd (omega arith)
 count_within (suc bound) n (x ∷ xs) some few =
-    grind (arith, common_steps, one_more, length-drop, count_within bound n (drop n (x ∷ xs)) some (omega (arith,
-        length-drop n (x ∷ xs))))
+    grind (
+      arith,
+      common_steps,
+      one_more,
+      length-drop,
+      count_within bound n (drop n (x ∷ xs)) some (omega (
+        arith,
+        length-drop n (x ∷ xs),
+      )),
+    )
 count_within bound n xs some few = grind (arith, common_steps)
 
 -- there are as few runs as can hold all members
@@ -193,8 +182,13 @@ pub line_bytes_within : (delim n : ℕ) (x : List ℕ) (those : List (List ℕ))
 line_bytes_within delim n _ _ some none = grind (arith, common_steps)
 line_bytes_within delim n _ _ some (one x has short) = grind (arith, common_steps)
 line_bytes_within delim n _ _ some (more x those enough past) =
-    grind (arith, common_steps, line_bytes_first, line_bytes_within delim n (drop (length (whole_lines delim (take n
-        x))) x) those some past)
+    grind (
+      arith,
+      common_steps,
+      line_bytes_first,
+      line_bytes_within delim n (drop (length (whole_lines delim (take n
+          x))) x) those some past,
+    )
 
 -- Texts that go on
 
@@ -265,8 +259,16 @@ are_dealt : (delim n file place : ℕ) (lines : List (List ℕ)) → AreLines de
     → AreLines delim (lines_dealt n file place lines)
 are_dealt delim n file place [] each = tt
 are_dealt delim n file place (line ∷ lines) each =
-    grind (arith, common_steps, others, cond_both, before_some, few_dealt, are_dealt delim n file (place + 1) lines
-        (others delim line lines each))
+    grind (
+      arith,
+      common_steps,
+      others,
+      cond_both,
+      before_some,
+      few_dealt,
+      are_dealt delim n file (place + 1) lines
+          (others delim line lines each),
+    )
 
 lines_of-dealt : (delim n file place : ℕ) (lines : List (List ℕ)) → AreLines delim lines
     → lines_of delim (dealt n file place lines) ≡ lines_dealt n file place lines

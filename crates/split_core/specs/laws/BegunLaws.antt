@@ -1,14 +1,6 @@
 -- Laws that traits cite: what of a text that goes on begins before a place.
 use Rattle.std.proofs.lemmas.Grind.{common_steps}
-use Rattle.std.{
-  proofs.lemmas.{
-    Bool.{cases_lt, ltb-true, ltb-false},
-    List.{append-nil, take_all, length-append, length-drop, length-take, take-append-le, take-append-drop, take-take},
-  },
-  proofs.Common.{◌≡◌, ℕ, ◌+◌, ◌-◌, ◌<◌, ◌≤◌, max, zero, suc, Bool, true, false, cond, eqb, nat_lt, List, [], ◌∷◌, ◌++◌},
-  proofs.Common.{◌⊎◌, length, take, drop, inl, inr, refl, sym, ◌∙◌, ap, subst, arith},
-  proofs.Math.Seq.take-append-add,
-}
+use Rattle.std.{proofs.lemmas.{Bool.{cases_lt, ltb-true, ltb-false}, List.{append-nil, take_all, length-append, length-drop, length-take, take-append-le, take-append-drop, take-take}}, proofs.Common.{◌≡◌, ℕ, ◌+◌, ◌-◌, ◌<◌, ◌≤◌, max, zero, suc, Bool, true, false, cond, eqb, nat_lt, List, [], ◌∷◌, ◌++◌}, proofs.Common.{length, take, drop, inl, inr, refl, sym, ◌∙◌, ap, subst, arith}, proofs.Math.Seq.take-append-add}
 use Rattle.seg_core.{
   specs.{Line.{joined, lines_of, delimiters, first_lines}, declared.unit.Unit.{Unit, TheVariants.{Bytes, Lines}}},
   proofs.Delimiters.{delimiters-append, delimiters-le-length},
@@ -254,8 +246,15 @@ open_within Lines delim x = length-first_lines-le delim (delimiters delim x) x
 
 open_grows_lines : (delim : ℕ) (x y : List ℕ) → open_from Lines delim x ≤ open_from Lines delim (x ++ y)
 open_grows_lines delim x y =
-    grind (arith, common_steps, delimiters-append, first_lines-append, length-append, beginning_short,
-        first_lines_begin)
+    grind (
+      arith,
+      common_steps,
+      delimiters-append,
+      first_lines-append,
+      length-append,
+      beginning_short,
+      first_lines_begin,
+    )
 
 pub open_grows : (unit : Unit) (delim : ℕ) (x y : List ℕ) → open_from unit delim x ≤ open_from unit delim (x ++ y)
 open_grows Bytes delim x y = omega (arith, length-append x y)

@@ -13,14 +13,7 @@ use Rattle.std.proofs.{
 use Rattle.std.specs.List.{filter, range_with_len}
 use Rattle.seg_core.{specs.{Line.joined, declared.cut.Chunks.Chunks}, proofs.FirstLines.joined-append}
 use Rattle.ports_core.{specs.Part.IsBeginning, proofs.{PartLemmas.begins_trans, AgreedLemmas.beginning_short}}
-use Rattle.split_core.specs.{
-  Chunks.{chunk_start, begun_before, before_chunk, chunk_at, open_from, passed, has_ended, ended, chunks_within},
-  Chunks.{chunks_of, pieces_in},
-  Parts.CutUp,
-  inner.Chunks.HaveEnded,
-  laws.BegunLaws.{begun_again, begun_all, begun_begins, begun_first_place, begun_grows, begun_long, begun_monotone},
-  laws.BegunLaws.{begun_on, begun_stays, begun_within, open_grows, open_within},
-}
+use Rattle.split_core.specs.{Chunks.{chunk_start, begun_before, before_chunk, chunk_at, open_from, passed, has_ended, ended}, Chunks.{chunks_of, pieces_in}, Parts.CutUp, inner.Chunks.HaveEnded, laws.BegunLaws.{begun_again, begun_all, begun_begins, begun_first_place, begun_grows, begun_long, begun_monotone}, laws.BegunLaws.{begun_on, begun_stays, begun_within, open_grows, open_within}}
 
 -- Where chunks begin
 
@@ -193,8 +186,17 @@ pub goes_on : (chunks : Chunks) (size : ℕ) (x y : List ℕ) → 0 < chunks.cou
     → chunks_of chunks size (x ++ y)
     ≡ record { full = (chunks_of chunks size x).full; rest = (chunks_of chunks size x).rest ++ y }
 goes_on chunks size x y some within same =
-    grind (arith, common_steps, ended_is, length-append, chunks_are, full_stays, before_stays, drop-append-le,
-        begun_within)
+    grind (
+      arith,
+      common_steps,
+      ended_is,
+      length-append,
+      chunks_are,
+      full_stays,
+      before_stays,
+      drop-append-le,
+      begun_within,
+    )
 
 empty_pieces : (f : ℕ → List ℕ) (a n : ℕ) → ((i : ℕ) → a ≤ i → i < a + n → f i ≡ [])
     → map f (range_with_len a n) ≡ replicate n []
@@ -315,8 +317,19 @@ take_within size x = omega (arith, length-take size x)
 pub all_joined : (chunks : Chunks) (size : ℕ) (x : List ℕ) → 0 < chunks.count
     → joined (pieces_in (chunks_of chunks size x)) ≡ take size x
 all_joined chunks size x some =
-    grind (arith, common_steps, before_next, take_within, ended_is, joined-append, joined_chunks, append-nil,
-        begin_then_rest, begun_monotone, start_grows)
+    grind (
+      arith,
+      common_steps,
+      before_next,
+      take_within,
+      ended_is,
+      joined-append,
+      joined_chunks,
+      append-nil,
+      begin_then_rest,
+      begun_monotone,
+      start_grows,
+    )
 
 -- Once a text has its size
 
@@ -354,8 +367,16 @@ decided_grows chunks first x y some within =
 pub first_pieces : (chunks : Chunks) (first : ℕ) (x : List ℕ) → 0 < chunks.count → first ≤ chunks.count
     → before_chunk chunks (length x) first x ≡ joined (take first (pieces_in (chunks_of chunks (length x) x)))
 first_pieces chunks first x some within =
-    grind (arith, common_steps, take_all, joined_chunks, take-map-range_with_len, take-append-le,
-        length-map-range_with_len, cut_all)
+    grind (
+      arith,
+      common_steps,
+      take_all,
+      joined_chunks,
+      take-map-range_with_len,
+      take-append-le,
+      length-map-range_with_len,
+      cut_all,
+    )
 
 -- How far the chunk that was begun goes in what follows
 
