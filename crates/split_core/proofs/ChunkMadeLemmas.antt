@@ -288,12 +288,8 @@ chunk_going place chunks (Some size) x within fits going = (
 
 -- Empty files that are left out
 
-made_some : (rest : List ℕ) → unless_empty rest ≡ filter has_bytes (unless_empty rest)
-made_some [] = refl
-made_some (byte ∷ rest) = refl
-
 left_out : (cut : CutUp) → files_by true cut ≡ filter has_bytes (files_by false cut)
-left_out cut = grind (arith, common_steps, made_some, filter-append)
+left_out cut = grind (arith, common_steps, filter-append)
 
 module _ (chunks : Chunks) (filing : Filing) (said : Option ℕ) (x : List ℕ) (some : 0 < chunks.count)
     (named : are_named filing.names chunks.count ≡ true) where

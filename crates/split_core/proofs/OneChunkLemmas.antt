@@ -271,23 +271,12 @@ said_wait place chunks size x within = record {
 -- Where it wasn't, a byte that waits goes to the chunk in one continuation, and not in another
 
 -- once enough came, all of x stands before the chunk after the first
-far_start : (n size : ℕ) (place : ℕ) → 0 < n → 0 < place → size < chunk_start n (size + suc size * n) place
-far_start n size place some later = omega (
-  arith,
-  far n size some,
-  start_grows n (size + suc size * n) (0 + 1) place (omega arith),
-)
-
 copies : (n : ℕ) → length {A = ℕ} (replicate n 0) ≡ n
 copies n = length-replicate n 0
 
-far_long : (chunks : Chunks) (x : List ℕ)
-    → length (x ++ far_copies chunks x) ≡ length x + suc (length x) * chunks.count
-far_long chunks x = grind (arith, common_steps, length-append, far_copies, length-replicate)
-
 far_front : (chunks : Chunks) (x : List ℕ) (i place : ℕ) → 0 < chunks.count → 0 < place → i < length x
     → i < length (front_of chunks place (x ++ far_copies chunks x))
-far_front chunks x i place some later less = grind (arith, common_steps, starts, far_copies, far_start, far_long)
+far_front chunks x i place some later less = grind (arith, common_steps, starts, far_copies, far, start_grows, length-append, length-replicate)
 
 abbrev Differ : ℕ → Chunks → List ℕ → ℕ → Type 0
 Differ place chunks x i = (y : List ℕ) × (z : List ℕ) × CanFollow None x y × CanFollow None x z

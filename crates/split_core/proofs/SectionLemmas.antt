@@ -68,11 +68,6 @@ run_at n i xs some = run_within (length xs) n i xs some (omega arith)
 abbrev AreFewest : ℕ → ℕ → ℕ → Type 0
 AreFewest runs n all = (all ≤ runs * n) × (runs * n < all + n)
 
-one_more : (runs n : ℕ) {left : ℕ} (all : ℕ) → left ≡ all - n → 0 < all → AreFewest runs n left
-    → AreFewest (suc runs) n all
-one_more zero n all is some (low, high) = grind (arith, common_steps)
-one_more (suc runs) n all is some (low, high) = grind (arith, common_steps)
-
 count_within : {X : Type 0} (bound n : ℕ) (xs : List X) → 0 < n → length xs ≤ bound
     → AreFewest (length (runs_within bound n xs)) n (length xs)
 count_within zero n (x ∷ xs) some few = absurd (omega arith)
@@ -80,7 +75,6 @@ count_within (suc bound) n (x ∷ xs) some few =
     grind (
       arith,
       common_steps,
-      one_more,
       length-drop,
       count_within bound n (drop n (x ∷ xs)) some (omega (
         arith,
@@ -270,10 +264,6 @@ are_dealt delim n file place (line ∷ lines) each =
           (others delim line lines each),
     )
 
-lines_of-dealt : (delim n file place : ℕ) (lines : List (List ℕ)) → AreLines delim lines
-    → lines_of delim (dealt n file place lines) ≡ lines_dealt n file place lines
-lines_of-dealt delim n file place lines each = grind (arith, common_steps, dealt_are, lines_of-joined, are_dealt)
-
 -- the places of a file's lines are n apart
 
 nothing_between : (n place : ℕ) {left : ℕ} → left < n → (place + left) % n ≡ place % n → left ≡ 0
@@ -306,7 +296,7 @@ nth_dealt n {file} place (line ∷ lines) left k few at = nth_step n place left 
 pub line_at : (delim n file k : ℕ) (x : List ℕ) → file < n
     → get_or (lines_of delim (get_or (round_robin delim n x) file [])) k []
     ≡ get_or (lines_of delim x) (file + k * n) []
-line_at delim n file k x within = grind (arith, common_steps, get_or-map-range_with_len, lines_of-dealt, AreLines-lines_of, nth_dealt, mod-eq_of_lt)
+line_at delim n file k x within = grind (arith, common_steps, get_or-map-range_with_len, dealt_are, lines_of-joined, are_dealt, AreLines-lines_of, nth_dealt, mod-eq_of_lt)
 
 -- each line goes to one file
 

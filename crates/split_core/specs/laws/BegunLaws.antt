@@ -260,19 +260,8 @@ pub open_grows : (unit : Unit) (delim : ℕ) (x y : List ℕ) → open_from unit
 open_grows Bytes delim x y = omega (arith, length-append x y)
 open_grows Lines delim x y = open_grows_lines delim x y
 
-append_by : (delim byte : ℕ) (x y : List ℕ) (more : Bool) → nat_lt 0 (delimiters delim y) ≡ more
-    → open_from Lines delim (x ++ y) ≡ cond more (length x + open_from Lines delim y) (open_from Lines delim x)
-    → (ends : Bool) → eqb byte delim ≡ ends → open_from Lines delim ((byte ∷ x) ++ y)
-    ≡ cond more (length (byte ∷ x) + open_from Lines delim y) (open_from Lines delim (byte ∷ x))
-append_by delim byte x y true has again true is =
-    omega (arith, open_end)
-append_by delim byte x y false has again true is =
-    omega (arith, open_end)
-append_by delim byte x y true has again false is = grind (arith, common_steps, open_more, some_open, ltb-true)
-append_by delim byte x y false has again false is = grind (arith, common_steps, cases_lt, open_more, open_still)
-
 -- a text that goes on has its open line after the last delimiter of what follows
 pub open_append : (delim : ℕ) (x y : List ℕ) → open_from Lines delim (x ++ y)
     ≡ cond (nat_lt 0 (delimiters delim y)) (length x + open_from Lines delim y) (open_from Lines delim x)
 open_append delim [] y = grind (arith, common_steps, none_open, ltb-false)
-open_append delim (byte ∷ x) y = grind (arith, common_steps, append_by, open_append delim x y)
+open_append delim (byte ∷ x) y = grind (arith, common_steps, open_end, open_more, some_open, ltb-true, cases_lt, open_still, open_append delim x y)

@@ -46,12 +46,9 @@ pub passed_open : (chunks : Chunks) (size : ℕ) (x : List ℕ) → length x < s
     → passed chunks size x ≡ open_from chunks.unit chunks.delim x
 passed_open chunks size x short = grind (arith, nat_tests)
 
-pub passed_within : (chunks : Chunks) (size : ℕ) (x : List ℕ) → passed chunks size x ≤ size
-passed_within chunks size x = grind (arith, common_steps, cases_lt, passed_open, open_within, passed_full)
-
 pub passed_grows : (chunks : Chunks) (size : ℕ) (x y : List ℕ) → passed chunks size x ≤ passed chunks size (x ++ y)
 passed_grows chunks size x y =
-    grind (arith, common_steps, cases_lt, length-append, passed_open, open_grows, passed_full, passed_within)
+    grind (arith, common_steps, cases_lt, length-append, passed_open, open_grows, passed_full, open_within)
 
 -- Which chunks have ended
 

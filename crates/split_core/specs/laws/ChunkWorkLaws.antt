@@ -132,15 +132,6 @@ pub first_kept : (elide : Bool) (piece : List ℕ) (pieces : List (List ℕ)) �
 first_kept true piece pieces some = rw some refl
 first_kept false piece pieces some = refl
 
-rest_on : (elide : Bool) (state : State) (low : List ℕ) (more : List (List ℕ)) (high : List ℕ)
-    → BeginsFirst low more high → SharesBegin (map (share Open) (unless_empty low))
-    (map (share Closed) (kept elide more) ++ map (share state) (unless_empty high))
-rest_on true state low [] high begins = made_begin Late state low high begins
-rest_on false state low [] high begins = made_begin Late state low high begins
-rest_on elide state [] (piece ∷ pieces) high begins = tt
-rest_on elide state (byte ∷ low) (piece ∷ pieces) high begins =
-    rw (first_kept elide piece pieces (some_begins byte low piece begins)) (inl refl, begins, tt)
-
 pub kept-append : (elide : Bool) (front more : List (List ℕ))
     → kept elide (front ++ more) ≡ kept elide front ++ kept elide more
 kept-append true front more = filter-append has_bytes front more
@@ -156,17 +147,9 @@ pub shares_on : (elide : Bool) (state : State) {low high : CutUp} → GoesOn low
     → SharesBegin (shares_of (draft_by elide low))
     (map (share Closed) (kept elide high.full) ++ map (share state) (unless_empty high.rest))
 shares_on elide state {low} {high} on =
-    grind (arith, common_steps, kept-append, map-append, append_assoc, shares_after, rest_on)
+    grind (arith, common_steps, kept-append, map-append, append_assoc, shares_after, made_begin, first_kept, some_begins)
 
 -- once all is there, it is the same
-whole_is : (manner : Manner) (elide : Bool) (cut : CutUp) → cut.rest ≡ []
-    → part_of manner (map (share Closed) (files_by elide cut)) ≡ draft_part manner (draft_by elide cut)
-whole_is manner elide cut none = grind (arith, common_steps, append-nil)
-
-cut_stays : (chunks : Chunks) (size : ℕ) (x y : List ℕ) → size ≤ length x
-    → chunks_of chunks size (x ++ y) ≡ chunks_of chunks size x
-cut_stays chunks size x y full = ap (chunks_within chunks size) (take-append-le size x y full)
-
 pub longer_differs : (size : ℕ) (x : List ℕ) → size < length x → eqb (length x) size ≡ false
 longer_differs size x longer = grind (arith, nat_tests)
 
@@ -174,7 +157,7 @@ chunks_stay : (plan : ChunksPlan) (said : Option ℕ) (x y : List ℕ) → 0 < p
     → (chunks_work plan said).is_complete x ≡ true → IsComplete (chunks_work plan said) x y
 chunks_stay plan None x y some never = absurd (false≢true never)
 chunks_stay plan (Some size) x y some is =
-    grind (arith, common_steps, ltb-true, length-append, cut_stays, lt-ltb, whole_is, rest_none, longer_differs)
+    grind (arith, common_steps, ltb-true, length-append, take-append-le, lt-ltb, append-nil, rest_none, longer_differs)
 
 pub chunks_lawful : (plan : ChunksPlan) (said : Option ℕ) → 0 < plan.chunks.count → IsLawful (chunks_work plan said)
 chunks_lawful plan said some = record {

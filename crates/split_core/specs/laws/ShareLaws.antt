@@ -150,13 +150,9 @@ rest_begins_by limit rest y true full short = subst
       in_first (byte ∷ low) more begins = (inl refl, begins, tt)
 rest_begins_by limit rest y false full short = search (rules, cut_none, made_begin, settled_in_rest)
 
-pub rest_begins : (limit : Limit) (rest y : List ℕ) → is_full limit rest ≡ false
-    → SharesBegin (map (share Open) (unless_empty (settled_rest limit rest))) (settled_parts limit (rest ++ y))
-rest_begins limit rest y short = rest_begins_by limit rest y (is_full limit (rest ++ y)) refl short
-
 -- what is written stays
 pub settled_grow : (limit : Limit) (x y : List ℕ) → SharesBegin (settled_parts limit x) (settled_parts limit (x ++ y))
-settled_grow limit x y = grind (arith, common_steps, settled_on, shares_after, rest_begins, rest_short)
+settled_grow limit x y = grind (arith, common_steps, settled_on, shares_after, rest_begins_by, rest_short)
 
 pub settled_end : (limit : Limit) (x : List ℕ) → SharesBegin (settled_parts limit x) (whole_parts limit x)
 settled_end limit x = subst (SharesBegin (settled_parts limit x))

@@ -4,12 +4,6 @@ use Rattle.ports_core.{specs.{Part.{File, IsBeginning, FilesBegin, Begins}, Work
 use Rattle.split_core.specs.{inner.{CutLaws.named, Dealt.share_of}, Split.{Filing, share, manner_of, dealt_files, are_named, settled_parts}, Round.{round_plan, round_work, opened_by}, laws.DealLaws.{dealt_append, dealt_files_are, opened_by-grows}, laws.ShareLaws.{part_begins, told_begins, settled_grow, settled_end, files_settled, files_whole, parts_grow}, laws.ShareLaws.are_named_more, laws.ChunkWorkLaws.{chunk_lawful, chunks_lawful, turn_lawful}, Parts.{cut_up, parts}, PartsState.{filing_of, parts_work}, FilesState.filing_in, declared.splitter.Splitter.{Splitter, TheVariants.{Parts, Round, Chunks, Turn}}, ChunkerState.{Course, can_cut, course, in_files, in_output, made_if, work_on}, Ways.work}
 use Rattle.seg_core.specs.declared.cut.{Limit.Limit, Chunks.Chunks as Chunking}
 
-begin_step : (is : Bool) (file high : File) (files wholes : List File) → file.name ≡ high.name → file.mode ≡ high.mode
-    → file.is_broken ≡ high.is_broken → file.state ≡ Open → IsBeginning file.bytes high.bytes → FilesBegin files wholes
-    → FilesBegin (cond is (file ∷ files) []) (cond is (high ∷ wholes) [])
-begin_step true file high files wholes name mode sound open_yet bytes rest = grind (arith, common_steps)
-begin_step false file high files wholes name mode sound open_yet bytes rest = tt
-
 -- where each of some files has a beginning of what others have, and these are no fewer, those begin these
 files_begin : (filing : Filing) (high : State) (f g : ℕ → List ℕ) → ((file : ℕ) → IsBeginning (f file) (g file))
     → (place start m n : ℕ) → m ≤ n
@@ -21,7 +15,6 @@ files_begin filing high f g begin place start (suc m) (suc n) few =
     grind (
       arith,
       common_steps,
-      begin_step,
       files_begin filing high f g begin (place + 1) (start + 1) m n (omega
           arith),
     )
