@@ -165,7 +165,14 @@ line_before delim x zero i within before = absurd (omega arith)
 line_before delim x (suc q) i within before =
     let lines = length-append (first_lines delim i x) (after_lines delim i x) in
     let begun = length-append (take q x) (first_lines delim 1 (drop q x)) in
-    let proper : length (first_lines delim i x) < length x = omega (arith, line_count-le-length delim (after_lines delim i x), ap length (lines_of-after_lines delim i x), length-drop i (lines_of delim x), ap length (first_lines_then_rest delim i x)) in elim (cases_lt q (length x)) [
+    let proper : length (first_lines delim i x) < length x =
+    omega (
+      arith,
+      line_count-le-length delim (after_lines delim i x),
+      ap length (lines_of-after_lines delim i x),
+      length-drop i (lines_of delim x),
+      ap length (first_lines_then_rest delim i x),
+    ) in elim (cases_lt q (length x)) [
       | inl less ↦ (let more = begun_some Lines delim 1 (drop q x) (omega arith) (omega (arith, length-drop q x)) in
           omega (arith, length-take q x))
       | inr all ↦ omega (arith, length-take q x)
@@ -183,7 +190,8 @@ line_after delim x place i past = let first = first_lines delim i x in elim (cas
       ∙ ap length (sym (first_lines-full delim i first rest (omega arith)) ∙ ap (first_lines delim i) all) in
       omega (
         arith,
-        ap length (ap (begun_before Lines delim place) (sym all) ∙ begun_stays Lines delim place first rest (omega arith)),
+        ap length (ap (begun_before Lines delim place) (sym all) ∙ begun_stays Lines delim place first rest
+            (omega arith)),
         begun_within Lines delim place first,
       ))
 ]

@@ -66,7 +66,13 @@ files_differ : (plan : ChunksPlan) (said : Option ℕ) (x : List ℕ) → 0 < pl
     → length (joined (files_by plan.elide (decided plan.chunks 1 said x))) ≤ i → i < length x
     → (y : List ℕ) × (z : List ℕ) × CanFollow said x y × CanFollow said x z
     × (chunk_spots plan said (x ++ y) i ≢ chunk_spots plan said (x ++ z) i)
-files_differ plan (Some size) x some named fits i past less = absurd (omega (arith, ap length (decided_all plan.elide plan.chunks (Some size) x some fits), length-append (joined (files_by plan.elide (chunks_of plan.chunks size x))) []))
+files_differ plan (Some size) x some named fits i past less = absurd
+    (omega (
+      arith,
+      ap length (decided_all plan.elide plan.chunks (Some size) x some fits),
+      length-append
+          (joined (files_by plan.elide (chunks_of plan.chunks size x))) [],
+    ))
 files_differ plan None x some named fits i past less =
     let z = 0 ∷ far_copies plan.chunks x in
     let r = before_chunk plan.chunks (length x) 1 x in

@@ -115,7 +115,8 @@ within_last Lines delim x y some = by (nat_lt 0 (delimiters delim y)) refl (open
       → is_within Lines delim (x ++ y) ≡ is_within Lines delim y
   by true has is = rw (is, length-append x y) (grind (arith, nat_tests))
   by false has is = let none : delimiters delim y ≡ 0 = omega (arith, ltb-false _ _ has) in
-      lt-ltb _ _ (omega (arith, length-append x y, open_within Lines delim x)) ∙ sym (lt-ltb (open_from Lines delim y) _ (rw none some))
+      lt-ltb _ _ (omega (arith, length-append x y, open_within Lines delim x)) ∙ sym
+      (lt-ltb (open_from Lines delim y) _ (rw none some))
 
 -- The chunks that have ended
 
@@ -196,7 +197,8 @@ fulls_begin on cut few (suc more) = let e : few + suc more ≡ suc (few + more) 
 
 passed_at : (cutter : CutterState) (size : ℕ) → (cutter.is_within ≡ true → size ≤ cutter.at) → (x : List ℕ × CutUp)
     → IsCutOff cutter size x → passed cutter.chunks size x.0 ≡ cutter.at
-passed_at cutter size whole x so = passed_all cutter.chunks size x.0 so.fits (λ is. omega (arith, whole (so.within ∙ is))) ∙ sym so.at
+passed_at cutter size whole x so = passed_all cutter.chunks size x.0 so.fits
+    (λ is. omega (arith, whole (so.within ∙ is))) ∙ sym so.at
 
 module _ {told : Bool} {cutter now : CutterState} {size : ℕ} {old slots : List Slot}
     (whole : cutter.is_within ≡ true → size ≤ cutter.at) (so_far : Ending told cutter size old slots now)
@@ -258,7 +260,16 @@ ends_so {told} {cutter} {now} {size} whole so_far last = record {
 } where
   same : (x : List ℕ × CutUp) → IsCutOff cutter size x → now.target.place ≡ ended cutter.chunks size x.0
   same x so = let is = ended_is cutter.chunks size x.0 in elim (cases_lt now.target.place (ended cutter.chunks size x.0)) [
-    | inl before ↦ absurd (omega (arith, last (omega (arith, before, is.within, ap (λ (chunks : Chunks). chunks.count) so_far.chunks)), passed_at cutter size whole x so, ap (λ (chunks : Chunks). chunk_start chunks.count size (now.target.place + 1)) so_far.chunks, start_grows cutter.chunks.count size (now.target.place + 1) (ended cutter.chunks size x.0) (omega (arith, before))))
+    | inl before ↦ absurd
+        (omega (
+          arith,
+          last (omega (arith, before, is.within, ap (λ (chunks : Chunks). chunks.count) so_far.chunks)),
+          passed_at cutter size whole x so,
+          ap
+              (λ (chunks : Chunks). chunk_start chunks.count size (now.target.place + 1)) so_far.chunks,
+          start_grows cutter.chunks.count size (now.target.place + 1) (ended cutter.chunks size x.0)
+              (omega (arith, before)),
+        ))
     | inr past ↦ omega (arith, so_far.low x so)
   ]
 
@@ -269,7 +280,12 @@ pub ends_short : {told : Bool} {cutter : CutterState} {size : ℕ} {slots : List
     → EndsFull told cutter size slots slots cutter None
 ends_short {told} {cutter} {size} {slots} ready some short = by cutter.is_within refl where
   by : (within : Bool) → cutter.is_within ≡ within → EndsFull told cutter size slots slots cutter None
-  by true is = ends_open ready is (omega (arith, start_within cutter.chunks.count size (min (cutter.target.place + 1) cutter.chunks.count) some (omega arith)))
+  by true is = ends_open ready is
+      (omega (
+        arith,
+        start_within cutter.chunks.count size (min (cutter.target.place + 1) cutter.chunks.count) some
+            (omega arith),
+      ))
   by false is = ends_so (λ within. absurd (false≢true (sym is ∙ within))) (ends_none ready)
       (λ less. subst (λ place. cutter.at < chunk_start cutter.chunks.count size place) (omega arith) short)
 
@@ -320,7 +336,9 @@ begin_so (in_output chunk) low high goes = out_begins _ _ (piece_on chunk goes)
 -- what is there of a text begins what is there once it goes on
 pub so_grows : (on : Course) (chunks : Chunks) (size : ℕ) (x y : List ℕ) → 0 < chunks.count → length (x ++ y) ≤ size
     → Begins (part_on on (chunks_within chunks size x)) (part_on on (chunks_within chunks size (x ++ y)))
-so_grows on chunks size x y some within = rw (← cut_of chunks size x (omega (arith, length-append x y)), ← cut_of chunks size (x ++ y) within) (begin_so on _ _ (chunks_go_on chunks size x y some))
+so_grows on chunks size x y some within =
+    rw (← cut_of chunks size x (omega (arith, length-append x y)), ← cut_of chunks size (x ++ y) within)
+    (begin_so on _ _ (chunks_go_on chunks size x y some))
 
 -- what is known of a text of which so much was cut off, where more comes than its size is long
 pub record Place (cutter : CutterState) (size : ℕ) (x : List ℕ) : Type 0 where
@@ -350,7 +368,13 @@ place_of {cutter} {size} {x} y is some within = let chunks = cutter.chunks in
     let here = rw (placed_at is) at (ended_is chunks size x) in
     let less : cutter.target.place < chunks.count = elim (cases_lt cutter.target.place chunks.count) [
       | inl before ↦ before
-      | inr past ↦ absurd (omega (arith, start_past chunks.count size cutter.target.place count past, passed_open chunks size x short, open_within chunks.unit chunks.delim x))
+      | inr past ↦ absurd
+          (omega (
+            arith,
+            start_past chunks.count size cutter.target.place count past,
+            passed_open chunks size x short,
+            open_within chunks.unit chunks.delim x,
+          ))
     ] in record {
       short = short;
       some = count;
@@ -503,7 +527,13 @@ not_yet : (chunks : Chunks) (size place : ℕ) (aim : AimState) (z : List ℕ) �
     → open_from chunks.unit chunks.delim z < chunk_start chunks.count size (place + 1) → is_past_at aim place ≡ false
     → (work_on (course_of aim) chunks (Some size)).is_complete z ≡ false
 not_yet chunks size place (to_files writer elide) z short early past = le-ltb _ _ (omega arith)
-not_yet chunks size place (to_output chunk) z short early past = lt-leb _ _ (omega (arith, passed_open chunks size z short, start_grows chunks.count size (place + 1) (chunk + 1) (omega (arith, ltb-false _ _ past))))
+not_yet chunks size place (to_output chunk) z short early past = lt-leb _ _
+    (omega (
+      arith,
+      passed_open chunks size z short,
+      start_grows chunks.count size (place + 1) (chunk + 1)
+          (omega (arith, ltb-false _ _ past)),
+    ))
 
 pub needed_in : {cutter : CutterState} {size : ℕ} {x : List ℕ} (text : List ℕ) (n : ℕ)
     → is_past_on cutter.target ≡ false → 0 < n → n ≤ length text → take n text ≡ cut_to cutter (end_so cutter size) text
@@ -518,7 +548,8 @@ needed_in {cutter} {size} {x} text n going some few is has within = let chunks =
     rw (append_assoc x (take (n - 1) text) last, ← front, take-append-drop (n - 1) (take n text)) refl in
     let all : before_chunk chunks size (ended chunks size x + 1) (z ++ last) ≡ z ++ last = rw (both, is) (all_before text has place) in
     let one : length last ≡ 1 = omega (arith, length-drop (n - 1) (take n text), length-take n text) in
-    not_yet chunks size cutter.target.place cutter.target.aim z (omega (arith, length-append x (take (n - 1) text), length-take (n - 1) text, length-append x text))
+    not_yet chunks size cutter.target.place cutter.target.aim z
+    (omega (arith, length-append x (take (n - 1) text), length-take (n - 1) text, length-append x text))
     (rw place.is at (begins_early chunks.unit chunks.delim _ z last all (omega arith))) going
 
 -- where a stretch was written
@@ -571,10 +602,13 @@ cuts_again {told} {cutter} {mid} {next} {size} first more {wet = wet} {new} faul
   chunks = other.chunks ∙ one.chunks;
   bound = omega (arith, length-append first more);
   brings = brings_then (brings_as (λ x. x) None (λ x so. (so.0, low x so.1)) (λ x so. refl) (λ x so. refl) one.brings) (λ x so. so)
-      (brings_as (λ x. x ++ first) fault (λ x so. (one.stands x so.0 (low x so.1), omega (arith, ap length (append_assoc x first more))))
+      (brings_as (λ x. x ++ first) fault
+      (λ x so. (one.stands x so.0 (low x so.1), omega (arith, ap length (append_assoc x first more))))
       (λ x so. rw one.chunks refl) (λ x so. rw (one.chunks, append_assoc x first more) refl)
       (subst (λ on. Brings told on mid.target.aim next.target.aim (λ x. IsCut mid size x × (length (x ++ more) ≤ size)) (λ x. part_on on (chunks_within mid.chunks size x)) (λ x. part_on on (chunks_within mid.chunks size (x ++ more))) wet new fault) one.brings.stays other.brings));
-  stands = where_well fault other.stands (λ later x is within. rw (← append_assoc x first more) (later (x ++ first) (one.stands x is (low x within)) (omega (arith, ap length (append_assoc x first more)))));
+  stands = where_well fault other.stands
+      (λ later x is within. rw (← append_assoc x first more)
+      (later (x ++ first) (one.stands x is (low x within)) (omega (arith, ap length (append_assoc x first more)))));
 } where
   low : (x : List ℕ) → length (x ++ (first ++ more)) ≤ size → length (x ++ first) ≤ size
   low x within = omega (arith, length-append x (first ++ more), length-append first more, length-append x first)
@@ -611,7 +645,15 @@ module _ {told : Bool} {cutter now : CutterState} {size : ℕ} {text left : List
       | inr going ↦ inr going
     ];
     needed = inr (λ x has fits. let z = x ++ so_far.done in
-        let all : length (z ++ left) ≤ size = omega (arith, ap length so_far.both, length-append x text, length-append so_far.done left, length-append z left, length-append x so_far.done) in
+        let all : length (z ++ left) ≤ size =
+        omega (
+          arith,
+          ap length so_far.both,
+          length-append x text,
+          length-append so_far.done left,
+          length-append z left,
+          length-append x so_far.done,
+        ) in
         let here = so_far.cuts.stands x has (omega (arith, length-append z left)) in
         let front : take (n - 1) (take n left) ≡ take (n - 1) left = take-take (n - 1) n left (omega arith) in
         let last = drop (n - 1) (take n left) in
@@ -661,5 +703,6 @@ module _ {told : Bool} {cutter now : CutterState} {size : ℕ} {text left : List
 
     e : take (length piece - count) piece ≡ so_far.done
     e = let n : length piece - count ≡ length so_far.done = omega (arith, long, is, count_is) in
-        ap (λ n. take n piece) n ∙ sym (ap (take (length so_far.done)) text_is ∙ take-take (length so_far.done) own piece (omega arith))
+        ap (λ n. take n piece) n ∙ sym
+        (ap (take (length so_far.done)) text_is ∙ take-take (length so_far.done) own piece (omega arith))
         ∙ ap (take (length so_far.done)) so_far.both ∙ take_at so_far.done left (length so_far.done) refl

@@ -188,7 +188,8 @@ pub mask_of_padded : (delim other : ℕ) (x : List ℕ) {lanes : List ℕ} → l
     → delimiter_mask delim (take 64 lanes) ≡ delimiter_mask delim (take 64 x)
 mask_of_padded delim other x {lanes} short complement small is =
     ap (delimiter_mask delim) (take_all 64 lanes (let long : length lanes ≡ 64 = ap length is ∙ length-append x (replicate (64 - length x) other) ∙ ap (λ n. length x + n) (length-replicate (64 - length x) other) ∙ omega arith in omega arith) ∙ is)
-    ∙ mask_padded delim other x (64 - length x) (ne_eqb other delim (λ same. omega arith)) ∙ ap (delimiter_mask delim) (sym (take_all 64 x (omega arith)))
+    ∙ mask_padded delim other x (64 - length x) (ne_eqb other delim (λ same. omega arith)) ∙ ap (delimiter_mask delim)
+    (sym (take_all 64 x (omega arith)))
 
 -- of a piece what is left is still to be gathered
 pub record Dealing (delim n start : ℕ) (piece : List ℕ) (gathered : List (List ℕ)) (next reached : ℕ) (left : List ℕ)
@@ -266,7 +267,8 @@ pub line_goes_on : {delim n start : ℕ} {piece : List ℕ} {gathered now : List
     → Dealing delim n start piece gathered next (max reached next) left
     → IsFirstLine delim left line rest → now ≡ changed_at next (λ had. had ++ line) gathered → count ≡ n
     → next + 1 < count → Dealing delim n start piece now (next + 1) (max reached (next + 1)) rest
-line_goes_on reached line so_far cut is same more = line_more line so_far cut is (omega arith) refl (sym (mod-eq_of_lt (omega arith)))
+line_goes_on reached line so_far cut is same more = line_more line so_far cut is (omega arith) refl
+    (sym (mod-eq_of_lt (omega arith)))
 
 -- no complete line is left: there is nothing after the open line
 open_line : {delim n start : ℕ} {piece : List ℕ} {gathered now : List (List ℕ)} {next reached reached_now : ℕ}

@@ -247,7 +247,8 @@ halts_in {before = before} {filing} {few = few} {many} {from} {to} place part so
             lines = lines_in filing first part last fewest out bytes place back.more begun (grow_begins filing risen) out_is;
             reached = reached;
             outputs = outputs;
-            marks = marks_by (IsDue filing some many) _ why reached now (λ name due. next_due filing out part last name (due.0, omega arith)) marks;
+            marks = marks_by (IsDue filing some many) _ why reached now
+                (λ name due. next_due filing out part last name (due.0, omega arith)) marks;
             from = subst (IsAt why (length before) place) (sym (length-map-range_with_len (λ i. file_at filing i (part i)) 0 some)) came;
           };
       own = λ other is. elim (rw is at came) [
@@ -442,9 +443,11 @@ told_ready told {files} {old} ready = ready_written 0 (told_of told (line_next f
 
 ready_opened : {files : FilesState} {old new : List Slot} (name : List ℕ) → AreReady files old
     → new ≡ old ++ opened name Fresh ∷ [] → AreReady (with_opened (length old) files) new
-ready_opened {files} {old} {new} name ready is = by (can_tell files.tells old new (writable_before old new 0 (opened name Fresh) (let two = ready.streams in omega arith) is) ready.output) where
-  by : CanTell files.tells new → AreReady (with_opened (length old) files) new
-  by can = grind (arith, common_steps, length-append, each_output, get_or_append_left, output_within, opened_writable)
+ready_opened {files} {old} {new} name ready is = by
+    (can_tell files.tells old new
+    (writable_before old new 0 (opened name Fresh) (let two = ready.streams in omega arith) is) ready.output) where
+      by : CanTell files.tells new → AreReady (with_opened (length old) files) new
+      by can = grind (arith, common_steps, length-append, each_output, get_or_append_left, output_within, opened_writable)
 
 owned_opened : {files : FilesState} {old new : List Slot} (name : List ℕ) → files.names.drawn ≡ length files.outputs
     → new ≡ old ++ opened name Fresh ∷ [] → KeepsFiles files old (with_opened (length old) files) new
@@ -665,7 +668,11 @@ written told {files} {old} {new} place bytes (Err _) ready within (short.broke n
   ready = tt;
   opened = tt;
   sound = tt;
-  caused = (λ none. absurd (omega (arith, (ready.closable place within).0)), write_rose told slot bytes n old new (ready.closable place within).1 cut);
+  caused = (
+    λ none. absurd (omega (arith, (ready.closable place within).0)),
+    write_rose told slot bytes n old new
+        (ready.closable place within).1 cut,
+  );
   outside = none_outside place bytes;
   leaves = λ before had has at are. halts place (all_open (λ i. had i ++ only_at place (take n bytes) i)) (length files.outputs) tt (omega arith) (omega arith)
       (omega arith)
@@ -689,7 +696,10 @@ written told {files} {old} {new} place bytes (Err _) ready within (short.broke n
 -- there was no room for any of it
 pub no_room : (told : Bool) (files : FilesState) (more : ℕ → List ℕ) (to : ℕ) {slots : List Slot}
     → ((i : ℕ) → to ≤ i → more i ≡ []) → Adds told files more 0 to slots files slots (Err fault.Memory)
-no_room told files more to {slots} none = adds_not told files more 0 to [] fault.Memory (omega arith) (omega arith) (omega arith) refl (λ first owns. owns) (of_files (is_verbose files.tells) slots slots (inl refl)) (λ i out. none i (omega arith)) (none_written told 0) (begun_none (filing_in files) fault.Memory tt) refl (λ first. tt)
+no_room told files more to {slots} none = adds_not told files more 0 to [] fault.Memory (omega arith) (omega arith)
+    (omega arith) refl (λ first owns. owns) (of_files (is_verbose files.tells) slots slots (inl refl))
+    (λ i out. none i (omega arith)) (none_written told 0) (begun_none (filing_in files) fault.Memory tt) refl
+    (λ first. tt)
 
 -- Closing
 
@@ -722,9 +732,12 @@ module _ (told : Bool) {files : FilesState} {place : ℕ} {old now : List Slot} 
 
   pub one_closed : {new : List Slot} → new ≡ changed_at (output_at files place) closes now
       → Closing told files (place + 1) old new
-  one_closed {new} is = by (can_tell files.tells now new (λ can. writable_elsewhere now new 0 (output_at files place) closes (λ none. omega (arith, (so_far.left place (omega arith) within).0)) is can) so_far.output) where
-    by : CanTell files.tells new → Closing told files (place + 1) old new
-    by can = search (rules, length-changed_at, writable_elsewhere, closes_next, keeps_again, keeps_close)
+  one_closed {new} is = by
+      (can_tell files.tells now new
+      (λ can. writable_elsewhere now new 0 (output_at files place) closes
+      (λ none. omega (arith, (so_far.left place (omega arith) within).0)) is can) so_far.output) where
+        by : CanTell files.tells new → Closing told files (place + 1) old new
+        by can = search (rules, length-changed_at, writable_elsewhere, closes_next, keeps_again, keeps_close)
 
   pub not_closed : {new : List Slot} {slot : ℕ} {why : Fault} → slot ≡ output_at files place
       → (why ≡ fault.Write slot) × SlotBreaks slot (changed_at slot closes now) new

@@ -157,7 +157,8 @@ climb n place s low (suc k) size within less more top from =
 
 pub reached : (n place s low : ℕ) → place < n → s < low → chunk_start n low place ≤ s → Reached n place s low
 reached n place s low within less from =
-    climb n place s low (s + suc s * n) low within less (omega arith) (omega (arith, past, grows, start_grows)) from where
+    climb n place s low (s + suc s * n) low within less (omega arith)
+    (omega (arith, past, grows, start_grows)) from where
       past : s < chunk_start n (s + suc s * n) (0 + 1)
       past = far n s (omega (arith, within))
 
@@ -276,7 +277,8 @@ copies n = length-replicate n 0
 
 far_front : (chunks : Chunks) (x : List ℕ) (i place : ℕ) → 0 < chunks.count → 0 < place → i < length x
     → i < length (front_of chunks place (x ++ far_copies chunks x))
-far_front chunks x i place some later less = grind (arith, common_steps, starts, far_copies, far, start_grows, length-append, length-replicate)
+far_front chunks x i place some later less =
+    grind (arith, common_steps, starts, far_copies, far, start_grows, length-append, length-replicate)
 
 abbrev Differ : ℕ → Chunks → List ℕ → ℕ → Type 0
 Differ place chunks x i = (y : List ℕ) × (z : List ℕ) × CanFollow None x y × CanFollow None x z
@@ -309,7 +311,14 @@ later_differs place chunks x i later within past less = by (starts chunks.unit c
   now : (from : Starts chunks.unit chunks.delim x i) → chunk_start chunks.count (length x) place < from.at
   now from = elim (cases_lt (chunk_start chunks.count (length x) place) from.at) [
     | inl before ↦ before
-    | inr after ↦ absurd (omega (arith, from.has (chunk_start chunks.count (length x) place) [] after, ap (λ w. length (begun_before chunks.unit chunks.delim (chunk_start chunks.count (length x) place) w)) (append-nil x)))
+    | inr after ↦ absurd
+        (omega (
+          arith,
+          from.has (chunk_start chunks.count (length x) place) [] after,
+          ap
+              (λ w. length (begun_before chunks.unit chunks.delim (chunk_start chunks.count (length x) place) w))
+              (append-nil x),
+        ))
   ]
 
   at : (from : Starts chunks.unit chunks.delim x i) → Reached chunks.count place (from.at - 1) (length x)
@@ -358,7 +367,12 @@ none_decided (suc place) chunks x i within less = (
   [],
   λ y.
       goes_before (suc place) chunks None (x ++ y) i within refl
-      (omega (arith, ap (λ n. length (front_of chunks n x)) one, beginning_short _ _ (decided_grows chunks (suc place) x y (omega (arith, within)) (omega (arith, within))))),
+      (omega (
+        arith,
+        ap (λ n. length (front_of chunks n x)) one,
+        beginning_short _ _
+            (decided_grows chunks (suc place) x y (omega (arith, within)) (omega (arith, within))),
+      )),
 ) where
   one : max (suc place) 1 ≡ suc place
   one = omega arith

@@ -296,7 +296,18 @@ nth_dealt n {file} place (line ∷ lines) left k few at = nth_step n place left 
 pub line_at : (delim n file k : ℕ) (x : List ℕ) → file < n
     → get_or (lines_of delim (get_or (round_robin delim n x) file [])) k []
     ≡ get_or (lines_of delim x) (file + k * n) []
-line_at delim n file k x within = grind (arith, common_steps, get_or-map-range_with_len, dealt_are, lines_of-joined, are_dealt, AreLines-lines_of, nth_dealt, mod-eq_of_lt)
+line_at delim n file k x within =
+    grind (
+      arith,
+      common_steps,
+      get_or-map-range_with_len,
+      dealt_are,
+      lines_of-joined,
+      are_dealt,
+      AreLines-lines_of,
+      nth_dealt,
+      mod-eq_of_lt,
+    )
 
 -- each line goes to one file
 
@@ -304,7 +315,8 @@ none_gets : (had : ℕ → List ℕ) (line : List ℕ) (place start count : ℕ)
     → joined (map (λ file. cond (eqb place file) (line ++ had file) (had file)) (range_with_len start count))
     ≡ joined (map had (range_with_len start count))
 none_gets had line place start zero before = refl
-none_gets had line place start (suc count) before = cc (ne_eqb place start (λ is. omega arith), none_gets had line place (start + 1) count (omega arith))
+none_gets had line place start (suc count) before =
+    cc (ne_eqb place start (λ is. omega arith), none_gets had line place (start + 1) count (omega arith))
 
 one_gets : (had : ℕ → List ℕ) (line : List ℕ) (place start count : ℕ) → start ≤ place → place < start + count
     → length (joined (map (λ file. cond (eqb place file) (line ++ had file) (had file)) (range_with_len start count)))
@@ -331,7 +343,8 @@ none_of_none start (suc count) = none_of_none (start + 1) count
 all_from : (n place : ℕ) (lines : List (List ℕ)) → 0 < n
     → length (joined (map (λ file. dealt n file place lines) (range_with_len 0 n))) ≡ length (joined lines)
 all_from n place [] some = none_of_none 0 n
-all_from n place (line ∷ lines) some = one_gets (λ file. dealt n file (place + 1) lines) line (place % n) 0 n (omega arith) (omega (arith, mod-lt))
+all_from n place (line ∷ lines) some = one_gets (λ file. dealt n file (place + 1) lines) line (place % n) 0 n
+    (omega arith) (omega (arith, mod-lt))
     ∙ ap (λ rest. length line + rest) (all_from n (place + 1) lines some) ∙ sym (length-append line (joined lines))
 
 -- all bytes are dealt
@@ -344,7 +357,8 @@ pub first_files : (delim n : ℕ) (x : List ℕ)
 first_files delim n x = dealt_files_are delim true n x ∙ elim (cases_lt (line_count delim x) n) [
   | inl fewer ↦
       let here : min n (line_count delim x) ≡ line_count delim x = omega arith in
-      ap (λ count. map (share_of delim n x) (range_with_len 0 count)) here ∙ sym (take-map-range_with_len (share_of delim n x) 0 n (line_count delim x) (omega arith))
+      ap (λ count. map (share_of delim n x) (range_with_len 0 count)) here ∙ sym
+      (take-map-range_with_len (share_of delim n x) 0 n (line_count delim x) (omega arith))
   | inr many ↦
       let here : min n (line_count delim x) ≡ n = omega arith in
       cc (here, take_all (line_count delim x) (round_robin delim n x) (omega (arith, length-map-range_with_len)))

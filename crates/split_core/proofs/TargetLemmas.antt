@@ -276,7 +276,8 @@ piece_apart : (full : List (List ℕ)) (one other : List ℕ) (chunk : ℕ) → 
 piece_apart [] one other zero differs = absurd (differs refl)
 piece_apart [] one other (suc chunk) differs = refl
 piece_apart (first ∷ full) one other zero differs = refl
-piece_apart (first ∷ full) one other (suc chunk) differs = piece_apart full one other chunk (λ is. differs (omega arith))
+piece_apart (first ∷ full) one other (suc chunk) differs = piece_apart full one other chunk
+    (λ is. differs (omega arith))
 
 piece_other : (full : List (List ℕ)) (one other : List ℕ) (chunk : ℕ) {place : ℕ} → length full ≡ place
     → eqb chunk place ≡ false → get_or (full ++ one ∷ []) chunk [] ≡ get_or (full ++ other ∷ []) chunk []
@@ -306,7 +307,12 @@ out_stops told before had more {high} n {old} {new} is at broke = let stops = ou
   above = stops.above;
   below = stops.below;
   place = 0;
-  turn = record { closed = tt; within = omega arith; last = let none = ap length (none_files stops.part.files stops.below.files) in omega arith };
+  turn = record {
+    closed = tt;
+    within = omega arith;
+    last = let none = ap length
+        (none_files stops.part.files stops.below.files) in omega arith;
+  };
   lines = tt;
   reached = stops.reached;
   outputs = stops.outputs;

@@ -87,9 +87,11 @@ spots_after : (place i : ℕ) (front back : List (List ℕ)) → length (joined 
 spots_after place i [] back past = search rules
 spots_after place i (bytes ∷ front) back past =
     let long = length-append bytes (joined front) in
-    spot_past place i bytes (front ++ back) (omega arith) ∙ spots_after (place + 1) (i - length bytes) front back (omega arith)
+    spot_past place i bytes (front ++ back) (omega arith) ∙ spots_after (place + 1) (i - length bytes) front back
+    (omega arith)
     ∙ ap (λ at. spots_from at back (i - length bytes - length (joined front))) (sym (one_on place (length front)))
-    ∙ ap (λ at. spots_from (place + suc (length front)) back at) (let e : i - length bytes - length (joined front) ≡ i - length (bytes ++ joined front) = omega arith in e)
+    ∙ ap (λ at. spots_from (place + suc (length front)) back at)
+    (let e : i - length bytes - length (joined front) ≡ i - length (bytes ++ joined front) = omega arith in e)
 
 -- only the last file may be open
 abbrev OnlyLastOpen : List File → Type 0
@@ -112,7 +114,9 @@ pub spots_stay : (place i : ℕ) (low high : List File) → FilesBegin low high 
 spots_stay place i [] high begins last less = search rules
 spots_stay place i (file ∷ low) [] begins last less = absurd begins
 spots_stay place i (file ∷ low) (whole ∷ high) begins last less = elim (cases_lt i (length file.bytes)) [
-  | inl within ↦ (let short = beginning_short file.bytes whole.bytes begins.4 in spot_in place i whole.bytes _ (omega arith) ∙ sym (spot_in place i file.bytes _ within))
+  | inl within ↦
+      (let short = beginning_short file.bytes whole.bytes begins.4 in spot_in place i whole.bytes _ (omega arith) ∙ sym
+      (spot_in place i file.bytes _ within))
   | inr past ↦ after past (λ rest. spots_stay (place + 1) (i - length file.bytes) low high begins.5 last.1 rest) begins.3
 ] where
   after : length file.bytes ≤ i
@@ -123,10 +127,16 @@ spots_stay place i (file ∷ low) (whole ∷ high) begins last less = elim (case
       → spots_from place (map (λ (file : File). file.bytes) (whole ∷ high)) i
       ≡ spots_from place (map (λ (file : File). file.bytes) (file ∷ low)) i
   after past later (inl opened) = absurd
-      (omega (arith, ap (λ those. length (file.bytes ++ joined (map (λ (file : File). file.bytes) those))) (last.0 opened), length-append file.bytes []))
+      (omega (
+        arith,
+        ap (λ those. length (file.bytes ++ joined (map (λ (file : File). file.bytes) those)))
+            (last.0 opened),
+        length-append file.bytes [],
+      ))
   after past later (inr same) =
       let is : length whole.bytes ≡ length file.bytes = ap (λ (those : File). length those.bytes) (sym same) in
-      spot_past place i whole.bytes _ (omega arith) ∙ ap (λ n. spots_from (place + 1) (map (λ (file : File). file.bytes) high) (i - n)) is
+      spot_past place i whole.bytes _ (omega arith) ∙ ap
+      (λ n. spots_from (place + 1) (map (λ (file : File). file.bytes) high) (i - n)) is
       ∙ later (omega (arith, length-append file.bytes (joined (map (λ (file : File). file.bytes) low))))
       ∙ sym (spot_past place i file.bytes _ past)
 
@@ -145,7 +155,12 @@ none_wait : (limit : Limit) (filing : Filing) (x : List ℕ) (i : ℕ)
     → are_named filing.names (length (parts limit x)) ≡ true → waiting_rest limit (cut_up limit x).rest ≡ []
     → length (settled_in limit filing x) ≤ i → i < length x → ⊥
 none_wait limit filing x i are none past within =
-    omega (arith, ap length (sym (append-nil (settled_in limit filing x)) ∙ ap (λ those. settled_in limit filing x ++ those) (sym none) ∙ came_in limit filing are))
+    omega (
+      arith,
+      ap length
+          (sym (append-nil (settled_in limit filing x)) ∙ ap (λ those. settled_in limit filing x ++ those) (sym none)
+          ∙ came_in limit filing are),
+    )
 
 -- two continuations that put byte i to different spots
 pub record Differs (spots_of : List ℕ → ℕ → List Spot) (x : List ℕ) (i : ℕ) : Type 0 where
@@ -204,12 +219,15 @@ lines_differ delim n filing {x} some are lines {i} past within =
     let bytes : length (joined (settled_list (LineBytes n delim) x)) ≡ length (joined full) + length (joined (begun ∷ [])) = ap (λ those. length (joined those)) one ∙ ap length (joined-append full (begun ∷ [])) ∙ length-append (joined full) (joined (begun ∷ [])) in
     let had : length (settled_in (LineBytes n delim) filing x) ≡ length (joined (settled_list (LineBytes n delim) x)) = ap length (settled_bytes_in (LineBytes n delim) filing x are) in
     let here = lines_here delim n filing x are lines i (omega (arith, had)) within in
-    let there = lines_there (LineBytes n delim) filing x decides.y decides.more are decides.are i (omega (arith, had)) in record {
+    let there = lines_there (LineBytes n delim) filing x decides.y decides.more are decides.are i
+    (omega (arith, had)) in record {
       y = [];
       z = decides.y;
       y_comes = none_comes;
       z_comes = decides.comes;
-      apart = λ same. none_before (1 + length (settled_list (LineBytes n delim) x)) (i - length (joined (settled_list (LineBytes n delim) x))) (1 + length full) (i - length (joined full)) there.0 (omega arith) (sym there.1 ∙ sym same ∙ here);
+      apart = λ same. none_before (1 + length (settled_list (LineBytes n delim) x))
+          (i - length (joined (settled_list (LineBytes n delim) x))) (1 + length full)
+          (i - length (joined full)) there.0 (omega arith) (sym there.1 ∙ sym same ∙ here);
     }
 
 parts_differ : (limit : Limit) (filing : Filing) {x : List ℕ} → 0 < most limit
@@ -219,7 +237,9 @@ parts_differ (Lines n delim) filing {x} some are {i} past within = absurd (none_
 parts_differ (Bytes n) filing {x} some are {i} past within = absurd (none_wait (Bytes n) filing x i are refl past within)
 parts_differ (LineBytes n delim) filing {x} some are {i} past within = elim (cases_lt 0 (delimiters delim (cut_up (LineBytes n delim) x).rest)) [
   | inl lines ↦ lines_differ delim n filing some are lines past within
-  | inr none ↦ absurd (none_wait (LineBytes n delim) filing x i are (open_of_none delim (cut_up (LineBytes n delim) x).rest (omega arith)) past within)
+  | inr none ↦ absurd
+      (none_wait (LineBytes n delim) filing x i are
+      (open_of_none delim (cut_up (LineBytes n delim) x).rest (omega arith)) past within)
 ]
 
 parts_undecided : (limit : Limit) (filing : Filing) {x : List ℕ} → 0 < most limit
@@ -303,8 +323,15 @@ had_grows delim n x i j less within same =
     let front : take i (take j x) ≡ take i x = take-take i j x (omega arith) in
     let file : dealt_to delim n (take j x) i ≡ dealt_to delim n x i = ap (λ those. delimiters delim those % n) front in
     let grown : had delim n (dealt_to delim n (take j x) i) (take j x) i < length (share_of delim n (take j x) (dealt_to delim n (take j x) i))
-    = had_less delim n (take j x) i (let all : length (take j x) ≡ j = length-take-le j x (omega arith) in omega arith) in
-    omega (arith, ap (λ k. had delim n k (take j x) i) file ∙ ap (λ those. length (dealt n (dealt_to delim n x i) 0 (lines_of delim those))) front, ap (λ k. length (share_of delim n (take j x) k)) (file ∙ same))
+    = had_less delim n (take j x) i
+    (let all : length (take j x) ≡ j = length-take-le j x (omega arith) in omega arith) in
+    omega (
+      arith,
+      ap (λ k. had delim n k (take j x) i) file ∙ ap
+          (λ those. length (dealt n (dealt_to delim n x i) 0 (lines_of delim those))) front,
+      ap
+          (λ k. length (share_of delim n (take j x) k)) (file ∙ same),
+    )
 
 -- for each place in a file a byte is found that goes there
 

@@ -184,7 +184,8 @@ module _ (chunker : ChunkerState) (piece : List ℕ) {end : ℕ}
     (first_on (course chunker.cutter))) where
   end_is : {x : List ℕ} → IsUnsaid chunker x
       → end ≡ chunk_start chunker.cutter.chunks.count (length (x ++ piece)) (first_on (course chunker.cutter))
-  end_is {x} has = let n : chunker.cutter.at + length (chunker.waiting ++ piece) ≡ length (x ++ piece) = omega (arith, length-append (cut_front chunker x) (chunker.waiting ++ piece), ap length (came_more has piece)) in
+  end_is {x} has = let n : chunker.cutter.at + length (chunker.waiting ++ piece) ≡ length (x ++ piece) =
+      omega (arith, length-append (cut_front chunker x) (chunker.waiting ++ piece), ap length (came_more has piece)) in
       rw n at ends
 
   to_is : {x : List ℕ} → IsUnsaid chunker x
@@ -292,7 +293,8 @@ past_pieces chunks size chunk z all = let f = chunk_at chunks size z in let n = 
       by : (chunk < ended chunks size z + 1) ⊎ (ended chunks size z + 1 ≤ chunk)
           → get_or (map (chunk_at chunks size z) (range_with_len 0 (ended chunks size z + 1))) chunk [] ≡ []
       by (inl within) = get_or-map-range_with_len (chunk_at chunks size z) 0 (ended chunks size z + 1) chunk chunk [] within (omega arith) ∙ chunk_none chunks size z chunk all
-      by (inr past) = get_or_past (map (chunk_at chunks size z) (range_with_len 0 (ended chunks size z + 1))) chunk [] (omega (arith, length-map-range_with_len (chunk_at chunks size z) 0 (ended chunks size z + 1)))
+      by (inr past) = get_or_past (map (chunk_at chunks size z) (range_with_len 0 (ended chunks size z + 1))) chunk []
+          (omega (arith, length-map-range_with_len (chunk_at chunks size z) 0 (ended chunks size z + 1)))
 
 part_same : (on : Course) (chunks : Chunks) (size : ℕ) (z : List ℕ) → 0 < chunks.count → length z ≤ size
     → before_chunk chunks size (first_on on) z ≡ z
@@ -313,7 +315,12 @@ carries_same : (chunks : Chunks) (size : ℕ) (z : List ℕ) (place : ℕ) (aim 
 carries_same chunks size z place (to_files writer elide) count fits all carries =
     rw (first_cut chunks size z count fits all) at carries
 carries_same chunks size z place (to_output chunk) count fits all carries = record {
-  placed = omega (arith, length-map-range_with_len (chunk_at chunks size z) 0 (ended chunks size z), fulls_long (ended chunks size z) (uncut z));
+  placed = omega (
+    arith,
+    length-map-range_with_len (chunk_at chunks size z) 0 (ended chunks size z),
+    fulls_long
+        (ended chunks size z) (uncut z),
+  );
   has = tt;
 }
 
@@ -337,7 +344,12 @@ cut_off_so {cutter} {waiting} {size} {z} so = record {
   at = so.cut.at;
   within = so.cut.within;
   fits = omega arith;
-  begun = λ within short. absurd (omega (arith, none_waits cutter.chunks.unit cutter.chunks.delim (chunk_start cutter.chunks.count size (first_on (course cutter))) z waiting so.is within));
+  begun = λ within short. absurd
+      (omega (
+        arith,
+        none_waits cutter.chunks.unit cutter.chunks.delim
+            (chunk_start cutter.chunks.count size (first_on (course cutter))) z waiting so.is within,
+      ));
   from = omega arith;
 }
 
@@ -352,7 +364,8 @@ module _ {told : Bool} {cutter mid : CutterState} {waiting : List ℕ} {size : �
       → Sends told cutter.target (IsSettled cutter waiting size) (λ z. uncut z)
       (λ z. with_fulls (ended cutter.chunks size z) (uncut z)) old wet mid.target fault
   ends_first fault ends = sends_as (λ z. (z, uncut z)) fault (λ z so. cut_off_so so) (λ z so. refl) (λ z so.
-      let e : ended cutter.chunks size z - cutter.target.place ≡ ended cutter.chunks size z = omega arith in ap (λ n. with_fulls n (uncut z)) e) ends.sends
+      let e : ended cutter.chunks size z - cutter.target.place ≡ ended cutter.chunks size z = omega arith in ap
+      (λ n. with_fulls n (uncut z)) e) ends.sends
 
   brings_first : (fault : Option Fault) → EndsFull told cutter size old wet mid fault
       → Brings told (course cutter) cutter.target.aim mid.target.aim (IsSettled cutter waiting size)

@@ -264,4 +264,5 @@ open_grows Lines delim x y = open_grows_lines delim x y
 pub open_append : (delim : ℕ) (x y : List ℕ) → open_from Lines delim (x ++ y)
     ≡ cond (nat_lt 0 (delimiters delim y)) (length x + open_from Lines delim y) (open_from Lines delim x)
 open_append delim [] y = grind (arith, common_steps, none_open, ltb-false)
-open_append delim (byte ∷ x) y = grind (arith, common_steps, open_end, open_more, some_open, ltb-true, cases_lt, open_still, open_append delim x y)
+open_append delim (byte ∷ x) y =
+    grind (arith, common_steps, open_end, open_more, some_open, ltb-true, cases_lt, open_still, open_append delim x y)

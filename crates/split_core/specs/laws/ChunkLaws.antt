@@ -85,7 +85,13 @@ pub ended_only : {chunks : Chunks} {size : ℕ} {x : List ℕ} {p : ℕ} → Hav
 ended_only {chunks} {size} {x} {p} is = counted (has_ended chunks size x) 0 chunks.count p is.within
     (λ i from to. le-leb _ _
     (omega (arith, start_grows chunks.count size (i + 1) p (omega (arith, to)))))
-    (λ i from to. lt-leb _ _ (omega (arith, is.next (omega (arith, from, to)), start_grows chunks.count size (p + 1) (i + 1) (omega (arith, from)))))
+    (λ i from to. lt-leb _ _
+    (omega (
+      arith,
+      is.next (omega (arith, from, to)),
+      start_grows chunks.count size (p + 1) (i + 1)
+          (omega (arith, from)),
+    )))
 
 pub ended_is : (chunks : Chunks) (size : ℕ) (x : List ℕ) → HaveEnded chunks size x (ended chunks size x)
 ended_is chunks size x = let (p, within, from, next) = found chunks.count size (passed chunks size x) chunks.count in

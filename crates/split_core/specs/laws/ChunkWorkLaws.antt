@@ -147,7 +147,17 @@ pub shares_on : (elide : Bool) (state : State) {low high : CutUp} → GoesOn low
     → SharesBegin (shares_of (draft_by elide low))
     (map (share Closed) (kept elide high.full) ++ map (share state) (unless_empty high.rest))
 shares_on elide state {low} {high} on =
-    grind (arith, common_steps, kept-append, map-append, append_assoc, shares_after, made_begin, first_kept, some_begins)
+    grind (
+      arith,
+      common_steps,
+      kept-append,
+      map-append,
+      append_assoc,
+      shares_after,
+      made_begin,
+      first_kept,
+      some_begins,
+    )
 
 -- once all is there, it is the same
 pub longer_differs : (size : ℕ) (x : List ℕ) → size < length x → eqb (length x) size ≡ false

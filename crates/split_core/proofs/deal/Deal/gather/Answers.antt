@@ -37,4 +37,6 @@ returns-then-is_empty-clause-gathers c = subst
 
 pub returns-clause-gathers : goal.returns-clause-gathers
 returns-clause-gathers c = ends_open _ c.lines.invariant.0 (c.rest-open.ensures ∙ ap (λ (left : LinesLeft). left.text) c.in_default.ensures.stays) (rw c.lines.invariant.2 at c.in_default.ensures.none) (sym c.if-is_empty.ensures)
-    (c.in_ok-append_to-2.ensures.ok ∙ ap (λ (line : List ℕ). changed_at c.lines.next (λ had. had ++ line) c.lines.self-inside.gathered.items) (take_all (length c.rest-open.result.now) c.rest-open.result.now (omega arith))) (omega arith)
+    (c.in_ok-append_to-2.ensures.ok ∙ ap
+    (λ (line : List ℕ). changed_at c.lines.next (λ had. had ++ line) c.lines.self-inside.gathered.items)
+    (take_all (length c.rest-open.result.now) c.rest-open.result.now (omega arith))) (omega arith)
