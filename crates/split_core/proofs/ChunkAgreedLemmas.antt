@@ -1,6 +1,15 @@
 -- What is settled of chunks is what all continuations agree on.
 use Rattle.std.proofs.lemmas.Grind.{common_steps}
-use Rattle.std.proofs.{Common.{◌≡◌, ◌≢◌, ℕ, ◌+◌, ◌-◌, ◌*◌, ◌<◌, ◌≤◌, max, zero, suc, Bool, true, false, List, [], ◌∷◌, ◌++◌}, Common.{length, take, drop, map, get_or, replicate, Option, Some, None, inl, inr, refl, sym, ◌∙◌, ap, subst, arith}, lemmas.{Bool.{cases_lt, eq-eqb, ltb-false}, List.{append-nil, drop-append-le, length-append, length-replicate, map-append, take_all}, Nat.le-div}, Math.Nat.one-mul}
+use Rattle.std.proofs.{
+  Common.{◌≡◌, ◌≢◌, ℕ, ◌+◌, ◌-◌, ◌*◌, ◌<◌, ◌≤◌, max, zero, suc, Bool, true, false, List, [], ◌∷◌, ◌++◌, length, take},
+  Common.{drop, map, get_or, replicate, Option, Some, None, inl, inr, refl, sym, ◌∙◌, ap, subst, arith},
+  lemmas.{
+    Bool.{cases_lt, eq-eqb, ltb-false},
+    List.{append-nil, drop-append-le, length-append, length-replicate, map-append, take_all},
+    Nat.le-div,
+  },
+  Math.Nat.one-mul,
+}
 use Rattle.std.specs.List.{filter, range_with_len}
 use Rattle.seg_core.{
   specs.{Line.joined, declared.{cut.Chunks.Chunks, unit.Unit.{Unit as Which, TheVariants.{Bytes, Lines}}}},

@@ -10,8 +10,26 @@ use Rattle.std.proofs.{
 }
 use Rattle.std.specs.List.{filter}
 use Rattle.seg_core.specs.{Line.joined, declared.cut.Chunks.Chunks}
-use Rattle.ports_core.{specs.{Agreed.file_bytes, Draft.{files_from}, Part.{File, Part}, declared.{slot.State.TheVariants.{Open, Closed}, verdict.Verdict.TheVariants.Changed}}, proofs.{AgreedLemmas.copies_come, ShareLemmas.{closed_files, one_on}}}
-use Rattle.split_core.specs.{Parts.{CutUp, unless_empty}, Split.{Filing, Share, are_named, has_bytes, manner_of, share}, Chunks.{chunk_at, chunks_of, decided, ended, has_ended, in_the_end, is_longer, pieces_in}, ChunkAgreed.{AreMade, CanFollow, TwoDiffer}, ChunkWork.{ChunksPlan, chunk_work, chunks_settled, chunks_whole, chunks_work, files_by, kept}, laws.{ChunkLaws.{all_joined, chunks_are, ended_all, ended_is, has_ended_before, no_more, rest_none, start_grows}, ChunkWorkLaws.chunk_lawful}}
+use Rattle.ports_core.{
+  specs.{
+    Agreed.file_bytes,
+    Draft.{files_from},
+    Part.{File, Part},
+    declared.{slot.State.TheVariants.{Open, Closed}, verdict.Verdict.TheVariants.Changed},
+  },
+  proofs.{AgreedLemmas.copies_come, ShareLemmas.{closed_files, one_on}},
+}
+use Rattle.split_core.specs.{
+  Parts.{CutUp, unless_empty},
+  Split.{Filing, Share, are_named, has_bytes, manner_of, share},
+  Chunks.{chunk_at, chunks_of, decided, ended, has_ended, in_the_end, is_longer, pieces_in},
+  ChunkAgreed.{AreMade, CanFollow, TwoDiffer},
+  ChunkWork.{ChunksPlan, chunk_work, chunks_settled, chunks_whole, chunks_work, files_by, kept},
+  laws.{
+    ChunkLaws.{all_joined, chunks_are, ended_all, ended_is, has_ended_before, no_more, rest_none, start_grows},
+    ChunkWorkLaws.chunk_lawful,
+  },
+}
 use Rattle.split_core.proofs.{
   ChunkAgreedLemmas.{TailFiles, chunks_left, far_on, few_decided, fill, fills, none_files, said_filled, joined_files},
   ChunkAgreedLemmas.{none_kept, said_split, settled_files, whole_files},

@@ -447,7 +447,15 @@ ready_opened {files} {old} {new} name ready is = by
     (can_tell files.tells old new
     (writable_before old new 0 (opened name Fresh) (let two = ready.streams in omega arith) is) ready.output) where
       by : CanTell files.tells new → AreReady (with_opened (length old) files) new
-      by can = grind (arith, common_steps, length-append, each_output, get_or_append_left, output_within, opened_writable)
+      by can = grind (
+        arith,
+        common_steps,
+        length-append,
+        each_output,
+        get_or_append_left,
+        output_within,
+        opened_writable,
+      )
 
 owned_opened : {files : FilesState} {old new : List Slot} (name : List ℕ) → files.names.drawn ≡ length files.outputs
     → new ≡ old ++ opened name Fresh ∷ [] → KeepsFiles files old (with_opened (length old) files) new

@@ -1,12 +1,30 @@
 -- What waits where one chunk alone is written.
 use Rattle.std.proofs.lemmas.Grind.{common_steps}
-use Rattle.std.proofs.{Common.{◌≡◌, ◌≢◌, ℕ, ◌+◌, ◌-◌, ◌*◌, ◌/◌, ◌%◌, ◌<◌, ◌≤◌, max, zero, suc, eqb, nat_lt, Bool, true, false, cond, List}, Common.{[], ◌∷◌, ◌++◌, length, take, drop, get_or, replicate, Option, Some, None, inl, inr, refl, sym, ◌∙◌, ap}, Common.{arith}, lemmas.{Bool.{cases_lt, le-ltb, lt-ltb}, List.{append-nil, append_assoc, length-append, length-replicate, length-take, take-append-drop}, Nat.{div-add-mod', div-mul-add}}, Math.Nat.{mod-lt, mul-suc, mul-zero, suc-mul, zero-mul}}
+use Rattle.std.proofs.{
+  Common.{◌≡◌, ◌≢◌, ℕ, ◌+◌, ◌-◌, ◌*◌, ◌/◌, ◌%◌, ◌<◌, ◌≤◌, max, zero, suc, eqb, nat_lt, Bool, true, false, cond, List},
+  Common.{[], ◌∷◌, ◌++◌, length, take, drop, get_or, replicate, Option, Some, None, inl, inr, refl, sym, ◌∙◌, ap},
+  Common.arith,
+  lemmas.{
+    Bool.{cases_lt, le-ltb, lt-ltb},
+    List.{append-nil, append_assoc, length-append, length-replicate, length-take, take-append-drop},
+    Nat.{div-add-mod', div-mul-add},
+  },
+  Math.Nat.{mod-lt, mul-suc, mul-zero, suc-mul, zero-mul},
+}
 use Rattle.seg_core.specs.{Line.joined, declared.{cut.Chunks.Chunks, unit.Unit.{Unit, TheVariants.{Bytes, Lines}}}}
 use Rattle.ports_core.{
   specs.Agreed.{ArePlaced, DifferOn, Spot, spot, spots_from},
   proofs.AgreedLemmas.{copies_come, none_comes, some_spot, spot_in, spot_past, stretch_placed, beginning_short},
 }
-use Rattle.split_core.specs.{Chunks.{before_chunk, begun_before, chunk_at, chunk_start, in_the_end, is_as_said, pieces_in}, Chunks.size_by, ChunkAgreed.{CanFollow, one_chunk_spots}, ChunkWork.chunk_work, laws.BegunLaws.{begun_begins, begun_first, begun_first_place, begun_monotone, begun_on, begun_stays}, laws.ChunkLaws.{all_joined, begin_then_rest, decided_grows, first_pieces, start_by_size, start_grows, start_next}, laws.ChunkWorkLaws.same_piece}
+use Rattle.split_core.specs.{
+  Chunks.{before_chunk, begun_before, chunk_at, chunk_start, in_the_end, is_as_said, pieces_in},
+  Chunks.size_by,
+  ChunkAgreed.{CanFollow, one_chunk_spots},
+  ChunkWork.chunk_work,
+  laws.BegunLaws.{begun_begins, begun_first, begun_first_place, begun_monotone, begun_on, begun_stays},
+  laws.ChunkLaws.{all_joined, begin_then_rest, decided_grows, first_pieces, start_by_size, start_grows, start_next},
+  laws.ChunkWorkLaws.same_piece,
+}
 use Rattle.split_core.proofs.{
   ChunkAgreedLemmas.{far, none_before_first},
   ChunkLemmas.{chunk_in, count_chunks, said_size},

@@ -1,5 +1,21 @@
 -- The parts of a text in other words: runs of lines or bytes, whole lines within a number of bytes, and where each line is dealt to.
-use Rattle.std.proofs.{lemmas.Grind.common_steps, lemmas.List.{append-nil, take_all, drop-drop, length-map, length-take-le, map-append, FromFn.{length-map-range_with_len, get_or-map-range_with_len, take-map-range_with_len}}, lemmas.Bool.{cond_both, cases_eq, cases_lt, eq-eqb, ne_eqb, eqb-true, Decides.nat_tests}, Common.{◌≡◌, ℕ, ◌+◌, ◌-◌, ◌*◌, ◌<◌, ◌≤◌, zero, suc, List, [], ◌∷◌, ◌++◌, length, take, drop, map, get_or, false}, Common.{refl, sym, ◌∙◌, ap, arith, length-append, length-drop, rules, ◌%◌, min, Bool, true, cond, eqb, if◌then◌else◌}, Common.{◌==◌, inl, inr}, Math.{ListN.get_or-map, Nat.{suc-mul, zero-mul, mod-lt, mod-eq_of_lt, add-mod_right}}}
+use Rattle.std.proofs.{
+  lemmas.Grind.common_steps,
+  lemmas.List.{
+    append-nil,
+    take_all,
+    drop-drop,
+    length-map,
+    length-take-le,
+    map-append,
+    FromFn.{length-map-range_with_len, get_or-map-range_with_len, take-map-range_with_len},
+  },
+  lemmas.Bool.{cond_both, cases_eq, cases_lt, eq-eqb, ne_eqb, eqb-true, Decides.nat_tests},
+  Common.{◌≡◌, ℕ, ◌+◌, ◌-◌, ◌*◌, ◌<◌, ◌≤◌, zero, suc, List, [], ◌∷◌, ◌++◌, length, take, drop, map, get_or, false},
+  Common.{refl, sym, ◌∙◌, ap, arith, length-append, length-drop, rules, ◌%◌, min, Bool, true, cond, eqb, if◌then◌else◌},
+  Common.{◌==◌, inl, inr},
+  Math.{ListN.get_or-map, Nat.{suc-mul, zero-mul, mod-lt, mod-eq_of_lt, add-mod_right}},
+}
 use Rattle.std.specs.List.{All, range_with_len}
 use Rattle.seg_core.{
   specs.{
@@ -11,7 +27,16 @@ use Rattle.seg_core.{
   proofs.LineCounts.{line_count-some, line_count_near},
   proofs.LinesOf.{joined-lines_of, lines_of-joined, AreLines-lines_of},
 }
-use Rattle.split_core.specs.{Parts.{whole_lines, open_line, is_full, cut_up, unless_empty, parts, settled_rest, waiting_rest, dealt, round_robin}, Sections.{runs_within, runs_of, line_parts, byte_parts, AreLineByteParts, none, one, more}, Split.{Share, settled_parts, dealt_files}, laws.{CutLaws.{short_some, full_some, whole_some, whole_then_open, settled_then_waiting, rest_short, cuts_up}, DealLaws.dealt_files_are}, inner.{CutLaws.{Cuts, stops, goes}, Dealt.share_of}}
+use Rattle.split_core.specs.{
+  Parts.{whole_lines, open_line, is_full, cut_up, unless_empty, parts, settled_rest, waiting_rest, dealt, round_robin},
+  Sections.{runs_within, runs_of, line_parts, byte_parts, AreLineByteParts, none, one, more},
+  Split.{Share, settled_parts, dealt_files},
+  laws.{
+    CutLaws.{short_some, full_some, whole_some, whole_then_open, settled_then_waiting, rest_short, cuts_up},
+    DealLaws.dealt_files_are,
+  },
+  inner.{CutLaws.{Cuts, stops, goes}, Dealt.share_of},
+}
 use Rattle.split_core.proofs.CutLaws.{bytes_of_shares, cut_all}
 
 -- Runs of any list

@@ -1,6 +1,14 @@
 -- Laws that traits cite: what of a text that goes on begins before a place.
 use Rattle.std.proofs.lemmas.Grind.{common_steps}
-use Rattle.std.{proofs.lemmas.{Bool.{cases_lt, ltb-true, ltb-false}, List.{append-nil, take_all, length-append, length-drop, length-take, take-append-le, take-append-drop, take-take}}, proofs.Common.{◌≡◌, ℕ, ◌+◌, ◌-◌, ◌<◌, ◌≤◌, max, zero, suc, Bool, true, false, cond, eqb, nat_lt, List, [], ◌∷◌, ◌++◌}, proofs.Common.{length, take, drop, inl, inr, refl, sym, ◌∙◌, ap, subst, arith}, proofs.Math.Seq.take-append-add}
+use Rattle.std.{
+  proofs.lemmas.{
+    Bool.{cases_lt, ltb-true, ltb-false},
+    List.{append-nil, take_all, length-append, length-drop, length-take, take-append-le, take-append-drop, take-take},
+  },
+  proofs.Common.{◌≡◌, ℕ, ◌+◌, ◌-◌, ◌<◌, ◌≤◌, max, zero, suc, Bool, true, false, cond, eqb, nat_lt, List, [], ◌∷◌, ◌++◌},
+  proofs.Common.{length, take, drop, inl, inr, refl, sym, ◌∙◌, ap, subst, arith},
+  proofs.Math.Seq.take-append-add,
+}
 use Rattle.seg_core.{
   specs.{Line.{joined, lines_of, delimiters, first_lines}, declared.unit.Unit.{Unit, TheVariants.{Bytes, Lines}}},
   proofs.Delimiters.{delimiters-append, delimiters-le-length},

@@ -13,7 +13,13 @@ use Rattle.std.proofs.{
 use Rattle.std.specs.List.{filter, range_with_len}
 use Rattle.seg_core.{specs.{Line.joined, declared.cut.Chunks.Chunks}, proofs.FirstLines.joined-append}
 use Rattle.ports_core.{specs.Part.IsBeginning, proofs.{PartLemmas.begins_trans, AgreedLemmas.beginning_short}}
-use Rattle.split_core.specs.{Chunks.{chunk_start, begun_before, before_chunk, chunk_at, open_from, passed, has_ended, ended}, Chunks.{chunks_of, pieces_in}, Parts.CutUp, inner.Chunks.HaveEnded, laws.BegunLaws.{begun_again, begun_all, begun_begins, begun_first_place, begun_grows, begun_long, begun_monotone}, laws.BegunLaws.{begun_on, begun_stays, begun_within, open_grows, open_within}}
+use Rattle.split_core.specs.{
+  Chunks.{chunk_start, begun_before, before_chunk, chunk_at, open_from, passed, has_ended, ended, chunks_of, pieces_in},
+  Parts.CutUp,
+  inner.Chunks.HaveEnded,
+  laws.BegunLaws.{begun_again, begun_all, begun_begins, begun_first_place, begun_grows, begun_long, begun_monotone},
+  laws.BegunLaws.{begun_on, begun_stays, begun_within, open_grows, open_within},
+}
 
 -- Where chunks begin
 

@@ -20,7 +20,20 @@ use Rattle.ports_core.proofs.{
   PartLemmas.{begins_itself, begins_more, nothing_begins, out_begins},
   ShareLemmas.{made_begin, shares_after},
 }
-use Rattle.split_core.specs.{Chunks.{before_chunk, chunk_at, chunk_start, chunks_of, chunks_within, decided, ended, has_ended}, Chunks.{in_the_end, passed, pieces_in}, ChunkWork.{ChunksPlan, chunk_work, chunks_work, draft_by, files_by, is_written, kept, piece_at, turn_work}, Parts.{CutUp, unless_empty}, Split.{has_bytes, share}, inner.Chunks.{BeginsFirst, GoesOn, HaveEnded}, laws.BegunLaws.{begun_first_place, begun_grows, begun_within}, laws.ChunkLaws.{before_next, before_stays, chunks_are, cut_all, cut_before, decided_grows, ended_after, ended_is}, laws.ChunkLaws.{ended_grows, full_stays, goes_on, map_parts, passed_full, passed_grows, rest_none, start_first}, laws.ChunkLaws.take_within, laws.DealLaws.dealt_append, laws.ShareLaws.part_begins}
+use Rattle.split_core.specs.{
+  Chunks.{before_chunk, chunk_at, chunk_start, chunks_of, chunks_within, decided, ended, has_ended, in_the_end, passed},
+  Chunks.pieces_in,
+  ChunkWork.{ChunksPlan, chunk_work, chunks_work, draft_by, files_by, is_written, kept, piece_at, turn_work},
+  Parts.{CutUp, unless_empty},
+  Split.{has_bytes, share},
+  inner.Chunks.{BeginsFirst, GoesOn, HaveEnded},
+  laws.BegunLaws.{begun_first_place, begun_grows, begun_within},
+  laws.ChunkLaws.{before_next, before_stays, chunks_are, cut_all, cut_before, decided_grows, ended_after, ended_is},
+  laws.ChunkLaws.{ended_grows, full_stays, goes_on, map_parts, passed_full, passed_grows, rest_none, start_first},
+  laws.ChunkLaws.take_within,
+  laws.DealLaws.dealt_append,
+  laws.ShareLaws.part_begins,
+}
 
 -- A text that is cut up goes on
 

@@ -1,7 +1,34 @@
 -- Laws that traits cite: those of the work of `split`, in each way to cut.
-use Rattle.std.{proofs.lemmas.{Grind.common_steps, Bool.{false≢true, ltb-true, not-true}, List.{append-nil, length-map}}, proofs.Common.{◌≡◌, ℕ, ◌+◌, ◌≤◌, zero, suc, List, [], ◌∷◌, ◌++◌, map, Bool, true, false, cond, Option, arith}, proofs.Common.{length, sym, ◌∙◌, ap, rules}, specs.List.range_with_len}
-use Rattle.ports_core.{specs.{Part.{File, IsBeginning, FilesBegin, Begins}, Work.{IsLawful, IsComplete, Work}, declared.slot.State.{State, TheVariants.{Open, Closed}}, Draft.part_of}, proofs.PartLemmas.{begins_itself, part_begins_itself}}
-use Rattle.split_core.specs.{inner.{CutLaws.named, Dealt.share_of}, Split.{Filing, share, manner_of, dealt_files, are_named, settled_parts}, Round.{round_plan, round_work, opened_by}, laws.DealLaws.{dealt_append, dealt_files_are, opened_by-grows}, laws.ShareLaws.{part_begins, told_begins, settled_grow, settled_end, files_settled, files_whole, parts_grow}, laws.ShareLaws.are_named_more, laws.ChunkWorkLaws.{chunk_lawful, chunks_lawful, turn_lawful}, Parts.{cut_up, parts}, PartsState.{filing_of, parts_work}, FilesState.filing_in, declared.splitter.Splitter.{Splitter, TheVariants.{Parts, Round, Chunks, Turn}}, ChunkerState.{Course, can_cut, course, in_files, in_output, made_if, work_on}, Ways.work}
+use Rattle.std.{
+  proofs.lemmas.{Grind.common_steps, Bool.{false≢true, ltb-true, not-true}, List.{append-nil, length-map}},
+  proofs.Common.{◌≡◌, ℕ, ◌+◌, ◌≤◌, zero, suc, List, [], ◌∷◌, ◌++◌, map, Bool, true, false, cond, Option, arith, length},
+  proofs.Common.{sym, ◌∙◌, ap, rules},
+  specs.List.range_with_len,
+}
+use Rattle.ports_core.{
+  specs.{
+    Part.{File, IsBeginning, FilesBegin, Begins},
+    Work.{IsLawful, IsComplete, Work},
+    declared.slot.State.{State, TheVariants.{Open, Closed}},
+    Draft.part_of,
+  },
+  proofs.PartLemmas.{begins_itself, part_begins_itself},
+}
+use Rattle.split_core.specs.{
+  inner.{CutLaws.named, Dealt.share_of},
+  Split.{Filing, share, manner_of, dealt_files, are_named, settled_parts},
+  Round.{round_plan, round_work, opened_by},
+  laws.DealLaws.{dealt_append, dealt_files_are, opened_by-grows},
+  laws.ShareLaws.{part_begins, told_begins, settled_grow, settled_end, files_settled, files_whole, parts_grow},
+  laws.ShareLaws.are_named_more,
+  laws.ChunkWorkLaws.{chunk_lawful, chunks_lawful, turn_lawful},
+  Parts.{cut_up, parts},
+  PartsState.{filing_of, parts_work},
+  FilesState.filing_in,
+  declared.splitter.Splitter.{Splitter, TheVariants.{Parts, Round, Chunks, Turn}},
+  ChunkerState.{Course, can_cut, course, in_files, in_output, made_if, work_on},
+  Ways.work,
+}
 use Rattle.seg_core.specs.declared.cut.{Limit.Limit, Chunks.Chunks as Chunking}
 
 -- where each of some files has a beginning of what others have, and these are no fewer, those begin these
