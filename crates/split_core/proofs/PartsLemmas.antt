@@ -168,11 +168,8 @@ begins_closed : (ended : List (List ℕ)) (more high : List Share)
     → (rest : List Share) × (high ≡ map (share file_state.Closed) ended ++ rest) × (length more ≤ length rest)
 begins_closed [] more high begins = (high, refl, shares_fewer more high begins)
 begins_closed (one ∷ ended) more [] begins = absurd begins
-begins_closed (one ∷ ended) more (whole ∷ high) begins = let on = begins_closed ended more high begins.2 in (on.0, cc (same begins.0, on.1), on.2) where
-  same : (file_state.Closed ≡ file_state.Open) ⊎ (share file_state.Closed one ≡ whole)
-      → share file_state.Closed one ≡ whole
-  same (inl is) = absurd (cc)
-  same (inr is) = is
+begins_closed (one ∷ ended) more (whole ∷ high) begins =
+    grind (arith, common_steps, begins_closed ended more high begins.2)
 
 -- names ran out for the file that is due: what comes after it makes none
 
@@ -619,25 +616,7 @@ pub finishes_by : (told : Bool) (state next : PartsState) (old new : List Slot) 
     → IsReady state old → Finishes told state old new next (fault_in result)
     → engine.Finishes ways.terms told (way.Parts state) (way.Parts next) old new
     (engine.IsMetThere ways.terms (way.Parts state)) result
-finishes_by told state next old new (Ok done) ready ends = record {
-  same = work_by state next ends.limit (filing_same state next ends.leaves);
-  size = omega arith;
-  well = λ x holds. grind (arith, common_steps, all_have_names);
-  outputs = λ before x at. ((ends.reaches x at.holds).there before (at_writer at)).outputs;
-  writable = λ told_is. (ends.leaves.output (told_writable state.writer.tells old ready.writer.output told_is));
-  owns = ends.leaves.owns.owns;
-  there = λ are. tt;
-  cut = tt;
-  met = tt;
-}
-finishes_by told state next old new (Err f) ready ends = record {
-  same = work_by state next ends.limit (filing_same state next ends.leaves);
-  size = omega arith;
-  well = tt;
-  outputs = tt;
-  writable = tt;
-  owns = ends.leaves.owns.owns;
-  there = λ are. tt;
-  cut = λ before x at. engine.cut (rw ends.broke.1 refl) (stopped_in_turn (output_by (filing_of state).verbose) told before _ _ f new (has_told _ _) ((ends.reaches x at.holds).there before (at_writer at)));
-  met = end_met state old new f ends.broke ready.tells ends.leaves.slots;
-}
+finishes_by told state next old new (Ok done) ready ends =
+    grind (arith, common_steps, work_by, filing_same, all_have_names, at_writer, told_writable)
+finishes_by told state next old new (Err f) ready ends =
+    grind (arith, common_steps, work_by, filing_same, stopped_in_turn, has_told, at_writer, end_met)

@@ -86,12 +86,15 @@ spots_after : (place i : ℕ) (front back : List (List ℕ)) → length (joined 
     → spots_from place (front ++ back) i ≡ spots_from (place + length front) back (i - length (joined front))
 spots_after place i [] back past = search rules
 spots_after place i (bytes ∷ front) back past =
-    let long = length-append bytes (joined front) in
-    spot_past place i bytes (front ++ back) (omega arith) ∙ spots_after (place + 1) (i - length bytes) front back
-    (omega arith)
-    ∙ ap (λ at. spots_from at back (i - length bytes - length (joined front))) (sym (one_on place (length front)))
-    ∙ ap (λ at. spots_from (place + suc (length front)) back at)
-    (let e : i - length bytes - length (joined front) ≡ i - length (bytes ++ joined front) = omega arith in e)
+    grind (
+      arith,
+      common_steps,
+      length-append,
+      spot_past,
+      one_on,
+      spots_after (place + 1) (i - length bytes) front
+          back,
+    )
 
 -- only the last file may be open
 abbrev OnlyLastOpen : List File → Type 0
@@ -263,9 +266,7 @@ round_undecided : (delim n : ℕ) (elide : Bool) (filing : Filing) {x : List ℕ
     → IsUndecided (split_spots (round_plan delim n elide filing)) x
     ((split_work (round_plan delim n elide filing)).waiting x)
 round_undecided delim n elide filing {x} some are =
-    let size = dealt_all delim n elide filing x some are in
-    rw (drop_all (length (bytes_in (settled_by (round_plan delim n elide filing) x))) x (omega arith))
-    (nothing_waits (λ i less y z. dealt_decided delim n filing.names x y i less ∙ sym (dealt_decided delim n filing.names x z i less)))
+    grind (arith, common_steps, dealt_all, drop_all, nothing_waits, dealt_decided)
 
 -- All ways to cut
 
@@ -387,8 +388,7 @@ named_at : (names : Naming) (place : ℕ) (those : List (List ℕ)) (k : ℕ)
 named_at names place [] k = grind (arith, nat_tests)
 named_at names place (one ∷ those) zero = grind (arith, common_steps)
 named_at names place (one ∷ those) (suc k) =
-    let before = λ (is : has_name names (place + suc k) ≡ true). named_before names place (place + suc k) is (omega arith) in
-    grind (arith, nat_tests, named_at names (place + 1) those k, ap (has_name names) (one_on place k), before)
+    grind (arith, common_steps, named_before, nat_tests, one_on, named_at names (place + 1) those k)
 
 -- a file that has a byte has a name, and is one of n
 there_by : (has : Bool) (these : List ℕ) {offset : ℕ} → offset < length (cond has these [])
