@@ -6,7 +6,7 @@ use Rattle.std.proofs.lemmas.{
   List.FromFn.{get_or-map-range_with_len, length-map-range_with_len, map-range_with_len_more, take-map-range_with_len},
 }
 use Rattle.std.proofs.{
-  Common.{◌≡◌, ℕ, ◌+◌, ◌-◌, ◌/◌, ◌%◌, ◌<◌, ◌≤◌, zero, suc, true, false, cond, List, [], ◌∷◌, ◌++◌, length, take, drop},
+  Common.{◌≡◌, ℕ, ◌+◌, ◌-◌, ◌/◌, ◌%◌, ◌<◌, ◌≤◌, zero, suc, true, false, List, [], ◌∷◌, ◌++◌, length, take, drop},
   Common.{map, get_or, Option, Some, None, inl, inr, refl, sym, ◌∙◌, ap, arith},
 }
 use Rattle.std.specs.List.{flat_map, range_with_len}
@@ -27,7 +27,7 @@ use Rattle.split_core.specs.{
   Chunks.{in_the_end, is_as_said, open_from, pieces_in, size_by},
   ChunkWork.{chunk_work, files_by, way_work},
   Split.{Filing, are_named, manner_of, share},
-  Parts.{dealt, round_robin, unless_empty},
+  Parts.{unless_empty},
   laws.BegunLaws.{begun_lines, begun_long, begun_some, begun_stays, begun_within},
   laws.ChunkLaws.{chunk_none, cut_all, ended_within, joined_chunks, start_first, start_grows, start_last, start_next},
   laws.ChunkLaws.{start_within, rest_none, take_within},

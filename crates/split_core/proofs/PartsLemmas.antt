@@ -2,7 +2,7 @@
 use Rattle.std.proofs.{
   lemmas.{Grind.common_steps, List.{append-nil, drop-take, take-append-drop, length-map, map-append}},
   Common.{◌≡◌, ℕ, ◌+◌, ◌-◌, ◌<◌, ◌≤◌, suc, List, [], ◌∷◌, ◌++◌, ◌⊎◌, length, map, Bool, true, false, Option, Some},
-  Common.{None, IfSome, IsTrue, Result, Ok, Err, OnOk, IfErr, IfOk, inl, inr, refl, sym, ◌∙◌, ap, subst, arith},
+  Common.{None, IfSome, IsTrue, Result, Ok, Err, OnOk, IfErr, IfOk, inr, refl, sym, ◌∙◌, ap, subst, arith},
   Common.{length-append, take, drop, append_assoc, not, cond, rules},
   Math.Seq.take-length,
 }

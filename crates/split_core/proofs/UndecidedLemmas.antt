@@ -41,7 +41,7 @@ use Rattle.ports_core.proofs.{
 use Rattle.split_core.specs.{
   Parts.{parts, whole_lines, cut_up, unless_empty, settled_rest, waiting_rest, dealt},
   inner.{CutLaws.named, Dealt.share_of},
-  Split.{Filing, output_by, share, are_named, settled_by, is_short, split_work, dealt_files, bytes_in, whole_by},
+  Split.{Filing, output_by, share, are_named, is_short, split_work, dealt_files, whole_by},
   PartsState.parts_work,
   Place.{beside_output, dealt_spots, split_spots, dealt_to},
   Round.round_plan,
