@@ -72,7 +72,8 @@ named_more names place (one ∷ front) back = more_step (has_name names place) o
 pub count_named : (names : Naming) (place : ℕ) (these those : List (List ℕ)) → length these ≡ length those
     → length (named_bytes names place these) ≡ length (named_bytes names place those)
 count_named names place [] [] same = refl
-count_named names place (one ∷ these) (two ∷ those) same = grind (arith, nat_tests, count_named names (place + 1) these those (omega (arith, same)))
+count_named names place (one ∷ these) (two ∷ those) same =
+    grind (arith, nat_tests, count_named names (place + 1) these those (omega arith))
 count_named names place these those same = cc
 
 named_each : (names : Naming) (place : ℕ) (one : List ℕ) (those : List (List ℕ))
@@ -151,7 +152,7 @@ line_ends : (delim n : ℕ) (rest : List ℕ) → 0 < n → length rest < n → 
 line_ends delim n rest some short lines = search (rules, length-append, length-replicate, other, cut_first, full_from, take_all, lines_stay, none_among)
 
 pub one_of : (bytes : List ℕ) → 0 < length bytes → unless_empty bytes ≡ bytes ∷ []
-one_of [] some = absurd (omega (arith, some))
+one_of [] some = absurd (omega arith)
 one_of (byte ∷ bytes) some = refl
 
 pub delimiters_some : (delim : ℕ) (x : List ℕ) → 0 < delimiters delim x → 0 < length x
@@ -195,15 +196,24 @@ agreed_files work x few y more begin few_come come count out same = record {
       × ((front : List ℕ) → IsBeginning front (output_at (work.whole (x ++ a)) place)
       → IsBeginning front (output_at (work.whole (x ++ b)) place)
       → length front ≤ length (output_at (work.settled x) place))
-  longest zero less = (few, few, few_come, few_come, λ front is also. let short = beginning_short front _ is in omega (arith, short, ap length out))
+  longest zero less = (
+    few,
+    few,
+    few_come,
+    few_come,
+    λ front is also. let short =
+        beginning_short front _ is in omega (arith, ap length out),
+  )
   longest (suc place) less = (
     y,
     y,
     come,
     come,
     λ front is also. let short = beginning_short front _ is in
-        let here : get_or (file_bytes (work.whole (x ++ y))) place [] ≡ get_or (file_bytes (work.settled x)) place [] = ap (λ files. get_or files place []) same ∙ get_or_append_left (file_bytes (work.settled x)) more [] place (omega (arith, less)) in
-        omega (arith, short, ap length here),
+        let here : get_or (file_bytes (work.whole (x ++ y))) place [] ≡ get_or (file_bytes (work.settled x)) place [] =
+        ap (λ files. get_or files place []) same ∙ get_or_append_left (file_bytes (work.settled x)) more [] place
+        (omega arith) in
+        omega (arith, ap length here),
   )
 
 -- as many files have as many lines
@@ -214,7 +224,8 @@ told_alike filing place these those same = by filing.verbose refl where
   lines : (line : List ℕ → List ℕ) (place : ℕ) (these those : List Share) → length these ≡ length those
       → openings_for line (named filing place these) ≡ openings_for line (named filing place those)
   lines line place [] [] same = refl
-  lines line place (one ∷ these) (two ∷ those) same = grind (arith, nat_tests, lines line (place + 1) these those (omega (arith, same)))
+  lines line place (one ∷ these) (two ∷ those) same =
+      grind (arith, nat_tests, lines line (place + 1) these those (omega arith))
   lines line place these those same = cc
 
   by : (verbose : Bool) → filing.verbose ≡ verbose

@@ -69,7 +69,7 @@ spares_on n one two is = rw (one, two) is
 pub alike_more : {work : Work} {x z : List ℕ} → AreAlike work x z → (piece : List ℕ)
     → AreAlike work (x ++ piece) (z ++ piece)
 alike_more {work} {x} {z} alike piece = record {
-  long = omega (arith, alike.long, length-append x piece, length-append z piece);
+  long = omega (arith, length-append x piece, length-append z piece);
   settled = so_on work.settled x z piece alike.settled;
   whole = so_on work.whole x z piece alike.whole;
   waiting = so_on work.waiting x z piece alike.waiting;
@@ -102,10 +102,10 @@ module _ (work : Work) (lawful : IsLawful work) (x z : List ℕ) (going : work.i
 
   needed_so : (u v rest y : List ℕ) → z ++ y ≡ u ++ rest → u ≡ z ++ v → length z < length u
       → IsNeeded work.is_complete 1 u → IsNeeded work.is_complete 1 (x ++ v)
-  needed_so u v rest y is all less (inl none) = absurd (omega (arith, less, ap length none))
+  needed_so u v rest y is all less (inl none) = absurd (omega (arith, ap length none))
   needed_so u v rest y is all less (inr (before, piece, joined, few, open_yet)) =
       let (front, rest_is) = split_at z v before piece (sym all ∙ joined)
-      (omega (arith, less, few, ap length joined, length-append before piece)) in
+      (omega (arith, ap length joined, length-append before piece)) in
       let b = drop (length z) before in inr (
         x ++ b,
         piece,
@@ -119,7 +119,7 @@ module _ (work : Work) (lawful : IsLawful work) (x z : List ℕ) (going : work.i
   spare_full y n complete spare =
       let done = complete_used work (z ++ y) n spare complete in
       let less = longer spare.used spare.rest y spare.joined done in
-      let (all, rest_is) = split_at z y spare.used spare.rest spare.joined (omega (arith, less)) in
+      let (all, rest_is) = split_at z y spare.used spare.rest spare.joined (omega arith) in
       let v = drop (length z) spare.used in record {
         used = x ++ v;
         rest = spare.rest;
@@ -248,7 +248,7 @@ module _ {S : Type 0} (terms : Terms S) where
       → TookIn (as_if terms) before after x
   took_as {before} {x = x} {z} alike took = record {
     same = took.same;
-    size = omega (arith, took.size, alike.long);
+    size = omega arith;
     holds = record {
       other = z;
       alike = subst (λ work. AreAlike work x z) (sym took.same) alike;
@@ -258,7 +258,7 @@ module _ {S : Type 0} (terms : Terms S) where
     owns = took.owns;
     idle = settled_as alike ∙ took.idle;
     going = elim took.going [
-      | inl none ↦ inl (nil_from_length x (omega (arith, alike.long, ap length none)))
+      | inl none ↦ inl (nil_from_length x (omega (arith, ap length none)))
       | inr going ↦ inr (complete_as alike ∙ going)
     ];
   }

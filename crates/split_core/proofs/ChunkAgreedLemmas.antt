@@ -1,7 +1,8 @@
 -- What is settled of chunks is what all continuations agree on.
+use Rattle.std.proofs.lemmas.Grind.{common_steps}
 use Rattle.std.proofs.{
-  Common.{◌≡◌, ◌≢◌, ℕ, ◌+◌, ◌-◌, ◌*◌, ◌/◌, ◌<◌, ◌≤◌, max, zero, suc, Bool, true, false, cond, List, [], ◌∷◌, ◌++◌},
-  Common.{length, take, drop, map, get_or, replicate, Option, Some, None, inl, inr, refl, sym, ◌∙◌, ap, subst, arith},
+  Common.{◌≡◌, ◌≢◌, ℕ, ◌+◌, ◌-◌, ◌*◌, ◌<◌, ◌≤◌, max, zero, suc, Bool, true, false, List, [], ◌∷◌, ◌++◌, length, take},
+  Common.{drop, map, get_or, replicate, Option, Some, None, inl, inr, refl, sym, ◌∙◌, ap, subst, arith},
   lemmas.{
     Bool.{cases_lt, eq-eqb, ltb-false},
     List.{append-nil, drop-append-le, length-append, length-replicate, map-append, take_all},
@@ -77,9 +78,7 @@ run_drop c (suc n) (byte ∷ bytes) (same, run) = run_drop c n bytes run
 apart : (a b : ℕ) → a ≢ b → (front one other : List ℕ) → IsBeginning front one → IsBeginning front other → IsRun a one
     → IsRun b other → length front ≤ 0
 apart a b differ [] one other first second run also = omega arith
-apart a b differ (byte ∷ front) one other first second run also =
-    absurd (differ (sym (run_begins a (byte ∷ front) one first run).0
-    ∙ (run_begins b (byte ∷ front) other second also).0))
+apart a b differ (byte ∷ front) one other first second run also = grind (arith, common_steps, run_begins, other)
 
 begins_tail : (byte next : ℕ) (front x : List ℕ) → IsBeginning (byte ∷ front) (next ∷ x) → IsBeginning front x
 begins_tail byte next front x (rest, is) = (rest, ap (drop 1) is)
@@ -89,10 +88,13 @@ apart_after : (a b : ℕ) → a ≢ b → (r front one other : List ℕ) → IsB
 apart_after a b differ [] front one other first second run also = apart a b differ front one other first second run also
 apart_after a b differ (byte ∷ r) [] one other first second run also = omega arith
 apart_after a b differ (byte ∷ r) (next ∷ front) one other first second run also =
-    omega (
+    grind (
       arith,
-      apart_after a b differ r front one other (begins_tail next byte front (r ++ one) first)
-          (begins_tail next byte front (r ++ other) second) run also,
+      common_steps,
+      other,
+      begins_tail,
+      apart_after a b differ r front one other (begins_tail next byte
+          front (r ++ one) first),
     )
 
 -- Files, of which the first has r and then this byte, and only it from there on, and so have all after it
@@ -103,11 +105,7 @@ IsTail c r (piece ∷ pieces) = ((more : List ℕ) × (piece ≡ r ++ c ∷ more
 
 some_runs : (c : ℕ) (pieces : List (List ℕ)) → AreRuns c pieces → AreRuns c (filter has_bytes pieces)
 some_runs c [] runs = tt
-some_runs c (piece ∷ pieces) (run, runs) = by (has_bytes piece) (some_runs c pieces runs) where
-  by : (some : Bool) → AreRuns c (filter has_bytes pieces)
-      → AreRuns c (cond some (piece ∷ filter has_bytes pieces) (filter has_bytes pieces))
-  by true rest = (run, rest)
-  by false rest = rest
+some_runs c (piece ∷ pieces) (run, runs) = grind (arith, common_steps, some_runs c pieces runs)
 
 some_after : (r : List ℕ) (byte : ℕ) (more : List ℕ) → has_bytes (r ++ byte ∷ more) ≡ true
 some_after [] byte more = refl
@@ -144,7 +142,7 @@ tails_apart a b differ [] r (piece ∷ one) (next ∷ other) ((more, is, run), r
           (subst (IsBeginning bytes) are second) (refl, run) (refl, also),
     )
 tails_apart a b differ [] r (piece ∷ one) (next ∷ other) tail also (suc place) bytes first second =
-    omega (arith, apart a b differ bytes _ _ first second (runs_at a one place tail.1) (runs_at b other place also.1))
+    grind (arith, common_steps, apart, runs_at, other)
 tails_apart a b differ (piece ∷ front) r one other tail also zero bytes first second = beginning_short bytes piece first
 tails_apart a b differ (piece ∷ front) r one other tail also (suc place) bytes first second =
     tails_apart a b differ front r one other tail also place bytes first second
@@ -159,18 +157,18 @@ drop_run : (c : ℕ) (x y : List ℕ) (n : ℕ) (front : List ℕ) → IsBeginni
     → IsRun c (drop n front)
 drop_run c [] y n front begins past run = run_drop c n front (run_begins c front y begins run)
 drop_run c (byte ∷ x) y n [] begins past run = drop_none c n
-drop_run c (byte ∷ x) y zero (next ∷ front) begins past run = absurd (omega (arith, past))
+drop_run c (byte ∷ x) y zero (next ∷ front) begins past run = absurd (omega arith)
 drop_run c (byte ∷ x) y (suc n) (next ∷ front) begins past run =
-    drop_run c x y n front (begins_tail next byte front (x ++ y) begins) (omega (arith, past)) run
+    drop_run c x y n front (begins_tail next byte front (x ++ y) begins) (omega arith) run
 
 runs_from : (c : ℕ) (f : ℕ → List ℕ) (a n : ℕ) → ((i : ℕ) → a ≤ i → IsRun c (f i))
     → AreRuns c (map f (range_with_len a n))
 runs_from c f a zero run = tt
-runs_from c f a (suc n) run = (run a (omega arith), runs_from c f (a + 1) n (λ i from. run i (omega (arith, from))))
+runs_from c f a (suc n) run = (run a (omega arith), runs_from c f (a + 1) n (λ i from. run i (omega arith)))
 
 front_of : (unit : Which) (delim place byte : ℕ) (y : List ℕ) → 0 < place
     → (more : List ℕ) × (begun_before unit delim place (byte ∷ y) ≡ byte ∷ more)
-front_of Bytes delim zero byte y some = absurd (omega (arith, some))
+front_of Bytes delim zero byte y some = absurd (omega arith)
 front_of Bytes delim (suc place) byte y some = (take place y, refl)
 front_of Lines delim place byte y some = (_, begun_first delim byte place y some)
 
@@ -217,8 +215,7 @@ tail_is chunks size x y c p m run same past =
 
 parts_split : (f : ℕ → List ℕ) (p m : ℕ)
     → map f (range_with_len 0 (p + suc m)) ≡ map f (range_with_len 0 p) ++ map f (range_with_len p (suc m))
-parts_split f p m = let e : 0 + p ≡ p = omega arith in
-    map_parts f 0 p m ∙ ap (λ n. map f (range_with_len 0 p) ++ f n ∷ map f (range_with_len (n + 1) m)) e
+parts_split f p m = grind (arith, common_steps, map_parts)
 
 -- the files of a whole text, by a place
 pub files_split : (elide : Bool) (chunks : Chunks) (size : ℕ) (w : List ℕ) (p m : ℕ) → 0 < chunks.count
@@ -226,14 +223,8 @@ pub files_split : (elide : Bool) (chunks : Chunks) (size : ℕ) (w : List ℕ) (
     → p + suc m ≡ chunks.count → files_by elide (chunks_of chunks size w)
     ≡ kept elide (map (chunk_at chunks size w) (range_with_len 0 p))
     ++ kept elide (map (chunk_at chunks size w) (range_with_len p (suc m)))
-files_split elide chunks size w p m some long is = let f = chunk_at chunks size w in
-    ap (files_by elide) (cut_all chunks size w some (omega (arith, long)))
-    ∙ append-nil (kept elide (map (chunk_at chunks size (take size w)) (range_with_len 0 chunks.count)))
-    ∙ ap (λ z. kept elide (map (chunk_at chunks size z) (range_with_len 0 chunks.count)))
-    (take_all size w (omega (arith, long)))
-    ∙ ap (λ n. kept elide (map f (range_with_len 0 n))) (sym is)
-    ∙ ap (kept elide) (parts_split f p m)
-    ∙ kept-append elide (map f (range_with_len 0 p)) (map f (range_with_len p (suc m)))
+files_split elide chunks size w p m some long is =
+    grind (arith, common_steps, cut_all, append-nil, take_all, parts_split, kept-append)
 
 -- Where the size was said
 
@@ -241,15 +232,8 @@ files_split elide chunks size w p m some long is = let f = chunk_at chunks size 
 pub chunks_left : (chunks : Chunks) (size : ℕ) (x : List ℕ) → 0 < chunks.count → length x < size
     → (m : ℕ) × (ended chunks size x + suc m ≡ chunks.count)
 chunks_left chunks size x some short = let p = ended chunks size x in elim (cases_lt p chunks.count) [
-  | inl less ↦ (chunks.count - p - 1, omega (arith, less))
-  | inr last ↦ absurd (omega (
-    arith,
-    short,
-    start_past chunks.count size p some last,
-    (ended_is chunks size x).before,
-    passed_open chunks size x short,
-    open_within chunks.unit chunks.delim x,
-  ))
+  | inl less ↦ (chunks.count - p - 1, omega arith)
+  | inr last ↦ absurd (omega (arith, start_past, (ended_is chunks size x).before, passed_open, open_within))
 ]
 
 -- in the end there are the files of those that have ended, and then those of all others
@@ -262,8 +246,8 @@ said_split elide chunks size x y m some short long is =
     let here : HaveEnded chunks size x p = ended_is chunks size x in
     files_split elide chunks size (x ++ y) p m some long is
     ∙ ap (λ front. kept elide front ++ kept elide (map (chunk_at chunks size (x ++ y)) (range_with_len p (suc m))))
-    (full_stays chunks size p x y (omega (arith, long)) here.before
-    ∙ sym (ap (λ cut. cut.full) (chunks_are chunks size x some (omega (arith, short)) here)))
+    (full_stays chunks size p x y (omega arith) here.before
+    ∙ sym (ap (λ cut. cut.full) (chunks_are chunks size x some (omega arith) here)))
 
 -- the files where a text goes on with one byte alone
 abbrev pub TailFiles : Bool → Chunks → ℕ → List ℕ → ℕ → List ℕ → List (List ℕ) → List ℕ → Type 0
@@ -281,9 +265,9 @@ said_files elide chunks size x y c some short long run =
       kept elide those,
       tail_kept elide c (chunks_of chunks size x).rest those
           (subst (λ (cut : CutUp). IsTail c cut.rest those)
-          (sym (chunks_are chunks size x some (omega (arith, short)) here))
-          (tail_is chunks size x y c p m run (before_stays chunks size p x (c ∷ y) (omega (arith, long)) here.before)
-          (omega (arith, here.next (omega (arith, is)), passed_open chunks size x short)))),
+          (sym (chunks_are chunks size x some (omega arith) here))
+          (tail_is chunks size x y c p m run (before_stays chunks size p x (c ∷ y) (omega arith) here.before)
+          (omega (arith, here.next (omega arith), passed_open)))),
       said_split elide chunks size x (c ∷ y) m some short long is,
     )
 
@@ -302,13 +286,12 @@ abbrev pub fill : ℕ → List ℕ → ℕ → List ℕ
 fill size x c = replicate (size - length x - 1) c
 
 pub fills : (size : ℕ) (x : List ℕ) (c : ℕ) → length x < size → length (x ++ c ∷ fill size x c) ≡ size
-fills size x c short = omega (arith, length-append x (c ∷ fill size x c), length-replicate (size - length x - 1) c, short)
+fills size x c short = omega (arith, length-append x (c ∷ fill size x c), length-replicate (size - length x - 1) c)
 
 pub said_filled : (elide : Bool) (chunks : Chunks) (size : ℕ) (x : List ℕ) (c : ℕ) → 0 < chunks.count → length x < size
     → TailFiles elide chunks size x c (fill size x c) (kept elide (chunks_of chunks size x).full)
     (chunks_of chunks size x).rest
-said_filled elide chunks size x c some short =
-    said_files elide chunks size x (fill size x c) c some short (fills size x c short) (run_of c (size - length x - 1))
+said_filled elide chunks size x c some short = grind (arith, common_steps, said_files, fills, run_of)
 
 said_longest : (elide : Bool) (chunks : Chunks) (size : ℕ) (x : List ℕ) (place : ℕ) → 0 < chunks.count
     → length x ≤ size → AreFiles elide chunks (Some size) x place
@@ -320,7 +303,7 @@ said_longest elide chunks size x place some within = elim (cases_lt (length x) s
         z = 1 ∷ fill size x 1;
         comes = (copies_come (suc (size - length x - 1)) 0 (omega arith), eq-eqb _ _ (fills size x 0 short));
         also = (copies_come (suc (size - length x - 1)) 1 (omega arith), eq-eqb _ _ (fills size x 1 short));
-        longest = λ front first second. tails_apart 0 1 (λ same. omega (arith, same))
+        longest = λ front first second. tails_apart 0 1 (λ same. omega arith)
             (kept elide (chunks_of chunks size x).full) (chunks_of chunks size x).rest one.0 two.0 one.1 two.1 place
             front
             (rw one.2 at first)
@@ -329,8 +312,8 @@ said_longest elide chunks size x place some within = elim (cases_lt (length x) s
   | inr full ↦ record {
     y = [];
     z = [];
-    comes = (none_comes, eq-eqb _ _ (omega (arith, length-append x [], within, full)));
-    also = (none_comes, eq-eqb _ _ (omega (arith, length-append x [], within, full)));
+    comes = (none_comes, eq-eqb _ _ (omega (arith, length-append x [])));
+    also = (none_comes, eq-eqb _ _ (omega (arith, length-append x [])));
     longest = λ front first second. beginning_short _ _ (rw (append-nil x) at first);
   }
 ]
@@ -343,10 +326,7 @@ joined-kept true pieces = joined_some pieces
 
 -- the files have all that the pieces have
 pub joined_files : (elide : Bool) (cut : CutUp) → joined (files_by elide cut) ≡ joined (pieces_in cut)
-joined_files elide cut = joined-append (kept elide cut.full) (unless_empty cut.rest)
-    ∙ ap (λ front. front ++ joined (unless_empty cut.rest)) (joined-kept elide cut.full)
-    ∙ ap (λ rest. joined cut.full ++ rest) (joined_one cut.rest ∙ sym (append-nil cut.rest))
-    ∙ sym (joined-append cut.full (cut.rest ∷ []))
+joined_files elide cut = grind (arith, common_steps, joined-append, joined-kept, joined_one, append-nil)
 
 at_within : (pieces : List (List ℕ)) (place : ℕ) → length (get_or pieces place []) ≤ length (joined pieces)
 at_within [] place = omega arith
@@ -356,14 +336,10 @@ at_within (piece ∷ pieces) (suc place) =
 
 -- once enough came in, all that came before it stands in the first chunk
 pub far : (n size : ℕ) → 0 < n → size < chunk_start n (size + suc size * n) (0 + 1)
-far n size some =
-    let enough : suc size ≤ (size + suc size * n) / n = le-div (suc size) (size + suc size * n) n some (omega arith) in
-    let one : (0 + 1) * ((size + suc size * n) / n) ≡ (size + suc size * n) / n = one-mul _ in
-    omega (arith, enough, one)
+far n size some = grind (arith, common_steps, le-div, one-mul)
 
 pub none_before_first : (chunks : Chunks) (size : ℕ) (x : List ℕ) → before_chunk chunks size 0 x ≡ []
-none_before_first chunks size x = ap (λ at. begun_before chunks.unit chunks.delim at x) (start_first chunks.count size)
-    ∙ begun_first_place chunks.unit chunks.delim x
+none_before_first chunks size x = grind (arith, common_steps, start_first, begun_first_place)
 
 pub none_kept : (elide : Bool) → kept elide [] ≡ []
 none_kept true = refl
@@ -436,10 +412,10 @@ first_file elide chunks byte x some = by chunks.count refl where
 
   by : (n : ℕ) → chunks.count ≡ n → (more : List (List ℕ))
       × (files_by elide (chunks_of chunks (length all) all) ≡ before_chunk chunks (length all) 1 all ∷ more)
-  by zero is = absurd (omega (arith, some, is))
+  by zero is = absurd (omega arith)
   by (suc m) is = (
     kept elide (map f (range_with_len (0 + 1) m)),
-    files_split elide chunks (length all) all 0 m some refl (omega (arith, is))
+    files_split elide chunks (length all) all 0 m some refl (omega arith)
         ∙ ap (λ front. front ++ kept elide (map f (range_with_len 0 (suc m)))) (none_kept elide)
         ∙ first_kept elide (f 0) (map f (range_with_len (0 + 1) m)) filled
         ∙ ap (λ piece. piece ∷ kept elide (map f (range_with_len (0 + 1) m))) one,
@@ -532,28 +508,18 @@ shares_filed filing count closed those named few =
 
 few_kept : (elide : Bool) (cut : CutUp) (count : ℕ) → length (files_by false cut) ≤ count
     → length (files_by elide cut) ≤ count
-few_kept elide cut count few = omega (
-  arith,
-  few,
-  length-kept elide cut.full,
-  length-append (kept elide cut.full) (unless_empty cut.rest),
-  length-append cut.full (unless_empty cut.rest),
-)
+few_kept elide cut count few = grind (arith, common_steps, length-kept, length-append)
 
 pub few_decided : (elide : Bool) (chunks : Chunks) (said : Option ℕ) (x : List ℕ) → 0 < chunks.count
     → length (files_by elide (decided chunks 1 said x)) ≤ chunks.count
-few_decided elide chunks None x some =
-    few_kept elide (decided chunks 1 None x) chunks.count
-    (omega (arith, made_few (before_chunk chunks (length x) 1 x), some))
+few_decided elide chunks None x some = grind (arith, common_steps, few_kept, made_few)
 few_decided elide chunks (Some size) x some = few_kept elide (chunks_of chunks size x) chunks.count
     (few_files chunks size x some)
 
 pub settled_files : (plan : ChunksPlan) (said : Option ℕ) (x : List ℕ) → 0 < plan.chunks.count
     → are_named plan.filing.names plan.chunks.count ≡ true
     → file_bytes (chunks_settled plan said x) ≡ files_by plan.elide (decided plan.chunks 1 said x)
-settled_files plan said x some named = let cut = decided plan.chunks 1 said x in
-    shares_filed plan.filing plan.chunks.count (kept plan.elide cut.full) (unless_empty cut.rest) named
-    (few_decided plan.elide plan.chunks said x some)
+settled_files plan said x some named = grind (arith, common_steps, shares_filed, few_decided)
 
 pub whole_files : (plan : ChunksPlan) (said : Option ℕ) (x : List ℕ) → 0 < plan.chunks.count
     → are_named plan.filing.names plan.chunks.count ≡ true
@@ -575,7 +541,7 @@ agree_by work agreed at those same enough = (
   those.comes,
   those.also,
   λ front first second.
-      omega (arith, enough, those.longest front (same those.y front first) (same those.z front second)),
+      omega (arith, those.longest front (same those.y front first) (same those.z front second)),
 )
 
 none_told : (part : Part) → (verbose : Bool) → verbose ≡ false → part.out ≡ told_of_files (output_by verbose) part.files
@@ -636,10 +602,7 @@ piece_made : (place : ℕ) (chunks : Chunks) (said : Option ℕ) (x : List ℕ)
     → length (get_or (files_by false (decided chunks 1 said x)) place [])
     ≤ length (get_or (pieces_in (decided chunks (max place 1) said x)) place [])
 piece_made zero chunks None x = omega (arith, ap length (first_made (before_chunk chunks (length x) 1 x)))
-piece_made (suc place) chunks None x = by (before_chunk chunks (length x) 1 x) where
-  by : (r : List ℕ) → length (get_or (unless_empty r) (suc place) []) ≤ 0
-  by [] = omega arith
-  by (byte ∷ r) = omega arith
+piece_made (suc place) chunks None x = grind (arith, common_steps)
 piece_made place chunks (Some size) x = let cut = chunks_of chunks size x in
     omega (arith, ap length (same_pieces cut.full cut.rest place))
 
@@ -648,13 +611,13 @@ chunk_longest : (place : ℕ) (chunks : Chunks) (said : Option ℕ) (x : List �
     → HasNoMore (CanFollow said x) (chunk_work place chunks said) x ((chunk_work place chunks said).settled x) at
 chunk_longest place chunks said x within fits zero =
     agree_by (chunk_work place chunks said) ((chunk_work place chunks said).settled x) 0
-    (files_longest false chunks said x place (omega (arith, within)) fits)
+    (files_longest false chunks said x place (omega arith) fits)
     (λ y front begins. let cut = in_the_end chunks said (x ++ y) in
     subst (IsBeginning front) (same_pieces cut.full cut.rest place) begins)
     (piece_made place chunks said x)
 chunk_longest place chunks said x within fits (suc at) =
     nothing_at (chunk_work place chunks said) ((chunk_work place chunks said).settled x) (suc at)
-    (files_longest false chunks said x place (omega (arith, within)) fits) (λ y. refl)
+    (files_longest false chunks said x place (omega arith) fits) (λ y. refl)
 
 pub chunk_agreed : (place : ℕ) (chunks : Chunks) (said : Option ℕ) (x : List ℕ) → place < chunks.count
     → is_longer said x ≡ false

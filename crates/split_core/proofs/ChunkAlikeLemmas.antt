@@ -40,23 +40,23 @@ piece_is chunks size x place some fits = ap (λ pieces. get_or pieces place [])
       by : (place < n + 1) ⊎ (n + 1 ≤ place) → get_or (map f (range_with_len 0 (n + 1))) place [] ≡ f place
       by (inl within) = get_or-map-range_with_len f 0 (n + 1) place place [] within (omega arith)
       by (inr past) = get_or_past (map f (range_with_len 0 (n + 1))) place []
-          (omega (arith, past, length-map-range_with_len f 0 (n + 1)))
+          (omega (arith, length-map-range_with_len f 0 (n + 1)))
           ∙ sym (chunk_none chunks size x place (before_later chunks size x (n + 1) place past
           (before_next chunks size x n some fits (ended_is chunks size x))))
 
 -- Of two texts that go on alike, after as many bytes, the open lines begin both before a later place, or neither does.
 open_so : (unit : Unit) (delim at : ℕ) (x z y : List ℕ) → length x ≡ length z → length x < at
     → nat_le at (open_from unit delim (x ++ y)) ≡ nat_le at (open_from unit delim (z ++ y))
-open_so Bytes delim at x z y long before = ap (nat_le at) (omega (arith, long, length-append x y, length-append z y))
+open_so Bytes delim at x z y long before = ap (nat_le at) (omega (arith, length-append x y, length-append z y))
 open_so Lines delim at x z y long before =
     by (nat_lt 0 (delimiters delim y)) (open_append delim x y) (open_append delim z y) where
       by : (some : Bool)
           → open_from Lines delim (x ++ y) ≡ cond some (length x + open_from Lines delim y) (open_from Lines delim x)
           → open_from Lines delim (z ++ y) ≡ cond some (length z + open_from Lines delim y) (open_from Lines delim z)
           → nat_le at (open_from Lines delim (x ++ y)) ≡ nat_le at (open_from Lines delim (z ++ y))
-      by true one two = ap (nat_le at) (omega (arith, long, one, two))
-      by false one two = lt-leb _ _ (omega (arith, before, one, open_within Lines delim x))
-          ∙ sym (lt-leb _ _ (omega (arith, before, long, two, open_within Lines delim z)))
+      by true one two = ap (nat_le at) (omega arith)
+      by false one two = lt-leb _ _ (omega (arith, open_within Lines delim x))
+          ∙ sym (lt-leb _ _ (omega (arith, open_within Lines delim z)))
 
 module _ (place : ℕ) (chunks : Chunks) (size : ℕ) (can : place < chunks.count) where
   abbrev start : ℕ → ℕ

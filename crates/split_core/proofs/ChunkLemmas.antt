@@ -6,8 +6,8 @@ use Rattle.std.proofs.lemmas.{
   List.FromFn.{get_or-map-range_with_len, length-map-range_with_len, map-range_with_len_more, take-map-range_with_len},
 }
 use Rattle.std.proofs.{
-  Common.{◌≡◌, ℕ, ◌+◌, ◌-◌, ◌/◌, ◌%◌, ◌<◌, ◌≤◌, zero, suc, true, false, cond, List, [], ◌∷◌, ◌++◌, length, take, drop},
-  Common.{map, get_or, Option, Some, None, inl, inr, refl, sym, ◌∙◌, ap, arith},
+  Common.{◌≡◌, ℕ, ◌+◌, ◌-◌, ◌/◌, ◌%◌, ◌<◌, ◌≤◌, zero, suc, true, false, List, [], ◌∷◌, ◌++◌, length, take, drop, map},
+  Common.{get_or, Option, Some, None, inl, inr, refl, sym, ◌∙◌, ap, arith},
 }
 use Rattle.std.specs.List.{flat_map, range_with_len}
 use Rattle.seg_core.{
@@ -27,7 +27,7 @@ use Rattle.split_core.specs.{
   Chunks.{in_the_end, is_as_said, open_from, pieces_in, size_by},
   ChunkWork.{chunk_work, files_by, way_work},
   Split.{Filing, are_named, manner_of, share},
-  Parts.{dealt, round_robin, unless_empty},
+  Parts.{unless_empty},
   laws.BegunLaws.{begun_lines, begun_long, begun_some, begun_stays, begun_within},
   laws.ChunkLaws.{chunk_none, cut_all, ended_within, joined_chunks, start_first, start_grows, start_last, start_next},
   laws.ChunkLaws.{start_within, rest_none, take_within},
@@ -49,9 +49,7 @@ count_chunks chunks x some =
 pub join_first : (chunks : Chunks) (x : List ℕ) (place : ℕ) → 0 < chunks.count → place ≤ chunks.count
     → joined (take place (chunks_in chunks x)) ≡ before_chunk chunks (length x) place x
 join_first chunks x place some within =
-    ap (λ pieces. joined (take place pieces)) (chunks_in_are chunks x some)
-    ∙ ap joined (take-map-range_with_len (chunk_at chunks (length x) x) 0 chunks.count place within)
-    ∙ joined_chunks chunks (length x) x place
+    grind (arith, common_steps, chunks_in_are, take-map-range_with_len, joined_chunks)
 
 pub join_chunks : (chunks : Chunks) (x : List ℕ) → 0 < chunks.count → joined (chunks_in chunks x) ≡ x
 join_chunks chunks x some =
@@ -62,61 +60,38 @@ join_chunks chunks x some =
 pub chunk_in : (chunks : Chunks) (x : List ℕ) (place : ℕ) → place < chunks.count
     → get_or (chunks_in chunks x) place [] ≡ chunk_at chunks (length x) x place
 chunk_in chunks x place within =
-    ap (λ pieces. get_or pieces place []) (chunks_in_are chunks x (omega (arith, within)))
+    ap (λ pieces. get_or pieces place []) (chunks_in_are chunks x (omega arith))
     ∙ get_or-map-range_with_len (chunk_at chunks (length x) x) 0 chunks.count place place [] within (omega arith)
 
 -- those of bytes
 
 drop_take : (k n : ℕ) (x : List ℕ) → k ≤ n → drop (length (take k x)) (take n x) ≡ take (n - k) (drop k x)
 drop_take zero n x within = ap (λ m. take m x) (omega arith)
-drop_take (suc k) zero x within = absurd (omega (arith, within))
+drop_take (suc k) zero x within = absurd (omega arith)
 drop_take (suc k) (suc n) [] within = grind (arith, common_steps)
 drop_take (suc k) (suc n) (byte ∷ x) within =
-    let e : suc n - suc k ≡ n - k = omega arith in drop_take k n x (omega (arith, within))
+    let e : suc n - suc k ≡ n - k = omega arith in drop_take k n x (omega arith)
     ∙ ap (λ m. take m (drop k x)) (sym e)
 
 pub bytes_in_chunk : (chunks : Chunks) (x : List ℕ) (place : ℕ) → place < chunks.count → chunks.unit ≡ Bytes
     → get_or (chunks_in chunks x) place []
     ≡ take (chunk_start chunks.count (length x) (place + 1) - chunk_start chunks.count (length x) place)
     (drop (chunk_start chunks.count (length x) place) x)
-bytes_in_chunk chunks x place within is = let at = chunk_start chunks.count (length x) in
-    chunk_in chunks x place within
-    ∙ ap (λ unit. drop (length (begun_before unit chunks.delim (at place) x))
-    (begun_before unit chunks.delim (at (place + 1)) x)) is
-    ∙ drop_take (at place) (at (place + 1)) x (start_grows chunks.count (length x) place (place + 1) (omega arith))
+bytes_in_chunk chunks x place within is = grind (arith, common_steps, chunk_in, drop_take, start_grows)
 
 chunk_length : (chunks : Chunks) (x : List ℕ) (place : ℕ) → place < chunks.count → chunks.unit ≡ Bytes
     → length (get_or (chunks_in chunks x) place [])
     ≡ chunk_start chunks.count (length x) (place + 1) - chunk_start chunks.count (length x) place
-chunk_length chunks x place within is = let at = chunk_start chunks.count (length x) in
-    ap length (bytes_in_chunk chunks x place within is)
-    ∙ length-take-le (at (place + 1) - at place) (drop (at place) x) (omega (
-      arith,
-      length-drop (at place) x,
-      start_within chunks.count (length x) (place + 1) (omega (arith, within)) (omega (arith, within)),
-    ))
+chunk_length chunks x place within is =
+    grind (arith, common_steps, bytes_in_chunk, length-take-le, length-drop, start_within)
 
 pub longer_chunk : (chunks : Chunks) (x : List ℕ) (place : ℕ) → place < chunks.count → chunks.unit ≡ Bytes
     → place < length x % chunks.count → length (get_or (chunks_in chunks x) place []) ≡ length x / chunks.count + 1
-longer_chunk chunks x place within is less =
-    omega (
-      arith,
-      chunk_length chunks x place within is,
-      start_next chunks.count (length x) place
-          ∙ ap (λ one. chunk_start chunks.count (length x) place + length x / chunks.count + cond one 1 0)
-          (lt-ltb _ _ less),
-    )
+longer_chunk chunks x place within is less = grind (arith, common_steps, chunk_length, start_next, lt-ltb)
 
 pub shorter_chunk : (chunks : Chunks) (x : List ℕ) (place : ℕ) → place < chunks.count → chunks.unit ≡ Bytes
     → length x % chunks.count ≤ place → length (get_or (chunks_in chunks x) place []) ≡ length x / chunks.count
-shorter_chunk chunks x place within is past =
-    omega (
-      arith,
-      chunk_length chunks x place within is,
-      start_next chunks.count (length x) place
-          ∙ ap (λ one. chunk_start chunks.count (length x) place + length x / chunks.count + cond one 1 0)
-          (le-ltb _ _ past),
-    )
+shorter_chunk chunks x place within is past = grind (arith, common_steps, chunk_length, start_next, le-ltb)
 
 -- and those of lines
 
@@ -161,22 +136,21 @@ lines_in_chunks chunks x some is = ap (flat_map (lines_of chunks.delim)) (chunks
 -- a line that begins before a place stands in what begins before it, and no other
 line_before : (delim : ℕ) (x : List ℕ) (place i : ℕ) → i < line_count delim x → length (first_lines delim i x) < place
     → length (first_lines delim i x) < length (begun_before Lines delim place x)
-line_before delim x zero i within before = absurd (omega (arith, before))
+line_before delim x zero i within before = absurd (omega arith)
 line_before delim x (suc q) i within before =
     let lines = length-append (first_lines delim i x) (after_lines delim i x) in
     let begun = length-append (take q x) (first_lines delim 1 (drop q x)) in
-    let proper : length (first_lines delim i x) < length x = omega (
+    let proper : length (first_lines delim i x) < length x =
+    omega (
       arith,
-      within,
       line_count-le-length delim (after_lines delim i x),
       ap length (lines_of-after_lines delim i x),
       length-drop i (lines_of delim x),
       ap length (first_lines_then_rest delim i x),
-      lines,
     ) in elim (cases_lt q (length x)) [
-      | inl less ↦ (let more = begun_some Lines delim 1 (drop q x) (omega arith) (omega (arith, length-drop q x, less)) in
-          omega (arith, before, begun, length-take q x, more))
-      | inr all ↦ omega (arith, proper, begun, length-take q x, all)
+      | inl less ↦ (let more = begun_some Lines delim 1 (drop q x) (omega arith) (omega (arith, length-drop q x)) in
+          omega (arith, length-take q x))
+      | inr all ↦ omega (arith, length-take q x)
     ]
 
 line_after : (delim : ℕ) (x : List ℕ) (place i : ℕ) → place ≤ length (first_lines delim i x)
@@ -188,10 +162,11 @@ line_after delim x place i past = let first = first_lines delim i x in elim (cas
       let all = first_lines_then_rest delim i x in
       let counted = delimiters-first_lines delim i x few in
       let whole : open_from Lines delim first ≡ length first = ap (λ n. length (first_lines delim n first)) counted
-      ∙ ap length (sym (first_lines-full delim i first rest (omega (arith, counted))) ∙ ap (first_lines delim i) all) in
+      ∙ ap length (sym (first_lines-full delim i first rest (omega arith)) ∙ ap (first_lines delim i) all) in
       omega (
         arith,
-        ap length (ap (begun_before Lines delim place) (sym all) ∙ begun_stays Lines delim place first rest (omega (arith, whole, past))),
+        ap length (ap (begun_before Lines delim place) (sym all) ∙ begun_stays Lines delim place first rest
+            (omega arith)),
         begun_within Lines delim place first,
       ))
 ]
@@ -202,18 +177,7 @@ pub line_in_chunk : (chunks : Chunks) (x : List ℕ) (place i : ℕ) → place <
     → IsInChunk chunks.count (length x) place (length (first_lines chunks.delim i x))
     → IsInPiece (chunks_in chunks x) place (length (first_lines chunks.delim i x))
 line_in_chunk chunks x place i within is less (from, to) =
-    let some : 0 < chunks.count = omega (arith, within) in
-    let at = chunk_start chunks.count (length x) in
-    let begun : (n : ℕ) → n ≤ chunks.count
-    → joined (take n (chunks_in chunks x)) ≡ begun_before Lines chunks.delim (at n) x =
-    λ n few. join_first chunks x n some few ∙ ap (λ unit. begun_before unit chunks.delim (at n) x) is in (
-      omega (arith, ap length (begun place (omega (arith, within))), line_after chunks.delim x (at place) i from),
-      omega (
-        arith,
-        ap length (begun (place + 1) (omega (arith, within))),
-        line_before chunks.delim x (at (place + 1)) i less to,
-      ),
-    )
+    grind (arith, common_steps, join_first, line_after, line_before)
 
 -- One chunk alone
 
@@ -223,39 +187,20 @@ made_few (byte ∷ bytes) = omega arith
 
 pub few_files : (chunks : Chunks) (size : ℕ) (x : List ℕ) → 0 < chunks.count
     → length (files_by false (chunks_of chunks size x)) ≤ chunks.count
-few_files chunks size x some = elim (cases_lt place chunks.count) [
-  | inl less ↦ omega (arith, long, full, made_few rest, less)
-  | inr all ↦ omega (
-    arith,
-    long,
-    full,
-    ap (λ bytes. length (unless_empty bytes)) (none (omega (arith, all, within))),
-    within,
-  )
-] where
-  z : List ℕ
-  z = take size x
-
-  place : ℕ
-  place = ended chunks size z
-
-  within : place ≤ chunks.count
-  within = ended_within chunks size z
-
-  rest : List ℕ
-  rest = chunk_at chunks size z place
-
-  full : length (map (chunk_at chunks size z) (range_with_len 0 place)) ≡ place
-  full = length-map-range_with_len (chunk_at chunks size z) 0 place
-
-  long : length (files_by false (chunks_of chunks size x))
-      ≡ length (map (chunk_at chunks size z) (range_with_len 0 place)) + length (unless_empty rest)
-  long = length-append (map (chunk_at chunks size z) (range_with_len 0 place)) (unless_empty rest)
-
-  none : place ≡ chunks.count → rest ≡ []
-  none is = ap (chunk_at chunks size z) is ∙ chunk_none chunks size z chunks.count
-      (begun_long chunks.unit chunks.delim _ z
-      (omega (arith, take_within size x, start_last chunks.count size some)))
+few_files chunks size x some =
+    grind (
+      arith,
+      common_steps,
+      cases_lt,
+      made_few,
+      ended_within,
+      length-map-range_with_len,
+      length-append,
+      chunk_none,
+      begun_long,
+      take_within,
+      start_last,
+    )
 
 -- where all have names, the files have these bytes
 pub bytes_filed : (filing : Filing) (count : ℕ) (those : List (List ℕ)) → are_named filing.names count ≡ true
@@ -283,10 +228,7 @@ pub turn_alone : (count delim : ℕ) (filing : Filing) (said : Option ℕ) (plac
     → are_named filing.names count ≡ true → (way_work (way.Turn place count delim) false filing said).whole x
     ≡ only_out (get_or (file_bytes ((way_work (way.Cut (Round count delim)) false filing said).whole x)) place [])
 turn_alone count delim filing said place x within named =
-    let f : ℕ → List ℕ = λ file. dealt count file 0 (lines_of delim x) in
-    ap only_out (sym (get_or-map-range_with_len f 0 count place place [] within (omega arith))
-    ∙ ap (λ files. get_or files place []) (sym (bytes_filed filing count (round_robin delim count x) named
-    (omega (arith, length-map-range_with_len f 0 count)))))
+    grind (arith, common_steps, get_or-map-range_with_len, bytes_filed, length-map-range_with_len)
 
 pub all_pieces : (pieces : List (List ℕ)) (done : ℕ) (all : List (List ℕ))
     → ((i : ℕ) → get_or all (done + i) [] ≡ get_or pieces i [])

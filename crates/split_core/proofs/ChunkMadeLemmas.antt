@@ -1,4 +1,5 @@
 -- Which files of chunks there are once some bytes came in, and when the output of one chunk is complete.
+use Rattle.std.proofs.lemmas.Grind.{common_steps}
 use Rattle.std.proofs.{
   Common.{◌≡◌, ℕ, ◌+◌, ◌-◌, ◌*◌, ◌<◌, ◌≤◌, zero, suc, Bool, true, false, List, [], ◌∷◌, ◌++◌, length, take, drop, map},
   Common.{get_or, Option, Some, None, ◌⊎◌, inl, inr, refl, sym, ◌∙◌, ap, arith},
@@ -12,7 +13,7 @@ use Rattle.seg_core.specs.{Line.joined, declared.cut.Chunks.Chunks}
 use Rattle.ports_core.{
   specs.{
     Agreed.file_bytes,
-    Draft.{files_from, file_at, part_of},
+    Draft.{files_from},
     Part.{File, Part},
     declared.{slot.State.TheVariants.{Open, Closed}, verdict.Verdict.TheVariants.Changed},
   },
@@ -21,7 +22,7 @@ use Rattle.ports_core.{
 use Rattle.split_core.specs.{
   Parts.{CutUp, unless_empty},
   Split.{Filing, Share, are_named, has_bytes, manner_of, share},
-  Chunks.{chunk_at, chunks_of, chunks_within, decided, ended, has_ended, in_the_end, is_longer, pieces_in},
+  Chunks.{chunk_at, chunks_of, decided, ended, has_ended, in_the_end, is_longer, pieces_in},
   ChunkAgreed.{AreMade, CanFollow, TwoDiffer},
   ChunkWork.{ChunksPlan, chunk_work, chunks_settled, chunks_whole, chunks_work, files_by, kept},
   laws.{
@@ -83,13 +84,8 @@ two_files : {elide : Bool} {chunks : Chunks} {said : Option ℕ} {x r : List ℕ
     → (one : GoesOnWith elide chunks said x r 0) (two : GoesOnWith elide chunks said x r 1)
     → get_or (files_by elide (in_the_end chunks said (x ++ one.y))) n []
     ≡ get_or (files_by elide (in_the_end chunks said (x ++ two.y))) n [] → ⊥
-two_files {elide} {chunks} {said} {x} {r} {n} is one two same = heads_differ r one.more two.more (sym (at one) ∙ same ∙ at two) where
-  at : {byte : ℕ} (on : GoesOnWith elide chunks said x r byte)
-      → get_or (files_by elide (in_the_end chunks said (x ++ on.y))) n [] ≡ r ++ byte ∷ on.more
-  at {byte} on = let front = kept elide (decided chunks 1 said x).full in
-      ap (λ files. get_or files n []) on.files
-      ∙ ap (λ n. get_or (front ++ (r ++ byte ∷ on.more) ∷ on.later) n []) is
-      ∙ get_or-append_seam front (r ++ byte ∷ on.more) on.later []
+two_files {elide} {chunks} {said} {x} {r} {n} is one two same =
+    grind (arith, common_steps, heads_differ, get_or-append_seam)
 
 -- two continuations that go on with different bytes
 record Grows (elide : Bool) (chunks : Chunks) (said : Option ℕ) (x : List ℕ) : Type 0 where
@@ -117,11 +113,7 @@ said_grows elide chunks size x some short = record {
 no_rest : (elide : Bool) (chunks : Chunks) (size : ℕ) (x y : List ℕ) → 0 < chunks.count → size ≤ length x
     → CanFollow (Some size) x y
     → files_by elide (chunks_of chunks size (x ++ y)) ≡ kept elide (chunks_of chunks size x).full ++ []
-no_rest elide chunks size x y some full comes =
-    ap (λ y. files_by elide (chunks_of chunks size (x ++ y)))
-    (no_more x y size (omega (arith, eqb-true _ _ comes.1)) full)
-    ∙ ap (λ z. files_by elide (chunks_of chunks size z)) (append-nil x)
-    ∙ ap (λ r. kept elide (chunks_of chunks size x).full ++ unless_empty r) (rest_none chunks size x some full)
+no_rest elide chunks size x y some full comes = grind (arith, common_steps, no_more, eqb-true, append-nil, rest_none)
 
 ended_first : (elide : Bool) (chunks : Chunks) (said : Option ℕ) (x y : List ℕ) → 0 < chunks.count
     → CanFollow said x y → (tail : List (List ℕ))
@@ -142,9 +134,9 @@ files_then : (filing : Filing) (count place : ℕ) (front rest : List Share) →
 files_then filing count place [] rest named few =
     ap (λ n. files_from (manner_of filing) n rest) (let e : place ≡ place + 0 = omega arith in e)
 files_then filing count place (one ∷ front) rest named few = cc (
-  named_at filing.names count place named (omega (arith, few)),
+  named_at filing.names count place named (omega arith),
   one_on place (length front),
-  files_then filing count (place + 1) front rest named (omega (arith, few)),
+  files_then filing count (place + 1) front rest named (omega arith),
 )
 
 bytes_at : (files : List File) (n : ℕ)
@@ -159,10 +151,7 @@ begun_by : (filing : Filing) (place : ℕ) (rest : List ℕ)
     → let next = files_from (manner_of filing) place (map (share Open) (unless_empty rest)) in
     (next ≡ []) ⊎ ((file : File) × (next ≡ file ∷ []) × (file.state ≡ Open) × (0 < length file.bytes))
 begun_by filing place [] = inl refl
-begun_by filing place (byte ∷ rest) = let file = file_at (manner_of filing) place (share Open (byte ∷ rest)) in
-    cond_both ((manner_of filing).has_name place) (file ∷ []) []
-    (λ next. (next ≡ []) ⊎ ((file : File) × (next ≡ file ∷ []) × (file.state ≡ Open) × (0 < length file.bytes)))
-    (λ is. inr (file, refl, refl, omega arith)) (λ is. inl refl)
+begun_by filing place (byte ∷ rest) = grind (arith, common_steps, cond_both)
 
 module _ (plan : ChunksPlan) (said : Option ℕ) (x : List ℕ) (some : 0 < plan.chunks.count)
     (named : are_named plan.filing.names plan.chunks.count ≡ true) where
@@ -260,12 +249,12 @@ chunk_complete place chunks (Some size) x within has at before y z = stays y ∙
   ended_too = le-leb _ _ (omega (
     arith,
     leb-true _ _ has,
-    start_grows chunks.count size (at + 1) (place + 1) (omega (arith, before)),
+    start_grows chunks.count size (at + 1) (place + 1) (omega arith),
   ))
 
   stays : (y : List ℕ) → (chunk_work at chunks (Some size)).whole (x ++ y)
       ≡ (chunk_work at chunks (Some size)).settled x
-  stays y = ((chunk_lawful at chunks (Some size) (omega (arith, before, within))).stays x y ended_too).whole_stays
+  stays y = ((chunk_lawful at chunks (Some size) (omega arith)).stays x y ended_too).whole_stays
 
 still_going : (chunks : Chunks) (said : Option ℕ) (x : List ℕ) → Grows false chunks said x
     → TwoDiffer (CanFollow said x)
@@ -289,14 +278,14 @@ pub chunk_going : (place : ℕ) (chunks : Chunks) (said : Option ℕ) (x : List 
     → is_longer said x ≡ false → (chunk_work place chunks said).is_complete x ≡ false
     → (at : ℕ) × (at ≤ place) × TwoDiffer (CanFollow said x) (λ y. (chunk_work at chunks said).whole (x ++ y))
 chunk_going place chunks None x within fits going =
-    (0, omega arith, still_going chunks None x (none_grows false chunks x (omega (arith, within))))
+    (0, omega arith, still_going chunks None x (none_grows false chunks x (omega arith)))
 chunk_going place chunks (Some size) x within fits going = (
   length (chunks_of chunks size x).full,
   omega (arith, count, few),
   still_going chunks (Some size) x (said_grows false chunks size x some short),
 ) where
   some : 0 < chunks.count
-  some = omega (arith, within)
+  some = omega arith
 
   few : ended chunks size x ≤ place
   few = elim (cases_lt place (ended chunks size x)) [
@@ -307,7 +296,7 @@ chunk_going place chunks (Some size) x within fits going = (
   short : length x < size
   short = elim (cases_lt (length x) size) [
     | inl fewer ↦ fewer
-    | inr full ↦ absurd (omega (arith, ended_all chunks x some full, few, within))
+    | inr full ↦ absurd (omega (arith, ended_all, few, within))
   ]
 
   count : length (chunks_of chunks size x).full ≡ ended chunks size x
@@ -317,13 +306,8 @@ chunk_going place chunks (Some size) x within fits going = (
 
 -- Empty files that are left out
 
-made_some : (rest : List ℕ) → unless_empty rest ≡ filter has_bytes (unless_empty rest)
-made_some [] = refl
-made_some (byte ∷ rest) = refl
-
 left_out : (cut : CutUp) → files_by true cut ≡ filter has_bytes (files_by false cut)
-left_out cut = ap (λ rest. filter has_bytes cut.full ++ rest) (made_some cut.rest)
-    ∙ sym (filter-append has_bytes cut.full (unless_empty cut.rest))
+left_out cut = grind (arith, common_steps, filter-append)
 
 module _ (chunks : Chunks) (filing : Filing) (said : Option ℕ) (x : List ℕ) (some : 0 < chunks.count)
     (named : are_named filing.names chunks.count ≡ true) where
@@ -353,9 +337,7 @@ changed_alone place chunks size x differs going = rw (going, ne_eqb (length x) s
 
 pub changed_more : (plan : ChunksPlan) (size : ℕ) (x : List ℕ)
     → (chunks_work plan (Some size)).whole x ≡ (chunks_work plan (Some size)).whole (take size x)
-changed_more plan size x =
-    ap (λ z. part_of (manner_of plan.filing) (map (share Closed) (files_by plan.elide
-    (chunks_within plan.chunks size z)))) (sym (take-take size size x (omega arith)))
+changed_more plan size x = grind (arith, common_steps, take-take)
 
 pub changed_all : (plan : ChunksPlan) (size : ℕ) (x : List ℕ) → 0 < plan.chunks.count
     → are_named plan.filing.names plan.chunks.count ≡ true

@@ -39,7 +39,7 @@ decided_all elide chunks (Some size) x some fits =
 now_later : (elide : Bool) (chunks : Chunks) (x : List ℕ) (i : ℕ) → 0 < chunks.count → i < length x
     → length (before_chunk chunks (length x) 1 x) ≤ i
     → spots_from 1 (files_by elide (chunks_of chunks (length x) x)) i ≡ spot 1 i ∷ [] → ⊥
-now_later elide chunks [] i some less past is = omega (arith, less)
+now_later elide chunks [] i some less past is = omega arith
 now_later elide chunks (byte ∷ x) i some less past is =
     let file = first_file elide chunks byte x some in
     let first = before_chunk chunks (length (byte ∷ x)) 1 (byte ∷ x) in
@@ -50,7 +50,7 @@ tail_spot : (c : ℕ) (x : List ℕ) (pieces : List (List ℕ)) (i : ℕ) → i 
     → spots_from 1 pieces i ≡ spot 1 i ∷ []
 tail_spot c x [] i less tail = absurd tail
 tail_spot c x (piece ∷ pieces) i less tail =
-    spot_in 1 i piece pieces (omega (arith, less, ap length tail.0.1, length-append x (c ∷ tail.0.0)))
+    spot_in 1 i piece pieces (omega (arith, ap length tail.0.1, length-append x (c ∷ tail.0.0)))
 
 abbrev pub far_copies : Chunks → List ℕ → List ℕ
 far_copies chunks x = replicate (suc (length x) * chunks.count) 0
@@ -66,13 +66,13 @@ files_differ : (plan : ChunksPlan) (said : Option ℕ) (x : List ℕ) → 0 < pl
     → length (joined (files_by plan.elide (decided plan.chunks 1 said x))) ≤ i → i < length x
     → (y : List ℕ) × (z : List ℕ) × CanFollow said x y × CanFollow said x z
     × (chunk_spots plan said (x ++ y) i ≢ chunk_spots plan said (x ++ z) i)
-files_differ plan (Some size) x some named fits i past less = absurd (omega (
-  arith,
-  past,
-  less,
-  ap length (decided_all plan.elide plan.chunks (Some size) x some fits),
-  length-append (joined (files_by plan.elide (chunks_of plan.chunks size x))) [],
-))
+files_differ plan (Some size) x some named fits i past less = absurd
+    (omega (
+      arith,
+      ap length (decided_all plan.elide plan.chunks (Some size) x some fits),
+      length-append
+          (joined (files_by plan.elide (chunks_of plan.chunks size x))) [],
+    ))
 files_differ plan None x some named fits i past less =
     let z = 0 ∷ far_copies plan.chunks x in
     let r = before_chunk plan.chunks (length x) 1 x in
@@ -84,7 +84,7 @@ files_differ plan None x some named fits i past less =
       (none_comes, refl),
       (copies_come (suc (suc (length x) * plan.chunks.count)) 0 (omega arith), refl),
       λ same. now_later plan.elide plan.chunks x i some less
-          (omega (arith, past, ap length (joined_files plan.elide (uncut r) ∙ append-nil r)))
+          (omega (arith, ap length (joined_files plan.elide (uncut r) ∙ append-nil r)))
           (sym (spots x) ∙ ap (λ w. chunk_spots plan None w i) (sym (append-nil x)) ∙ same ∙ spots (x ++ z)
           ∙ far_first plan.elide plan.chunks x i some less),
     )
@@ -122,7 +122,7 @@ chunks_placed plan said some named = stretch_placed (beside_output (chunks_work 
   parts = λ x. refl;
   front = front;
   are = λ x. refl;
-  nowhere = λ x i less. absurd (omega (arith, less));
+  nowhere = λ x i less. absurd (omega arith);
   there = λ x i past. ap (spots_from 1 (file_bytes (chunks_whole plan said x))) (omega arith);
 }) where
   front : (x : List ℕ) → AreFront (file_bytes (chunks_whole plan said x)) x

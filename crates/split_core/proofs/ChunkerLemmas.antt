@@ -70,11 +70,11 @@ past_at : (chunks : Chunks) (size place : ℕ) (aim : AimState) (x : List ℕ) �
     → is_past_at aim place ≡ (work_on (course_of aim) chunks (Some size)).is_complete x
 past_at chunks size place (to_files writer elide) x can fits is = sym (le-ltb _ _ fits)
 past_at chunks size place (to_output chunk) x can fits is = elim (cases_lt chunk place) [
-  | inl before ↦ lt-ltb _ _ before ∙ sym (has_ended_before chunks size x chunk (omega (arith, before, is)))
+  | inl before ↦ lt-ltb _ _ before ∙ sym (has_ended_before chunks size x chunk (omega arith))
   | inr past ↦ le-ltb _ _ past ∙ sym (by (has_ended chunks size x chunk) refl past)
 ] where
   by : (has : Bool) → has_ended chunks size x chunk ≡ has → place ≤ chunk → has_ended chunks size x chunk ≡ false
-  by true has past = absurd (omega (arith, past, is, ended_after chunks size x chunk (ltb-true _ _ can) has))
+  by true has past = absurd (omega (arith, ended_after chunks size x chunk (ltb-true _ _ can) has))
   by false has past = has
 
 pub past_is : {cutter : CutterState} {size : ℕ} {x : List ℕ} → IsCut cutter size x
@@ -88,8 +88,8 @@ full_at : (chunks : Chunks) (size : ℕ) (aim : AimState) (x : List ℕ)
 full_at chunks size (to_files writer elide) x can one full = absurd (false≢true (sym one))
 full_at chunks size (to_output chunk) x can one full =
     let within : chunk + 1 ≤ chunks.count = omega (arith, ltb-true _ _ can) in
-    let start = start_within chunks.count size (chunk + 1) (omega (arith, within)) within in
-    le-leb _ _ (omega (arith, passed_full chunks size x full, start))
+    let start = start_within chunks.count size (chunk + 1) (omega arith) within in
+    le-leb _ _ (omega (arith, passed_full chunks size x full))
 
 -- all was used if none is left
 used_all : {work : Work} {x : List ℕ} {n : ℕ} (spare : IsSpare work x n) → spare.rest ≡ [] → x ≡ spare.used
@@ -120,13 +120,13 @@ part_is {chunker} {size} has = let on = course chunker.cutter in let chunks = ch
 -- A piece
 
 within_size : {chunker : ChunkerState} {size : ℕ} {x : List ℕ} → IsSaid chunker size x → chunker.cutter.at ≤ size
-within_size has = omega (arith, has.within, has.cut.at)
+within_size has = omega arith
 
 done_fits : {cutter next : CutterState} {size : ℕ} {piece : List ℕ} {told : Bool} {old new : List Slot} {past : ℕ}
     → CutsAs told cutter size piece old new next past → cutter.at ≤ size
     → cutter.at + length (take (length piece - past) piece) ≤ size
 done_fits {piece = piece} {past = past} takes within =
-    omega (arith, takes.fits within, length-take (length piece - past) piece, takes.few)
+    omega (arith, takes.fits within, length-take (length piece - past) piece)
 
 module _ {chunker : ChunkerState} {next : CutterState} {size : ℕ} {piece : List ℕ} {x : List ℕ} {past : ℕ} {told : Bool}
     {old new : List Slot}
@@ -243,7 +243,7 @@ module _ (chunker : ChunkerState) {size : ℕ} (said : chunker.said ≡ Some siz
   comes_cut {bytes = bytes} fault cuts fits high_is = brings_as (λ x. take chunker.cutter.at x) fault
       (λ x holds. let has = is_said said holds in
       let within = fits (within_size has) in
-      rw (used_is has) (cut_is has, omega (arith, within, has.cut.at, length-append has.spare.used bytes)))
+      rw (used_is has) (cut_is has, omega (arith, length-append has.spare.used bytes)))
       low_is high_is cuts.brings
 
   -- a fault came
@@ -256,7 +256,7 @@ module _ (chunker : ChunkerState) {size : ℕ} (said : chunker.said ≡ Some siz
       let lawful = work_lawful on chunks (Some size) can in
       let used = has.spare.used in
       let rest = has.spare.rest in
-      let within : length (used ++ bytes) ≤ size = omega (arith, fits, has.cut.at, length-append used bytes) in
+      let within : length (used ++ bytes) ≤ size = omega (arith, length-append used bytes) in
       rw (used_is has, settled_within on chunks size (used ++ bytes) within, ← made_is chunker said) (
       elim has.spare.enough [
         | inl none ↦
@@ -274,7 +274,7 @@ module _ {chunker : ChunkerState} {next : CutterState} {size : ℕ} (piece : Lis
       → CutsAs told chunker.cutter size piece old new next past → (past ≡ 0) ⊎ (is_each_on next.target.aim ≡ false)
       → PassesAs told chunker piece old new (record chunker { cutter = next; spare = after }) (Ok tt)
   passes_said after is takes ok = passes_at (Ok tt) (record { can = can; said = refl; chunks = takes.cuts.chunks })
-      (omega (arith, is, takes.at, takes.few))
+      (omega arith)
       (comes_cut chunker said can None takes.cuts (done_fits takes) (λ x holds. let has = is_said said holds in
       rw (used_is has, ← made_is chunker said) (part_on_said takes ok has)))
       (λ x holds. said_is said (said_on takes ok (is_said said holds) after is))
@@ -284,9 +284,9 @@ module _ {chunker : ChunkerState} {next : CutterState} {size : ℕ} (piece : Lis
       (Some why) → PassesAs told chunker piece old new (record chunker { cutter = next }) (Err why)
   passes_not {why} cuts = let n = min (length piece) (size - chunker.cutter.at) in
       let fits : chunker.cutter.at ≤ size → chunker.cutter.at + length (take n piece) ≤ size =
-      λ within. omega (arith, length-take n piece, within) in
+      λ within. omega (arith, length-take n piece) in
       passes_at (Err why) (record { can = can; said = refl; chunks = cuts.chunks })
-      (omega (arith, cuts.bound, length-take n piece))
+      (omega (arith, length-take n piece))
       (brings_wider (λ x holds. let has = is_said said holds in let within = fits (within_size has) in
       to_all chunker said can piece (take n piece) (drop n piece) (take-append-drop n piece) has within)
       (comes_cut chunker said can (Some why) cuts fits (λ x holds. refl))) tt
@@ -369,14 +369,14 @@ module _ (chunker : ChunkerState) {next : CutterState} {size : ℕ} (piece : Lis
 
 shorter_differs : (size n : ℕ) → n < size → eqb n size ≡ false
 shorter_differs size n less = elim (eqb_tells n size) [
-  | inl (same, is) ↦ absurd (omega (arith, is, less))
+  | inl (same, is) ↦ absurd (omega arith)
   | inr (differs, apart) ↦ differs
 ]
 
 -- where the output is complete, it was one chunk's
 complete_whole : (on : Course) (chunks : Chunks) (size : ℕ) (x : List ℕ) → length x ≤ size
     → (work_on on chunks (Some size)).is_complete x ≡ true → (cut : CutUp) → part_on on cut ≡ whole_on on cut
-complete_whole (in_files filing elide) chunks size x fits complete = absurd (omega (arith, fits, ltb-true _ _ complete))
+complete_whole (in_files filing elide) chunks size x fits complete = absurd (omega (arith, ltb-true _ _ complete))
 complete_whole (in_output chunk) chunks size x fits complete = λ cut. refl
 
 -- and it is the whole, whatever else comes
@@ -404,10 +404,10 @@ ends_well : (aim : AimState) (chunks : Chunks) (size : ℕ) (x : List ℕ) {n : 
     → ((work_on (course_of aim) chunks (Some size)).is_complete spare.used ≡ true) ⊎ (size ≤ length spare.used)
     → (work_on (course_of aim) chunks (Some size)).verdict x ≡ None
 ends_well (to_files writer elide) chunks size x spare can fits ends = elim spare.enough [
-  | inr complete ↦ absurd (omega (arith, fits, ltb-true _ _ complete))
+  | inr complete ↦ absurd (omega (arith, ltb-true _ _ complete))
   | inl none ↦ elim ends [
-    | inl complete ↦ absurd (omega (arith, fits, ltb-true _ _ complete))
-    | inr full ↦ rw (eq-eqb (length x) size (omega (arith, fits, full, ap length (used_all spare none)))) refl
+    | inl complete ↦ absurd (omega (arith, ltb-true _ _ complete))
+    | inr full ↦ rw (eq-eqb (length x) size (omega (arith, ap length (used_all spare none)))) refl
   ]
 ]
 ends_well (to_output chunk) chunks size x spare can fits ends = rw all refl where
@@ -448,7 +448,7 @@ module _ {chunker next : ChunkerState} {size : ℕ} {told : Bool} {old new : Lis
       (λ x holds. let has = is_said said holds in rw (← made_is chunker said)
       (ends_well chunker.cutter.target.aim chunker.cutter.chunks size x has.spare same.can has.within (elim full [
         | inl past ↦ inl (sym (past_is (cut_is has)) ∙ past)
-        | inr all ↦ inr (omega (arith, all, has.cut.at))
+        | inr all ↦ inr (omega arith)
       ]))) (λ some. tt)
 
   pub said_changed : TargetEnds told chunker.cutter.target old new next.cutter.target None
@@ -461,7 +461,7 @@ module _ {chunker next : ChunkerState} {size : ℕ} {told : Bool} {old new : Lis
         | inr complete ↦ absurd (false≢true (sym open_still ∙ complete))
       ] in
       rw (all, ← made_is chunker said) (ends_badly chunker.cutter.target.aim chunker.cutter.chunks size has.spare.used
-      (omega (arith, short, has.cut.at)) open_still))
+      (omega arith) open_still))
 
 past_so : (one two : AimState) (place : ℕ) → course_of two ≡ course_of one → is_past_at two place ≡ is_past_at one place
 past_so (to_files writer elide) (to_files other also) place same = refl

@@ -291,11 +291,16 @@ files_open : (filing : Filing) (elide : Bool) (chunks : Chunks) (said : Option �
 files_open filing elide chunks None state z on same holds = refl
 files_open filing elide chunks (Some size) state z on same holds = elim holds.spare.enough [
   | inl none ↦
-      let all : length z ≤ size = omega (arith, holds.within, ap length holds.spare.joined ∙ length-append holds.spare.used holds.spare.rest, ap length none) in
+      let all : length z ≤ size =
+      omega (
+        arith,
+        ap length holds.spare.joined ∙ length-append holds.spare.used holds.spare.rest,
+        ap length none,
+      ) in
       grind (arith, nat_tests, all)
   | inr complete ↦
       let over : is_longer (Some size) holds.spare.used ≡ true = sym (ap (λ on. (work_on on state.cutter.chunks (Some size)).is_complete holds.spare.used) on) ∙ complete in
-      absurd (omega (arith, holds.within, ltb-true _ _ over))
+      absurd (omega (arith, ltb-true _ _ over))
 ]
 
 -- what doesn't write bytes of its own to standard output isn't complete

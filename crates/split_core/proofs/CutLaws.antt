@@ -99,7 +99,7 @@ opened_by-most delim false n x = omega arith
 pub dealt_past : (n file place : ℕ) (lines : List (List ℕ)) → 0 < n → n ≤ file → dealt n file place lines ≡ []
 dealt_past n file place [] some past = refl
 dealt_past n file place (line ∷ lines) some past =
-    cc (ne_eqb (place % n) file (λ is. omega (arith, is, mod-lt place some)), dealt_past n file (place + 1) lines some past)
+    cc (ne_eqb (place % n) file (λ is. omega (arith, mod-lt place some)), dealt_past n file (place + 1) lines some past)
 
 -- What the next bytes of a piece do to the part that was begun
 
@@ -115,7 +115,7 @@ begun_none {limit} none some = grind (arith, common_steps)
 
 pub first_itself : {delim n : ℕ} {x : List ℕ} (end : ℕ) → EndsAt delim n x end
     → first_lines delim n (take end x) ≡ take end x
-first_itself {delim} {n} {x} end ends = sym (first_lines-full delim n (take end x) (drop end x) (omega (arith, ends.complete)))
+first_itself {delim} {n} {x} end ends = sym (first_lines-full delim n (take end x) (drop end x) (omega arith))
     ∙ ap (first_lines delim n) (take-append-drop end x) ∙ sym ends.lines
 
 pub lines_end : {delim : ℕ} (n : ℕ) {rest : List ℕ} {left : ℕ} {has_line : Bool} {piece : List ℕ} (end : ℕ) → 0 < left

@@ -65,9 +65,9 @@ pub cut_lines : (delim q w : ℕ) (x : List ℕ) {rest first : List ℕ} (more :
     → take (w + length first) x ≡ begun_before Lines delim (suc q) x
 cut_lines delim q w x {rest} {first} more within low all is split line = elim (cases_lt w q) [
   | inl short ↦ (let e : w ≡ length x = all short in
-      take_all (w + length first) x (omega (arith, e))
-      ∙ sym (begun_long Lines delim (suc q) x (omega (arith, e, short))))
-  | inr long ↦ (let e : w ≡ q = omega (arith, low, long) in
+      take_all (w + length first) x (omega arith)
+      ∙ sym (begun_long Lines delim (suc q) x (omega arith)))
+  | inr long ↦ (let e : w ≡ q = omega arith in
       take-add w (length first) x
       ∙ ap (λ past. take w x ++ past) (ap (take (length first)) (sym is ∙ split) ∙ take_at first more (length first) refl
       ∙ sym (first_of delim more split line) ∙ ap (first_lines delim 1) is)
@@ -82,7 +82,7 @@ pub begins_early : (unit : Unit) (delim place : ℕ) (x y : List ℕ) → begun_
 begins_early unit delim place x y all some = elim (cases_lt (open_from unit delim x) place) [
   | inl before ↦ before
   | inr past ↦ (let same = sym all ∙ begun_stays unit delim place x y past in
-      absurd (omega (arith, some, length-append x y, ap length same, begun_within unit delim place x)))
+      absurd (omega (arith, length-append x y, ap length same, begun_within unit delim place x)))
 ]
 
 open_of_whole : (delim : ℕ) (x : List ℕ)
@@ -100,7 +100,7 @@ open_early Lines delim place x all within = let first = first_lines delim (delim
     ∙ take-append-drop (length first) x in
     let early = begins_early Lines delim place first rest (rw both all)
     (omega (arith, ltb-true _ _ within, ap length both, length-append first rest)) in
-    omega (arith, early, open_of_whole delim x)
+    omega (arith, open_of_whole delim x)
 
 pub no_line : (unit : Unit) (delim : ℕ) (x : List ℕ) → is_within unit delim x ≡ false
     → open_from unit delim x ≡ length x
@@ -115,7 +115,8 @@ within_last Lines delim x y some = by (nat_lt 0 (delimiters delim y)) refl (open
       → is_within Lines delim (x ++ y) ≡ is_within Lines delim y
   by true has is = rw (is, length-append x y) (grind (arith, nat_tests))
   by false has is = let none : delimiters delim y ≡ 0 = omega (arith, ltb-false _ _ has) in
-      lt-ltb _ _ (omega (arith, is, length-append x y, some, open_within Lines delim x)) ∙ sym (lt-ltb (open_from Lines delim y) _ (rw none some))
+      lt-ltb _ _ (omega (arith, length-append x y, open_within Lines delim x)) ∙ sym
+      (lt-ltb (open_from Lines delim y) _ (rw none some))
 
 -- The chunks that have ended
 
@@ -124,8 +125,8 @@ pub still_ended : (chunks : Chunks) (size place : ℕ) (x : List ℕ) → length
     → before_chunk chunks size (place + 1) x ≡ x → is_within chunks.unit chunks.delim x ≡ true
     → place ≤ ended chunks size x → ended chunks size x ≡ place
 still_ended chunks size place x short all within from = let is = ended_is chunks size x in ended_only {chunks = chunks} {size = size} {x = x} (record {
-  within = omega (arith, from, is.within);
-  before = omega (arith, is.before, start_grows chunks.count size place (ended chunks size x) from);
+  within = omega arith;
+  before = omega (arith, start_grows chunks.count size place (ended chunks size x) from);
   next = λ less. omega (arith, passed_open chunks size x short, open_early chunks.unit chunks.delim _ x all within);
 })
 
@@ -134,11 +135,11 @@ passed_all : (chunks : Chunks) (size : ℕ) (x : List ℕ) → length x ≤ size
     → (is_within chunks.unit chunks.delim x ≡ true → size ≤ length x) → passed chunks size x ≡ length x
 passed_all chunks size x fits whole = elim (cases_lt (length x) size) [
   | inl short ↦ passed_open chunks size x short ∙ by (is_within chunks.unit chunks.delim x) refl short
-  | inr full ↦ omega (arith, passed_full chunks size x full, fits, full)
+  | inr full ↦ omega (arith, passed_full chunks size x full)
 ] where
   by : (within : Bool) → is_within chunks.unit chunks.delim x ≡ within → length x < size
       → open_from chunks.unit chunks.delim x ≡ length x
-  by true is short = absurd (omega (arith, whole is, short))
+  by true is short = absurd (omega (arith, whole is))
   by false none short = no_line chunks.unit chunks.delim x none
 
 pub ends_open : {told : Bool} {cutter : CutterState} {size : ℕ} {slots : List Slot} → IsAimed cutter.target.aim slots
@@ -148,10 +149,10 @@ ends_open {told} {cutter} {size} {slots} ready within short = record {
   at = refl;
   within = refl;
   sends = sends_as (λ x. x) None (λ x so. so) (λ x so. refl) (λ x so.
-      let less : length x.0 < size = omega (arith, short, so.at) in
+      let less : length x.0 < size = omega arith in
       let line = sym so.within ∙ within in
       let is = still_ended cutter.chunks size cutter.target.place x.0 less (so.begun line less) line so.from in
-      let e : ended cutter.chunks size x.0 - cutter.target.place ≡ 0 = omega (arith, is) in
+      let e : ended cutter.chunks size x.0 - cutter.target.place ≡ 0 = omega arith in
       ap (λ n. with_fulls n x.1) (sym e)) (sends_none ready (λ x so. so.carries));
 }
 
@@ -196,7 +197,8 @@ fulls_begin on cut few (suc more) = let e : few + suc more ≡ suc (few + more) 
 
 passed_at : (cutter : CutterState) (size : ℕ) → (cutter.is_within ≡ true → size ≤ cutter.at) → (x : List ℕ × CutUp)
     → IsCutOff cutter size x → passed cutter.chunks size x.0 ≡ cutter.at
-passed_at cutter size whole x so = passed_all cutter.chunks size x.0 so.fits (λ is. omega (arith, whole (so.within ∙ is), so.at)) ∙ sym so.at
+passed_at cutter size whole x so = passed_all cutter.chunks size x.0 so.fits
+    (λ is. omega (arith, whole (so.within ∙ is))) ∙ sym so.at
 
 module _ {told : Bool} {cutter now : CutterState} {size : ℕ} {old slots : List Slot}
     (whole : cutter.is_within ≡ true → size ≤ cutter.at) (so_far : Ending told cutter size old slots now)
@@ -207,10 +209,10 @@ module _ {told : Bool} {cutter now : CutterState} {size : ℕ} {old slots : List
 
   later : (x : List ℕ × CutUp) → IsCutOff cutter size x → now.target.place + 1 ≤ ended cutter.chunks size x.0
   later x so = elim (cases_lt now.target.place (ended cutter.chunks size x.0)) [
-    | inl before ↦ omega (arith, before)
-    | inr past ↦ (let e : ended cutter.chunks size x.0 ≡ now.target.place = omega (arith, past, so_far.low x so) in
+    | inl before ↦ omega arith
+    | inr past ↦ (let e : ended cutter.chunks size x.0 ≡ now.target.place = omega (arith, so_far.low x so) in
         let next = (rw e at (ended_is cutter.chunks size x.0)).next (rw so_far.chunks at less) in
-        absurd (omega (arith, next, rw so_far.chunks at ends, passed_at cutter size whole x so, so_far.at)))
+        absurd (omega (arith, rw so_far.chunks at ends, passed_at cutter size whole x so)))
   ]
 
   pub next_sends : {next : TargetState} {new : List Slot} (fault : Option Fault)
@@ -228,9 +230,9 @@ module _ {told : Bool} {cutter now : CutterState} {size : ℕ} {old slots : List
     chunks = chunks ∙ so_far.chunks;
     at = at ∙ so_far.at;
     within = within ∙ so_far.within;
-    from = omega (arith, place, so_far.from);
-    sends = let e : next.target.place - cutter.target.place ≡ suc k = omega (arith, place, so_far.from) in rw e (next_sends None went);
-    low = λ x so. omega (arith, place, later x so);
+    from = omega arith;
+    sends = let e : next.target.place - cutter.target.place ≡ suc k = omega arith in rw e (next_sends None went);
+    low = λ x so. omega (arith, later x so);
   }
 
   pub ends_stopped : {next : CutterState} {new : List Slot} {why : Fault} → next.chunks ≡ now.chunks → next.at ≡ now.at
@@ -242,7 +244,7 @@ module _ {told : Bool} {cutter now : CutterState} {size : ℕ} {old slots : List
     at = at ∙ so_far.at;
     within = within ∙ so_far.within;
     sends = sends_wider (λ x so. let more = ended cutter.chunks size x.0 - (now.target.place + 1) in
-        let e : suc k + more ≡ ended cutter.chunks size x.0 - cutter.target.place = omega (arith, later x so, so_far.from) in
+        let e : suc k + more ≡ ended cutter.chunks size x.0 - cutter.target.place = omega (arith, later x so) in
         rw e at (fulls_begin (course cutter) x.1 (suc k) more)) (next_sends (Some why) stopped);
   }
 
@@ -258,16 +260,17 @@ ends_so {told} {cutter} {now} {size} whole so_far last = record {
 } where
   same : (x : List ℕ × CutUp) → IsCutOff cutter size x → now.target.place ≡ ended cutter.chunks size x.0
   same x so = let is = ended_is cutter.chunks size x.0 in elim (cases_lt now.target.place (ended cutter.chunks size x.0)) [
-    | inl before ↦ absurd (omega (
-      arith,
-      last (omega (arith, before, is.within, ap (λ (chunks : Chunks). chunks.count) so_far.chunks)),
-      so_far.at,
-      is.before,
-      passed_at cutter size whole x so,
-      ap (λ (chunks : Chunks). chunk_start chunks.count size (now.target.place + 1)) so_far.chunks,
-      start_grows cutter.chunks.count size (now.target.place + 1) (ended cutter.chunks size x.0) (omega (arith, before)),
-    ))
-    | inr past ↦ omega (arith, past, so_far.low x so)
+    | inl before ↦ absurd
+        (omega (
+          arith,
+          last (omega (arith, before, is.within, ap (λ (chunks : Chunks). chunks.count) so_far.chunks)),
+          passed_at cutter size whole x so,
+          ap
+              (λ (chunks : Chunks). chunk_start chunks.count size (now.target.place + 1)) so_far.chunks,
+          start_grows cutter.chunks.count size (now.target.place + 1) (ended cutter.chunks size x.0)
+              (omega (arith, before)),
+        ))
+    | inr past ↦ omega (arith, so_far.low x so)
   ]
 
 -- none does before the end of the chunk that was begun
@@ -277,10 +280,14 @@ pub ends_short : {told : Bool} {cutter : CutterState} {size : ℕ} {slots : List
     → EndsFull told cutter size slots slots cutter None
 ends_short {told} {cutter} {size} {slots} ready some short = by cutter.is_within refl where
   by : (within : Bool) → cutter.is_within ≡ within → EndsFull told cutter size slots slots cutter None
-  by true is = let next = min (cutter.target.place + 1) cutter.chunks.count in
-      ends_open ready is (omega (arith, short, start_within cutter.chunks.count size next some (omega arith)))
+  by true is = ends_open ready is
+      (omega (
+        arith,
+        start_within cutter.chunks.count size (min (cutter.target.place + 1) cutter.chunks.count) some
+            (omega arith),
+      ))
   by false is = ends_so (λ within. absurd (false≢true (sym is ∙ within))) (ends_none ready)
-      (λ less. subst (λ place. cutter.at < chunk_start cutter.chunks.count size place) (omega (arith, less)) short)
+      (λ less. subst (λ place. cutter.at < chunk_start cutter.chunks.count size place) (omega arith) short)
 
 -- A text goes on, all of it with the chunk that was begun
 
@@ -304,21 +311,21 @@ pub grown : (chunks : Chunks) (size : ℕ) (x y : List ℕ) → 0 < chunks.count
     ≡ chunks_within chunks size (x ++ y)
 grown chunks size x y some within all = elim (cases_lt (ended chunks size x) (ended chunks size (x ++ y))) [
   | inr same ↦
-      let e : ended chunks size (x ++ y) ≡ ended chunks size x = omega (arith, same, ended_grows chunks size x y) in
-      let none : ended chunks size (x ++ y) - ended chunks size x ≡ 0 = omega (arith, same) in
+      let e : ended chunks size (x ++ y) ≡ ended chunks size x = omega (arith, ended_grows chunks size x y) in
+      let none : ended chunks size (x ++ y) - ended chunks size x ≡ 0 = omega arith in
       ap (λ n. with_fulls n (with_rest y (chunks_within chunks size x))) none
       ∙ ap (with_rest y) (sym low) ∙ sym (goes_on chunks size x y some within e) ∙ cut_of chunks size (x ++ y) within
   | inl more ↦
       let n = ended chunks size (x ++ y) - ended chunks size x - 1 in
-      let e : ended chunks size (x ++ y) - ended chunks size x ≡ suc n = omega (arith, more) in
-      let sum : ended chunks size x + suc n ≡ ended chunks size (x ++ y) = omega (arith, more) in
+      let e : ended chunks size (x ++ y) - ended chunks size x ≡ suc n = omega arith in
+      let sum : ended chunks size x + suc n ≡ ended chunks size (x ++ y) = omega arith in
       ap (λ n. with_fulls n (with_rest y (chunks_within chunks size x))) e
       ∙ fulls_are n (with_rest y (chunks_within chunks size x))
       ∙ ap (λ cut. record { full = cut.full ++ (cut.rest ++ y) ∷ replicate n []; rest = [] }) (sym low)
       ∙ sym (ends_here chunks size x y n some within all sum) ∙ cut_of chunks size (x ++ y) within
 ] where
   low : chunks_of chunks size x ≡ chunks_within chunks size x
-  low = cut_of chunks size x (omega (arith, within, length-append x y))
+  low = cut_of chunks size x (omega (arith, length-append x y))
 
 -- A stretch is cut off
 
@@ -329,7 +336,9 @@ begin_so (in_output chunk) low high goes = out_begins _ _ (piece_on chunk goes)
 -- what is there of a text begins what is there once it goes on
 pub so_grows : (on : Course) (chunks : Chunks) (size : ℕ) (x y : List ℕ) → 0 < chunks.count → length (x ++ y) ≤ size
     → Begins (part_on on (chunks_within chunks size x)) (part_on on (chunks_within chunks size (x ++ y)))
-so_grows on chunks size x y some within = rw (← cut_of chunks size x (omega (arith, within, length-append x y)), ← cut_of chunks size (x ++ y) within) (begin_so on _ _ (chunks_go_on chunks size x y some))
+so_grows on chunks size x y some within =
+    rw (← cut_of chunks size x (omega (arith, length-append x y)), ← cut_of chunks size (x ++ y) within)
+    (begin_so on _ _ (chunks_go_on chunks size x y some))
 
 -- what is known of a text of which so much was cut off, where more comes than its size is long
 pub record Place (cutter : CutterState) (size : ℕ) (x : List ℕ) : Type 0 where
@@ -354,12 +363,18 @@ placed_at {cutter} {size} {x} is = sym (length-map-range_with_len (chunk_at cutt
 pub place_of : {cutter : CutterState} {size : ℕ} {x : List ℕ} (y : List ℕ) → IsCut cutter size x → 0 < length y
     → length (x ++ y) ≤ size → Place cutter size x
 place_of {cutter} {size} {x} y is some within = let chunks = cutter.chunks in
-    let short : length x < size = omega (arith, some, within, length-append x y) in
+    let short : length x < size = omega (arith, length-append x y) in
     let count : 0 < chunks.count = some_in is.cut in
     let here = rw (placed_at is) at (ended_is chunks size x) in
     let less : cutter.target.place < chunks.count = elim (cases_lt cutter.target.place chunks.count) [
       | inl before ↦ before
-      | inr past ↦ absurd (omega (arith, here.before, past, here.within, start_past chunks.count size cutter.target.place count past, passed_open chunks size x short, open_within chunks.unit chunks.delim x, short))
+      | inr past ↦ absurd
+          (omega (
+            arith,
+            start_past chunks.count size cutter.target.place count past,
+            passed_open chunks size x short,
+            open_within chunks.unit chunks.delim x,
+          ))
     ] in record {
       short = short;
       some = count;
@@ -375,7 +390,7 @@ end_so cutter size = chunk_start cutter.chunks.count size (min (cutter.target.pl
 end_here : {cutter : CutterState} {size : ℕ} {x : List ℕ} → Place cutter size x
     → end_so cutter size ≡ chunk_start cutter.chunks.count size (cutter.target.place + 1)
 end_here {cutter} at = let place = cutter.target.place + 1 in
-    let e : min place cutter.chunks.count ≡ place = omega (arith, at.less) in rw e refl
+    let e : min place cutter.chunks.count ≡ place = omega arith in rw e refl
 
 -- all of it stands before that
 all_before : {cutter : CutterState} {size : ℕ} {x : List ℕ} (text : List ℕ) → IsCut cutter size x → Place cutter size x
@@ -419,7 +434,7 @@ ends_cut {cutter = cutter} {mid} {size = size} {y} fault is ends = sends_as (λ 
     (λ x so. let (here, place, within, all) = so.0 in record {
       carries = so.1;
       all = rw (is.stays, is.chunks) here.cut.all;
-      at = omega (arith, is.at, here.cut.at, length-append x y);
+      at = omega (arith, length-append x y);
       within = rw is.chunks (is.within ∙ sym (within_last cutter.chunks.unit cutter.chunks.delim x y is.some));
       fits = within;
       begun = λ open_line short. rw (is.chunks, is.place, ← place.is) all;
@@ -444,7 +459,7 @@ pub has_cut : {cutter next : CutterState} {x : List ℕ} (y : List ℕ) {from to
 has_cut {cutter} {x = x} y chunks stays at within some has carries = record {
   can = rw (stays, chunks) has.can;
   all = rw (stays, chunks) has.all;
-  at = omega (arith, at, has.at, length-append x y);
+  at = omega (arith, length-append x y);
   within = rw chunks (within ∙ sym (within_last cutter.chunks.unit cutter.chunks.delim x y some));
   carries = carries;
 }
@@ -457,7 +472,7 @@ cuts_on {told} {cutter} {mid} {next} {size} text {y} {old} {new = new} fault is 
     let sends = both_cut fault step changes ends.sends in
     let so : (x : List ℕ) → IsCut cutter size x × (length (x ++ y) ≤ size) → CutsOn cutter size y x = λ x has. let place = place_of y has.0 step.some has.1 in (has.0, place, has.1, rw is (all_before text has.0 place)) in record {
       chunks = ends.chunks ∙ step.chunks;
-      bound = omega (arith, ends.at, step.at);
+      bound = omega arith;
       brings = brings_as (λ x. x) fault so (λ x has. refl) (λ x has. refl) sends.brings;
       stands = where_well fault sends.carries (λ carries x has within. record {
         cut = has_cut y (ends.chunks ∙ step.chunks) sends.brings.stays (ends.at ∙ step.at) (ends.within ∙ step.within) step.some has.cut
@@ -477,7 +492,7 @@ pub cuts_not : {told : Bool} {cutter next : CutterState} {size : ℕ} (text : Li
     → Cuts told cutter size y old new next (Some why)
 cuts_not {cutter = cutter} {size = size} text {y} {why = why} is some chunks at stopped = record {
   chunks = chunks;
-  bound = omega (arith, at);
+  bound = omega arith;
   brings = brings_wider (λ x so. let here = place x so in
       fulls_follow (course cutter) _ (ended cutter.chunks size (x ++ y) - ended cutter.chunks size x)
       (grown cutter.chunks size x y here.some so.1 (rw is (all_before text so.0 here))))
@@ -497,11 +512,11 @@ cuts_all {cutter = cutter} {size = size} text {y} {why = why} is cuts =
     let (rest, both) : (rest : List ℕ) × (text ≡ y ++ rest) = rw is (begun_begins cutter.chunks.unit cutter.chunks.delim _ text) in
     let all : (x : List ℕ) → (x ++ y) ++ rest ≡ x ++ text = λ x. append_assoc x y rest ∙ ap (λ more. x ++ more) (sym both) in record {
       chunks = cuts.chunks;
-      bound = omega (arith, cuts.bound, ap length both, length-append y rest);
+      bound = omega (arith, ap length both, length-append y rest);
       brings = brings_wider (λ x so. rw (all x) at
           (so_grows (course cutter) cutter.chunks size (x ++ y) rest (some_in so.0.cut) (rw (all x) so.1)))
           (brings_as (λ x. x) (Some why)
-          (λ x so. (so.0, omega (arith, so.1, ap length (all x), length-append (x ++ y) rest)))
+          (λ x so. (so.0, omega (arith, ap length (all x), length-append (x ++ y) rest)))
           (λ x so. refl) (λ x so. refl) cuts.brings);
       stands = tt;
     }
@@ -511,34 +526,41 @@ cuts_all {cutter = cutter} {size = size} text {y} {why = why} is cuts =
 not_yet : (chunks : Chunks) (size place : ℕ) (aim : AimState) (z : List ℕ) → length z < size
     → open_from chunks.unit chunks.delim z < chunk_start chunks.count size (place + 1) → is_past_at aim place ≡ false
     → (work_on (course_of aim) chunks (Some size)).is_complete z ≡ false
-not_yet chunks size place (to_files writer elide) z short early past = le-ltb _ _ (omega (arith, short))
-not_yet chunks size place (to_output chunk) z short early past = lt-leb _ _ (omega (arith, early, passed_open chunks size z short, start_grows chunks.count size (place + 1) (chunk + 1) (omega (arith, ltb-false _ _ past))))
+not_yet chunks size place (to_files writer elide) z short early past = le-ltb _ _ (omega arith)
+not_yet chunks size place (to_output chunk) z short early past = lt-leb _ _
+    (omega (
+      arith,
+      passed_open chunks size z short,
+      start_grows chunks.count size (place + 1) (chunk + 1)
+          (omega (arith, ltb-false _ _ past)),
+    ))
 
 pub needed_in : {cutter : CutterState} {size : ℕ} {x : List ℕ} (text : List ℕ) (n : ℕ)
     → is_past_on cutter.target ≡ false → 0 < n → n ≤ length text → take n text ≡ cut_to cutter (end_so cutter size) text
     → IsCut cutter size x → length (x ++ text) ≤ size
     → IsOpen cutter size (x ++ take (n - 1) text)
 needed_in {cutter} {size} {x} text n going some few is has within = let chunks = cutter.chunks in
-    let place = place_of text has (omega (arith, some, few)) within in
+    let place = place_of text has (omega arith) within in
     let z = x ++ take (n - 1) text in
     let last = drop (n - 1) (take n text) in
     let front : take (n - 1) (take n text) ≡ take (n - 1) text = take-take (n - 1) n text (omega arith) in
     let both : z ++ last ≡ x ++ take n text =
     rw (append_assoc x (take (n - 1) text) last, ← front, take-append-drop (n - 1) (take n text)) refl in
     let all : before_chunk chunks size (ended chunks size x + 1) (z ++ last) ≡ z ++ last = rw (both, is) (all_before text has place) in
-    let one : length last ≡ 1 = omega (arith, length-drop (n - 1) (take n text), length-take n text, some, few) in
-    not_yet chunks size cutter.target.place cutter.target.aim z (omega (arith, length-append x (take (n - 1) text), length-take (n - 1) text, within, length-append x text, some, few))
-    (rw place.is at (begins_early chunks.unit chunks.delim _ z last all (omega (arith, one)))) going
+    let one : length last ≡ 1 = omega (arith, length-drop (n - 1) (take n text), length-take n text) in
+    not_yet chunks size cutter.target.place cutter.target.aim z
+    (omega (arith, length-append x (take (n - 1) text), length-take (n - 1) text, length-append x text))
+    (rw place.is at (begins_early chunks.unit chunks.delim _ z last all (omega arith))) going
 
 -- where a stretch was written
 pub cutting : {told : Bool} {cutter mid : CutterState} {end n : ℕ} (text : List ℕ) {old new : List Slot}
     → WritesTo told cutter end text old new mid (Ok n) → Cutting cutter mid (take n text)
 cutting {n = n} text writes = record {
-  some = omega (arith, writes.count.0, writes.count.1, length-take n text);
+  some = omega (arith, length-take n text);
   chunks = writes.chunks;
   place = writes.place;
   stays = writes.sends.brings.stays;
-  at = omega (arith, writes.at, length-take n text, writes.count.1);
+  at = omega (arith, length-take n text);
   within = rw writes.count.2 writes.within;
 }
 
@@ -549,7 +571,7 @@ pub steps_so : {told : Bool} {cutter mid next : CutterState} {size n : ℕ} (tex
 steps_so {n = n} text writes ends = let is = writes.count.2 in (
   writes.count.0,
   writes.count.1,
-  omega (arith, ends.at, writes.at),
+  omega arith,
   cuts_on text None is (cutting text writes) (rw (← is) at writes.sends) ends,
   λ going x within has. needed_in text n going writes.count.0 writes.count.1 is within has,
 )
@@ -578,15 +600,18 @@ pub cuts_again : {told : Bool} {cutter mid next : CutterState} {size : ℕ} (fir
     → Cuts told cutter size (first ++ more) old new next fault
 cuts_again {told} {cutter} {mid} {next} {size} first more {wet = wet} {new} fault one other = record {
   chunks = other.chunks ∙ one.chunks;
-  bound = omega (arith, other.bound, one.bound, length-append first more);
+  bound = omega (arith, length-append first more);
   brings = brings_then (brings_as (λ x. x) None (λ x so. (so.0, low x so.1)) (λ x so. refl) (λ x so. refl) one.brings) (λ x so. so)
-      (brings_as (λ x. x ++ first) fault (λ x so. (one.stands x so.0 (low x so.1), omega (arith, so.1, ap length (append_assoc x first more))))
+      (brings_as (λ x. x ++ first) fault
+      (λ x so. (one.stands x so.0 (low x so.1), omega (arith, ap length (append_assoc x first more))))
       (λ x so. rw one.chunks refl) (λ x so. rw (one.chunks, append_assoc x first more) refl)
       (subst (λ on. Brings told on mid.target.aim next.target.aim (λ x. IsCut mid size x × (length (x ++ more) ≤ size)) (λ x. part_on on (chunks_within mid.chunks size x)) (λ x. part_on on (chunks_within mid.chunks size (x ++ more))) wet new fault) one.brings.stays other.brings));
-  stands = where_well fault other.stands (λ later x is within. rw (← append_assoc x first more) (later (x ++ first) (one.stands x is (low x within)) (omega (arith, within, ap length (append_assoc x first more)))));
+  stands = where_well fault other.stands
+      (λ later x is within. rw (← append_assoc x first more)
+      (later (x ++ first) (one.stands x is (low x within)) (omega (arith, ap length (append_assoc x first more)))));
 } where
   low : (x : List ℕ) → length (x ++ (first ++ more)) ≤ size → length (x ++ first) ≤ size
-  low x within = omega (arith, within, length-append x (first ++ more), length-append first more, length-append x first)
+  low x within = omega (arith, length-append x (first ++ more), length-append first more, length-append x first)
 
 -- what was cut off of a text, and what is left of it
 pub record CutsAway (told : Bool) (cutter : CutterState) (size : ℕ) (text left : List ℕ) (old slots : List Slot)
@@ -614,14 +639,22 @@ module _ {told : Bool} {cutter now : CutterState} {size : ℕ} {text left : List
     done = so_far.done ++ take n left;
     both = rw (is, append_assoc so_far.done (take n left) (drop n left), take-append-drop n left) so_far.both;
     cuts = cuts_again so_far.done (take n left) None so_far.cuts step;
-    at = omega (arith, at, so_far.at, length-append so_far.done (take n left), length-take n left, within);
+    at = omega (arith, length-append so_far.done (take n left), length-take n left);
     start = elim so_far.start [
       | inl (same, none) ↦ inr (rw same at not_past)
       | inr going ↦ inr going
     ];
     needed = inr (λ x has fits. let z = x ++ so_far.done in
-        let all : length (z ++ left) ≤ size = omega (arith, fits, ap length so_far.both, length-append x text, length-append so_far.done left, length-append z left, length-append x so_far.done) in
-        let here = so_far.cuts.stands x has (omega (arith, all, length-append z left)) in
+        let all : length (z ++ left) ≤ size =
+        omega (
+          arith,
+          ap length so_far.both,
+          length-append x text,
+          length-append so_far.done left,
+          length-append z left,
+          length-append x so_far.done,
+        ) in
+        let here = so_far.cuts.stands x has (omega (arith, length-append z left)) in
         let front : take (n - 1) (take n left) ≡ take (n - 1) left = take-take (n - 1) n left (omega arith) in
         let last = drop (n - 1) (take n left) in
         inr (
@@ -644,7 +677,7 @@ module _ {told : Bool} {cutter now : CutterState} {size : ℕ} {text left : List
   away_so piece own {count} is text_is count_is ends = record {
     few = omega (arith, long, is, count_is);
     at = omega (arith, so_far.at, long, is, count_is);
-    fits = λ fits. omega (arith, fits, is, count_is);
+    fits = λ fits. omega arith;
     still = λ past. elim so_far.start [
       | inl (same, none) ↦ omega (arith, long, is, ap length none, count_is)
       | inr going ↦ absurd (false≢true (sym going ∙ past))
@@ -657,18 +690,19 @@ module _ {told : Bool} {cutter now : CutterState} {size : ℕ} {text left : List
     enough = elim ends [
       | inl none ↦ elim (cases_lt own (length piece)) [
         | inl less ↦ inr (inr (omega (arith, so_far.at, long, none, is, less)))
-        | inr all ↦ inl (omega (arith, none, all, count_is))
+        | inr all ↦ inl (omega arith)
       ]
       | inr past ↦ inr (inl past)
     ];
   } where
     all : length text ≡ own
-    all = omega (arith, ap length text_is, length-take own piece, is)
+    all = omega (arith, ap length text_is, length-take own piece)
 
     long : length so_far.done + length left ≡ own
     long = omega (arith, all, ap length so_far.both, length-append so_far.done left)
 
     e : take (length piece - count) piece ≡ so_far.done
     e = let n : length piece - count ≡ length so_far.done = omega (arith, long, is, count_is) in
-        ap (λ n. take n piece) n ∙ sym (ap (take (length so_far.done)) text_is ∙ take-take (length so_far.done) own piece (omega (arith, long)))
+        ap (λ n. take n piece) n ∙ sym
+        (ap (take (length so_far.done)) text_is ∙ take-take (length so_far.done) own piece (omega arith))
         ∙ ap (take (length so_far.done)) so_far.both ∙ take_at so_far.done left (length so_far.done) refl

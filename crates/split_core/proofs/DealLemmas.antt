@@ -111,7 +111,7 @@ sees_further {delim} {x} {ahead} passed sees none is wide marked = grind (arith,
 -- where all of the text is known and no bit is set, it has no delimiter
 pub none_seen : {delim : ℕ} {x : List ℕ} {ahead : Ahead} → Sees delim x ahead → ahead.mask ≡ 0
     → ahead.passed + ahead.width ≡ length x → delimiters delim x ≡ 0
-none_seen {delim} {x} {ahead} sees none all = delimiters-none delim x (subst (HasNone delim) (take_all (ahead.passed + ahead.width) x (omega arith)) (all_passed sees none))
+none_seen {delim} {x} {ahead} sees none all = grind (arith, common_steps, delimiters-none, take_all, all_passed)
 
 -- the first delimiter
 
@@ -129,7 +129,7 @@ pub first_seen : {delim : ℕ} {x : List ℕ} {ahead : Ahead} {at : ℕ} → See
     → IsFirstAt delim x (ahead.passed + at) × (at < ahead.width)
 first_seen {delim} {x} {ahead} {at} sees is some = (
   first_of_text ahead.passed ahead.width sees.within sees.none first,
-  (omega (arith, first.within, length-window ahead.passed x sees.within)),
+  (omega (arith, first.within, length-window)),
 ) where
   first : IsFirstAt delim (take ahead.width (drop ahead.passed x)) at
   first = rw (← is) at (first_marked (take ahead.width (drop ahead.passed x)) (subst (λ n. 0 < n) sees.marked some))
@@ -152,8 +152,7 @@ sees_rest {delim} {x} {ahead} at sees inside is = grind (arith, common_steps, se
 pub mask_padded : (delim other : ℕ) (x : List ℕ) (n : ℕ) → eqb other delim ≡ false
     → delimiter_mask delim (x ++ replicate n other) ≡ delimiter_mask delim x
 mask_padded delim other [] zero differs = refl
-mask_padded delim other [] (suc n) differs = let rest : delimiter_mask delim (replicate n other) ≡ 0 = mask_padded delim other [] n differs in
-    ap (λ is. cond is 1 0 + 2 * delimiter_mask delim (replicate n other)) differs ∙ omega (arith, rest)
+mask_padded delim other [] (suc n) differs = grind (arith, common_steps, mask_padded delim other [] n differs)
 mask_padded delim other (byte ∷ x) n differs = ap (λ rest. cond (eqb byte delim) 1 0 + 2 * rest) (mask_padded delim other x n differs)
 
 lowest_bit : {delim : ℕ} {x : List ℕ} {ahead : Ahead} → Sees delim x ahead → 0 < ahead.mask
@@ -163,7 +162,7 @@ lowest_bit {delim} {x} {ahead} sees some = search (rules, trailing_mask_l, lengt
 pub seen_at : {delim : ℕ} {x : List ℕ} {ahead : Ahead} → Sees delim x ahead → ahead.mask ≢ 0
     → IsFirstAt delim x (ahead.passed + count_trailing_zeros 64 ahead.mask)
     × (count_trailing_zeros 64 ahead.mask < ahead.width)
-seen_at sees some = first_seen sees (lowest_bit sees (omega (arith, some))) (omega (arith, some))
+seen_at sees some = first_seen sees (lowest_bit sees (omega arith)) (omega arith)
 
 -- a line that was split off, and the rest
 pub split_line : {delim : ℕ} {x y : List ℕ} (line : List ℕ) {rest : List ℕ} {ahead : Ahead} → x ≡ y → Sees delim x ahead
@@ -189,7 +188,8 @@ pub mask_of_padded : (delim other : ℕ) (x : List ℕ) {lanes : List ℕ} → l
     → delimiter_mask delim (take 64 lanes) ≡ delimiter_mask delim (take 64 x)
 mask_of_padded delim other x {lanes} short complement small is =
     ap (delimiter_mask delim) (take_all 64 lanes (let long : length lanes ≡ 64 = ap length is ∙ length-append x (replicate (64 - length x) other) ∙ ap (λ n. length x + n) (length-replicate (64 - length x) other) ∙ omega arith in omega arith) ∙ is)
-    ∙ mask_padded delim other x (64 - length x) (ne_eqb other delim (λ same. omega (arith, same, complement, small))) ∙ ap (delimiter_mask delim) (sym (take_all 64 x (omega arith)))
+    ∙ mask_padded delim other x (64 - length x) (ne_eqb other delim (λ same. omega arith)) ∙ ap (delimiter_mask delim)
+    (sym (take_all 64 x (omega arith)))
 
 -- of a piece what is left is still to be gathered
 pub record Dealing (delim n start : ℕ) (piece : List ℕ) (gathered : List (List ℕ)) (next reached : ℕ) (left : List ℕ)
@@ -214,7 +214,8 @@ get_or-changed place line [] file inside = absurd (omega arith)
 get_or-changed zero line (x ∷ xs) zero inside = refl
 get_or-changed zero line (x ∷ xs) (suc file) inside = grind (arith, nat_tests)
 get_or-changed (suc place) line (x ∷ xs) zero inside = grind (arith, nat_tests)
-get_or-changed (suc place) line (x ∷ xs) (suc file) inside = get_or-changed place line xs file (omega arith) ∙ ap (λ is. cond is (get_or xs file [] ++ line) (get_or xs file [])) (sym (eqb-suc-suc place file))
+get_or-changed (suc place) line (x ∷ xs) (suc file) inside =
+    grind (arith, common_steps, eqb-suc-suc, get_or-changed place line xs file (omega arith))
 
 -- a line was appended to what its file had
 came : (gets : Bool) (had line rest : List ℕ)
@@ -258,15 +259,16 @@ pub line_goes_round : {delim n start : ℕ} {piece : List ℕ} {gathered now : L
     → count ≤ next + 1 → Dealing delim n start piece now 0 (max count 0) rest
 line_goes_round {n} {next} reached line so_far cut is same last =
     let few = so_far.few in let inside = so_far.within in
-    let all : next + 1 ≡ n = omega (arith, inside, same, last) in
-    line_more line so_far cut is (omega (arith, few, all, same)) refl (sym (ap (λ k. k % n) all ∙ mod_self n))
+    let all : next + 1 ≡ n = omega arith in
+    line_more line so_far cut is (omega arith) refl (sym (ap (λ k. k % n) all ∙ mod_self n))
 
 pub line_goes_on : {delim n start : ℕ} {piece : List ℕ} {gathered now : List (List ℕ)} {next : ℕ} (reached : ℕ)
     {count : ℕ} {left : List ℕ} (line : List ℕ) {rest : List ℕ}
     → Dealing delim n start piece gathered next (max reached next) left
     → IsFirstLine delim left line rest → now ≡ changed_at next (λ had. had ++ line) gathered → count ≡ n
     → next + 1 < count → Dealing delim n start piece now (next + 1) (max reached (next + 1)) rest
-line_goes_on reached line so_far cut is same more = line_more line so_far cut is (omega arith) refl (sym (mod-eq_of_lt (omega (arith, same, more))))
+line_goes_on reached line so_far cut is same more = line_more line so_far cut is (omega arith) refl
+    (sym (mod-eq_of_lt (omega arith)))
 
 -- no complete line is left: there is nothing after the open line
 open_line : {delim n start : ℕ} {piece : List ℕ} {gathered now : List (List ℕ)} {next reached reached_now : ℕ}
@@ -279,8 +281,8 @@ open_line {delim} {n} {gathered} {next} {reached} line so_far none some is reach
   shares = λ file inside. ap (λ those. get_or those file [] ++ []) is ∙ shares_next next next gathered line [] file so_far.count so_far.within inside refl
       ∙ ap (λ lines. get_or gathered file [] ++ dealt n file next lines) (sym one_line) ∙ so_far.shares file inside;
   ends = ap (λ count. (next + count) % n) (sym none) ∙ so_far.ends;
-  reaches = omega (arith, so_far.reaches, ap length one_line, so_far.few, so_far.within);
-  few = omega (arith, so_far.within, so_far.few);
+  reaches = omega (arith, ap length one_line);
+  few = omega arith;
   over = omega arith;
 } where
   one_line : lines_of delim line ≡ line ∷ []
@@ -300,9 +302,9 @@ ended : {delim n start : ℕ} {piece : List ℕ} {gathered : List (List ℕ)} {n
     → Gathers delim n start piece gathered next reached
 ended {delim} {n} {start} {piece} {gathered} {next} {reached} so_far = record {
   gathered_is = ext_get_or [] gathered (dealt_piece delim n start piece) (so_far.count ∙ sym (length-map-range_with_len (λ file. dealt n file start (lines_of delim piece)) 0 n))
-      (λ file inside. each file (omega (arith, so_far.count)));
+      (λ file inside. each file (omega arith));
   next_is = let here : next + 0 ≡ next = omega arith in sym (ap (λ place. place % n) here ∙ mod-eq_of_lt so_far.within) ∙ so_far.ends;
-  reached_is = omega (arith, so_far.over, so_far.reaches, so_far.few, so_far.within);
+  reached_is = omega arith;
 } where
   each : (file : ℕ) → file < n → get_or gathered file [] ≡ get_or (dealt_piece delim n start piece) file []
   each file inside = sym (append-nil (get_or gathered file [])) ∙ so_far.shares file inside
@@ -321,7 +323,7 @@ pub ends_open : {delim n start : ℕ} {piece : List ℕ} {gathered now : List (L
 ends_open {delim} {n} {start} {piece} {gathered} {next} {reached} line so_far same none some is reached_is =
     let more : length line ≢ 0 = eqb-false (length line) 0 some in
     ended
-    (open_line line (rw (← same) at so_far) (ap (delimiters delim) same ∙ none) (omega (arith, more)) is reached_is)
+    (open_line line (rw (← same) at so_far) (ap (delimiters delim) same ∙ none) (omega arith) is reached_is)
 
 -- a line that is the first of what was left stands at its beginning
 pub first_taken : {delim : ℕ} {left x : List ℕ} (line : List ℕ) {rest : List ℕ} → IsFirstLine delim x line rest

@@ -109,8 +109,8 @@ pub grow_trans : (from to : ℕ) {a b c d few some many : ℕ} {low mid high : �
     → Grow c d mid some high many
     → from ≤ a → from ≤ c → b ≤ to → d ≤ to → Grow from to low few high many
 grow_trans from to {low = low} {mid} {high} first second here there before after = record {
-  more = omega (arith, first.more, second.more);
-  new = omega (arith, first.new, second.new);
+  more = omega arith;
+  new = omega arith;
   begin = λ i. kept_trans (λ (those : Share). those.state) (low i) (mid i) (high i) (first.begin i) (second.begin i);
   bytes = λ i. begins_trans _ _ _ (first.bytes i) (second.bytes i);
   same = λ i out. first.same i (wider here before out) ∙ second.same i (wider there after out);
@@ -143,9 +143,9 @@ next_due filing out part high {some} {many} name due = record {
   front = map file (range_with_len 0 some);
   file = file some;
   rest = map file (range_with_len (some + 1) (many - suc some));
-  files = let left : many - some ≡ suc (many - suc some) = omega (arith, due.1) in
+  files = let left : many - some ≡ suc (many - suc some) = omega arith in
       sym (take-append-drop some (map file (range_with_len 0 many)))
-      ∙ cc (take-map-range_with_len file 0 many some (omega (arith, due.1)), drop_by file some 0 many (zero-add some), left);
+      ∙ cc (take-map-range_with_len file 0 many some (omega arith), drop_by file some 0 many (zero-add some), left);
   place = length-map-range_with_len file 0 some ∙ sym (length-map-range_with_len (λ i. file_at filing i (part i)) 0 some);
   name_is = sym due.0;
 } where
@@ -184,7 +184,7 @@ out_in : (filing : Filing) {some many most : ℕ} (part last : ℕ → Share) (b
     (told_of_files (output_by filing.verbose) (files_by filing last most))
 out_in filing {some} {most = most} part last bytes few begun begins = elim begun.some_of [
   | inl none ↦ rw (← (ap (λ bytes. told_of_files (output_by filing.verbose) (files_by filing part some) ++ bytes) none ∙ append-nil _)) at begins.out
-  | inr line ↦ by filing.verbose (next_due filing [] part last (name_at filing.names some) (refl, omega (arith, line.0, few))) line.1
+  | inr line ↦ by filing.verbose (next_due filing [] part last (name_at filing.names some) (refl, omega arith)) line.1
 ] where
   by : (verbose : Bool)
       → IsNext (record { out = []; files = files_by filing part some }) (part_by filing last most)
@@ -202,7 +202,7 @@ lines_in : (filing : Filing) {some many most : ℕ} (first part last : ℕ → S
     → LinesInOrder (output_by filing.verbose) (part_by filing first fewest)
     (record { out = out; files = files_by filing part some }) (part_by filing last most) place why
 lines_in filing {some} {many} {most} first part last fewest out bytes place {why} few begun begins is = by filing.verbose (part_by filing last most) is begun.due
-    (λ name due. next_due filing out part last name (due.0, omega (arith, due.1, few))) where
+    (λ name due. next_due filing out part last name (due.0, omega arith)) where
       by : (verbose : Bool) (high : Part) → out ≡ told_of_files (output_by verbose) (files_by filing part some) ++ bytes
           → ((line : List ℕ → List ℕ)
           → told_before (output_by verbose) (name_at filing.names some) ≡ line (name_at filing.names some)
@@ -247,12 +247,13 @@ halts_in {before = before} {filing} {few = few} {many} {from} {to} place part so
             lines = lines_in filing first part last fewest out bytes place back.more begun (grow_begins filing risen) out_is;
             reached = reached;
             outputs = outputs;
-            marks = marks_by (IsDue filing some many) _ why reached now (λ name due. next_due filing out part last name (due.0, omega (arith, due.1, back.more))) marks;
+            marks = marks_by (IsDue filing some many) _ why reached now
+                (λ name due. next_due filing out part last name (due.0, omega arith)) marks;
             from = subst (IsAt why (length before) place) (sym (length-map-range_with_len (λ i. file_at filing i (part i)) 0 some)) came;
           };
       own = λ other is. elim (rw is at came) [
-        | inl none ↦ absurd (omega (arith, none, outputs.standard))
-        | inr same ↦ omega (arith, same, after)
+        | inl none ↦ absurd (omega arith)
+        | inr same ↦ omega arith
       ];
     } where
       done : {most end : ℕ} (last : ℕ → Share) → Grow place end part some last most
@@ -260,13 +261,13 @@ halts_in {before = before} {filing} {few = few} {many} {from} {to} place part so
           ≡ take place (map (λ i. file_at filing i (last i)) (range_with_len 0 most))
       done {most} last left = take-map-range_with_len _ 0 some place inside
           ∙ same_by _ _ 0 place (λ i past before. ap (file_at filing i) (left.same i (inl (omega arith))))
-          ∙ sym (take-map-range_with_len _ 0 most place (omega (arith, inside, left.more)))
+          ∙ sym (take-map-range_with_len _ 0 most place (omega arith))
 
       untouched : {fewest : ℕ} (first : ℕ → Share) → Grow 0 (place + 1) first fewest part some
           → drop (suc place) (map (λ i. file_at filing i (part i)) (range_with_len 0 some)) ≡ drop (suc place)
           (map (λ i. file_at filing i (first i)) (range_with_len 0 fewest))
       untouched {fewest} first risen =
-          let left : some - suc place ≡ fewest - suc place = omega (arith, risen.more, risen.new) in
+          let left : some - suc place ≡ fewest - suc place = omega arith in
           drop_by _ (suc place) 0 some (zero-add (suc place)) ∙ ap (λ n. map (λ i. file_at filing i (part i)) (range_with_len (suc place) n)) left
           ∙ same_by _ _ (suc place) (fewest - suc place) (λ i past in_it. ap (file_at filing i) (sym (risen.same i (inr (omega arith)))))
           ∙ sym (drop_by _ (suc place) 0 fewest (zero-add (suc place)))
@@ -330,7 +331,7 @@ pub adds_then : {told : Bool} {files between next : FilesState} {first second : 
 adds_then {told} {files} {between} {next} {first} {second} {from} {to} {low} {high} {old} {mid} {new} result one other less near more =
     grind (arith, common_steps, one, other, on_ok_weaker, keeps_again, IfErr-weaker, breaks_later, outside, leaves, further, count) where
       count : max (length between.outputs) high ≡ max (length files.outputs) high
-      count = omega (arith, one.opened)
+      count = omega arith
 
       outside : (i : ℕ) → (i < from) ⊎ (high ≤ i) → first i ++ second i ≡ []
       outside i out = cc (one.outside i (wider (omega arith) more out), other.outside i (wider less (omega arith) out))
@@ -343,7 +344,7 @@ adds_then {told} {files} {between} {next} {first} {second} {from} {to} {low} {hi
         owns = one.owned (length before) at.owns;
         outputs = subst (λ filing. OutputsAt told before (part_by filing (all_open (λ i. had i ++ first i)) (length between.outputs)) mid) (sym one.filing)
             (rw (← one.opened) at (one.leaves before had _ at (λ i. refl)));
-        none = λ i past. cc (at.none i (omega (arith, past, one.opened)), one.outside i (inr (omega (arith, past, one.opened))));
+        none = λ i past. cc (at.none i (omega arith), one.outside i (inr (omega arith)));
       }) (λ i. are i ∙ sym (append_assoc (had i) (first i) (second i))))
 
       further : (result : Result (Unit {0}) Fault) (before : List Slot) (had has : ℕ → List ℕ)
@@ -356,7 +357,7 @@ adds_then {told} {files} {between} {next} {first} {second} {from} {to} {low} {hi
         stops = λ start last fewest most end front back. stop.stops start last fewest most end
             (grow_trans 0 (low + 1) front (grow_by from to first (length files.outputs) one.outside (λ i. refl)) (omega arith) (omega arith) (omega arith)
             (omega arith)) back;
-        own = λ place is. omega (arith, stop.own place is, less);
+        own = λ place is. omega (arith, stop.own place is);
       }
 
 -- a fault on the way to more than was to be added
@@ -442,9 +443,19 @@ told_ready told {files} {old} ready = ready_written 0 (told_of told (line_next f
 
 ready_opened : {files : FilesState} {old new : List Slot} (name : List ℕ) → AreReady files old
     → new ≡ old ++ opened name Fresh ∷ [] → AreReady (with_opened (length old) files) new
-ready_opened {files} {old} {new} name ready is = by (can_tell files.tells old new (writable_before old new 0 (opened name Fresh) (let two = ready.streams in omega (arith, two)) is) ready.output) where
-  by : CanTell files.tells new → AreReady (with_opened (length old) files) new
-  by can = grind (arith, common_steps, length-append, each_output, get_or_append_left, output_within, opened_writable)
+ready_opened {files} {old} {new} name ready is = by
+    (can_tell files.tells old new
+    (writable_before old new 0 (opened name Fresh) (let two = ready.streams in omega arith) is) ready.output) where
+      by : CanTell files.tells new → AreReady (with_opened (length old) files) new
+      by can = grind (
+        arith,
+        common_steps,
+        length-append,
+        each_output,
+        get_or_append_left,
+        output_within,
+        opened_writable,
+      )
 
 owned_opened : {files : FilesState} {old new : List Slot} (name : List ℕ) → files.names.drawn ≡ length files.outputs
     → new ≡ old ++ opened name Fresh ∷ [] → KeepsFiles files old (with_opened (length old) files) new
@@ -459,14 +470,14 @@ owned_unopened {told} files names {old} {new} drawn (no_line n few has cut) firs
 owned_unopened {told} files names {old} drawn (no_number few has same) first owns = record { stand = owns.stand; last = λ also. owns.last drawn ∙ sym (written_size 0 (told_of told (line_next files.tells files.names)) old _ same) }
 owned_unopened files names drawn (no_name few none same) first owns = record { stand = owns.stand; last = λ also. owns.last drawn ∙ sym (ap length same) }
 owned_unopened files names drawn (no_file slot kept reason at few has drew is made) first owns =
-    record { stand = owns.stand; last = λ also. absurd (omega (arith, also, drawn, ap (λ (those : Names). those.drawn) drew)) }
+    record { stand = owns.stand; last = λ also. absurd (omega (arith, ap (λ (those : Names). those.drawn) drew)) }
 
 -- standard output can break only where it is told of files
 line_breaks : (told : Bool) (tells : Tells) (names : Names) (n : ℕ) {old new : List Slot} → TellsNoSizes tells
     → CanTell tells old → BrokeAfter told old new 0 (line_next tells names) n
     → (is_verbose tells ≡ true) × Rose 0 old new
-line_breaks told Nothing names n no_sizes can cut = absurd (omega (arith, cut.within))
-line_breaks told Sizes names n no_sizes can cut = absurd (omega (arith, cut.within))
+line_breaks told Nothing names n no_sizes can cut = absurd (omega arith)
+line_breaks told Sizes names n no_sizes can cut = absurd (omega arith)
 line_breaks told Openings names n {old} {new} no_sizes can cut = (refl, write_rose told 0 (line_next Openings names) n old new can cut)
 
 fails_caused : (told : Bool) (files : FilesState) {next : Names} (old new : List Slot) {why : Fault}
@@ -511,7 +522,7 @@ reached told files {old} {new} place ready here is = record {
     filing = refl;
     owned = λ first owns. rw size at (owned_opened (next_name files.names) ready.drawn is first (owned_same size first owns));
     ready = rw size at (ready_opened (next_name files.names) (told_ready told ready) is);
-    opened = omega (arith, here, length-append files.outputs (length old ∷ []));
+    opened = omega (arith, length-append files.outputs (length old ∷ []));
     sound = keeps_again old mid new (keeps_write 0 _ old mid refl) (keeps_open _ mid new is);
     caused = tt;
     outside = λ i out. refl;
@@ -554,7 +565,7 @@ reached told files {old} {new} place ready here is = record {
       → ((i : ℕ) → has i ≡ had i ++ [])
       → OutputsAt told before (part_by (filing_in files) (all_open has) (max (length files.outputs) (place + 1))) new
   leaves before had has at are =
-      let count : max (length files.outputs) (place + 1) ≡ length files.outputs + 1 = omega (arith, here) in
+      let count : max (length files.outputs) (place + 1) ≡ length files.outputs + 1 = omega arith in
       rw (← count) at (subst (λ those. OutputsAt told before (part_with output those) new) (list before had has at are)
       (subst (λ out. OutputsAt told before (record { out = out; files = files_by (filing_in files) (all_open had) (length files.outputs) ++ next ∷ [] }) new) (out had)
       (file_more told before _ mid new (next_name files.names) Fresh (out_more told before (part_by (filing_in files) (all_open had) (length files.outputs)) old mid (line_next files.tells files.names) at.outputs refl) is)))
@@ -580,11 +591,11 @@ reached_not told files {names} {old} {new} place {why} ready here named same uno
   caused = fails_caused told files old new ready has fails
 
   stops : StopsOpening told files.tells files.names old new why
-  stops = stops_opening (let two = ready.streams in omega (arith, two)) fails
+  stops = stops_opening (let two = ready.streams in omega arith) fails
 
   due : (name : List ℕ) → IsNextName files.names name
       → IsDue (filing_in files) (length files.outputs) (max (length files.outputs) (place + 1)) name
-  due name (few, some, is) = (is ∙ ap (name_at files.names.naming) ready.drawn, omega (arith, here))
+  due name (few, some, is) = (is ∙ ap (name_at files.names.naming) ready.drawn, omega arith)
 
   line : line_next files.tells files.names
       ≡ told_before (output_by (is_verbose files.tells)) (name_at files.names.naming (length files.outputs))
@@ -594,7 +605,7 @@ reached_not told files {names} {old} {new} place {why} ready here named same uno
   begun = record {
     some_of = elim stops.begins [
       | inl none ↦ inl none
-      | inr some ↦ inr (omega (arith, here), subst (IsBeginning stops.bytes) line some.1)
+      | inr some ↦ inr (omega arith, subst (IsBeginning stops.bytes) line some.1)
     ];
     due = λ of is. due_by _ _ of stops.bytes why due (stops.due of (line ∙ is ∙ ap (λ n. of (name_at files.names.naming n)) (sym ready.drawn)));
   }
@@ -665,7 +676,11 @@ written told {files} {old} {new} place bytes (Err _) ready within (short.broke n
   ready = tt;
   opened = tt;
   sound = tt;
-  caused = (λ none. absurd (omega (arith, none, (ready.closable place within).0)), write_rose told slot bytes n old new (ready.closable place within).1 cut);
+  caused = (
+    λ none. absurd (omega (arith, (ready.closable place within).0)),
+    write_rose told slot bytes n old new
+        (ready.closable place within).1 cut,
+  );
   outside = none_outside place bytes;
   leaves = λ before had has at are. halts place (all_open (λ i. had i ++ only_at place (take n bytes) i)) (length files.outputs) tt (omega arith) (omega arith)
       (omega arith)
@@ -674,7 +689,7 @@ written told {files} {old} {new} place bytes (Err _) ready within (short.broke n
       (grow_by place (place + 1) (only_at place (drop n bytes)) (length files.outputs) (none_outside place (drop n bytes))
       (λ i. are i ∙ ap (λ those. had i ++ those) (parted i) ∙ sym (append_assoc (had i) (only_at place (take n bytes) i) (only_at place (drop n bytes) i))))
       (writes told place (take n bytes) within refl at (λ i. refl))
-      (omega (arith, length-changed_at slot (adds (told_of told (take n bytes))) old, output_within place ready within), cut.slots)
+      (omega (arith, length-changed_at, output_within), cut.slots)
       (inr (at.owns.stand place within));
 } where
   slot : ℕ
@@ -689,7 +704,10 @@ written told {files} {old} {new} place bytes (Err _) ready within (short.broke n
 -- there was no room for any of it
 pub no_room : (told : Bool) (files : FilesState) (more : ℕ → List ℕ) (to : ℕ) {slots : List Slot}
     → ((i : ℕ) → to ≤ i → more i ≡ []) → Adds told files more 0 to slots files slots (Err fault.Memory)
-no_room told files more to {slots} none = adds_not told files more 0 to [] fault.Memory (omega arith) (omega arith) (omega arith) refl (λ first owns. owns) (of_files (is_verbose files.tells) slots slots (inl refl)) (λ i out. none i (omega (arith, out))) (none_written told 0) (begun_none (filing_in files) fault.Memory tt) refl (λ first. tt)
+no_room told files more to {slots} none = adds_not told files more 0 to [] fault.Memory (omega arith) (omega arith)
+    (omega arith) refl (λ first owns. owns) (of_files (is_verbose files.tells) slots slots (inl refl))
+    (λ i out. none i (omega arith)) (none_written told 0) (begun_none (filing_in files) fault.Memory tt) refl
+    (λ first. tt)
 
 -- Closing
 
@@ -717,14 +735,17 @@ module _ (told : Bool) {files : FilesState} {place : ℕ} {old now : List Slot} 
       → {before : List Slot} {had : ℕ → List ℕ} → StandAt told files before had old
       → OutputsAt told before (part_by (filing_in files) (closed_first (place + 1) had) (length files.outputs)) new
   closes_next is {before} {had} at = changes told closes ended (close_makes told) files (closed_first (place + 1) had) place (at.owns.stand place within) (so_far.closed before had at) within is
-      (λ i differs. closed_as had i place (place + 1) (λ less. omega arith) (λ less. omega (arith, differs)))
+      (λ i differs. closed_as had i place (place + 1) (λ less. omega arith) (λ less. omega arith))
       (ap (λ now. file_at (filing_in files) place (share now (had place))) (sym (shut_now place (place + 1) (omega arith))))
 
   pub one_closed : {new : List Slot} → new ≡ changed_at (output_at files place) closes now
       → Closing told files (place + 1) old new
-  one_closed {new} is = by (can_tell files.tells now new (λ can. writable_elsewhere now new 0 (output_at files place) closes (λ none. omega (arith, none, (so_far.left place (omega arith) within).0)) is can) so_far.output) where
-    by : CanTell files.tells new → Closing told files (place + 1) old new
-    by can = search (rules, length-changed_at, writable_elsewhere, closes_next, keeps_again, keeps_close)
+  one_closed {new} is = by
+      (can_tell files.tells now new
+      (λ can. writable_elsewhere now new 0 (output_at files place) closes
+      (λ none. omega (arith, (so_far.left place (omega arith) within).0)) is can) so_far.output) where
+        by : CanTell files.tells new → Closing told files (place + 1) old new
+        by can = search (rules, length-changed_at, writable_elsewhere, closes_next, keeps_again, keeps_close)
 
   pub not_closed : {new : List Slot} {slot : ℕ} {why : Fault} → slot ≡ output_at files place
       → (why ≡ fault.Write slot) × SlotBreaks slot (changed_at slot closes now) new
@@ -743,7 +764,7 @@ module _ (told : Bool) {files : FilesState} {place : ℕ} {old now : List Slot} 
     breaks = rw slot_is at failed.1
 
     there : output_at files place < length (changed_at (output_at files place) closes now)
-    there = omega (arith, length-changed_at (output_at files place) closes now, so_far.size, output_within place ready within)
+    there = omega (arith, length-changed_at (output_at files place) closes now, output_within place ready within)
 
     risen : (slot_at new (output_at files place)).is_broken ≡ true
     risen = ap (λ slots. (slot_at slots (output_at files place)).is_broken) breaks.1 ∙ broken_there breaks.0 (output_at files place) _ there

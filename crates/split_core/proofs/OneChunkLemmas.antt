@@ -1,8 +1,9 @@
 -- What waits where one chunk alone is written.
+use Rattle.std.proofs.lemmas.Grind.{common_steps}
 use Rattle.std.proofs.{
   Common.{◌≡◌, ◌≢◌, ℕ, ◌+◌, ◌-◌, ◌*◌, ◌/◌, ◌%◌, ◌<◌, ◌≤◌, max, zero, suc, eqb, nat_lt, Bool, true, false, cond, List},
   Common.{[], ◌∷◌, ◌++◌, length, take, drop, get_or, replicate, Option, Some, None, inl, inr, refl, sym, ◌∙◌, ap},
-  Common.{subst, arith},
+  Common.arith,
   lemmas.{
     Bool.{cases_lt, le-ltb, lt-ltb},
     List.{append-nil, append_assoc, length-append, length-replicate, length-take, take-append-drop},
@@ -16,9 +17,9 @@ use Rattle.ports_core.{
   proofs.AgreedLemmas.{copies_come, none_comes, some_spot, spot_in, spot_past, stretch_placed, beginning_short},
 }
 use Rattle.split_core.specs.{
-  Chunks.{before_chunk, begun_before, chunk_at, chunk_start, chunks_of, in_the_end, is_as_said, open_from, pieces_in},
+  Chunks.{before_chunk, begun_before, chunk_at, chunk_start, in_the_end, is_as_said, pieces_in},
   Chunks.size_by,
-  ChunkAgreed.{CanFollow, one_chunk_spots, piece_spots},
+  ChunkAgreed.{CanFollow, one_chunk_spots},
   ChunkWork.chunk_work,
   laws.BegunLaws.{begun_begins, begun_first, begun_first_place, begun_monotone, begun_on, begun_stays},
   laws.ChunkLaws.{all_joined, begin_then_rest, decided_grows, first_pieces, start_by_size, start_grows, start_next},
@@ -41,53 +42,50 @@ record Starts (unit : Unit) (delim : ℕ) (x : List ℕ) (i : ℕ) : Type 0 wher
   lacks : (place : ℕ) (y : List ℕ) → place < at → length (begun_before unit delim place (x ++ y)) ≤ i
 
 none_begun : (delim place : ℕ) (x : List ℕ) → place ≤ 0 → length (begun_before Lines delim place x) ≤ 0
-none_begun delim place x none = let e : place ≡ 0 = omega (arith, none) in
-    omega (arith, ap (λ at. length (begun_before Lines delim at x)) e, ap length (begun_first_place Lines delim x))
+none_begun delim place x none = grind (arith, common_steps, begun_first_place)
 
 begun_length : (delim byte place : ℕ) (x : List ℕ) (ends : Bool) → eqb byte delim ≡ ends → 0 < place
     → length (begun_before Lines delim place (byte ∷ x)) ≡ suc (length (cond ends
     (begun_before Lines delim (place - 1) x) (begun_before Lines delim (max (place - 1) 1) x)))
-begun_length delim byte place x ends is some = ap length (begun_first delim byte place x some)
-    ∙ ap (λ those. suc (length (cond those (begun_before Lines delim (place - 1) x)
-    (begun_before Lines delim (max (place - 1) 1) x)))) is
+begun_length delim byte place x ends is some = grind (arith, common_steps, begun_first)
 
 starts_next : (delim byte : ℕ) (x : List ℕ) (i : ℕ) → Starts Lines delim x i → (ends : Bool) → eqb byte delim ≡ ends
     → Starts Lines delim (byte ∷ x) (suc i)
 starts_next delim byte x i from true is = record {
   at = from.at + 1;
   some = omega arith;
-  within = omega (arith, from.within);
+  within = omega arith;
   has = λ place y past. omega (
     arith,
-    begun_length delim byte place (x ++ y) true is (omega (arith, past)),
-    from.has (place - 1) y (omega (arith, past)),
+    begun_length delim byte place (x ++ y) true is (omega arith),
+    from.has (place - 1) y (omega arith),
   );
   lacks = λ place y before. elim (cases_lt 0 place) [
     | inl some ↦ omega (
       arith,
       begun_length delim byte place (x ++ y) true is some,
-      from.lacks (place - 1) y (omega (arith, before, some)),
+      from.lacks (place - 1) y (omega arith),
     )
-    | inr none ↦ omega (arith, none_begun delim place (byte ∷ (x ++ y)) none)
+    | inr none ↦ omega (arith, none_begun)
   ];
 }
 starts_next delim byte x i from false is = elim (cases_lt 1 from.at) [
   | inl later ↦ record {
     at = from.at + 1;
     some = omega arith;
-    within = omega (arith, from.within);
+    within = omega arith;
     has = λ place y past. omega (
       arith,
-      begun_length delim byte place (x ++ y) false is (omega (arith, past)),
-      from.has (max (place - 1) 1) y (omega (arith, past)),
+      begun_length delim byte place (x ++ y) false is (omega arith),
+      from.has (max (place - 1) 1) y (omega arith),
     );
     lacks = λ place y before. elim (cases_lt 0 place) [
       | inl some ↦ omega (
         arith,
         begun_length delim byte place (x ++ y) false is some,
-        from.lacks (max (place - 1) 1) y (omega (arith, before, some, later)),
+        from.lacks (max (place - 1) 1) y (omega arith),
       )
-      | inr none ↦ omega (arith, none_begun delim place (byte ∷ (x ++ y)) none)
+      | inr none ↦ omega (arith, none_begun)
     ];
   }
   | inr first ↦ record {
@@ -96,25 +94,25 @@ starts_next delim byte x i from false is = elim (cases_lt 1 from.at) [
     within = omega arith;
     has = λ place y past. omega (
       arith,
-      begun_length delim byte place (x ++ y) false is (omega (arith, past)),
-      from.has (max (place - 1) 1) y (omega (arith, past, first)),
+      begun_length delim byte place (x ++ y) false is (omega arith),
+      from.has (max (place - 1) 1) y (omega arith),
     );
-    lacks = λ place y before. omega (arith, none_begun delim place (byte ∷ (x ++ y)) (omega (arith, before)));
+    lacks = λ place y before. omega (arith, none_begun);
   }
 ]
 
 starts_lines : (delim : ℕ) (x : List ℕ) (i : ℕ) → i < length x → Starts Lines delim x i
-starts_lines delim [] i less = absurd (omega (arith, less))
+starts_lines delim [] i less = absurd (omega arith)
 starts_lines delim (byte ∷ x) zero less = record {
   at = 1;
   some = omega arith;
   within = omega arith;
   has = λ place y past. omega
-      (arith, begun_length delim byte place (x ++ y) (eqb byte delim) refl (omega (arith, past)));
-  lacks = λ place y before. none_begun delim place (byte ∷ (x ++ y)) (omega (arith, before));
+      (arith, begun_length delim byte place (x ++ y) (eqb byte delim) refl (omega arith));
+  lacks = λ place y before. none_begun delim place (byte ∷ (x ++ y)) (omega arith);
 }
 starts_lines delim (byte ∷ x) (suc i) less =
-    starts_next delim byte x i (starts_lines delim x i (omega (arith, less))) (eqb byte delim) refl
+    starts_next delim byte x i (starts_lines delim x i (omega arith)) (eqb byte delim) refl
 
 starts : (unit : Unit) (delim : ℕ) (x : List ℕ) (i : ℕ) → i < length x → Starts unit delim x i
 starts Lines delim x i less = starts_lines delim x i less
@@ -122,8 +120,8 @@ starts Bytes delim x i less = record {
   at = i + 1;
   some = omega arith;
   within = omega arith;
-  has = λ place y past. omega (arith, past, less, length-take place (x ++ y), length-append x y);
-  lacks = λ place y before. omega (arith, before, length-take place (x ++ y));
+  has = λ place y past. omega (arith, length-take place (x ++ y), length-append x y);
+  lacks = λ place y before. omega (arith, length-take place (x ++ y));
 }
 
 -- As a text grows by a byte, a chunk begins at most one byte later
@@ -133,17 +131,17 @@ start_step : (n size place : ℕ) → 0 < n → place ≤ n
 start_step n size place some within = elim (cases_lt (suc (size % n)) n) [
   | inl less ↦ (
       let same : suc size / n ≡ size / n =
-      ap (λ k. k / n) (omega (arith, whole)) ∙ div-mul-add (size / n) n (suc (size % n)) less in
+      ap (λ k. k / n) (omega arith) ∙ div-mul-add (size / n) n (suc (size % n)) less in
       let left : suc size % n ≡ suc (size % n) =
-      omega (arith, whole, div-add-mod' (suc size) n, ap (λ q. q * n) same) in
-      omega (arith, left, ap (λ q. place * q) same))
+      omega (arith, div-add-mod', ap (λ q. q * n) same) in
+      omega (arith, ap (λ q. place * q) same))
   | inr full ↦ (
-      let last : suc (size % n) ≡ n = omega (arith, full, mod-lt size some) in
+      let last : suc (size % n) ≡ n = omega (arith, mod-lt) in
       let more : suc size / n ≡ suc (size / n) = ap (λ k. k / n)
-      (omega (arith, whole, last, suc-mul (size / n) n)) ∙ div-mul-add (suc (size / n)) n 0 some in
+      (omega (arith, suc-mul)) ∙ div-mul-add (suc (size / n)) n 0 some in
       let left : suc size % n ≡ 0 =
-      omega (arith, whole, last, div-add-mod' (suc size) n, ap (λ q. q * n) more, suc-mul (size / n) n) in
-      omega (arith, left, last, within, ap (λ q. place * q) more, mul-suc place (size / n)))
+      omega (arith, div-add-mod', ap (λ q. q * n) more, suc-mul) in
+      omega (arith, ap (λ q. place * q) more, mul-suc))
 ] where
   whole : size / n * n + size % n ≡ size
   whole = div-add-mod' size n
@@ -156,56 +154,29 @@ pub record Reached (n place s low : ℕ) : Type 0 where
   to : s < chunk_start n size (place + 1)
 
 short_size : (n size : ℕ) → size / n ≡ 0 → size % n ≡ size
-short_size n size none = omega (arith, div-add-mod' size n, ap (λ q. q * n) none, zero-mul n)
+short_size n size none = omega (arith, div-add-mod', ap (λ q. q * n) none, zero-mul)
 
 climb : (n place s low k size : ℕ) → place < n → s < low → low ≤ size
     → s < chunk_start n (size + k) (place + 1) → chunk_start n size place ≤ s → Reached n place s low
-climb n place s low zero size within less more top from = record {
-  size = size;
-  more = more;
-  from = from;
-  to = subst (λ all. s < chunk_start n all (place + 1)) (omega arith) top;
-}
-climb n place s low (suc k) size within less more top from = elim (cases_lt s (chunk_start n size (place + 1))) [
-  | inl here ↦ record { size = size; more = more; from = from; to = here }
-  | inr past ↦ climb n place s low k (suc size) within less (omega (arith, more))
-      (subst (λ all. s < chunk_start n all (place + 1)) (omega arith) top) (later past)
-] where
-  next : chunk_start n (suc size) place ≤ suc (chunk_start n size place)
-  next = start_step n size place (omega (arith, within)) (omega (arith, within))
-
-  one : place < size % n → chunk_start n size (place + 1) ≡ chunk_start n size place + size / n + 1
-  one longer = rw (lt-ltb place (size % n) longer) at (start_next n size place)
-
-  none : chunk_start n size (place + 1) ≤ s → size / n ≡ 0 → size % n ≤ place → ⊥
-  none past is few = omega (
-    arith,
-    less,
-    more,
-    past,
-    few,
-    short_size n size is,
-    ap (λ q. (place + 1) * q) is,
-    mul-zero (place + 1),
-  )
-
-  later : chunk_start n size (place + 1) ≤ s → chunk_start n (suc size) place ≤ s
-  later past = elim (cases_lt place (size % n)) [
-    | inl longer ↦ omega (arith, next, past, one longer)
-    | inr shorter ↦ elim (cases_lt 0 (size / n)) [
-      | inl some ↦ omega (arith, next, past, some, start_next n size place)
-      | inr is ↦ absurd (none past (omega (arith, is)) shorter)
-    ]
-  ]
+climb n place s low zero size within less more top from = grind (arith, common_steps)
+climb n place s low (suc k) size within less more top from =
+    grind (
+      arith,
+      common_steps,
+      cases_lt,
+      start_step,
+      lt-ltb,
+      start_next,
+      short_size,
+      mul-zero,
+      climb n place s low k
+          (suc size) within less (omega (arith, more)),
+    )
 
 pub reached : (n place s low : ℕ) → place < n → s < low → chunk_start n low place ≤ s → Reached n place s low
 reached n place s low within less from =
-    climb n place s low (s + suc s * n) low within less (omega arith) (omega (
-      arith,
-      past,
-      grows,
-      start_grows n (low + (s + suc s * n)) (0 + 1) (place + 1) (omega arith),
-    )) from where
+    climb n place s low (s + suc s * n) low within less (omega arith)
+    (omega (arith, past, grows, start_grows)) from where
       past : s < chunk_start n (s + suc s * n) (0 + 1)
       past = far n s (omega (arith, within))
 
@@ -226,16 +197,7 @@ spots_are : (place : ℕ) (chunks : Chunks) (said : Option ℕ) (w : List ℕ) (
     → is_as_said said w ≡ true → one_chunk_spots place chunks said w i
     ≡ spots_by (front_of chunks place w) (chunk_at chunks (length w) w place) i
 spots_are place chunks said w i within is =
-    let some : 0 < chunks.count = omega (arith, within) in
-    let cut = chunks_of chunks (length w) w in
-    let piece : get_or (pieces_in cut) place [] ≡ chunk_at chunks (length w) w place =
-    same_piece cut.full (cut.rest ∷ []) [] place (omega (arith, within, count_chunks chunks w some))
-    ∙ ap (λ those. get_or those place []) (append-nil cut.full) ∙ chunk_in chunks w place within in
-    let front : joined (take place (pieces_in cut)) ≡ front_of chunks place w =
-    sym (first_pieces chunks place w some (omega (arith, within))) in
-    ap (λ size. piece_spots place (pieces_in (chunks_of chunks size w)) i) (said_size said w is)
-    ∙ ap (λ those. spots_by those (get_or (pieces_in cut) place []) i) front
-    ∙ ap (λ those. spots_by (front_of chunks place w) those i) piece
+    grind (arith, common_steps, same_piece, count_chunks, append-nil, chunk_in, first_pieces, said_size)
 
 front_then : (place : ℕ) (chunks : Chunks) (w : List ℕ) → length (front_of chunks place w)
     + length (chunk_at chunks (length w) w place) ≡ length (front_of chunks (place + 1) w)
@@ -253,16 +215,11 @@ goes_here : (place : ℕ) (chunks : Chunks) (said : Option ℕ) (w : List ℕ) (
     → is_as_said said w ≡ true → length (front_of chunks place w) ≤ i → i < length (front_of chunks (place + 1) w)
     → one_chunk_spots place chunks said w i ≡ spot 0 (i - length (front_of chunks place w)) ∷ []
 goes_here place chunks said w i within is past less =
-    spots_are place chunks said w i within is
-    ∙ rw (le-ltb _ _ past) (spot_in 0 _ (chunk_at chunks (length w) w place) []
-    (omega (arith, front_then place chunks w, past, less)))
+    grind (arith, common_steps, spots_are, le-ltb, spot_in, front_then)
 
 goes_after : (place : ℕ) (chunks : Chunks) (said : Option ℕ) (w : List ℕ) (i : ℕ) → place < chunks.count
     → is_as_said said w ≡ true → length (front_of chunks (place + 1) w) ≤ i → one_chunk_spots place chunks said w i ≡ []
-goes_after place chunks said w i within is past =
-    spots_are place chunks said w i within is
-    ∙ rw (le-ltb i (length (front_of chunks place w)) (omega (arith, front_then place chunks w, past)))
-    (spot_past 0 _ (chunk_at chunks (length w) w place) [] (omega (arith, front_then place chunks w, past)))
+goes_after place chunks said w i within is past = grind (arith, common_steps, spots_are, le-ltb, front_then, spot_past)
 
 -- Where the size was said, all is decided
 
@@ -271,17 +228,7 @@ front_same : (chunks : Chunks) (size place : ℕ) (x y : List ℕ) (i : ℕ) →
     → length (before_chunk chunks size place (x ++ y)) ≤ i
     → before_chunk chunks size place (x ++ y) ≡ before_chunk chunks size place x
 front_same chunks size place x y i less past =
-    elim (cases_lt (open_from chunks.unit chunks.delim x) (chunk_start chunks.count size place)) [
-      | inl on ↦ absurd (omega (
-        arith,
-        less,
-        past,
-        ap length (begun_on chunks.unit chunks.delim (chunk_start chunks.count size place) x y on),
-        length-append x (begun_before chunks.unit chunks.delim
-            (max (chunk_start chunks.count size place - length x) 1) y),
-      ))
-      | inr stays ↦ begun_stays chunks.unit chunks.delim (chunk_start chunks.count size place) x y stays
-    ]
+    grind (arith, common_steps, cases_lt, begun_on, length-append, begun_stays)
 
 -- so there is one place for it
 one_place : (place : ℕ) (chunks : Chunks) (size : ℕ) (x : List ℕ) (i : ℕ) → place < chunks.count → i < length x
@@ -335,7 +282,7 @@ said_wait : (place : ℕ) (chunks : Chunks) (size : ℕ) (x : List ℕ) → plac
 said_wait place chunks size x within = record {
   before = x;
   are_last = sym (append-nil x);
-  differ = λ i past less. absurd (omega (arith, past, less));
+  differ = λ i past less. absurd (omega arith);
   decided = λ i less y z comes also. (let there = one_place place chunks size x i within less in
       there.1 y comes.1 ∙ sym (there.1 z also.1));
 }
@@ -343,31 +290,13 @@ said_wait place chunks size x within = record {
 -- Where it wasn't, a byte that waits goes to the chunk in one continuation, and not in another
 
 -- once enough came, all of x stands before the chunk after the first
-far_start : (n size : ℕ) (place : ℕ) → 0 < n → 0 < place → size < chunk_start n (size + suc size * n) place
-far_start n size place some later = omega (
-  arith,
-  far n size some,
-  start_grows n (size + suc size * n) (0 + 1) place (omega (arith, later)),
-)
-
 copies : (n : ℕ) → length {A = ℕ} (replicate n 0) ≡ n
 copies n = length-replicate n 0
 
-far_long : (chunks : Chunks) (x : List ℕ)
-    → length (x ++ far_copies chunks x) ≡ length x + suc (length x) * chunks.count
-far_long chunks x = length-append x (far_copies chunks x)
-    ∙ ap (λ n. length x + n) (length-replicate (suc (length x) * chunks.count) 0)
-
 far_front : (chunks : Chunks) (x : List ℕ) (i place : ℕ) → 0 < chunks.count → 0 < place → i < length x
     → i < length (front_of chunks place (x ++ far_copies chunks x))
-far_front chunks x i place some later less = let from = starts chunks.unit chunks.delim x i less in
-    from.has _ (far_copies chunks x) (omega (
-      arith,
-      from.within,
-      less,
-      far_start chunks.count (length x) place some later,
-      ap (λ n. chunk_start chunks.count n place) (far_long chunks x),
-    ))
+far_front chunks x i place some later less =
+    grind (arith, common_steps, starts, far_copies, far, start_grows, length-append, length-replicate)
 
 abbrev Differ : ℕ → Chunks → List ℕ → ℕ → Type 0
 Differ place chunks x i = (y : List ℕ) × (z : List ℕ) × CanFollow None x y × CanFollow None x z
@@ -381,7 +310,7 @@ first_differs : (chunks : Chunks) (x : List ℕ) (i : ℕ) → 0 < chunks.count 
 first_differs chunks x i some past less =
     let z = far_copies chunks x in
     let now : one_chunk_spots 0 chunks None (x ++ []) i ≡ [] = goes_after 0 chunks None (x ++ []) i some refl
-    (omega (arith, past, ap (λ w. length (front_of chunks 1 w)) (append-nil x))) in
+    (omega (arith, ap (λ w. length (front_of chunks 1 w)) (append-nil x))) in
     let then = goes_here 0 chunks None (x ++ z) i some refl
     (omega (arith, ap length (none_before_first chunks (length (x ++ z)) (x ++ z))))
     (far_front chunks x i (0 + 1) some (omega arith) less) in
@@ -395,18 +324,19 @@ later_differs place chunks x i later within past less = by (starts chunks.unit c
 
   none : one_chunk_spots place chunks None (x ++ z) i ≡ []
   none = goes_before place chunks None (x ++ z) i within refl
-      (far_front chunks x i place (omega (arith, within)) later less)
+      (far_front chunks x i place (omega arith) later less)
 
   now : (from : Starts chunks.unit chunks.delim x i) → chunk_start chunks.count (length x) place < from.at
   now from = elim (cases_lt (chunk_start chunks.count (length x) place) from.at) [
     | inl before ↦ before
-    | inr after ↦ absurd (omega (
-      arith,
-      past,
-      from.has (chunk_start chunks.count (length x) place) [] after,
-      ap (λ w. length (begun_before chunks.unit chunks.delim (chunk_start chunks.count (length x) place) w))
-          (append-nil x),
-    ))
+    | inr after ↦ absurd
+        (omega (
+          arith,
+          from.has (chunk_start chunks.count (length x) place) [] after,
+          ap
+              (λ w. length (begun_before chunks.unit chunks.delim (chunk_start chunks.count (length x) place) w))
+              (append-nil x),
+        ))
   ]
 
   at : (from : Starts chunks.unit chunks.delim x i) → Reached chunks.count place (from.at - 1) (length x)
@@ -414,12 +344,12 @@ later_differs place chunks x i later within past less = by (starts chunks.unit c
   at from there =
       let y : List ℕ = replicate (there.size - length x) 0 in
       let long : there.size ≡ length (x ++ y) =
-      omega (arith, there.more, length-append x y, copies (there.size - length x)) in
+      omega (arith, length-append x y, copies (there.size - length x)) in
       let here = goes_here place chunks None (x ++ y) i within refl
       (from.lacks (chunk_start chunks.count (length (x ++ y)) place) y
-      (omega (arith, there.from, from.some, ap (λ n. chunk_start chunks.count n place) long)))
+      (omega (arith, ap (λ n. chunk_start chunks.count n place) long)))
       (from.has (chunk_start chunks.count (length (x ++ y)) (place + 1)) y
-      (omega (arith, there.to, from.some, ap (λ n. chunk_start chunks.count n (place + 1)) long))) in (
+      (omega (arith, ap (λ n. chunk_start chunks.count n (place + 1)) long))) in (
         y,
         z,
         (copies_come (there.size - length x) 0 (omega arith), refl),
@@ -429,13 +359,13 @@ later_differs place chunks x i later within past less = by (starts chunks.unit c
 
   by : Starts chunks.unit chunks.delim x i → Differ place chunks x i
   by from = at from (reached chunks.count place (from.at - 1) (length x) within
-      (omega (arith, from.within, from.some, less)) (omega (arith, now from, from.some)))
+      (omega arith) (omega (arith, now from)))
 
 none_differ : (place : ℕ) (chunks : Chunks) (x : List ℕ) (i : ℕ) → place < chunks.count
     → length (front_of chunks (max place 1) x) ≤ i → i < length x → Differ place chunks x i
 none_differ zero chunks x i within past less = first_differs chunks x i within past less
 none_differ (suc place) chunks x i within past less = later_differs (suc place) chunks x i (omega arith) within
-    (omega (arith, past, ap (λ n. length (front_of chunks n x)) one)) less where
+    (omega (arith, ap (λ n. length (front_of chunks n x)) one)) less where
       one : max (suc place) 1 ≡ suc place
       one = omega arith
 
@@ -448,7 +378,7 @@ none_decided zero chunks x i within less = (
   λ y.
       goes_here 0 chunks None (x ++ y) i within refl
       (omega (arith, ap length (none_before_first chunks (length (x ++ y)) (x ++ y))))
-      (omega (arith, less, beginning_short _ _ (decided_grows chunks 1 x y within (omega (arith, within)))))
+      (omega (arith, beginning_short _ _ (decided_grows chunks 1 x y within (omega (arith, within)))))
       ∙ ap (λ front. spot 0 (i - length front) ∷ []) (none_before_first chunks (length (x ++ y)) (x ++ y)),
 )
 none_decided (suc place) chunks x i within less = (
@@ -457,9 +387,9 @@ none_decided (suc place) chunks x i within less = (
       goes_before (suc place) chunks None (x ++ y) i within refl
       (omega (
         arith,
-        less,
         ap (λ n. length (front_of chunks n x)) one,
-        beginning_short _ _ (decided_grows chunks (suc place) x y (omega (arith, within)) (omega (arith, within))),
+        beginning_short _ _
+            (decided_grows chunks (suc place) x y (omega (arith, within)) (omega (arith, within))),
       )),
 ) where
   one : max (suc place) 1 ≡ suc place
@@ -483,8 +413,7 @@ three_pieces : (pieces : List (List ℕ)) (place : ℕ)
 three_pieces [] zero = refl
 three_pieces [] (suc place) = refl
 three_pieces (piece ∷ pieces) zero = refl
-three_pieces (piece ∷ pieces) (suc place) = ap (λ rest. piece ++ rest) (three_pieces pieces place)
-    ∙ sym (append_assoc piece (joined (take place pieces)) _)
+three_pieces (piece ∷ pieces) (suc place) = grind (arith, common_steps, append_assoc, three_pieces pieces place)
 
 pub chunk_placed : (place : ℕ) (chunks : Chunks) (said : Option ℕ) → place < chunks.count
     → ArePlaced (chunk_work place chunks said) (one_chunk_spots place chunks said)
@@ -508,5 +437,5 @@ chunk_placed place chunks said within = stretch_placed (chunk_work place chunks 
       ++ ((get_or (pieces x) place [] ++ joined (drop (suc place) (pieces x))) ++ drop (size_by said x) x)
   parts x = sym (take-append-drop (size_by said x) x)
       ∙ ap (λ front. front ++ drop (size_by said x) x)
-      (sym (all_joined chunks (size_by said x) x (omega (arith, within))) ∙ three_pieces (pieces x) place)
+      (sym (all_joined chunks (size_by said x) x (omega arith)) ∙ three_pieces (pieces x) place)
       ∙ append_assoc (joined (take place (pieces x))) _ (drop (size_by said x) x)

@@ -2,7 +2,7 @@
 use Rattle.std.proofs.{
   lemmas.{Grind.common_steps, List.{append-nil, drop-take, take-append-drop, length-map, map-append}},
   Common.{◌≡◌, ℕ, ◌+◌, ◌-◌, ◌<◌, ◌≤◌, suc, List, [], ◌∷◌, ◌++◌, ◌⊎◌, length, map, Bool, true, false, Option, Some},
-  Common.{None, IfSome, IsTrue, Result, Ok, Err, OnOk, IfErr, IfOk, inl, inr, refl, sym, ◌∙◌, ap, subst, arith},
+  Common.{None, IfSome, IsTrue, Result, Ok, Err, OnOk, IfErr, IfOk, inr, refl, sym, ◌∙◌, ap, subst, arith},
   Common.{length-append, take, drop, append_assoc, not, cond, rules},
   Math.Seq.take-length,
 }
@@ -91,7 +91,7 @@ pub met_closing : (verbose : Bool) (Why : Verdict → Type 0) (old new : List Sl
     → IsMet (split_means verbose false) (split_means verbose false).closing (Unit {0}) Why old new fault
 met_closing verbose Why old new (slot, is, two, rose) =
     subst (IsMet (split_means verbose false) (split_means verbose false).closing (Unit {0}) Why old new) (sym is)
-    (λ none. absurd (omega (arith, none, two)), (λ none. absurd (cc)), rose)
+    (λ none. absurd (omega arith), (λ none. absurd (cc)), rose)
 
 -- sizes aren't counted
 pub always_counts : {tells : Tells} (size : ℕ) (bytes : List ℕ) → TellsNoSizes tells → CanCount tells size bytes
@@ -168,11 +168,8 @@ begins_closed : (ended : List (List ℕ)) (more high : List Share)
     → (rest : List Share) × (high ≡ map (share file_state.Closed) ended ++ rest) × (length more ≤ length rest)
 begins_closed [] more high begins = (high, refl, shares_fewer more high begins)
 begins_closed (one ∷ ended) more [] begins = absurd begins
-begins_closed (one ∷ ended) more (whole ∷ high) begins = let on = begins_closed ended more high begins.2 in (on.0, cc (same begins.0, on.1), on.2) where
-  same : (file_state.Closed ≡ file_state.Open) ⊎ (share file_state.Closed one ≡ whole)
-      → share file_state.Closed one ≡ whole
-  same (inl is) = absurd (cc)
-  same (inr is) = is
+begins_closed (one ∷ ended) more (whole ∷ high) begins =
+    grind (arith, common_steps, begins_closed ended more high begins.2)
 
 -- names ran out for the file that is due: what comes after it makes none
 
@@ -405,8 +402,8 @@ pub waited : (told : Bool) (state next : PartsState) (piece : List ℕ) (slots :
     → OnOk result (next ≡ record state { left = state.left - length piece; waiting = state.waiting ++ piece })
     → IfErr result (λ f. (f ≡ Memory) × (next ≡ state)) → Steps told state piece slots slots next result
 waited told state next piece slots (Ok n) some leads ready count waits err = (
-  omega (arith, some, count),
-  omega (arith, count),
+  omega arith,
+  omega arith,
   rw (count, take-length piece, waits) (waits_on told state piece leads ready),
 )
 waited told state next piece slots (Err f) some leads ready count waits err = rw (err.0, err.1) (no_room told state piece ready)
@@ -619,25 +616,7 @@ pub finishes_by : (told : Bool) (state next : PartsState) (old new : List Slot) 
     → IsReady state old → Finishes told state old new next (fault_in result)
     → engine.Finishes ways.terms told (way.Parts state) (way.Parts next) old new
     (engine.IsMetThere ways.terms (way.Parts state)) result
-finishes_by told state next old new (Ok done) ready ends = record {
-  same = work_by state next ends.limit (filing_same state next ends.leaves);
-  size = omega arith;
-  well = λ x holds. grind (arith, common_steps, all_have_names);
-  outputs = λ before x at. ((ends.reaches x at.holds).there before (at_writer at)).outputs;
-  writable = λ told_is. (ends.leaves.output (told_writable state.writer.tells old ready.writer.output told_is));
-  owns = ends.leaves.owns.owns;
-  there = λ are. tt;
-  cut = tt;
-  met = tt;
-}
-finishes_by told state next old new (Err f) ready ends = record {
-  same = work_by state next ends.limit (filing_same state next ends.leaves);
-  size = omega arith;
-  well = tt;
-  outputs = tt;
-  writable = tt;
-  owns = ends.leaves.owns.owns;
-  there = λ are. tt;
-  cut = λ before x at. engine.cut (rw ends.broke.1 refl) (stopped_in_turn (output_by (filing_of state).verbose) told before _ _ f new (has_told _ _) ((ends.reaches x at.holds).there before (at_writer at)));
-  met = end_met state old new f ends.broke ready.tells ends.leaves.slots;
-}
+finishes_by told state next old new (Ok done) ready ends =
+    grind (arith, common_steps, work_by, filing_same, all_have_names, at_writer, told_writable)
+finishes_by told state next old new (Err f) ready ends =
+    grind (arith, common_steps, work_by, filing_same, stopped_in_turn, has_told, at_writer, end_met)

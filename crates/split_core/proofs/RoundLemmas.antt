@@ -221,7 +221,9 @@ closed_part : {round : RoundState} {x : List ℕ} → Holds round x
     (length round.files.outputs) ≡ (work round).whole x
 closed_part {round} {x} holds =
     let n = length round.files.outputs in let has = share_of round.delim round.count x in let filing = filing_in round.files in
-    ap (part_with (output_by filing.verbose)) (same_by (λ i. file_at filing i (closed_first n has i)) (λ i. file_at filing i (share Closed (has i))) 0 n (λ i low high. ap (λ state. file_at filing i (share state (has i))) (shut_now i n (omega (arith, high)))))
+    ap (part_with (output_by filing.verbose))
+    (same_by (λ i. file_at filing i (closed_first n has i)) (λ i. file_at filing i (share Closed (has i))) 0 n
+    (λ i low high. ap (λ state. file_at filing i (share state (has i))) (shut_now i n (omega arith))))
     ∙ ap (part_by filing (λ i. share Closed (has i))) holds.opened ∙ sym (filed_are round.delim Closed filing round.elide round.count x holds.named)
 
 pub finishes_by : (told : Bool) (round : RoundState) (old new : List Slot) (result : Result (Unit {0}) Fault)
@@ -263,7 +265,7 @@ no_files names tells = record { names = record { naming = names; drawn = 0 }; te
 
 none_owned : (names : Naming) (tells : Tells) {slots : List Slot}
     → OwnsFiles (no_files names tells) (length slots) slots
-none_owned names tells = record { stand = λ place within. absurd (omega (arith, within)); last = λ same. omega arith }
+none_owned names tells = record { stand = λ place within. absurd (omega arith); last = λ same. omega arith }
 
 pub at_start : (delim : ℕ) (elide : Bool) (filing : Filing) (n : ℕ) {count : ℕ} → are_named filing.names n ≡ true
     → count ≡ opened_by delim elide n []

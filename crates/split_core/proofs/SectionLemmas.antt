@@ -8,7 +8,6 @@ use Rattle.std.proofs.{
     length-map,
     length-take-le,
     map-append,
-    Elements.All-cons,
     FromFn.{length-map-range_with_len, get_or-map-range_with_len, take-map-range_with_len},
   },
   lemmas.Bool.{cond_both, cases_eq, cases_lt, eq-eqb, ne_eqb, eqb-true, Decides.nat_tests},
@@ -28,11 +27,10 @@ use Rattle.seg_core.{
   proofs.LineCounts.{line_count-some, line_count_near},
   proofs.LinesOf.{joined-lines_of, lines_of-joined, AreLines-lines_of},
 }
-use Rattle.ports_core.specs.declared.slot.State.TheVariants.{Open, Closed}
 use Rattle.split_core.specs.{
   Parts.{whole_lines, open_line, is_full, cut_up, unless_empty, parts, settled_rest, waiting_rest, dealt, round_robin},
   Sections.{runs_within, runs_of, line_parts, byte_parts, AreLineByteParts, none, one, more},
-  Split.{Share, share, settled_parts, dealt_files},
+  Split.{Share, settled_parts, dealt_files},
   laws.{
     CutLaws.{short_some, full_some, whole_some, whole_then_open, settled_then_waiting, rest_short, cuts_up},
     DealLaws.dealt_files_are,
@@ -49,8 +47,16 @@ runs_bound : {X : Type 0} (low high n : ℕ) (xs : List X) → 0 < n → length 
 runs_bound zero (suc high) n (x ∷ xs) some few little = absurd (omega arith)
 runs_bound (suc low) zero n (x ∷ xs) some few little = absurd (omega arith)
 runs_bound (suc low) (suc high) n (x ∷ xs) some few little =
-    ap (λ runs. take n (x ∷ xs) ∷ runs) (runs_bound low high n (drop n (x ∷ xs)) some (omega (arith, length-drop n (x ∷ xs)))
-    (omega (arith, length-drop n (x ∷ xs))))
+    grind (
+      arith,
+      common_steps,
+      length-drop,
+      runs_bound low high n (drop n (x ∷ xs)) some (omega (
+        arith,
+        length-drop n
+            (x ∷ xs),
+      )),
+    )
 runs_bound low high n xs some few little = refl
 
 -- a run, and then the runs of what stands after it
@@ -77,7 +83,7 @@ run_within (suc bound) n zero (x ∷ xs) some few = grind (arith, common_steps)
 run_within (suc bound) n (suc i) (x ∷ xs) some few =
     cc (run_within bound n i (drop n (x ∷ xs)) some (omega (arith, length-drop n (x ∷ xs))), drop-drop (i * n) n (x ∷ xs), next_place i n) where
       next_place : (i n : ℕ) → suc i * n ≡ n + i * n
-      next_place i n = omega (arith, suc-mul i n)
+      next_place i n = omega (arith, suc-mul)
 
 -- the run at a place has the members from i * n to less than (i + 1) * n
 pub run_at : {X : Type 0} (n i : ℕ) (xs : List X) → 0 < n → get_or (runs_of n xs) i [] ≡ take n (drop (i * n) xs)
@@ -87,16 +93,19 @@ run_at n i xs some = run_within (length xs) n i xs some (omega arith)
 abbrev AreFewest : ℕ → ℕ → ℕ → Type 0
 AreFewest runs n all = (all ≤ runs * n) × (runs * n < all + n)
 
-one_more : (runs n : ℕ) {left : ℕ} (all : ℕ) → left ≡ all - n → 0 < all → AreFewest runs n left
-    → AreFewest (suc runs) n all
-one_more zero n all is some (low, high) = grind (arith, common_steps)
-one_more (suc runs) n all is some (low, high) = grind (arith, common_steps)
-
 count_within : {X : Type 0} (bound n : ℕ) (xs : List X) → 0 < n → length xs ≤ bound
     → AreFewest (length (runs_within bound n xs)) n (length xs)
 count_within zero n (x ∷ xs) some few = absurd (omega arith)
 count_within (suc bound) n (x ∷ xs) some few =
-    one_more (length (runs_within bound n (drop n (x ∷ xs)))) n (suc (length xs)) (length-drop n (x ∷ xs)) (omega arith) (count_within bound n (drop n (x ∷ xs)) some (omega (arith, length-drop n (x ∷ xs))))
+    grind (
+      arith,
+      common_steps,
+      length-drop,
+      count_within bound n (drop n (x ∷ xs)) some (omega (
+        arith,
+        length-drop n (x ∷ xs),
+      )),
+    )
 count_within bound n xs some few = grind (arith, common_steps)
 
 -- there are as few runs as can hold all members
@@ -117,8 +126,7 @@ lines_cut : (delim n : ℕ) {x : List ℕ} {full : List (List ℕ)} {rest : List
     → full ++ unless_empty rest ≡ line_parts delim n x
 lines_cut delim n {x} some (stops _ short) = last_lines delim n x (short_some (Lines n delim) x short some)
 lines_cut delim n {x} some (goes _ full _ is past) =
-    let enough : n ≤ delimiters delim x = (full_some (Lines n delim) x is).1 in
-    cc (lines_cut delim n some past, lines_of-after delim n x enough, runs_next n (lines_of delim x) some (omega (arith, (line_count_near delim x).0)))
+    grind (arith, common_steps, full_some, lines_of-after, runs_next, line_count_near, lines_cut delim n some past)
 
 pub lines_are_runs : (delim n : ℕ) (x : List ℕ) → 0 < n → parts (Lines n delim) x ≡ line_parts delim n x
 lines_are_runs delim n x some = lines_cut delim n some (cuts_up)
@@ -131,8 +139,7 @@ bytes_cut : (n : ℕ) {x : List ℕ} {full : List (List ℕ)} {rest : List ℕ} 
     → full ++ unless_empty rest ≡ byte_parts n x
 bytes_cut n {x} some (stops _ short) = last_bytes n x (short_some (Bytes n) x short some)
 bytes_cut n {x} some (goes _ full _ is past) =
-    let enough : n ≤ length x = (full_some (Bytes n) x is).1 in
-    cc (bytes_cut n some past, length-take-le n x enough, runs_next n x some (omega arith))
+    grind (arith, common_steps, full_some, length-take-le, runs_next, bytes_cut n some past)
 
 pub bytes_are_runs : (n : ℕ) (x : List ℕ) → 0 < n → parts (Bytes n) x ≡ byte_parts n x
 bytes_are_runs n x some = bytes_cut n some (cuts_up)
@@ -178,7 +185,7 @@ line_bytes_once some (one _ has short) none = search rules
 line_bytes_once some (one x has short) (one _ _ _) = refl
 line_bytes_once some (one x has short) (more _ _ enough past) = search rules
 line_bytes_once some (more _ _ enough past) none = search rules
-line_bytes_once some (more x _ enough past) (one _ has short) = absurd (omega (arith, short, enough))
+line_bytes_once some (more x _ enough past) (one _ has short) = absurd (omega arith)
 line_bytes_once {delim} {n} some (more x these enough past) (more _ those _ other) =
     ap (λ rest. whole_lines delim (take n x) ∷ rest) (line_bytes_once some past other)
 
@@ -194,8 +201,13 @@ pub line_bytes_within : (delim n : ℕ) (x : List ℕ) (those : List (List ℕ))
 line_bytes_within delim n _ _ some none = grind (arith, common_steps)
 line_bytes_within delim n _ _ some (one x has short) = grind (arith, common_steps)
 line_bytes_within delim n _ _ some (more x those enough past) =
-    All-cons (λ part. (0 < length part) × (length part ≤ n)) (whole_lines delim (take n x)) those (line_bytes_first delim n x some enough)
-    (line_bytes_within delim n (drop (length (whole_lines delim (take n x))) x) those some past)
+    grind (
+      arith,
+      common_steps,
+      line_bytes_first,
+      line_bytes_within delim n (drop (length (whole_lines delim (take n
+          x))) x) those some past,
+    )
 
 -- Texts that go on
 
@@ -223,9 +235,7 @@ settled_list limit x = (cut_up limit x).full ++ unless_empty (settled_rest limit
 
 pub settled_bytes : (limit : Limit) (x : List ℕ)
     → map (λ (file : Share). file.bytes) (settled_parts limit x) ≡ settled_list limit x
-settled_bytes limit x =
-    let full = (cut_up limit x).full in let rest = (cut_up limit x).rest in
-    cc (map-append (λ (file : Share). file.bytes) (map (share Closed) full) (map (share Open) (unless_empty (settled_rest limit rest))), bytes_of_shares Closed full, bytes_of_shares Open (unless_empty (settled_rest limit rest)))
+settled_bytes limit x = grind (arith, common_steps, map-append, bytes_of_shares)
 
 pub list_all : (limit : Limit) (x : List ℕ)
     → joined (settled_list limit x) ++ waiting_rest limit (cut_up limit x).rest ≡ x
@@ -235,7 +245,7 @@ list_all limit x = grind (arith, common_steps, joined-append, joined_one, settle
 pub settled_all : (limit : Limit) (x : List ℕ)
     → joined (map (λ (file : Share). file.bytes) (settled_parts limit x)) ++ waiting_rest limit (cut_up limit x).rest
     ≡ x
-settled_all limit x = ap (λ those. joined those ++ waiting_rest limit (cut_up limit x).rest) (settled_bytes limit x) ∙ list_all limit x
+settled_all limit x = grind (arith, common_steps, settled_bytes, list_all)
 
 -- the lines that one of n files gets, where the first of all lines stands at this place
 abbrev pub lines_dealt : ℕ → ℕ → ℕ → List (List ℕ) → List (List ℕ)
@@ -268,12 +278,16 @@ are_dealt : (delim n file place : ℕ) (lines : List (List ℕ)) → AreLines de
     → AreLines delim (lines_dealt n file place lines)
 are_dealt delim n file place [] each = tt
 are_dealt delim n file place (line ∷ lines) each =
-    let rest = are_dealt delim n file (place + 1) lines (others delim line lines each) in
-    cond_both (eqb (place % n) file) _ _ (AreLines delim) (λ is. before_some delim line lines _ each (few_dealt n file (place + 1) lines) rest) (λ is. rest)
-
-lines_of-dealt : (delim n file place : ℕ) (lines : List (List ℕ)) → AreLines delim lines
-    → lines_of delim (dealt n file place lines) ≡ lines_dealt n file place lines
-lines_of-dealt delim n file place lines each = grind (arith, common_steps, dealt_are, lines_of-joined, are_dealt)
+    grind (
+      arith,
+      common_steps,
+      others,
+      cond_both,
+      before_some,
+      few_dealt,
+      are_dealt delim n file (place + 1) lines
+          (others delim line lines each),
+    )
 
 -- the places of a file's lines are n apart
 
@@ -289,7 +303,7 @@ nth_step : (n : ℕ) {file : ℕ} (place left k : ℕ) (line : List ℕ) (lines 
 nth_step n {file} place left zero line lines true few at is next = grind (arith, common_steps, nothing_between, eqb-true, zero-mul, get_or)
 nth_step n {file} place left (suc k) line lines true few at is next =
     let none : left ≡ 0 = nothing_between n place few (at ∙ sym (eqb-true (place % n) file is)) in
-    let there : left + suc k * n ≡ suc (n - 1 + k * n) = omega (arith, none, suc-mul k n, few) in
+    let there : left + suc k * n ≡ suc (n - 1 + k * n) = omega (arith, none, suc-mul) in
     let around : place + 1 + (n - 1) ≡ place + n = omega arith in
     cc (next (n - 1) k (omega arith) (ap (λ at. at % n) around ∙ add-mod_right place n ∙ eqb-true (place % n) file is), there)
 nth_step n {file} place zero k line lines false few at is next = grind (arith, common_steps)
@@ -307,7 +321,18 @@ nth_dealt n {file} place (line ∷ lines) left k few at = nth_step n place left 
 pub line_at : (delim n file k : ℕ) (x : List ℕ) → file < n
     → get_or (lines_of delim (get_or (round_robin delim n x) file [])) k []
     ≡ get_or (lines_of delim x) (file + k * n) []
-line_at delim n file k x within = grind (arith, common_steps, get_or-map-range_with_len, lines_of-dealt, AreLines-lines_of, nth_dealt, mod-eq_of_lt)
+line_at delim n file k x within =
+    grind (
+      arith,
+      common_steps,
+      get_or-map-range_with_len,
+      dealt_are,
+      lines_of-joined,
+      are_dealt,
+      AreLines-lines_of,
+      nth_dealt,
+      mod-eq_of_lt,
+    )
 
 -- each line goes to one file
 
@@ -315,7 +340,8 @@ none_gets : (had : ℕ → List ℕ) (line : List ℕ) (place start count : ℕ)
     → joined (map (λ file. cond (eqb place file) (line ++ had file) (had file)) (range_with_len start count))
     ≡ joined (map had (range_with_len start count))
 none_gets had line place start zero before = refl
-none_gets had line place start (suc count) before = cc (ne_eqb place start (λ is. omega (arith, is)), none_gets had line place (start + 1) count (omega arith))
+none_gets had line place start (suc count) before =
+    cc (ne_eqb place start (λ is. omega arith), none_gets had line place (start + 1) count (omega arith))
 
 one_gets : (had : ℕ → List ℕ) (line : List ℕ) (place start count : ℕ) → start ≤ place → place < start + count
     → length (joined (map (λ file. cond (eqb place file) (line ++ had file) (had file)) (range_with_len start count)))
@@ -325,12 +351,12 @@ one_gets had line place start (suc count) from before = elim (cases_eq place sta
   | inl here ↦
       cc (
         eq-eqb place start here,
-        none_gets had line place (start + 1) count (omega (arith, here)),
+        none_gets had line place (start + 1) count (omega arith),
         three line (had start) (joined (map had (range_with_len (start + 1) count))),
       )
   | inr other ↦
       ap (λ gets. length (cond gets (line ++ had start) (had start) ++ joined (map (λ file. cond (eqb place file) (line ++ had file) (had file)) (range_with_len (start + 1) count)))) (ne_eqb place start other)
-      ∙ omega (arith, one_gets had line place (start + 1) count (omega (arith, other)) (omega arith), length-append {A = ℕ})
+      ∙ omega (arith, one_gets had line place (start + 1) count (omega arith) (omega arith), length-append {A = ℕ})
 ] where
   three : (line first rest : List ℕ) → length ((line ++ first) ++ rest) ≡ length line + length (first ++ rest)
   three line first rest = omega (arith, length-append (line ++ first) rest, length-append line first, length-append first rest)
@@ -342,7 +368,8 @@ none_of_none start (suc count) = none_of_none (start + 1) count
 all_from : (n place : ℕ) (lines : List (List ℕ)) → 0 < n
     → length (joined (map (λ file. dealt n file place lines) (range_with_len 0 n))) ≡ length (joined lines)
 all_from n place [] some = none_of_none 0 n
-all_from n place (line ∷ lines) some = one_gets (λ file. dealt n file (place + 1) lines) line (place % n) 0 n (omega arith) (omega (arith, mod-lt place some))
+all_from n place (line ∷ lines) some = one_gets (λ file. dealt n file (place + 1) lines) line (place % n) 0 n
+    (omega arith) (omega (arith, mod-lt))
     ∙ ap (λ rest. length line + rest) (all_from n (place + 1) lines some) ∙ sym (length-append line (joined lines))
 
 -- all bytes are dealt
@@ -354,9 +381,10 @@ pub first_files : (delim n : ℕ) (x : List ℕ)
     → dealt_files delim true n x ≡ take (line_count delim x) (round_robin delim n x)
 first_files delim n x = dealt_files_are delim true n x ∙ elim (cases_lt (line_count delim x) n) [
   | inl fewer ↦
-      let here : min n (line_count delim x) ≡ line_count delim x = omega (arith, fewer) in
-      ap (λ count. map (share_of delim n x) (range_with_len 0 count)) here ∙ sym (take-map-range_with_len (share_of delim n x) 0 n (line_count delim x) (omega (arith, fewer)))
+      let here : min n (line_count delim x) ≡ line_count delim x = omega arith in
+      ap (λ count. map (share_of delim n x) (range_with_len 0 count)) here ∙ sym
+      (take-map-range_with_len (share_of delim n x) 0 n (line_count delim x) (omega arith))
   | inr many ↦
-      let here : min n (line_count delim x) ≡ n = omega (arith, many) in
-      cc (here, take_all (line_count delim x) (round_robin delim n x) (omega (arith, length-map-range_with_len (share_of delim n x) 0 n, many)))
+      let here : min n (line_count delim x) ≡ n = omega arith in
+      cc (here, take_all (line_count delim x) (round_robin delim n x) (omega (arith, length-map-range_with_len)))
 ]

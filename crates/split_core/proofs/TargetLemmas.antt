@@ -195,7 +195,7 @@ pub has_names : {told : Bool} {writer next : WriterState} (elide : Bool) (place 
     → IfSome fault (λ why. why ≡ Verdict Suffixes → (cut : CutUp)
     → GoesOn (record { place = place; aim = to_files writer elide }) cut → ⊥)
 has_names {writer = writer} elide place fault files = where_short fault files.named (λ none cut has.
-    let less : length (kept elide cut.full) ≤ place = omega (arith, length-kept elide cut.full, has.0.placed) in
+    let less : length (kept elide cut.full) ≤ place = omega (arith, length-kept elide cut.full) in
     let here : has_name writer.names.naming (length (kept elide cut.full)) ≡ true = named_before writer.names.naming _ place has.1 less in
     let there : has_name writer.names.naming (length (kept elide cut.full)) ≡ false = none (manner_of (filing_by writer)) (draft_by elide cut) has.0.has in
     false≢true (sym there ∙ here))
@@ -276,7 +276,8 @@ piece_apart : (full : List (List ℕ)) (one other : List ℕ) (chunk : ℕ) → 
 piece_apart [] one other zero differs = absurd (differs refl)
 piece_apart [] one other (suc chunk) differs = refl
 piece_apart (first ∷ full) one other zero differs = refl
-piece_apart (first ∷ full) one other (suc chunk) differs = piece_apart full one other chunk (λ is. differs (omega (arith, is)))
+piece_apart (first ∷ full) one other (suc chunk) differs = piece_apart full one other chunk
+    (λ is. differs (omega arith))
 
 piece_other : (full : List (List ℕ)) (one other : List ℕ) (chunk : ℕ) {place : ℕ} → length full ≡ place
     → eqb chunk place ≡ false → get_or (full ++ one ∷ []) chunk [] ≡ get_or (full ++ other ∷ []) chunk []
@@ -306,7 +307,12 @@ out_stops told before had more {high} n {old} {new} is at broke = let stops = ou
   above = stops.above;
   below = stops.below;
   place = 0;
-  turn = record { closed = tt; within = omega arith; last = let none = ap length (none_files stops.part.files stops.below.files) in omega (arith, none) };
+  turn = record {
+    closed = tt;
+    within = omega arith;
+    last = let none = ap length
+        (none_files stops.part.files stops.below.files) in omega arith;
+  };
   lines = tt;
   reached = stops.reached;
   outputs = stops.outputs;

@@ -41,7 +41,7 @@ use Rattle.ports_core.proofs.{
 use Rattle.split_core.specs.{
   Parts.{parts, whole_lines, cut_up, unless_empty, settled_rest, waiting_rest, dealt},
   inner.{CutLaws.named, Dealt.share_of},
-  Split.{Filing, output_by, share, are_named, settled_by, is_short, split_work, dealt_files, bytes_in, whole_by},
+  Split.{Filing, output_by, share, are_named, is_short, split_work, dealt_files, whole_by},
   PartsState.parts_work,
   Place.{beside_output, dealt_spots, split_spots, dealt_to},
   Round.round_plan,
@@ -75,7 +75,7 @@ parts_placed limit filing = stretch_placed (beside_output (parts_work limit fili
   front = λ x. subst (AreFront (file_bytes ((parts_work limit filing).whole x))) (joined_parts limit x)
       (rw (← shared_bytes filing Closed (parts limit x)) at (named_front filing.names 0 (parts limit x)));
   are = λ x. refl;
-  nowhere = λ x i less. absurd (omega (arith, less));
+  nowhere = λ x i less. absurd (omega arith);
   there = λ x i past. ap (spots_from 1 (file_bytes ((parts_work limit filing).whole x))) (omega arith);
 })
 
@@ -86,10 +86,15 @@ spots_after : (place i : ℕ) (front back : List (List ℕ)) → length (joined 
     → spots_from place (front ++ back) i ≡ spots_from (place + length front) back (i - length (joined front))
 spots_after place i [] back past = search rules
 spots_after place i (bytes ∷ front) back past =
-    let long = length-append bytes (joined front) in
-    spot_past place i bytes (front ++ back) (omega (arith, past, long)) ∙ spots_after (place + 1) (i - length bytes) front back (omega (arith, past, long))
-    ∙ ap (λ at. spots_from at back (i - length bytes - length (joined front))) (sym (one_on place (length front)))
-    ∙ ap (λ at. spots_from (place + suc (length front)) back at) (let e : i - length bytes - length (joined front) ≡ i - length (bytes ++ joined front) = omega (arith, long) in e)
+    grind (
+      arith,
+      common_steps,
+      length-append,
+      spot_past,
+      one_on,
+      spots_after (place + 1) (i - length bytes) front
+          back,
+    )
 
 -- only the last file may be open
 abbrev OnlyLastOpen : List File → Type 0
@@ -112,7 +117,9 @@ pub spots_stay : (place i : ℕ) (low high : List File) → FilesBegin low high 
 spots_stay place i [] high begins last less = search rules
 spots_stay place i (file ∷ low) [] begins last less = absurd begins
 spots_stay place i (file ∷ low) (whole ∷ high) begins last less = elim (cases_lt i (length file.bytes)) [
-  | inl within ↦ (let short = beginning_short file.bytes whole.bytes begins.4 in spot_in place i whole.bytes _ (omega (arith, within, short)) ∙ sym (spot_in place i file.bytes _ within))
+  | inl within ↦
+      (let short = beginning_short file.bytes whole.bytes begins.4 in spot_in place i whole.bytes _ (omega arith) ∙ sym
+      (spot_in place i file.bytes _ within))
   | inr past ↦ after past (λ rest. spots_stay (place + 1) (i - length file.bytes) low high begins.5 last.1 rest) begins.3
 ] where
   after : length file.bytes ≤ i
@@ -123,11 +130,17 @@ spots_stay place i (file ∷ low) (whole ∷ high) begins last less = elim (case
       → spots_from place (map (λ (file : File). file.bytes) (whole ∷ high)) i
       ≡ spots_from place (map (λ (file : File). file.bytes) (file ∷ low)) i
   after past later (inl opened) = absurd
-      (omega (arith, ap (λ those. length (file.bytes ++ joined (map (λ (file : File). file.bytes) those))) (last.0 opened), length-append file.bytes [], less, past))
+      (omega (
+        arith,
+        ap (λ those. length (file.bytes ++ joined (map (λ (file : File). file.bytes) those)))
+            (last.0 opened),
+        length-append file.bytes [],
+      ))
   after past later (inr same) =
       let is : length whole.bytes ≡ length file.bytes = ap (λ (those : File). length those.bytes) (sym same) in
-      spot_past place i whole.bytes _ (omega (arith, past, is)) ∙ ap (λ n. spots_from (place + 1) (map (λ (file : File). file.bytes) high) (i - n)) is
-      ∙ later (omega (arith, length-append file.bytes (joined (map (λ (file : File). file.bytes) low)), less, past))
+      spot_past place i whole.bytes _ (omega arith) ∙ ap
+      (λ n. spots_from (place + 1) (map (λ (file : File). file.bytes) high) (i - n)) is
+      ∙ later (omega (arith, length-append file.bytes (joined (map (λ (file : File). file.bytes) low))))
       ∙ sym (spot_past place i file.bytes _ past)
 
 abbrev parts_spots : Limit → Filing → List ℕ → ℕ → List Spot
@@ -145,7 +158,12 @@ none_wait : (limit : Limit) (filing : Filing) (x : List ℕ) (i : ℕ)
     → are_named filing.names (length (parts limit x)) ≡ true → waiting_rest limit (cut_up limit x).rest ≡ []
     → length (settled_in limit filing x) ≤ i → i < length x → ⊥
 none_wait limit filing x i are none past within =
-    omega (arith, ap length (sym (append-nil (settled_in limit filing x)) ∙ ap (λ those. settled_in limit filing x ++ those) (sym none) ∙ came_in limit filing are), past, within)
+    omega (
+      arith,
+      ap length
+          (sym (append-nil (settled_in limit filing x)) ∙ ap (λ those. settled_in limit filing x ++ those) (sym none)
+          ∙ came_in limit filing are),
+    )
 
 -- two continuations that put byte i to different spots
 pub record Differs (spots_of : List ℕ → ℕ → List Spot) (x : List ℕ) (i : ℕ) : Type 0 where
@@ -174,7 +192,7 @@ lines_here delim n filing x are lines i past within =
       one_of rest (delimiters_some delim rest lines),
       spots_after 1 i full (rest ∷ []) past,
       spot_in (1 + length full) (i - length (joined full)) rest []
-          (omega (arith, ap length (sym (cut_all (LineBytes n delim))) ∙ length-append (joined full) rest, past, within)),
+          (omega (arith, ap length (sym (cut_all (LineBytes n delim))) ∙ length-append (joined full) rest)),
     )
 
 lines_there : (limit : Limit) (filing : Filing) (x y : List ℕ) (next : List (List ℕ))
@@ -203,13 +221,16 @@ lines_differ delim n filing {x} some are lines {i} past within =
     let count : length (settled_list (LineBytes n delim) x) ≡ length full + 1 = ap length one ∙ length-append full (begun ∷ []) in
     let bytes : length (joined (settled_list (LineBytes n delim) x)) ≡ length (joined full) + length (joined (begun ∷ [])) = ap (λ those. length (joined those)) one ∙ ap length (joined-append full (begun ∷ [])) ∙ length-append (joined full) (joined (begun ∷ [])) in
     let had : length (settled_in (LineBytes n delim) filing x) ≡ length (joined (settled_list (LineBytes n delim) x)) = ap length (settled_bytes_in (LineBytes n delim) filing x are) in
-    let here = lines_here delim n filing x are lines i (omega (arith, past, had, bytes)) within in
-    let there = lines_there (LineBytes n delim) filing x decides.y decides.more are decides.are i (omega (arith, past, had)) in record {
+    let here = lines_here delim n filing x are lines i (omega (arith, had)) within in
+    let there = lines_there (LineBytes n delim) filing x decides.y decides.more are decides.are i
+    (omega (arith, had)) in record {
       y = [];
       z = decides.y;
       y_comes = none_comes;
       z_comes = decides.comes;
-      apart = λ same. none_before (1 + length (settled_list (LineBytes n delim) x)) (i - length (joined (settled_list (LineBytes n delim) x))) (1 + length full) (i - length (joined full)) there.0 (omega (arith, count)) (sym there.1 ∙ sym same ∙ here);
+      apart = λ same. none_before (1 + length (settled_list (LineBytes n delim) x))
+          (i - length (joined (settled_list (LineBytes n delim) x))) (1 + length full)
+          (i - length (joined full)) there.0 (omega arith) (sym there.1 ∙ sym same ∙ here);
     }
 
 parts_differ : (limit : Limit) (filing : Filing) {x : List ℕ} → 0 < most limit
@@ -219,7 +240,9 @@ parts_differ (Lines n delim) filing {x} some are {i} past within = absurd (none_
 parts_differ (Bytes n) filing {x} some are {i} past within = absurd (none_wait (Bytes n) filing x i are refl past within)
 parts_differ (LineBytes n delim) filing {x} some are {i} past within = elim (cases_lt 0 (delimiters delim (cut_up (LineBytes n delim) x).rest)) [
   | inl lines ↦ lines_differ delim n filing some are lines past within
-  | inr none ↦ absurd (none_wait (LineBytes n delim) filing x i are (open_of_none delim (cut_up (LineBytes n delim) x).rest (omega (arith, none))) past within)
+  | inr none ↦ absurd
+      (none_wait (LineBytes n delim) filing x i are
+      (open_of_none delim (cut_up (LineBytes n delim) x).rest (omega arith)) past within)
 ]
 
 parts_undecided : (limit : Limit) (filing : Filing) {x : List ℕ} → 0 < most limit
@@ -243,9 +266,7 @@ round_undecided : (delim n : ℕ) (elide : Bool) (filing : Filing) {x : List ℕ
     → IsUndecided (split_spots (round_plan delim n elide filing)) x
     ((split_work (round_plan delim n elide filing)).waiting x)
 round_undecided delim n elide filing {x} some are =
-    let size = dealt_all delim n elide filing x some are in
-    rw (drop_all (length (bytes_in (settled_by (round_plan delim n elide filing) x))) x (omega (arith, size)))
-    (nothing_waits (λ i less y z. dealt_decided delim n filing.names x y i less ∙ sym (dealt_decided delim n filing.names x z i less)))
+    grind (arith, common_steps, dealt_all, drop_all, nothing_waits, dealt_decided)
 
 -- All ways to cut
 
@@ -300,11 +321,18 @@ had_byte delim n x i less =
 had_grows : (delim n : ℕ) (x : List ℕ) (i j : ℕ) → i < j → j < length x → dealt_to delim n x i ≡ dealt_to delim n x j
     → had delim n (dealt_to delim n x i) x i < had delim n (dealt_to delim n x j) x j
 had_grows delim n x i j less within same =
-    let front : take i (take j x) ≡ take i x = take-take i j x (omega (arith, less)) in
+    let front : take i (take j x) ≡ take i x = take-take i j x (omega arith) in
     let file : dealt_to delim n (take j x) i ≡ dealt_to delim n x i = ap (λ those. delimiters delim those % n) front in
     let grown : had delim n (dealt_to delim n (take j x) i) (take j x) i < length (share_of delim n (take j x) (dealt_to delim n (take j x) i))
-    = had_less delim n (take j x) i (let all : length (take j x) ≡ j = length-take-le j x (omega (arith, within)) in omega (arith, less, all)) in
-    omega (arith, ap (λ k. had delim n k (take j x) i) file ∙ ap (λ those. length (dealt n (dealt_to delim n x i) 0 (lines_of delim those))) front, ap (λ k. length (share_of delim n (take j x) k)) (file ∙ same), grown)
+    = had_less delim n (take j x) i
+    (let all : length (take j x) ≡ j = length-take-le j x (omega arith) in omega arith) in
+    omega (
+      arith,
+      ap (λ k. had delim n k (take j x) i) file ∙ ap
+          (λ those. length (dealt n (dealt_to delim n x i) 0 (lines_of delim those))) front,
+      ap
+          (λ k. length (share_of delim n (take j x) k)) (file ∙ same),
+    )
 
 -- for each place in a file a byte is found that goes there
 
@@ -319,7 +347,7 @@ found_after : {delim n file place byte k : ℕ} {x : List ℕ} {gets : Bool} →
     → Found delim n file place (byte ∷ x) (cond gets (suc k) k)
 found_after {delim} {n} {file} {place} {byte} {k} {x} {gets} is found = record {
   i = suc found.i;
-  within = (omega (arith, found.within));
+  within = (omega arith);
   goes = ap (λ those. those % n) (sym (next_place (eqb byte delim) place (delimiters delim (take found.i x)))) ∙ found.goes;
   at = cc (dealt_first (eqb byte delim) n file place byte (lines_of delim (take found.i x)), is, counted gets);
 } where
@@ -339,7 +367,7 @@ found_by : {delim n file place byte : ℕ} (k : ℕ) {x : List ℕ} (gets : Bool
     (dealt n file (cond (eqb byte delim) (place + 1) place) (lines_of delim x)))
     → Found delim n file place (byte ∷ x) k
 found_by {n = n} {file} {place} zero true is later less = grind (arith, common_steps)
-found_by (suc k) true is later less = found_after is (later k (omega (arith, less)))
+found_by (suc k) true is later less = found_after is (later k (omega arith))
 found_by k false is later less = found_after is (later k less)
 
 find : {delim n file : ℕ} (place : ℕ) (x : List ℕ) {k : ℕ} → k < length (dealt n file place (lines_of delim x))
@@ -360,14 +388,13 @@ named_at : (names : Naming) (place : ℕ) (those : List (List ℕ)) (k : ℕ)
 named_at names place [] k = grind (arith, nat_tests)
 named_at names place (one ∷ those) zero = grind (arith, common_steps)
 named_at names place (one ∷ those) (suc k) =
-    let before = λ (is : has_name names (place + suc k) ≡ true). named_before names place (place + suc k) is (omega arith) in
-    grind (arith, nat_tests, named_at names (place + 1) those k, ap (has_name names) (one_on place k), before)
+    grind (arith, common_steps, named_before, nat_tests, one_on, named_at names (place + 1) those k)
 
 -- a file that has a byte has a name, and is one of n
 there_by : (has : Bool) (these : List ℕ) {offset : ℕ} → offset < length (cond has these [])
     → (has ≡ true) × (offset < length these)
 there_by true these less = (refl, less)
-there_by false these less = absurd (omega (arith, less))
+there_by false these less = absurd (omega arith)
 
 -- Spots
 
@@ -397,7 +424,7 @@ goes_there delim n names x i {file} {offset} less to at named = grind (arith, co
 dealt_filled : (delim n : ℕ) (elide : Bool) (filing : Filing) (x : List ℕ) (place offset : ℕ)
     → offset < length (get_or ([] ∷ dealt_files_of delim n elide filing x) place [])
     → (i : ℕ) × (i < length x) × GoesTo (spot place offset) (dealt_spots delim n filing.names x i)
-dealt_filled delim n elide filing x zero offset less = absurd (omega (arith, less))
+dealt_filled delim n elide filing x zero offset less = absurd (omega arith)
 dealt_filled delim n elide filing x (suc file) offset less =
     let there = there_by (has_name filing.names (0 + file)) (get_or (dealt_files delim elide n x) file [])
     (rw (ap (λ files. get_or files file []) (shared_bytes filing Closed (dealt_files delim elide n x))

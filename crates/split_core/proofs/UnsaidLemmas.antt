@@ -50,7 +50,7 @@ use Rattle.split_core.proofs.{
 goes_on_so : (cutter : CutterState) (end : ℕ) (w : List ℕ) → BeginsBefore cutter end w
     → true ≡ (nat_lt cutter.at end || cutter.is_within) → open_from cutter.chunks.unit cutter.chunks.delim w < end
 goes_on_so cutter end w (has, all) short = elim (or_cases (nat_lt cutter.at end) cutter.is_within (sym short)) [
-  | inl before ↦ omega (arith, ltb-true _ _ before, has.at, open_within cutter.chunks.unit cutter.chunks.delim w)
+  | inl before ↦ omega (arith, ltb-true _ _ before, open_within cutter.chunks.unit cutter.chunks.delim w)
   | inr within ↦ open_early cutter.chunks.unit cutter.chunks.delim end w all (sym has.within ∙ within)
 ]
 
@@ -66,7 +66,7 @@ still_all : (cutter : CutterState) (waiting : List ℕ) (end : ℕ) (z : List �
 still_all cutter waiting end z (has, all) (inl none) = rw (nil_from_length waiting none, append-nil z) all
 still_all cutter waiting end z (has, all) (inr stops) = let (before, within) = or_parts (nat_lt cutter.at end) cutter.is_within (sym stops) in
     let open_at = no_line cutter.chunks.unit cutter.chunks.delim z (sym has.within ∙ within) in
-    begun_stays cutter.chunks.unit cutter.chunks.delim end z waiting (omega (arith, open_at, has.at, ltb-false _ _ before)) ∙ all
+    begun_stays cutter.chunks.unit cutter.chunks.delim end z waiting (omega (arith, ltb-false _ _ before)) ∙ all
 
 pub settles_none : {told : Bool} {cutter : CutterState} {waiting : List ℕ} {end : ℕ} {slots : List Slot}
     → IsAimed cutter.target.aim slots
@@ -89,7 +89,7 @@ module _ {told : Bool} {cutter : CutterState} (waiting : List ℕ) (end : ℕ) {
       (λ z. uncut (all_before cutter waiting end z)) old new next fault
   sends_on fault changes = sends_as (λ z. uncut z) fault
       (λ z (has, all). let less : cutter.target.place < cutter.chunks.count =
-      omega (arith, has.carries.placed, some_in has) in
+      omega (arith, some_in has) in
       (has.carries, name_of (course cutter) cutter.chunks.count cutter.target.place has.all less))
       (λ z so. refl) (λ z so. ap uncut (sym (writes_on cutter end z waiting so short))) changes
 
@@ -97,15 +97,15 @@ module _ {told : Bool} {cutter : CutterState} (waiting : List ℕ) (end : ℕ) {
       → WritesTo told cutter end waiting old new next (Ok n) → left ≡ drop n waiting
       → Settles told cutter waiting end old new next left None
   settles_on {next} {left} {new} {n} writes is = let y = cut_to cutter end waiting in let step = cutting waiting writes in
-      let long : length y ≡ n = omega (arith, ap length writes.count.2, length-take n waiting, writes.count.1) in
+      let long : length y ≡ n = omega (arith, ap length writes.count.2, length-take n waiting) in
       let sends = sends_on None writes.sends in record {
         chunks = writes.chunks;
-        bound = omega (arith, writes.at, ap length is, length-drop n waiting, writes.count.1);
+        bound = omega (arith, ap length is, length-drop n waiting);
         sends = sends;
         stands = λ z so. let all = writes_on cutter end z waiting so short in
-            let both : length (z ++ y) ≡ length z + n = omega (arith, length-append z y, long) in (
-              rw all (has_cut y writes.chunks step.stays (omega (arith, writes.at, long)) writes.within
-                  (omega (arith, writes.count.0, long)) so.0 (rw all at (sends.carries z so))),
+            let both : length (z ++ y) ≡ length z + n = omega (arith, length-append z y) in (
+              rw all (has_cut y writes.chunks step.stays (omega arith) writes.within
+                  (omega arith) so.0 (rw all at (sends.carries z so))),
               is ∙ sym (ap (λ x. drop (length x) (z ++ waiting)) all ∙ ap (λ k. drop k (z ++ waiting)) both ∙ drop-append-add z waiting n),
             );
       }
@@ -115,7 +115,7 @@ module _ {told : Bool} {cutter : CutterState} (waiting : List ℕ) (end : ℕ) {
       → Settles told cutter waiting end old new next waiting (Some why)
   settles_not {why = why} writes = record {
     chunks = writes.chunks;
-    bound = omega (arith, writes.kept);
+    bound = omega arith;
     sends = sends_on (Some why) writes.sends;
     stands = tt;
   }
@@ -184,7 +184,8 @@ module _ (chunker : ChunkerState) (piece : List ℕ) {end : ℕ}
     (first_on (course chunker.cutter))) where
   end_is : {x : List ℕ} → IsUnsaid chunker x
       → end ≡ chunk_start chunker.cutter.chunks.count (length (x ++ piece)) (first_on (course chunker.cutter))
-  end_is {x} has = let n : chunker.cutter.at + length (chunker.waiting ++ piece) ≡ length (x ++ piece) = omega (arith, has.cut.at, length-append (cut_front chunker x) (chunker.waiting ++ piece), ap length (came_more has piece)) in
+  end_is {x} has = let n : chunker.cutter.at + length (chunker.waiting ++ piece) ≡ length (x ++ piece) =
+      omega (arith, length-append (cut_front chunker x) (chunker.waiting ++ piece), ap length (came_more has piece)) in
       rw n at ends
 
   to_is : {x : List ℕ} → IsUnsaid chunker x
@@ -201,7 +202,7 @@ module _ {told : Bool} {chunker next : ChunkerState} {piece : List ℕ} {end : �
       → Settles told chunker.cutter (chunker.waiting ++ piece) end old new next.cutter next.waiting (fault_in result)
       → PassesAs told chunker piece old new next result
   passes_unsaid result settles = passes_at result (record { can = can; said = same; chunks = settles.chunks })
-      (omega (arith, settles.bound, spare, length-append chunker.waiting piece))
+      (omega (arith, length-append chunker.waiting piece))
       (brings_as (cut_front chunker) fault (λ x holds. before (is_unsaid said holds))
       (λ x holds. settled_none chunker x said)
       (λ x holds. rw (to_is chunker piece ends (is_unsaid said holds)) (settled_none chunker (x ++ piece) said))
@@ -228,15 +229,15 @@ module _ {told : Bool} {chunker next : ChunkerState} {piece : List ℕ} {end : �
 none_waits : (unit : Counted) (delim place : ℕ) (z waiting : List ℕ) → begun_before unit delim place (z ++ waiting) ≡ z
     → is_within unit delim z ≡ true → length waiting ≡ 0
 none_waits unit delim place z waiting is within = elim (cases_lt 0 (length waiting)) [
-  | inr none ↦ omega (arith, none)
+  | inr none ↦ omega arith
   | inl some ↦ (let early = open_early unit delim place z (ap (begun_before unit delim place) (sym is) ∙ begun_again unit delim place (z ++ waiting) ∙ is) within in
       absurd (omega (arith, begun_some unit delim (max (place - length z) 1) waiting (omega arith) some, ap length (sym is ∙ begun_on unit delim place z waiting early), length-append z (begun_before unit delim (max (place - length z) 1) waiting))))
 ]
 
 pub start_some : (n size : ℕ) → 0 < n → 0 < size → 0 < chunk_start n size 1
 start_some n size count some = elim (cases_lt 0 (size / n)) [
-  | inl more ↦ omega (arith, more)
-  | inr none ↦ (let e : size / n ≡ 0 = omega (arith, none) in omega (arith, div-add-mod' size n, ap (λ q. q * n) e, some))
+  | inl more ↦ omega arith
+  | inr none ↦ (let e : size / n ≡ 0 = omega arith in omega (arith, div-add-mod' size n, ap (λ q. q * n) e))
 ]
 
 none_of : (chunks : Chunks) (size place : ℕ) → chunk_at chunks size [] place ≡ []
@@ -260,10 +261,10 @@ empty_map f a (suc n) none = rw (none a) (ap (λ rest. [] ∷ rest) (empty_map f
 all_empty : (chunks : Chunks) → 0 < chunks.count → with_fulls chunks.count (uncut []) ≡ chunks_within chunks 0 []
 all_empty chunks count = by chunks.count refl count where
   by : (n : ℕ) → chunks.count ≡ n → 0 < n → with_fulls n (uncut []) ≡ chunks_within chunks 0 []
-  by zero is some = absurd (omega (arith, some))
+  by zero is some = absurd (omega arith)
   by (suc n) is some = fulls_are n (uncut [])
       ∙ ap (λ full. record { full = full; rest = [] }) (sym (empty_map (chunk_at chunks 0 []) 0 (suc n) (none_of chunks 0)) ∙ ap (λ n. map (chunk_at chunks 0 []) (range_with_len 0 n)) (sym is))
-      ∙ sym (cut_all chunks 0 [] (omega (arith, is)) (omega arith))
+      ∙ sym (cut_all chunks 0 [] (omega arith) (omega arith))
 
 -- the first chunk of a text is what stands before the second
 first_cut : (chunks : Chunks) (size : ℕ) (z : List ℕ) → 0 < chunks.count → length z ≤ size
@@ -271,11 +272,11 @@ first_cut : (chunks : Chunks) (size : ℕ) (z : List ℕ) → 0 < chunks.count �
 first_cut chunks size z count fits all = by (cases_lt 0 size) where
   by : (0 < size) ⊎ (size ≤ 0) → with_fulls (ended chunks size z) (uncut z) ≡ chunks_within chunks size z
   by (inl some) = let none = none_ended chunks size count some in
-      let n : ended chunks size z - ended chunks size [] ≡ ended chunks size z = omega (arith, none) in
-      let place : ended chunks size [] + 1 ≡ 1 = omega (arith, none) in
+      let n : ended chunks size z - ended chunks size [] ≡ ended chunks size z = omega arith in
+      let place : ended chunks size [] + 1 ≡ 1 = omega arith in
       ap (λ n. with_fulls n (uncut z)) (sym n) ∙ ap (λ cut. with_fulls (ended chunks size z - ended chunks size []) (with_rest z cut)) (sym (none_within chunks size count some))
       ∙ grown chunks size [] z count fits (ap (λ place. before_chunk chunks size place z) place ∙ all)
-  by (inr empty) = let none : z ≡ [] = nil_from_length z (omega (arith, fits, empty)) in let e : size ≡ 0 = omega (arith, empty) in
+  by (inr empty) = let none : z ≡ [] = nil_from_length z (omega arith) in let e : size ≡ 0 = omega arith in
       rw (none, e) (ap (λ n. with_fulls n (uncut [])) (ended_all chunks {size = 0} [] count (omega arith)) ∙ all_empty chunks count)
 
 -- what is written of it is the same, also where one chunk alone goes out
@@ -292,7 +293,8 @@ past_pieces chunks size chunk z all = let f = chunk_at chunks size z in let n = 
       by : (chunk < ended chunks size z + 1) ⊎ (ended chunks size z + 1 ≤ chunk)
           → get_or (map (chunk_at chunks size z) (range_with_len 0 (ended chunks size z + 1))) chunk [] ≡ []
       by (inl within) = get_or-map-range_with_len (chunk_at chunks size z) 0 (ended chunks size z + 1) chunk chunk [] within (omega arith) ∙ chunk_none chunks size z chunk all
-      by (inr past) = get_or_past (map (chunk_at chunks size z) (range_with_len 0 (ended chunks size z + 1))) chunk [] (omega (arith, past, length-map-range_with_len (chunk_at chunks size z) 0 (ended chunks size z + 1)))
+      by (inr past) = get_or_past (map (chunk_at chunks size z) (range_with_len 0 (ended chunks size z + 1))) chunk []
+          (omega (arith, length-map-range_with_len (chunk_at chunks size z) 0 (ended chunks size z + 1)))
 
 part_same : (on : Course) (chunks : Chunks) (size : ℕ) (z : List ℕ) → 0 < chunks.count → length z ≤ size
     → before_chunk chunks size (first_on on) z ≡ z
@@ -313,7 +315,12 @@ carries_same : (chunks : Chunks) (size : ℕ) (z : List ℕ) (place : ℕ) (aim 
 carries_same chunks size z place (to_files writer elide) count fits all carries =
     rw (first_cut chunks size z count fits all) at carries
 carries_same chunks size z place (to_output chunk) count fits all carries = record {
-  placed = omega (arith, length-map-range_with_len (chunk_at chunks size z) 0 (ended chunks size z), fulls_long (ended chunks size z) (uncut z), carries.placed);
+  placed = omega (
+    arith,
+    length-map-range_with_len (chunk_at chunks size z) 0 (ended chunks size z),
+    fulls_long
+        (ended chunks size z) (uncut z),
+  );
   has = tt;
 }
 
@@ -336,37 +343,43 @@ cut_off_so {cutter} {waiting} {size} {z} so = record {
   all = so.cut.all;
   at = so.cut.at;
   within = so.cut.within;
-  fits = omega (arith, so.all);
-  begun = λ within short. absurd (omega (arith, short, so.all, none_waits cutter.chunks.unit cutter.chunks.delim (chunk_start cutter.chunks.count size (first_on (course cutter))) z waiting so.is within));
-  from = omega (arith, so.cut.carries.placed);
+  fits = omega arith;
+  begun = λ within short. absurd
+      (omega (
+        arith,
+        none_waits cutter.chunks.unit cutter.chunks.delim
+            (chunk_start cutter.chunks.count size (first_on (course cutter))) z waiting so.is within,
+      ));
+  from = omega arith;
 }
 
 to_whole : {cutter : CutterState} {waiting : List ℕ} {size : ℕ} (z : List ℕ) → IsSettled cutter waiting size z
     → Begins (part_on (course cutter) (chunks_within cutter.chunks size z))
     (whole_on (course cutter) (chunks_within cutter.chunks size (z ++ waiting)))
 to_whole {cutter} {waiting} {size} z so = part_trans _ _ _ (so_grows (course cutter) cutter.chunks size z waiting
-    (some_in so.cut) (omega (arith, so.all, length-append z waiting))) (whole_begins (course cutter) _)
+    (some_in so.cut) (omega (arith, length-append z waiting))) (whole_begins (course cutter) _)
 
 module _ {told : Bool} {cutter mid : CutterState} {waiting : List ℕ} {size : ℕ} {old wet : List Slot} where
   ends_first : (fault : Option Fault) → EndsFull told cutter size old wet mid fault
       → Sends told cutter.target (IsSettled cutter waiting size) (λ z. uncut z)
       (λ z. with_fulls (ended cutter.chunks size z) (uncut z)) old wet mid.target fault
   ends_first fault ends = sends_as (λ z. (z, uncut z)) fault (λ z so. cut_off_so so) (λ z so. refl) (λ z so.
-      let e : ended cutter.chunks size z - cutter.target.place ≡ ended cutter.chunks size z = omega (arith, so.cut.carries.placed) in ap (λ n. with_fulls n (uncut z)) e) ends.sends
+      let e : ended cutter.chunks size z - cutter.target.place ≡ ended cutter.chunks size z = omega arith in ap
+      (λ n. with_fulls n (uncut z)) e) ends.sends
 
   brings_first : (fault : Option Fault) → EndsFull told cutter size old wet mid fault
       → Brings told (course cutter) cutter.target.aim mid.target.aim (IsSettled cutter waiting size)
       (λ z. part_on (course cutter) (uncut z))
       (λ z. part_on (course cutter) (chunks_within cutter.chunks size z)) old wet fault
   brings_first fault ends = brings_as (λ z. z) fault (λ z so. so) (λ z so. refl) (λ z so.
-      part_same (course cutter) cutter.chunks size z (some_in so.cut) (omega (arith, so.all)) (settled_cut so))
+      part_same (course cutter) cutter.chunks size z (some_in so.cut) (omega arith) (settled_cut so))
       (ends_first fault ends).brings
 
   pub held_not_ended : {why : Fault} → EndsFull told cutter size old wet mid (Some why)
       → EndsHeld told cutter waiting size old wet mid waiting (Some why)
   held_not_ended {why} ends = record {
     chunks = ends.chunks;
-    bound = omega (arith, ends.at);
+    bound = omega arith;
     brings = brings_wider (λ z so. to_whole z so) (brings_first (Some why) ends);
   }
 
@@ -380,11 +393,11 @@ module _ {told : Bool} {cutter mid : CutterState} {waiting : List ℕ} {size : �
         at = ends.at ∙ so.cut.at;
         within = rw ends.chunks (ends.within ∙ so.cut.within);
         carries = rw (← ends.chunks) at (carries_same cutter.chunks size z mid.target.place mid.target.aim
-            (some_in so.cut) (omega (arith, so.all)) (rw stays (settled_cut so)) (sends.carries z so));
+            (some_in so.cut) (omega arith) (rw stays (settled_cut so)) (sends.carries z so));
       };
-      fits = omega (arith, so.all);
+      fits = omega arith;
     },
-    omega (arith, so.all, few, length-append z done),
+    omega (arith, length-append z done),
   )
 
   brings_rest : {next : AimState} {new : List Slot} (fault : Option Fault) {done : List ℕ}
@@ -402,10 +415,10 @@ module _ {told : Bool} {cutter mid : CutterState} {waiting : List ℕ} {size : �
       → Cuts told mid size (take (min (length waiting) (size - mid.at)) waiting) wet new next (Some why)
       → EndsHeld told cutter waiting size old new next [] (Some why)
   held_not_cut {why = why} all ends stopped =
-      let same = take_all (min (length waiting) (size - mid.at)) waiting (omega (arith, all, ends.at)) in
+      let same = take_all (min (length waiting) (size - mid.at)) waiting (omega arith) in
       let cuts = rw same at stopped in record {
         chunks = cuts.chunks ∙ ends.chunks;
-        bound = omega (arith, cuts.bound, ends.at);
+        bound = omega arith;
         brings = brings_wider (λ z so. whole_begins (course cutter) _)
             (brings_rest (Some why) (omega arith) ends cuts.brings);
       }
@@ -418,7 +431,7 @@ module _ {told : Bool} {cutter mid : CutterState} {waiting : List ℕ} {size : �
       → EndsHeld told cutter waiting size old new next [] fault
   held_ends {later} {next} {left} {between} {new} fault all ends cuts last chunks at = record {
     chunks = chunks ∙ cuts.cuts.chunks ∙ ends.chunks;
-    bound = omega (arith, at, cuts.cuts.bound, few, ends.at);
+    bound = omega arith;
     brings = brings_then first (λ z so. so) (brings_as (λ z. chunks_within cutter.chunks size (z ++ done)) fault
         (λ z so. rw is at ((stands z so).cut.carries)) (λ z so. refl) whole (rw first.stays at last));
   } where
@@ -453,13 +466,13 @@ module _ {told : Bool} {cutter mid : CutterState} {waiting : List ℕ} {size : �
             let complete : work.is_complete (z ++ done) ≡ true =
             rw (first.stays, is) at (sym (past_is (stands z so)) ∙ past) in
             complete_all on chunks size (z ++ done) rest so.cut.can (stands z so).fits complete ∙ ap work.whole both
-            ∙ sym (whole_within on chunks size (z ++ waiting) (omega (arith, so.all, length-append z waiting)))
-        | inr full ↦ used (omega (arith, all, full, cuts.at, cuts.few, ends.at))
+            ∙ sym (whole_within on chunks size (z ++ waiting) (omega (arith, length-append z waiting)))
+        | inr full ↦ used (omega arith)
       ]
     ] where
       used : left ≡ 0 → whole_on (course cutter) (chunks_within cutter.chunks size (z ++ done))
           ≡ whole_on (course cutter) (chunks_within cutter.chunks size (z ++ waiting))
-      used none = let same : done ≡ waiting = take_all (length waiting - left) waiting (omega (arith, none)) in
+      used none = let same : done ≡ waiting = take_all (length waiting - left) waiting (omega arith) in
           rw same refl
 
 -- as the stage ends
@@ -482,10 +495,10 @@ pub ends_unsaid : {told : Bool} {chunker next : ChunkerState} {size : ℕ} {old 
     → EndsAs told chunker old new next result
 ends_unsaid {chunker = chunker} {size = size} result aimed said same spare can size_is ends =
     let fault = fault_in result in let on = course chunker.cutter in let chunks = chunker.cutter.chunks in
-    ends_at result aimed (record { can = can; said = same; chunks = ends.chunks }) (omega (arith, ends.bound, spare))
+    ends_at result aimed (record { can = can; said = same; chunks = ends.chunks }) (omega arith)
     (brings_as (cut_front chunker) fault (λ x holds. let has = is_unsaid said holds in record {
       cut = has.cut;
-      all = omega (arith, size_is, has.cut.at);
+      all = omega arith;
       is = rw (all_came has, long x has) refl;
     })
     (λ x holds. settled_none chunker x said)
@@ -494,4 +507,4 @@ ends_unsaid {chunker = chunker} {size = size} result aimed said same spare can s
     (in_any fault (λ x holds. rw (← made_none chunker said) (well_none on chunks x)))
     (λ some. absurd (false≢true (sym some ∙ ap is_none said))) where
       long : (x : List ℕ) → IsUnsaid chunker x → size ≡ length x
-      long x has = omega (arith, size_is, has.cut.at, length-append (cut_front chunker x) chunker.waiting, ap length (all_came has))
+      long x has = omega (arith, length-append (cut_front chunker x) chunker.waiting, ap length (all_came has))

@@ -60,7 +60,7 @@ reaches : (chunks : Chunks) (size chunk : ℕ) (x : List ℕ) → has_ended chun
     → chunk_start chunks.count size (chunk + 1) ≤ length x
 reaches chunks size chunk x has = elim (cases_lt (length x) size) [
   | inl short ↦ omega (arith, leb-true _ _ has, passed_open chunks size x short, open_within chunks.unit chunks.delim x)
-  | inr full ↦ omega (arith, leb-true _ _ has, passed_full chunks size x full, full)
+  | inr full ↦ omega (arith, leb-true _ _ has, passed_full chunks size x full)
 ]
 
 few_missing : (chunk : ℕ) (chunks : Chunks) (size : ℕ) (x piece : List ℕ) (n : ℕ) → nat_lt chunk chunks.count ≡ true
@@ -92,7 +92,7 @@ all_cut : (state : ChunkerState) (size : ℕ) (x : List ℕ) → state.said ≡ 
     → Holds state x
     → state.cutter.at ≡ length x
 all_cut state size x said going holds = let has : IsSaid state size x = is_said said holds in elim has.spare.enough [
-  | inl none ↦ omega (arith, has.cut.at, ap length none, ap length has.spare.joined ∙ length-append has.spare.used has.spare.rest)
+  | inl none ↦ omega (arith, ap length none, ap length has.spare.joined ∙ length-append has.spare.used has.spare.rest)
   | inr complete ↦ absurd (false≢true (sym going ∙ sym (complete_is state x (ap is_some said) holds) ∙ past_is (cut_is has) ∙ complete))
 ]
 
@@ -115,7 +115,7 @@ few_of_chunk state size chunk most said on is x piece after n holds going within
     omega (
       arith,
       few_missing chunk chunks size z piece n can
-          (omega (arith, within, is, all_cut state size z said still holds.holds))
+          (omega (arith, all_cut state size z said still holds.holds))
           (sym (ap (λ (those : Work). those.is_complete z) it) ∙ still)
           (subst (λ (those : Work). IsSpare those (z ++ piece) n) it ((holds.alike.unused piece n).0 spare)),
     )

@@ -1,11 +1,12 @@
 -- Laws that traits cite: what of a text that goes on begins before a place.
+use Rattle.std.proofs.lemmas.Grind.{common_steps}
 use Rattle.std.{
   proofs.lemmas.{
     Bool.{cases_lt, ltb-true, ltb-false},
     List.{append-nil, take_all, length-append, length-drop, length-take, take-append-le, take-append-drop, take-take},
   },
   proofs.Common.{◌≡◌, ℕ, ◌+◌, ◌-◌, ◌<◌, ◌≤◌, max, zero, suc, Bool, true, false, cond, eqb, nat_lt, List, [], ◌∷◌, ◌++◌},
-  proofs.Common.{◌⊎◌, length, take, drop, inl, inr, refl, sym, ◌∙◌, ap, subst, arith},
+  proofs.Common.{length, take, drop, inl, inr, refl, sym, ◌∙◌, ap, subst, arith},
   proofs.Math.Seq.take-append-add,
 }
 use Rattle.seg_core.{
@@ -26,21 +27,14 @@ use Rattle.split_core.specs.{Chunks.{begun_before, open_from}, laws.ShareLaws.fi
 pub begun_first : (delim byte place : ℕ) (x : List ℕ) → 0 < place
     → begun_before Lines delim place (byte ∷ x) ≡ byte ∷ cond (eqb byte delim) (begun_before Lines delim (place - 1) x)
     (begun_before Lines delim (max (place - 1) 1) x)
-begun_first delim byte zero x some = absurd (omega (arith, some))
+begun_first delim byte zero x some = absurd (omega arith)
 begun_first delim byte (suc zero) x some = first_lines-cons delim byte 0 x
-begun_first delim byte (suc (suc place)) x some = ap (λ more. byte ∷ more) (same (eqb byte delim)) where
-  to : {at : ℕ} → suc place ≡ at → begun_before Lines delim (suc place) x ≡ begun_before Lines delim at x
-  to is = ap (λ at. begun_before Lines delim at x) is
-
-  same : (ends : Bool) → begun_before Lines delim (suc place) x ≡ cond ends
-      (begun_before Lines delim (suc (suc place) - 1) x) (begun_before Lines delim (max (suc (suc place) - 1) 1) x)
-  same true = to (omega arith)
-  same false = to (omega arith)
+begun_first delim byte (suc (suc place)) x some = grind (arith, common_steps)
 
 pub begun_some : (unit : Unit) (delim place : ℕ) (x : List ℕ) → 0 < place → 0 < length x
     → 0 < length (begun_before unit delim place x)
-begun_some Bytes delim place x some has = omega (arith, length-take place x, some, has)
-begun_some Lines delim place [] some has = absurd (omega (arith, has))
+begun_some Bytes delim place x some has = omega (arith, length-take place x)
+begun_some Lines delim place [] some has = absurd (omega arith)
 begun_some Lines delim place (byte ∷ x) some has = rw (begun_first delim byte place x some) (omega arith)
 
 -- From where on it may still get bytes
@@ -55,27 +49,15 @@ some_open delim x some =
 
 open_end : (delim byte : ℕ) (x : List ℕ) → eqb byte delim ≡ true
     → open_from Lines delim (byte ∷ x) ≡ open_from Lines delim x + 1
-open_end delim byte x ends =
-    let d : delimiters delim (byte ∷ x) ≡ suc (delimiters delim x) = rw ends (omega arith) in
-    ap (λ n. length (first_lines delim n (byte ∷ x))) d
-    ∙ ap length (first_lines-cons delim byte (delimiters delim x) x) ∙ rw ends (omega arith)
+open_end delim byte x ends = grind (arith, common_steps, first_lines-cons)
 
 open_more : (delim byte : ℕ) (x : List ℕ) → eqb byte delim ≡ false → 0 < open_from Lines delim x
     → open_from Lines delim (byte ∷ x) ≡ open_from Lines delim x + 1
-open_more delim byte x goes some = by (delimiters delim x) refl where
-  by : (d : ℕ) → delimiters delim x ≡ d → open_from Lines delim (byte ∷ x) ≡ open_from Lines delim x + 1
-  by zero is = absurd (omega (arith, none_open delim x is))
-  by (suc d) is =
-      let more : delimiters delim (byte ∷ x) ≡ suc d = rw goes is in
-      ap (λ n. length (first_lines delim n (byte ∷ x))) more
-      ∙ ap length (first_lines-cons delim byte d x) ∙ rw (goes, is) (omega arith)
+open_more delim byte x goes some = grind (arith, none_open, first_lines-cons)
 
 open_still : (delim byte : ℕ) (x : List ℕ) → eqb byte delim ≡ false → open_from Lines delim x ≡ 0
     → open_from Lines delim (byte ∷ x) ≡ 0
-open_still delim byte x goes none = by (delimiters delim x) refl where
-  by : (d : ℕ) → delimiters delim x ≡ d → open_from Lines delim (byte ∷ x) ≡ 0
-  by zero is = none_open delim (byte ∷ x) (rw goes is)
-  by (suc d) is = absurd (omega (arith, some_open delim x (omega arith)))
+open_still delim byte x goes none = grind (arith, common_steps, none_open, some_open)
 
 -- A text that goes on
 
@@ -85,11 +67,9 @@ stays_step : (delim byte place : ℕ) (x y : List ℕ)
     → cond ends (begun_before Lines delim (place - 1) (x ++ y)) (begun_before Lines delim (max (place - 1) 1) (x ++ y))
     ≡ cond ends (begun_before Lines delim (place - 1) x) (begun_before Lines delim (max (place - 1) 1) x)
 stays_step delim byte place x y again within some true is =
-    again (place - 1) (omega (arith, open_end delim byte x is))
-stays_step delim byte place x y again within some false is = elim (cases_lt 0 (open_from Lines delim x)) [
-  | inl open_later ↦ again (max (place - 1) 1) (omega (arith, open_more delim byte x is open_later))
-  | inr none ↦ absurd (omega (arith, open_still delim byte x is (omega (arith, none))))
-]
+    again (place - 1) (omega (arith, open_end))
+stays_step delim byte place x y again within some false is =
+    grind (arith, common_steps, cases_lt, open_more, open_still)
 
 begun_stays_lines : (delim place : ℕ) (x y : List ℕ) → place ≤ open_from Lines delim x
     → begun_before Lines delim place (x ++ y) ≡ begun_before Lines delim place x
@@ -99,7 +79,7 @@ begun_stays_lines delim place (byte ∷ x) y within = elim (cases_lt 0 place) [
   | inl some ↦ begun_first delim byte place (x ++ y) some
       ∙ ap (λ more. byte ∷ more) (stays_step delim byte place x y (λ at. begun_stays_lines delim at x y) within some
       (eqb byte delim) refl) ∙ sym (begun_first delim byte place x some)
-  | inr none ↦ (let e : place ≡ 0 = omega (arith, none) in
+  | inr none ↦ (let e : place ≡ 0 = omega arith in
       rw e refl)
 ]
 
@@ -115,18 +95,8 @@ on_step : (delim byte place : ℕ) (x y : List ℕ)
     → open_from Lines delim (byte ∷ x) < place → (ends : Bool) → eqb byte delim ≡ ends
     → cond ends (begun_before Lines delim (place - 1) (x ++ y)) (begun_before Lines delim (max (place - 1) 1) (x ++ y))
     ≡ x ++ begun_before Lines delim (max (place - suc (length x)) 1) y
-on_step delim byte place x y again past true is =
-    let e : max (place - 1 - length x) 1 ≡ max (place - suc (length x)) 1 = omega arith in
-    again (place - 1) (omega (arith, open_end delim byte x is))
-    ∙ ap (λ at. x ++ begun_before Lines delim at y) e
-on_step delim byte place x y again past false is =
-    let e : max (max (place - 1) 1 - length x) 1 ≡ max (place - suc (length x)) 1 = omega arith in
-    again (max (place - 1) 1) (before (cases_lt 0 (open_from Lines delim x)))
-    ∙ ap (λ at. x ++ begun_before Lines delim at y) e where
-      before : (0 < open_from Lines delim x) ⊎ (open_from Lines delim x ≤ 0)
-          → open_from Lines delim x < max (place - 1) 1
-      before (inl some) = omega (arith, open_more delim byte x is some)
-      before (inr none) = omega arith
+on_step delim byte place x y again past true is = grind (arith, common_steps, open_end)
+on_step delim byte place x y again past false is = grind (arith, common_steps, cases_lt, open_more)
 
 begun_on_lines : (delim place : ℕ) (x y : List ℕ) → open_from Lines delim x < place
     → begun_before Lines delim place (x ++ y) ≡ x ++ begun_before Lines delim (max (place - length x) 1) y
@@ -169,21 +139,21 @@ begun_all unit delim place x past =
 pub begun_long : (unit : Unit) (delim place : ℕ) (x : List ℕ) → length x ≤ place → begun_before unit delim place x ≡ x
 begun_long Bytes delim place x long = take_all place x long
 begun_long Lines delim zero [] long = refl
-begun_long Lines delim zero (byte ∷ x) long = absurd (omega (arith, long))
+begun_long Lines delim zero (byte ∷ x) long = absurd (omega arith)
 begun_long Lines delim (suc place) x long =
     ap (λ rest. take place x ++ rest) (first_lines-all delim 1
-    (omega (arith, line_count-le-length delim (drop place x), length-drop place x, long)))
+    (omega (arith, line_count-le-length delim (drop place x), length-drop place x)))
     ∙ take-append-drop place x
 
 -- the lines that begin before a place are the first ones of those that begin before a later one
 pub begun_lines : (delim place other : ℕ) (x : List ℕ) → place ≤ other → (n : ℕ) × (0 < place → 0 < n)
     × (begun_before Lines delim place x ≡ first_lines delim n (begun_before Lines delim other x))
-begun_lines delim zero other x within = (0, (λ none. absurd (omega (arith, none))), refl)
+begun_lines delim zero other x within = (0, (λ none. absurd (omega arith)), refl)
 begun_lines delim (suc place) other [] within =
     (1, (λ some. omega arith), rw (begun_of_none Lines delim (suc place), begun_of_none Lines delim other) refl)
 begun_lines delim (suc place) other (byte ∷ x) within = by (eqb byte delim) refl
-    (begun_lines delim (suc place - 1) (other - 1) x (omega (arith, within)))
-    (begun_lines delim (max (suc place - 1) 1) (max (other - 1) 1) x (omega (arith, within))) where
+    (begun_lines delim (suc place - 1) (other - 1) x (omega arith))
+    (begun_lines delim (max (suc place - 1) 1) (max (other - 1) 1) x (omega arith)) where
       Early : ℕ → ℕ → List ℕ → Type 0
       Early at to x = (n : ℕ) × (0 < at → 0 < n)
           × (begun_before Lines delim at x ≡ first_lines delim n (begun_before Lines delim to x))
@@ -205,7 +175,7 @@ begun_lines delim (suc place) other (byte ∷ x) within = by (eqb byte delim) re
         (λ has. omega arith),
         begun (suc place) (omega arith) true is
             ∙ ap (λ more. byte ∷ more) here
-            ∙ sym (ap (first_lines delim (suc n)) (begun other (omega (arith, within)) true is)
+            ∙ sym (ap (first_lines delim (suc n)) (begun other (omega arith) true is)
             ∙ lines n (begun_before Lines delim (other - 1) x) true is),
       )
       by false is here (zero, some, later) = absurd (omega (arith, some (omega arith)))
@@ -214,7 +184,7 @@ begun_lines delim (suc place) other (byte ∷ x) within = by (eqb byte delim) re
         (λ has. omega arith),
         begun (suc place) (omega arith) false is
             ∙ ap (λ more. byte ∷ more) later
-            ∙ sym (ap (first_lines delim (suc n)) (begun other (omega (arith, within)) false is)
+            ∙ sym (ap (first_lines delim (suc n)) (begun other (omega arith) false is)
             ∙ lines n (begun_before Lines delim (max (other - 1) 1) x) false is),
       )
 
@@ -266,7 +236,7 @@ begun_again_lines delim place (byte ∷ x) = elim (cases_lt 0 place) [
       ∙ begun_first delim byte place _ some
       ∙ ap (λ more. byte ∷ more) (again_step delim place x (λ at. begun_again_lines delim at x) (eqb byte delim))
       ∙ sym (begun_first delim byte place x some)
-  | inr none ↦ (let e : place ≡ 0 = omega (arith, none) in
+  | inr none ↦ (let e : place ≡ 0 = omega arith in
       rw e refl)
 ]
 
@@ -284,54 +254,23 @@ open_within Lines delim x = length-first_lines-le delim (delimiters delim x) x
 
 open_grows_lines : (delim : ℕ) (x y : List ℕ) → open_from Lines delim x ≤ open_from Lines delim (x ++ y)
 open_grows_lines delim x y =
-    let d = delimiters-append delim x y in
-    let on = first_lines-append delim (delimiters delim (x ++ y)) x y in
-    let more = length-append (first_lines delim (delimiters delim (x ++ y)) x)
-    (first_lines delim (delimiters delim (x ++ y) - delimiters delim x) y) in
-    let front = beginning_short _ _ (first_lines_begin delim (delimiters delim x) (delimiters delim (x ++ y)) x
-    (omega (arith, d))) in
-    omega (arith, ap length on, more, front)
+    grind (
+      arith,
+      common_steps,
+      delimiters-append,
+      first_lines-append,
+      length-append,
+      beginning_short,
+      first_lines_begin,
+    )
 
 pub open_grows : (unit : Unit) (delim : ℕ) (x y : List ℕ) → open_from unit delim x ≤ open_from unit delim (x ++ y)
 open_grows Bytes delim x y = omega (arith, length-append x y)
 open_grows Lines delim x y = open_grows_lines delim x y
 
-append_by : (delim byte : ℕ) (x y : List ℕ) (more : Bool) → nat_lt 0 (delimiters delim y) ≡ more
-    → open_from Lines delim (x ++ y) ≡ cond more (length x + open_from Lines delim y) (open_from Lines delim x)
-    → (ends : Bool) → eqb byte delim ≡ ends → open_from Lines delim ((byte ∷ x) ++ y)
-    ≡ cond more (length (byte ∷ x) + open_from Lines delim y) (open_from Lines delim (byte ∷ x))
-append_by delim byte x y true has again true is =
-    omega (arith, open_end delim byte (x ++ y) is, again)
-append_by delim byte x y false has again true is =
-    omega (arith, open_end delim byte (x ++ y) is, open_end delim byte x is, again)
-append_by delim byte x y true has again false is =
-    omega (
-      arith,
-      open_more delim byte (x ++ y) is
-          (omega (arith, again, some_open delim y (ltb-true _ _ has))),
-      again,
-    )
-append_by delim byte x y false has again false is = elim (cases_lt 0 (open_from Lines delim x)) [
-  | inl some ↦ omega (
-    arith,
-    open_more delim byte (x ++ y) is (omega (arith, again, some)),
-    open_more delim byte x is some,
-    again,
-  )
-  | inr none ↦ omega (
-    arith,
-    open_still delim byte (x ++ y) is (omega (arith, again, none)),
-    open_still delim byte x is (omega (arith, none)),
-  )
-]
-
 -- a text that goes on has its open line after the last delimiter of what follows
 pub open_append : (delim : ℕ) (x y : List ℕ) → open_from Lines delim (x ++ y)
     ≡ cond (nat_lt 0 (delimiters delim y)) (length x + open_from Lines delim y) (open_from Lines delim x)
-open_append delim [] y = by (nat_lt 0 (delimiters delim y)) refl where
-  by : (more : Bool) → nat_lt 0 (delimiters delim y) ≡ more
-      → open_from Lines delim y ≡ cond more (0 + open_from Lines delim y) 0
-  by true has = omega arith
-  by false none = none_open delim y (omega (arith, ltb-false _ _ none))
-open_append delim (byte ∷ x) y = append_by delim byte x y (nat_lt 0 (delimiters delim y)) refl (open_append delim x y)
-    (eqb byte delim) refl
+open_append delim [] y = grind (arith, common_steps, none_open, ltb-false)
+open_append delim (byte ∷ x) y =
+    grind (arith, common_steps, open_end, open_more, some_open, ltb-true, cases_lt, open_still, open_append delim x y)

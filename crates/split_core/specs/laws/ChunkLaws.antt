@@ -1,4 +1,5 @@
 -- Laws that traits cite: laws of chunks: where they begin, and what of a text that goes on is in them.
+use Rattle.std.proofs.lemmas.Grind.{common_steps}
 use Rattle.std.proofs.{
   lemmas.Bool.{cases_lt, le-leb, lt-leb, leb-true, Decides.nat_tests},
   lemmas.List.{append-nil, take_all, drop_all, length-take, length-append, take-append-le, length-take-le},
@@ -13,8 +14,7 @@ use Rattle.std.specs.List.{filter, range_with_len}
 use Rattle.seg_core.{specs.{Line.joined, declared.cut.Chunks.Chunks}, proofs.FirstLines.joined-append}
 use Rattle.ports_core.{specs.Part.IsBeginning, proofs.{PartLemmas.begins_trans, AgreedLemmas.beginning_short}}
 use Rattle.split_core.specs.{
-  Chunks.{chunk_start, begun_before, before_chunk, chunk_at, open_from, passed, has_ended, ended, chunks_within},
-  Chunks.{chunks_of, pieces_in},
+  Chunks.{chunk_start, begun_before, before_chunk, chunk_at, open_from, passed, has_ended, ended, chunks_of, pieces_in},
   Parts.CutUp,
   inner.Chunks.HaveEnded,
   laws.BegunLaws.{begun_again, begun_all, begun_begins, begun_first_place, begun_grows, begun_long, begun_monotone},
@@ -30,7 +30,7 @@ pub start_first : (n size : ℕ) → chunk_start n size 0 ≡ 0
 start_first n size = omega arith
 
 pub start_last : (n size : ℕ) → 0 < n → chunk_start n size n ≡ size
-start_last n size some = omega (arith, div-add-mod' size n, mod-lt size some)
+start_last n size some = omega (arith, div-add-mod', mod-lt)
 
 pub start_within : (n size place : ℕ) → 0 < n → place ≤ n → chunk_start n size place ≤ size
 start_within n size place some within = omega (arith, start_grows n size place n within, start_last n size some)
@@ -52,49 +52,35 @@ pub passed_open : (chunks : Chunks) (size : ℕ) (x : List ℕ) → length x < s
     → passed chunks size x ≡ open_from chunks.unit chunks.delim x
 passed_open chunks size x short = grind (arith, nat_tests)
 
-pub passed_within : (chunks : Chunks) (size : ℕ) (x : List ℕ) → passed chunks size x ≤ size
-passed_within chunks size x = elim (cases_lt (length x) size) [
-  | inl short ↦ omega (arith, passed_open chunks size x short, open_within chunks.unit chunks.delim x)
-  | inr full ↦ omega (arith, passed_full chunks size x full)
-]
-
 pub passed_grows : (chunks : Chunks) (size : ℕ) (x y : List ℕ) → passed chunks size x ≤ passed chunks size (x ++ y)
-passed_grows chunks size x y = elim (cases_lt (length (x ++ y)) size) [
-  | inl short ↦ omega (
-    arith,
-    length-append x y,
-    passed_open chunks size (x ++ y) short,
-    passed_open chunks size x (omega (arith, length-append x y, short)),
-    open_grows chunks.unit chunks.delim x y,
-  )
-  | inr full ↦ omega (arith, passed_full chunks size (x ++ y) full, passed_within chunks size x)
-]
+passed_grows chunks size x y =
+    grind (arith, common_steps, cases_lt, length-append, passed_open, open_grows, passed_full, open_within)
 
 -- Which chunks have ended
 
 counted : (test : ℕ → Bool) (a n p : ℕ) → p ≤ n → ((i : ℕ) → a ≤ i → i < a + p → test i ≡ true)
     → ((i : ℕ) → a + p ≤ i → i < a + n → test i ≡ false) → length (filter test (range_with_len a n)) ≡ p
-counted test a zero p within holds fails = omega (arith, within)
+counted test a zero p within holds fails = omega arith
 counted test a (suc n) zero within holds fails = rw (fails a (omega arith) (omega arith))
-    (counted test (a + 1) n 0 (omega arith) (λ i from to. absurd (omega (arith, from, to)))
-    (λ i from to. fails i (omega (arith, from)) (omega (arith, to))))
+    (counted test (a + 1) n 0 (omega arith) (λ i from to. absurd (omega arith))
+    (λ i from to. fails i (omega arith) (omega arith)))
 counted test a (suc n) (suc p) within holds fails = rw (holds a (omega arith) (omega arith))
-    (ap suc (counted test (a + 1) n p (omega arith) (λ i from to. holds i (omega (arith, from)) (omega (arith, to)))
-    (λ i from to. fails i (omega (arith, from)) (omega (arith, to)))))
+    (ap suc (counted test (a + 1) n p (omega arith) (λ i from to. holds i (omega arith) (omega arith))
+    (λ i from to. fails i (omega arith) (omega arith))))
 
 found : (n size at k : ℕ) → (p : ℕ) × (p ≤ k) × (chunk_start n size p ≤ at)
     × (p < k → at < chunk_start n size (p + 1))
-found n size at zero = (0, omega arith, omega (arith, start_first n size), λ less. absurd (omega (arith, less)))
+found n size at zero = (0, omega arith, omega (arith, start_first), λ less. absurd (omega arith))
 found n size at (suc k) = elim (cases_lt at (chunk_start n size (suc k))) [
-  | inr past ↦ (suc k, omega arith, past, λ less. absurd (omega (arith, less)))
+  | inr past ↦ (suc k, omega arith, past, λ less. absurd (omega arith))
   | inl before ↦ (let (p, within, from, next) = found n size at k in (
     p,
-    omega (arith, within),
+    omega arith,
     from,
     λ less.
         elim (cases_lt p k) [
           | inl earlier ↦ next earlier
-          | inr last ↦ (let e : p + 1 ≡ suc k = omega (arith, last, within) in rw e before)
+          | inr last ↦ (let e : p + 1 ≡ suc k = omega arith in rw e before)
         ],
   ))
 ]
@@ -104,13 +90,13 @@ pub ended_only : {chunks : Chunks} {size : ℕ} {x : List ℕ} {p : ℕ} → Hav
     → ended chunks size x ≡ p
 ended_only {chunks} {size} {x} {p} is = counted (has_ended chunks size x) 0 chunks.count p is.within
     (λ i from to. le-leb _ _
-    (omega (arith, to, is.before, start_grows chunks.count size (i + 1) p (omega (arith, to)))))
-    (λ i from to. lt-leb _ _ (omega (
+    (omega (arith, start_grows chunks.count size (i + 1) p (omega (arith, to)))))
+    (λ i from to. lt-leb _ _
+    (omega (
       arith,
-      from,
-      to,
       is.next (omega (arith, from, to)),
-      start_grows chunks.count size (p + 1) (i + 1) (omega (arith, from)),
+      start_grows chunks.count size (p + 1) (i + 1)
+          (omega (arith, from)),
     )))
 
 pub ended_is : (chunks : Chunks) (size : ℕ) (x : List ℕ) → HaveEnded chunks size x (ended chunks size x)
@@ -124,38 +110,15 @@ ended_within chunks size x = (ended_is chunks size x).within
 -- those before that place have, and no other
 pub has_ended_before : (chunks : Chunks) (size : ℕ) (x : List ℕ) (place : ℕ) → place < ended chunks size x
     → has_ended chunks size x place ≡ true
-has_ended_before chunks size x place before = le-leb _ _ (omega (
-  arith,
-  (ended_is chunks size x).before,
-  start_grows chunks.count size (place + 1) (ended chunks size x) (omega (arith, before)),
-))
+has_ended_before chunks size x place before = grind (arith, common_steps, le-leb, ended_is, start_grows)
 
 pub ended_after : (chunks : Chunks) (size : ℕ) (x : List ℕ) (place : ℕ) → place < chunks.count
     → has_ended chunks size x place ≡ true → place < ended chunks size x
-ended_after chunks size x place within has = elim (cases_lt place (ended chunks size x)) [
-  | inl before ↦ before
-  | inr past ↦ absurd (omega (
-    arith,
-    leb-true _ _ has,
-    (ended_is chunks size x).next (omega (arith, past, within)),
-    start_grows chunks.count size (ended chunks size x + 1) (place + 1) (omega (arith, past)),
-  ))
-]
+ended_after chunks size x place within has = grind (arith, common_steps, cases_lt, leb-true, ended_is, start_grows)
 
 -- a text that goes on ends no fewer
 pub ended_grows : (chunks : Chunks) (size : ℕ) (x y : List ℕ) → ended chunks size x ≤ ended chunks size (x ++ y)
-ended_grows chunks size x y = let here = ended_is chunks size x in let there = ended_is chunks size (x ++ y) in
-    elim (cases_lt (ended chunks size (x ++ y)) (ended chunks size x)) [
-      | inl fewer ↦ absurd (omega (
-        arith,
-        fewer,
-        there.next (omega (arith, fewer, here.within)),
-        here.before,
-        passed_grows chunks size x y,
-        start_grows chunks.count size (ended chunks size (x ++ y) + 1) (ended chunks size x) (omega (arith, fewer)),
-      ))
-      | inr enough ↦ enough
-    ]
+ended_grows chunks size x y = grind (arith, common_steps, ended_is, cases_lt, passed_grows, start_grows)
 
 -- once it has its size, all have
 pub ended_all : (chunks : Chunks) {size : ℕ} (x : List ℕ) → 0 < chunks.count → size ≤ length x
@@ -164,47 +127,34 @@ ended_all chunks {size} x some full = ended_only is where
   is : HaveEnded chunks size x chunks.count
   is = record {
     within = omega arith;
-    before = omega (arith, passed_full chunks size x full, start_last chunks.count size some);
-    next = λ less. absurd (omega (arith, less));
+    before = omega (arith, passed_full, start_last);
+    next = λ less. absurd (omega arith);
   }
 
 -- What goes with a chunk
 
 pub no_more : (x y : List ℕ) (size : ℕ) → length (x ++ y) ≤ size → size ≤ length x → y ≡ []
 no_more x [] size within full = refl
-no_more x (byte ∷ y) size within full = absurd (omega (arith, within, full, length-append x (byte ∷ y)))
+no_more x (byte ∷ y) size within full = absurd (omega (arith, length-append x (byte ∷ y)))
 
 begin_same : (low high : List ℕ) → IsBeginning low high → length high ≤ length low → low ≡ high
-begin_same low high (rest, is) long =
-    let none : rest ≡ [] = no_more low rest (length high) (omega (arith, ap length is)) long in
-    sym (append-nil low) ∙ ap (λ more. low ++ more) (sym none) ∙ sym is
+begin_same low high (rest, is) long = grind (arith, common_steps, no_more, append-nil)
 
 pub begin_then_rest : (low high : List ℕ) → IsBeginning low high → low ++ drop (length low) high ≡ high
-begin_then_rest low high (rest, is) = ap (λ all. low ++ drop (length low) all) is
-    ∙ ap (λ more. low ++ more) (drop-append_seam low rest) ∙ sym is
+begin_then_rest low high (rest, is) = grind (arith, common_steps, drop-append_seam)
 
 -- what stands before a chunk that has been reached stays
 pub before_stays : (chunks : Chunks) (size place : ℕ) (x y : List ℕ) → length (x ++ y) ≤ size
     → chunk_start chunks.count size place ≤ passed chunks size x
     → before_chunk chunks size place (x ++ y) ≡ before_chunk chunks size place x
-before_stays chunks size place x y within reached = elim (cases_lt (length x) size) [
-  | inl short ↦ begun_stays chunks.unit chunks.delim _ x y (omega (arith, reached, passed_open chunks size x short))
-  | inr full ↦ ap (λ more. before_chunk chunks size place (x ++ more)) (no_more x y size within full)
-      ∙ ap (before_chunk chunks size place) (append-nil x)
-]
+before_stays chunks size place x y within reached =
+    grind (arith, common_steps, cases_lt, begun_stays, passed_open, no_more, append-nil)
 
 -- all that came in stands before the chunk after the one that is reached
 pub before_next : (chunks : Chunks) (size : ℕ) (x : List ℕ) (place : ℕ) → 0 < chunks.count → length x ≤ size
     → HaveEnded chunks size x place → before_chunk chunks size (place + 1) x ≡ x
-before_next chunks size x place some within is = elim (cases_lt place chunks.count) [
-  | inl less ↦ elim (cases_lt (length x) size) [
-    | inl short ↦ begun_all chunks.unit chunks.delim _ x (omega (arith, is.next less, passed_open chunks size x short))
-    | inr full ↦ begun_long chunks.unit chunks.delim _ x
-        (omega (arith, within, is.next less, passed_full chunks size x full))
-  ]
-  | inr last ↦ begun_long chunks.unit chunks.delim _ x
-      (omega (arith, within, start_past chunks.count size (place + 1) some (omega (arith, last))))
-]
+before_next chunks size x place some within is =
+    grind (arith, common_steps, cases_lt, begun_all, passed_open, begun_long, passed_full, start_past)
 
 -- a text that has no more than its size, cut up before a place
 abbrev pub cut_before : Chunks → ℕ → List ℕ → ℕ → CutUp
@@ -215,31 +165,20 @@ cut_before chunks size x place = record {
 
 pub chunks_are : (chunks : Chunks) (size : ℕ) (x : List ℕ) {place : ℕ} → 0 < chunks.count → length x ≤ size
     → HaveEnded chunks size x place → chunks_of chunks size x ≡ cut_before chunks size x place
-chunks_are chunks size x {place} some within is =
-    ap (chunks_within chunks size) (take_all size x within)
-    ∙ ap (λ p. record { full = map (chunk_at chunks size x) (range_with_len 0 p); rest = chunk_at chunks size x p })
-    (ended_only is)
-    ∙ ap (λ all. record {
-      full = map (chunk_at chunks size x) (range_with_len 0 place);
-      rest = drop (length (before_chunk chunks size place x)) all;
-    }) (before_next chunks size x place some within is)
+chunks_are chunks size x {place} some within is = grind (arith, common_steps, take_all, ended_only, before_next)
 
 -- what a chunk that has ended has stays
 pub chunk_stays : (chunks : Chunks) (size place : ℕ) (x y : List ℕ) → length (x ++ y) ≤ size
     → chunk_start chunks.count size (place + 1) ≤ passed chunks size x
     → chunk_at chunks size (x ++ y) place ≡ chunk_at chunks size x place
-chunk_stays chunks size place x y within reached =
-    let low = start_grows chunks.count size place (place + 1) (omega arith) in
-    ap (λ low. drop (length low) (before_chunk chunks size (place + 1) (x ++ y)))
-    (before_stays chunks size place x y within (omega (arith, low, reached)))
-    ∙ ap (drop (length (before_chunk chunks size place x))) (before_stays chunks size (place + 1) x y within reached)
+chunk_stays chunks size place x y within reached = grind (arith, common_steps, start_grows, before_stays)
 
 pub map_same : (f g : ℕ → List ℕ) (a n : ℕ) → ((i : ℕ) → a ≤ i → i < a + n → f i ≡ g i)
     → map f (range_with_len a n) ≡ map g (range_with_len a n)
 map_same f g a zero same = refl
 map_same f g a (suc n) same = rw (same a (omega arith) (omega arith))
     (ap (λ more. g a ∷ more)
-    (map_same f g (a + 1) n (λ i from to. same i (omega (arith, from)) (omega (arith, to)))))
+    (map_same f g (a + 1) n (λ i from to. same i (omega arith) (omega arith))))
 
 pub full_stays : (chunks : Chunks) (size place : ℕ) (x y : List ℕ) → length (x ++ y) ≤ size
     → chunk_start chunks.count size place ≤ passed chunks size x
@@ -248,7 +187,7 @@ pub full_stays : (chunks : Chunks) (size place : ℕ) (x y : List ℕ) → lengt
 full_stays chunks size place x y within reached =
     map_same (chunk_at chunks size (x ++ y)) (chunk_at chunks size x) 0 place
     (λ i from to. chunk_stays chunks size i x y within
-    (omega (arith, reached, start_grows chunks.count size (i + 1) place (omega (arith, to)))))
+    (omega (arith, start_grows chunks.count size (i + 1) place (omega (arith, to)))))
 
 -- a text goes on, and no further chunk ends: all of it goes with the one that was begun
 pub goes_on : (chunks : Chunks) (size : ℕ) (x y : List ℕ) → 0 < chunks.count → length (x ++ y) ≤ size
@@ -256,29 +195,24 @@ pub goes_on : (chunks : Chunks) (size : ℕ) (x y : List ℕ) → 0 < chunks.cou
     → chunks_of chunks size (x ++ y)
     ≡ record { full = (chunks_of chunks size x).full; rest = (chunks_of chunks size x).rest ++ y }
 goes_on chunks size x y some within same =
-    let place = ended chunks size x in
-    let here : HaveEnded chunks size x place = ended_is chunks size x in
-    let there : HaveEnded chunks size (x ++ y) place =
-    subst (HaveEnded chunks size (x ++ y)) same (ended_is chunks size (x ++ y)) in
-    let less : length x ≤ size = omega (arith, within, length-append x y) in
-    let begun = before_chunk chunks size place x in
-    chunks_are chunks size (x ++ y) some within there
-    ∙ ap (λ front. record { full = front; rest = drop (length (before_chunk chunks size place (x ++ y))) (x ++ y) })
-    (full_stays chunks size place x y within here.before)
-    ∙ ap (λ low. record {
-      full = map (chunk_at chunks size x) (range_with_len 0 place);
-      rest = drop (length low) (x ++ y);
-    }) (before_stays chunks size place x y within here.before)
-    ∙ ap (λ left. record { full = map (chunk_at chunks size x) (range_with_len 0 place); rest = left })
-    (drop-append-le (length begun) x y (begun_within chunks.unit chunks.delim _ x))
-    ∙ ap (λ cut. record { full = cut.full; rest = cut.rest ++ y }) (sym (chunks_are chunks size x some less here))
+    grind (
+      arith,
+      common_steps,
+      ended_is,
+      length-append,
+      chunks_are,
+      full_stays,
+      before_stays,
+      drop-append-le,
+      begun_within,
+    )
 
 empty_pieces : (f : ℕ → List ℕ) (a n : ℕ) → ((i : ℕ) → a ≤ i → i < a + n → f i ≡ [])
     → map f (range_with_len a n) ≡ replicate n []
 empty_pieces f a zero none = refl
 empty_pieces f a (suc n) none = rw (none a (omega arith) (omega arith))
     (ap (λ more. [] ∷ more)
-    (empty_pieces f (a + 1) n (λ i from to. none i (omega (arith, from)) (omega (arith, to)))))
+    (empty_pieces f (a + 1) n (λ i from to. none i (omega arith) (omega arith))))
 
 -- once all that came in stands before a place, it does before a later one
 pub before_later : (chunks : Chunks) (size : ℕ) (x : List ℕ) (place other : ℕ) → place ≤ other
@@ -290,8 +224,7 @@ before_later chunks size x place other within all = let unit = chunks.unit in le
 -- so later chunks have nothing
 pub chunk_none : (chunks : Chunks) (size : ℕ) (x : List ℕ) (place : ℕ) → before_chunk chunks size place x ≡ x
     → chunk_at chunks size x place ≡ []
-chunk_none chunks size x place all = rw (all, before_later chunks size x place (place + 1) (omega arith) all)
-    (drop_all (length x) x (omega arith))
+chunk_none chunks size x place all = grind (arith, common_steps, before_later, drop_all)
 
 pub map_parts : (f : ℕ → List ℕ) (a p k : ℕ)
     → map f (range_with_len a (p + suc k))
@@ -332,7 +265,7 @@ ends_here chunks size x y more some within all ends =
       there = subst (HaveEnded chunks size (x ++ y)) (sym ends) (ended_is chunks size (x ++ y))
 
       less : length x ≤ size
-      less = omega (arith, within, length-append x y)
+      less = omega (arith, length-append x y)
 
       begun : List ℕ
       begun = before_chunk chunks size place x
@@ -360,7 +293,7 @@ ends_here chunks size x y more some within all ends =
 
       none : map f (range_with_len (0 + place + 1) more) ≡ replicate more []
       none = empty_pieces f (0 + place + 1) more
-          (λ i from to. chunk_none chunks size (x ++ y) i (later i (omega (arith, from))))
+          (λ i from to. chunk_none chunks size (x ++ y) i (later i (omega arith)))
 
       pieces : map f (range_with_len 0 (place + suc more)) ≡ front ++ (drop (length begun) x ++ y) ∷ replicate more []
       pieces = map_parts f 0 place more
@@ -373,9 +306,7 @@ ends_here chunks size x y more some within all ends =
 
 pub joined_chunks : (chunks : Chunks) (size : ℕ) (x : List ℕ) (place : ℕ)
     → joined (map (chunk_at chunks size x) (range_with_len 0 place)) ≡ before_chunk chunks size place x
-joined_chunks chunks size x zero =
-    sym (ap (λ at. begun_before chunks.unit chunks.delim at x) (start_first chunks.count size)
-    ∙ begun_first_place chunks.unit chunks.delim x)
+joined_chunks chunks size x zero = grind (arith, common_steps, start_first, begun_first_place)
 joined_chunks chunks size x (suc place) =
     let e : suc place ≡ place + 1 = omega arith in
     let f = chunk_at chunks size x in
@@ -395,15 +326,19 @@ take_within size x = omega (arith, length-take size x)
 pub all_joined : (chunks : Chunks) (size : ℕ) (x : List ℕ) → 0 < chunks.count
     → joined (pieces_in (chunks_of chunks size x)) ≡ take size x
 all_joined chunks size x some =
-    let z = take size x in
-    let place = ended chunks size z in
-    let rest = chunk_at chunks size z place in
-    let next = before_next chunks size z place some (take_within size x) (ended_is chunks size z) in
-    joined-append (map (chunk_at chunks size z) (range_with_len 0 place)) (rest ∷ [])
-    ∙ ap (λ front. front ++ (rest ++ [])) (joined_chunks chunks size z place)
-    ∙ ap (λ more. before_chunk chunks size place z ++ more) (append-nil rest)
-    ∙ begin_then_rest _ _ (begun_monotone chunks.unit chunks.delim z
-    (start_grows chunks.count size place (place + 1) (omega arith))) ∙ next
+    grind (
+      arith,
+      common_steps,
+      before_next,
+      take_within,
+      ended_is,
+      joined-append,
+      joined_chunks,
+      append-nil,
+      begin_then_rest,
+      begun_monotone,
+      start_grows,
+    )
 
 -- Once a text has its size
 
@@ -411,15 +346,7 @@ pub cut_all : (chunks : Chunks) (size : ℕ) (x : List ℕ) → 0 < chunks.count
     → chunks_of chunks size x
     ≡ record { full = map (chunk_at chunks size (take size x)) (range_with_len 0 chunks.count); rest = [] }
 cut_all chunks size x some full =
-    let z = take size x in
-    let long : length z ≡ size = length-take-le size x full in
-    let past : size ≤ chunk_start chunks.count size chunks.count = omega (arith, start_last chunks.count size some) in
-    let all : before_chunk chunks size chunks.count z ≡ z =
-    begun_long chunks.unit chunks.delim _ z (omega (arith, long, past)) in
-    ap (λ p. record { full = map (chunk_at chunks size z) (range_with_len 0 p); rest = chunk_at chunks size z p })
-    (ended_all chunks z some (omega (arith, long)))
-    ∙ ap (λ left. record { full = map (chunk_at chunks size z) (range_with_len 0 chunks.count); rest = left })
-    (chunk_none chunks size z chunks.count all)
+    grind (arith, common_steps, length-take-le, start_last, begun_long, ended_all, chunk_none)
 
 pub rest_none : (chunks : Chunks) (size : ℕ) (x : List ℕ) → 0 < chunks.count → size ≤ length x
     → (chunks_of chunks size x).rest ≡ []
@@ -433,9 +360,9 @@ start_by_size n size more place some within less = by (cases_lt (size / n) (more
   by : (size / n < more / n) ⊎ (more / n ≤ size / n) → chunk_start n size place ≤ chunk_start n more place
   by (inl longer) = omega (arith, mul-le-mul_left place longer)
   by (inr fewer) =
-      let enough : size / n ≤ more / n = le-div (size / n) more n some (omega (arith, less, div-mul-le_self size n)) in
-      let same : size / n ≡ more / n = omega (arith, fewer, enough) in
-      omega (arith, div-add-mod' size n, div-add-mod' more n, ap (λ q. place * q) same, ap (λ q. q * n) same, less)
+      let enough : size / n ≤ more / n = le-div (size / n) more n some (omega (arith, div-mul-le_self)) in
+      let same : size / n ≡ more / n = omega arith in
+      omega (arith, div-add-mod', ap (λ q. place * q) same, ap (λ q. q * n) same)
 
 pub decided_grows : (chunks : Chunks) (first : ℕ) (x y : List ℕ) → 0 < chunks.count → first ≤ chunks.count
     → IsBeginning (before_chunk chunks (length x) first x) (before_chunk chunks (length (x ++ y)) first (x ++ y))
@@ -449,14 +376,16 @@ decided_grows chunks first x y some within =
 pub first_pieces : (chunks : Chunks) (first : ℕ) (x : List ℕ) → 0 < chunks.count → first ≤ chunks.count
     → before_chunk chunks (length x) first x ≡ joined (take first (pieces_in (chunks_of chunks (length x) x)))
 first_pieces chunks first x some within =
-    let f = chunk_at chunks (length x) x in
-    let whole : take (length x) x ≡ x = take_all (length x) x (omega arith) in
-    sym (joined_chunks chunks (length x) x first)
-    ∙ ap joined (sym (take-map-range_with_len f 0 chunks.count first within)
-    ∙ sym (take-append-le first (map f (range_with_len 0 chunks.count)) ([] ∷ [])
-    (omega (arith, within, length-map-range_with_len f 0 chunks.count)))
-    ∙ ap (λ z. take first (map (chunk_at chunks (length x) z) (range_with_len 0 chunks.count) ++ [] ∷ [])) (sym whole)
-    ∙ ap (λ cut. take first (pieces_in cut)) (sym (cut_all chunks (length x) x some (omega arith))))
+    grind (
+      arith,
+      common_steps,
+      take_all,
+      joined_chunks,
+      take-map-range_with_len,
+      take-append-le,
+      length-map-range_with_len,
+      cut_all,
+    )
 
 -- How far the chunk that was begun goes in what follows
 
@@ -465,7 +394,4 @@ pub piece_all : (chunks : Chunks) (size : ℕ) (x text : List ℕ) {place : ℕ}
     → HaveEnded chunks size x place → place < chunks.count
     → let skip = max (chunk_start chunks.count size (place + 1) - length x) 1 in
     let y = begun_before chunks.unit chunks.delim skip text in before_chunk chunks size (place + 1) (x ++ y) ≡ x ++ y
-piece_all chunks size x text {place} short is less =
-    let end = chunk_start chunks.count size (place + 1) in
-    begun_on chunks.unit chunks.delim end x _ (omega (arith, is.next less, passed_open chunks size x short))
-    ∙ ap (λ more. x ++ more) (begun_again chunks.unit chunks.delim (max (end - length x) 1) text)
+piece_all chunks size x text {place} short is less = grind (arith, common_steps, begun_on, passed_open, begun_again)

@@ -1,4 +1,5 @@
 -- Laws that traits cite: those of the work on chunks, and of lines dealt in turn of which one file's are written.
+use Rattle.std.proofs.lemmas.Grind.{common_steps}
 use Rattle.std.{
   proofs.lemmas.Bool.{cases_lt, false≢true, le-leb, leb-true, lt-ltb, ltb-true, Decides.nat_tests},
   proofs.lemmas.List.{append-nil, append_assoc, drop-append-le, length-append, length-take, map-append, take_all},
@@ -20,11 +21,11 @@ use Rattle.ports_core.proofs.{
   ShareLemmas.{made_begin, shares_after},
 }
 use Rattle.split_core.specs.{
-  Chunks.{before_chunk, begun_before, chunk_at, chunk_start, chunks_of, chunks_within, decided, ended, has_ended},
-  Chunks.{in_the_end, passed, pieces_in},
+  Chunks.{before_chunk, chunk_at, chunk_start, chunks_of, chunks_within, decided, ended, has_ended, in_the_end, passed},
+  Chunks.pieces_in,
   ChunkWork.{ChunksPlan, chunk_work, chunks_work, draft_by, files_by, is_written, kept, piece_at, turn_work},
-  Parts.{CutUp, uncut, unless_empty},
-  Split.{has_bytes, manner_of, share},
+  Parts.{CutUp, unless_empty},
+  Split.{has_bytes, share},
   inner.Chunks.{BeginsFirst, GoesOn, HaveEnded},
   laws.BegunLaws.{begun_first_place, begun_grows, begun_within},
   laws.ChunkLaws.{before_next, before_stays, chunks_are, cut_all, cut_before, decided_grows, ended_after, ended_is},
@@ -54,7 +55,7 @@ goes_past chunks size x y more some within ends =
       place = ended chunks size x
 
       less : length x ≤ size
-      less = omega (arith, within, length-append x y)
+      less = omega (arith, length-append x y)
 
       here : HaveEnded chunks size x place
       here = ended_is chunks size x
@@ -92,9 +93,9 @@ goes_within : (chunks : Chunks) (size : ℕ) (x y : List ℕ) → 0 < chunks.cou
     → GoesOn (chunks_of chunks size x) (chunks_of chunks size (x ++ y))
 goes_within chunks size x y some within = elim (cases_lt (ended chunks size x) (ended chunks size (x ++ y))) [
   | inl less ↦ goes_past chunks size x y (ended chunks size (x ++ y) - ended chunks size x - 1) some within
-      (omega (arith, less))
+      (omega arith)
   | inr same ↦ subst (GoesOn (chunks_of chunks size x)) (sym (goes_on chunks size x y some within
-      (omega (arith, same, ended_grows chunks size x y)))) (record {
+      (omega (arith, ended_grows)))) (record {
         more = [];
         full = sym (append-nil (chunks_of chunks size x).full);
         rest = begins_more (chunks_of chunks size x).rest y;
@@ -113,7 +114,7 @@ chunks_go_on chunks size x y some = by (begun_grows Bytes 0 size x y) where
   by (rest, is) = rw (again x) at (subst (GoesOn (chunks_of chunks size (take size x)))
       (ap (chunks_of chunks size) (sym is) ∙ again (x ++ y))
       (goes_within chunks size (take size x) rest some
-      (omega (arith, sym (ap length is), take_within size (x ++ y)))))
+      (omega (arith, sym (ap length is), take_within))))
 
 pub decided_goes_on : (chunks : Chunks) (first : ℕ) (said : Option ℕ) (x y : List ℕ) → 0 < chunks.count
     → first ≤ chunks.count → GoesOn (decided chunks first said x) (decided chunks first said (x ++ y))
@@ -123,7 +124,7 @@ decided_goes_on chunks first (Some size) x y some within = chunks_go_on chunks s
 
 begins_pieces : (f : ℕ → List ℕ) (n : ℕ) (low last : List ℕ) → 0 < n → IsBeginning low (f 0)
     → BeginsFirst low (map f (range_with_len 0 n)) last
-begins_pieces f zero low last some begins = absurd (omega (arith, some))
+begins_pieces f zero low last some begins = absurd (omega arith)
 begins_pieces f (suc n) low last some begins = begins
 
 -- and in the end
@@ -131,19 +132,7 @@ pub decided_ends : (chunks : Chunks) (said : Option ℕ) (x : List ℕ) → 0 < 
     → GoesOn (decided chunks 1 said x) (in_the_end chunks said x)
 decided_ends chunks (Some size) x some = goes_itself (chunks_of chunks size x)
 decided_ends chunks None x some =
-    let f = chunk_at chunks (length x) (take (length x) x) in
-    let low = before_chunk chunks (length x) 1 x in
-    let none : before_chunk chunks (length x) 0 (take (length x) x) ≡ [] =
-    ap (λ at. begun_before chunks.unit chunks.delim at (take (length x) x)) (start_first chunks.count (length x))
-    ∙ begun_first_place chunks.unit chunks.delim (take (length x) x) in
-    let one : f 0 ≡ low =
-    ap (λ front. drop (length front) (before_chunk chunks (length x) (0 + 1) (take (length x) x))) none
-    ∙ ap (before_chunk chunks (length x) 1) (take_all (length x) x (omega arith)) in
-    subst (GoesOn (uncut low)) (sym (cut_all chunks (length x) x some (omega arith))) (record {
-      more = map f (range_with_len 0 chunks.count);
-      full = refl;
-      rest = begins_pieces f chunks.count low [] some (subst (IsBeginning low) (sym one) (begins_itself low));
-    })
+    grind (arith, common_steps, start_first, begun_first_place, take_all, cut_all, begins_pieces, begins_itself)
 
 -- What files get of it
 
@@ -155,15 +144,6 @@ pub first_kept : (elide : Bool) (piece : List ℕ) (pieces : List (List ℕ)) �
     → kept elide (piece ∷ pieces) ≡ piece ∷ kept elide pieces
 first_kept true piece pieces some = rw some refl
 first_kept false piece pieces some = refl
-
-rest_on : (elide : Bool) (state : State) (low : List ℕ) (more : List (List ℕ)) (high : List ℕ)
-    → BeginsFirst low more high → SharesBegin (map (share Open) (unless_empty low))
-    (map (share Closed) (kept elide more) ++ map (share state) (unless_empty high))
-rest_on true state low [] high begins = made_begin Late state low high begins
-rest_on false state low [] high begins = made_begin Late state low high begins
-rest_on elide state [] (piece ∷ pieces) high begins = tt
-rest_on elide state (byte ∷ low) (piece ∷ pieces) high begins =
-    rw (first_kept elide piece pieces (some_begins byte low piece begins)) (inl refl, begins, tt)
 
 pub kept-append : (elide : Bool) (front more : List (List ℕ))
     → kept elide (front ++ more) ≡ kept elide front ++ kept elide more
@@ -180,26 +160,19 @@ pub shares_on : (elide : Bool) (state : State) {low high : CutUp} → GoesOn low
     → SharesBegin (shares_of (draft_by elide low))
     (map (share Closed) (kept elide high.full) ++ map (share state) (unless_empty high.rest))
 shares_on elide state {low} {high} on =
-    subst (SharesBegin (shares_of (draft_by elide low))) (sym (ap (λ full. map (share Closed) full
-    ++ map (share state) (unless_empty high.rest)) (ap (kept elide) on.full ∙ kept-append elide low.full on.more)
-    ∙ ap (λ shares. shares ++ map (share state) (unless_empty high.rest))
-    (map-append (share Closed) (kept elide low.full) (kept elide on.more))
-    ∙ append_assoc (map (share Closed) (kept elide low.full)) (map (share Closed) (kept elide on.more))
-    (map (share state) (unless_empty high.rest))))
-    (shares_after (map (share Closed) (kept elide low.full)) _ _
-    (rest_on elide state low.rest on.more high.rest on.rest))
+    grind (
+      arith,
+      common_steps,
+      kept-append,
+      map-append,
+      append_assoc,
+      shares_after,
+      made_begin,
+      first_kept,
+      some_begins,
+    )
 
 -- once all is there, it is the same
-whole_is : (manner : Manner) (elide : Bool) (cut : CutUp) → cut.rest ≡ []
-    → part_of manner (map (share Closed) (files_by elide cut)) ≡ draft_part manner (draft_by elide cut)
-whole_is manner elide cut none = rw none (ap (λ files. part_of manner (map (share Closed) files))
-    (append-nil (kept elide cut.full))
-    ∙ ap (part_of manner) (sym (append-nil (map (share Closed) (kept elide cut.full)))))
-
-cut_stays : (chunks : Chunks) (size : ℕ) (x y : List ℕ) → size ≤ length x
-    → chunks_of chunks size (x ++ y) ≡ chunks_of chunks size x
-cut_stays chunks size x y full = ap (chunks_within chunks size) (take-append-le size x y full)
-
 pub longer_differs : (size : ℕ) (x : List ℕ) → size < length x → eqb (length x) size ≡ false
 longer_differs size x longer = grind (arith, nat_tests)
 
@@ -207,22 +180,12 @@ chunks_stay : (plan : ChunksPlan) (said : Option ℕ) (x y : List ℕ) → 0 < p
     → (chunks_work plan said).is_complete x ≡ true → IsComplete (chunks_work plan said) x y
 chunks_stay plan None x y some never = absurd (false≢true never)
 chunks_stay plan (Some size) x y some is =
-    let longer : size < length x = ltb-true _ _ is in
-    let more : size < length (x ++ y) = omega (arith, longer, length-append x y) in
-    let manner = manner_of plan.filing in
-    let same = cut_stays plan.chunks size x y (omega (arith, longer)) in record {
-      still = lt-ltb _ _ more;
-      settled_stays = ap (λ cut. draft_part manner (draft_by plan.elide cut)) same;
-      whole_stays = ap (λ cut. part_of manner (map (share Closed) (files_by plan.elide cut))) same
-          ∙ whole_is manner plan.elide (chunks_of plan.chunks size x)
-          (rest_none plan.chunks size x some (omega (arith, longer)));
-      verdict_stays = rw (longer_differs size x longer, longer_differs size (x ++ y) more) refl;
-    }
+    grind (arith, common_steps, ltb-true, length-append, take-append-le, lt-ltb, append-nil, rest_none, longer_differs)
 
 pub chunks_lawful : (plan : ChunksPlan) (said : Option ℕ) → 0 < plan.chunks.count → IsLawful (chunks_work plan said)
 chunks_lawful plan said some = record {
   grows = λ x y. part_begins plan.filing _ _ (shares_on plan.elide Open
-      (decided_goes_on plan.chunks 1 said x y some (omega (arith, some))));
+      (decided_goes_on plan.chunks 1 said x y some (omega arith)));
   ends = λ x. part_begins plan.filing _ _ (subst (SharesBegin (shares_of (draft_by plan.elide
       (decided plan.chunks 1 said x)))) (sym (map-append (share Closed)
       (kept plan.elide (in_the_end plan.chunks said x).full) (unless_empty (in_the_end plan.chunks said x).rest)))
@@ -252,16 +215,12 @@ piece_on place {low} {high} on =
 
 pub same_piece : (front one other : List (List ℕ)) (place : ℕ) → place < length front
     → get_or (front ++ one) place [] ≡ get_or (front ++ other) place []
-same_piece [] one other place within = absurd (omega (arith, within))
+same_piece [] one other place within = absurd (omega arith)
 same_piece (first ∷ front) one other zero within = refl
-same_piece (first ∷ front) one other (suc place) within = same_piece front one other place (omega (arith, within))
+same_piece (first ∷ front) one other (suc place) within = same_piece front one other place (omega arith)
 
 passed_taken : (chunks : Chunks) (size : ℕ) (x : List ℕ) → passed chunks size (take size x) ≡ passed chunks size x
-passed_taken chunks size x = elim (cases_lt (length x) size) [
-  | inl short ↦ ap (passed chunks size) (take_all size x (omega (arith, short)))
-  | inr full ↦ passed_full chunks size (take size x) (omega (arith, length-take size x, full))
-      ∙ sym (passed_full chunks size x full)
-]
+passed_taken chunks size x = grind (arith, common_steps, cases_lt, take_all, passed_full, length-take)
 
 -- a piece that has ended stays
 piece_stays : (chunks : Chunks) (size place : ℕ) (x y : List ℕ) → place < chunks.count
@@ -270,12 +229,12 @@ piece_stays : (chunks : Chunks) (size place : ℕ) (x y : List ℕ) → place < 
 piece_stays chunks size place x y within has =
     let z = take size x in
     let low = chunks_of chunks size x in
-    let on = chunks_go_on chunks size x y (omega (arith, within)) in
+    let on = chunks_go_on chunks size x y (omega arith) in
     let long : length low.full ≡ ended chunks size z =
     length-map-range_with_len (chunk_at chunks size z) 0 (ended chunks size z) in
     let also : has_ended chunks size z place ≡ true =
     ap (nat_le (chunk_start chunks.count size (place + 1))) (passed_taken chunks size x) ∙ has in
-    let before : place < length low.full = omega (arith, long, ended_after chunks size z place within also) in
+    let before : place < length low.full = omega (arith, ended_after chunks size z place within also) in
     ap only_out (ap (λ pieces. get_or pieces place []) (pieces_on on)
     ∙ same_piece low.full _ (low.rest ∷ []) place before)
 
@@ -290,19 +249,13 @@ chunk_stays : (place : ℕ) (chunks : Chunks) (said : Option ℕ) (x y : List �
     → is_written place chunks said x ≡ true → IsComplete (chunk_work place chunks said) x y
 chunk_stays place chunks None x y within never = absurd (false≢true never)
 chunk_stays place chunks (Some size) x y within has =
-    let still : has_ended chunks size (x ++ y) place ≡ true =
-    le-leb _ _ (omega (arith, leb-true _ _ has, passed_grows chunks size x y)) in record {
-      still = still;
-      settled_stays = piece_stays chunks size place x y within has;
-      whole_stays = piece_stays chunks size place x y within has;
-      verdict_stays = rw (has, still) refl;
-    }
+    grind (arith, common_steps, le-leb, leb-true, passed_grows, piece_stays)
 
 pub chunk_lawful : (place : ℕ) (chunks : Chunks) (said : Option ℕ) → place < chunks.count
     → IsLawful (chunk_work place chunks said)
 chunk_lawful place chunks said within = record {
-  grows = λ x y. out_begins _ _ (piece_on place (decided_goes_on chunks (max place 1) said x y (omega (arith, within))
-      (omega (arith, within))));
+  grows = λ x y. out_begins _ _ (piece_on place (decided_goes_on chunks (max place 1) said x y (omega arith)
+      (omega arith)));
   ends = λ x. out_begins _ _ (piece_ends place chunks said x within);
   stays = λ x y. chunk_stays place chunks said x y within;
 }

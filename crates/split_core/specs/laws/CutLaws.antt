@@ -63,12 +63,7 @@ whole_some delim x some = by (nat_lt 0 (delimiters delim x)) refl where
   by true is =
       let lines : delimiters delim (first_lines delim (delimiters delim x) x) ≡ delimiters delim x =
       delimiters-first_lines delim (delimiters delim x) x (omega arith) in
-      omega (
-        arith,
-        delimiters-le-length delim (first_lines delim (delimiters delim x) x),
-        ltb-true 0
-            (delimiters delim x) is,
-      )
+      omega (arith, delimiters-le-length, ltb-true)
   by false is = some
 
 length-take_few : (n : ℕ) (x : List ℕ) → length (take n x) ≤ length x
@@ -77,7 +72,7 @@ length-take_few n x = omega (arith, length-take n x)
 pub first_within : (limit : Limit) (x : List ℕ) → length (first_part limit x) ≤ length x
 first_within (Lines n delim) x = length-first_lines-le delim n x
 first_within (Bytes n) x = length-take_few n x
-first_within (LineBytes n delim) x = omega (arith, whole_within delim (take n x), length-take_few n x)
+first_within (LineBytes n delim) x = omega (arith, whole_within, length-take_few)
 
 first_some_by : (limit : Limit) (x : List ℕ) → 0 < most limit → most limit ≤ measure limit x
     → 0 < length (first_part limit x)

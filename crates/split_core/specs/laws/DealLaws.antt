@@ -71,12 +71,12 @@ dealt_some n file place [] each from before within = absurd (omega arith)
 dealt_some n file place (line ∷ lines) each from before within = elim (cases_eq place file) [
   | inl here ↦ found here
   | inr other ↦ some_either (eqb (place % n) file) line (dealt n file (place + 1) lines)
-      (dealt_some n file (place + 1) lines each.1 (omega (arith, other)) (omega arith) within)
+      (dealt_some n file (place + 1) lines each.1 (omega arith) (omega arith) within)
 ] where
   found : place ≡ file → 0 < length (dealt n file place (line ∷ lines))
   found here =
       let same : eqb (place % n) file ≡ true = eq-eqb (place % n) file (mod-eq_of_lt (omega arith) ∙ here) in
-      rw same (omega (arith, each.0, length-append line (dealt n file (place + 1) lines)))
+      rw same (omega (arith, length-append line (dealt n file (place + 1) lines)))
 
 each_step : (ends : Bool) (byte : ℕ) (lines : List (List ℕ)) → EachSome lines
     → EachSome (cond ends ((byte ∷ []) ∷ lines) (onto_first byte lines))
@@ -97,8 +97,7 @@ share_none delim n x file short within = dealt_none n file 0 (lines_of delim x) 
 
 pub share_some : (delim n : ℕ) (x : List ℕ) (file : ℕ) → file < line_count delim x → file < n
     → has_bytes (share_of delim n x file) ≡ true
-share_some delim n x file before within = has_bytes_of _
-    (dealt_some n file 0 (lines_of delim x) (each_line delim x) (omega arith) (omega arith) within)
+share_some delim n x file before within = grind (arith, common_steps, has_bytes_of, dealt_some, each_line)
 
 -- where members up to a place aren't empty and those from there on are, the filter leaves those up to that place
 filter_first : (f : ℕ → List ℕ) (n end : ℕ) → ((file : ℕ) → file < n → file < end → has_bytes (f file) ≡ true)
@@ -132,5 +131,5 @@ dealt_files_are delim false n x = refl
 
 pub opened_by-grows : (delim : ℕ) (elide : Bool) (n : ℕ) (x y : List ℕ)
     → opened_by delim elide n x ≤ opened_by delim elide n (x ++ y)
-opened_by-grows delim true n x y = omega (arith, line_count-grows delim x y)
+opened_by-grows delim true n x y = omega (arith, line_count-grows)
 opened_by-grows delim false n x y = omega arith

@@ -49,11 +49,7 @@ told_begins true low high begins = openings_begin opening_line low high begins
 
 pub part_begins : (filing : Filing) (low high : List Share) → SharesBegin low high
     → Begins (part_of (manner_of filing) low) (part_of (manner_of filing) high)
-part_begins filing low high begins =
-    let files = files_begin (manner_of filing) 0 low high begins in record {
-      out = told_begins filing.verbose _ _ files;
-      files = files;
-    }
+part_begins filing low high begins = grind (arith, common_steps, files_begin, told_begins)
 
 -- where a place has no name, what stands from there on makes no file
 pub named_short : (filing : Filing) (place : ℕ) (front rest : List Share)
@@ -79,7 +75,7 @@ whole_begins_by delim x y (suc k) (suc m) here all = rw (← (whole_of_lines del
     (λ high. IsBeginning (first_lines delim (delimiters delim x) (x ++ y)) high)
     (sym (whole_of_lines delim (x ++ y) (omega arith)))
     (first_lines_begin delim (delimiters delim x) (delimiters delim (x ++ y)) (x ++ y)
-    (omega (arith, delimiters-append delim x y))))
+    (omega (arith, delimiters-append))))
 whole_begins_by delim x y zero (suc m) here all = rw (whole_of_none delim x here) (
   _,
   whole_of_lines delim (x ++ y) (omega arith) ∙ first_lines-append delim (delimiters delim (x ++ y)) x y
@@ -88,7 +84,7 @@ whole_begins_by delim x y zero (suc m) here all = rw (whole_of_none delim x here
 )
 whole_begins_by delim x y zero zero here all =
     rw (whole_of_none delim x here) (y, whole_of_none delim (x ++ y) all)
-whole_begins_by delim x y (suc k) zero here all = absurd (omega (arith, delimiters-append delim x y))
+whole_begins_by delim x y (suc k) zero here all = absurd (omega (arith, delimiters-append))
 
 pub whole_begins : (delim : ℕ) (x y : List ℕ) → IsBeginning (whole_lines delim x) (whole_lines delim (x ++ y))
 whole_begins delim x y = whole_begins_by delim x y (delimiters delim x) (delimiters delim (x ++ y)) refl refl
@@ -131,8 +127,7 @@ settled_on limit x y = grind (arith, common_steps, cut_on, map-append)
 
 pub parts_on : (limit : Limit) (x y : List ℕ)
     → parts limit (x ++ y) ≡ (cut_up limit x).full ++ parts limit ((cut_up limit x).rest ++ y)
-parts_on limit x y = ap (λ cut. cut.full ++ unless_empty cut.rest) (cut_on limit x y) ∙ append_assoc
-    (cut_up limit x).full _ _
+parts_on limit x y = grind (arith, common_steps, cut_on, append_assoc)
 
 -- a text with a full part has that as its first
 pub cut_first : (limit : Limit) (x : List ℕ) → is_full limit x ≡ true
@@ -155,13 +150,9 @@ rest_begins_by limit rest y true full short = subst
       in_first (byte ∷ low) more begins = (inl refl, begins, tt)
 rest_begins_by limit rest y false full short = search (rules, cut_none, made_begin, settled_in_rest)
 
-pub rest_begins : (limit : Limit) (rest y : List ℕ) → is_full limit rest ≡ false
-    → SharesBegin (map (share Open) (unless_empty (settled_rest limit rest))) (settled_parts limit (rest ++ y))
-rest_begins limit rest y short = rest_begins_by limit rest y (is_full limit (rest ++ y)) refl short
-
 -- what is written stays
 pub settled_grow : (limit : Limit) (x y : List ℕ) → SharesBegin (settled_parts limit x) (settled_parts limit (x ++ y))
-settled_grow limit x y = grind (arith, common_steps, settled_on, shares_after, rest_begins, rest_short)
+settled_grow limit x y = grind (arith, common_steps, settled_on, shares_after, rest_begins_by, rest_short)
 
 pub settled_end : (limit : Limit) (x : List ℕ) → SharesBegin (settled_parts limit x) (whole_parts limit x)
 settled_end limit x = subst (SharesBegin (settled_parts limit x))

@@ -1,14 +1,13 @@
 -- Laws that traits cite: those of the work of `split`, in each way to cut.
 use Rattle.std.{
   proofs.lemmas.{Grind.common_steps, Bool.{false≢true, ltb-true, not-true}, List.{append-nil, length-map}},
-  proofs.Common.{◌≡◌, ℕ, ◌+◌, ◌≤◌, zero, suc, List, [], ◌∷◌, ◌++◌, map, Bool, true, false, cond, refl, Option, arith},
-  proofs.Common.{length, sym, ◌∙◌, ap, rules},
+  proofs.Common.{◌≡◌, ℕ, ◌+◌, ◌≤◌, zero, suc, List, [], ◌∷◌, ◌++◌, map, Bool, true, false, cond, Option, arith, length},
+  proofs.Common.{sym, ◌∙◌, ap, rules},
   specs.List.range_with_len,
 }
 use Rattle.ports_core.{
   specs.{
-    Name.has_name,
-    Part.{File, IsBeginning, FilesBegin, Begins, nothing},
+    Part.{File, IsBeginning, FilesBegin, Begins},
     Work.{IsLawful, IsComplete, Work},
     declared.slot.State.{State, TheVariants.{Open, Closed}},
     Draft.part_of,
@@ -16,7 +15,7 @@ use Rattle.ports_core.{
   proofs.PartLemmas.{begins_itself, part_begins_itself},
 }
 use Rattle.split_core.specs.{
-  inner.{CutLaws.named, Sharing.file_at, Dealt.share_of},
+  inner.{CutLaws.named, Dealt.share_of},
   Split.{Filing, share, manner_of, dealt_files, are_named, settled_parts},
   Round.{round_plan, round_work, opened_by},
   laws.DealLaws.{dealt_append, dealt_files_are, opened_by-grows},
@@ -32,12 +31,6 @@ use Rattle.split_core.specs.{
 }
 use Rattle.seg_core.specs.declared.cut.{Limit.Limit, Chunks.Chunks as Chunking}
 
-begin_step : (is : Bool) (file high : File) (files wholes : List File) → file.name ≡ high.name → file.mode ≡ high.mode
-    → file.is_broken ≡ high.is_broken → file.state ≡ Open → IsBeginning file.bytes high.bytes → FilesBegin files wholes
-    → FilesBegin (cond is (file ∷ files) []) (cond is (high ∷ wholes) [])
-begin_step true file high files wholes name mode sound open_yet bytes rest = grind (arith, common_steps)
-begin_step false file high files wholes name mode sound open_yet bytes rest = tt
-
 -- where each of some files has a beginning of what others have, and these are no fewer, those begin these
 files_begin : (filing : Filing) (high : State) (f g : ℕ → List ℕ) → ((file : ℕ) → IsBeginning (f file) (g file))
     → (place start m n : ℕ) → m ≤ n
@@ -46,9 +39,12 @@ files_begin : (filing : Filing) (high : State) (f g : ℕ → List ℕ) → ((fi
 files_begin filing high f g begin place start zero n few = tt
 files_begin filing high f g begin place start (suc m) zero few = absurd (omega arith)
 files_begin filing high f g begin place start (suc m) (suc n) few =
-    begin_step (has_name filing.names place) (file_at filing place (share Open (f start)))
-    (file_at filing place (share high (g start)))
-    _ _ refl refl refl refl (begin start) (files_begin filing high f g begin (place + 1) (start + 1) m n (omega arith))
+    grind (
+      arith,
+      common_steps,
+      files_begin filing high f g begin (place + 1) (start + 1) m n (omega
+          arith),
+    )
 
 -- each file only grows, and none is taken back
 dealt_begin : (delim : ℕ) (elide : Bool) (n : ℕ) (filing : Filing) (high : State) (x z : List ℕ)
@@ -56,13 +52,8 @@ dealt_begin : (delim : ℕ) (elide : Bool) (n : ℕ) (filing : Filing) (high : S
     → opened_by delim elide n x ≤ opened_by delim elide n z
     → Begins (part_of (manner_of filing) (map (share Open) (dealt_files delim elide n x)))
     (part_of (manner_of filing) (map (share high) (dealt_files delim elide n z)))
-dealt_begin delim elide n filing high x z begin few = record {
-  out = told_begins filing.verbose _ _ files;
-  files = files;
-} where
-  files : FilesBegin (named filing 0 (map (share Open) (dealt_files delim elide n x)))
-      (named filing 0 (map (share high) (dealt_files delim elide n z)))
-  files = grind (arith, common_steps, dealt_files_are, files_begin)
+dealt_begin delim elide n filing high x z begin few =
+    grind (arith, common_steps, told_begins, dealt_files_are, files_begin)
 
 pub round_lawful : (delim count : ℕ) (elide : Bool) (filing : Filing)
     → IsLawful (round_work (round_plan delim count elide filing))
@@ -96,11 +87,7 @@ parts_lawful limit filing = search (rules, part_begins, settled_grow, settled_en
 
 -- where there are none nothing is made
 none_lawful : (work : Work) → IsLawful (made_if false work)
-none_lawful work = record {
-  grows = λ x y. part_begins_itself nothing;
-  ends = λ x. part_begins_itself nothing;
-  stays = λ x y never. absurd (false≢true never);
-}
+none_lawful work = grind (arith, common_steps, part_begins_itself, stays)
 
 pub work_lawful : (on : Course) (chunks : Chunking) (said : Option ℕ) → can_cut on chunks.count ≡ true
     → IsLawful (work_on on chunks said)
@@ -110,10 +97,7 @@ work_lawful (in_output chunk) chunks said can = chunk_lawful chunk chunks said (
 
 chunks_so : (on : Course) (chunks : Chunking) (said : Option ℕ)
     → IsLawful (made_if (can_cut on chunks.count) (work_on on chunks said))
-chunks_so on chunks said = by (can_cut on chunks.count) refl where
-  by : (can : Bool) → can_cut on chunks.count ≡ can → IsLawful (made_if can (work_on on chunks said))
-  by true can = work_lawful on chunks said can
-  by false can = none_lawful (work_on on chunks said)
+chunks_so on chunks said = grind (arith, common_steps, work_lawful, none_lawful)
 
 -- All ways
 

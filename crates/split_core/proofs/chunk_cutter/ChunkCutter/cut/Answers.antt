@@ -25,23 +25,22 @@ pub returns : goal.returns
 returns g c =
     let none : _ = eqb-true _ _ (sym c.stretches-test.ensures) in
     away_so c.stretches.invariant c.args.text.now c.min-own.result
-    (rw (c.min-own.ensures, c.saturating_sub.ensures) refl) refl (omega (arith, none)) (inl none)
+    (rw (c.min-own.ensures, c.saturating_sub.ensures) refl) refl (omega arith) (inl none)
 
 pub step-requires-clause-fits : goal.step-requires-clause-fits
-step-requires-clause-fits g c = let away = c.stretches.invariant in omega (
-  arith,
-  c.requires.fits,
-  away.at,
-  ap length away.both,
-  length-append away.done c.stretches.left.now,
-  length-take c.min-own.result c.args.text.now,
-)
+step-requires-clause-fits g c = let away =
+    c.stretches.invariant in omega (
+      arith,
+      ap length away.both,
+      length-append away.done c.stretches.left.now,
+      length-take c.min-own.result c.args.text.now,
+    )
 
 pub overflow_add-result : goal.overflow_add-result
-overflow_add-result g c = let away = c.stretches.invariant in omega (
-  arith,
-  c.requires.fits,
-  ap length away.both,
-  length-append away.done c.stretches.left.now,
-  length-take c.min-own.result c.args.text.now,
-)
+overflow_add-result g c = let away =
+    c.stretches.invariant in omega (
+      arith,
+      ap length away.both,
+      length-append away.done c.stretches.left.now,
+      length-take c.min-own.result c.args.text.now,
+    )

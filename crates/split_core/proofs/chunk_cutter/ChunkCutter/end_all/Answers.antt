@@ -7,18 +7,18 @@ pub places-init : goal.places-init
 places-init g c = ends_none c.requires.ready
 
 pub places-preserved : goal.places-preserved
-places-preserved g c = ends_next c.requires.whole c.places.invariant (omega (arith, c.places-test.true))
-    (omega (arith, c.if-chunk_start-self.true, c.chunk_start.ensures)) refl refl refl c.in_ok-next.ensures.place c.in_ok-next.ensures.sends
+places-preserved g c = ends_next c.requires.whole c.places.invariant (omega arith)
+    (omega arith) refl refl refl c.in_ok-next.ensures.place c.in_ok-next.ensures.sends
 
 pub returns-in_err-next : goal.returns-in_err-next
 returns-in_err-next g c = rw (handed_on _ _ c.from_residual.ensures.1)
-    (ends_stopped c.requires.whole c.places.invariant (omega (arith, c.places-test.true))
-    (omega (arith, c.if-chunk_start-self.true, c.chunk_start.ensures)) refl refl refl c.in_err-next.ensures.sends)
+    (ends_stopped c.requires.whole c.places.invariant (omega arith)
+    (omega arith) refl refl refl c.in_err-next.ensures.sends)
 
 pub returns-else-chunk_start-self : goal.returns-else-chunk_start-self
 returns-else-chunk_start-self g c = ends_so c.requires.whole c.places.invariant
-    (λ less. omega (arith, c.if-chunk_start-self.false, c.chunk_start.ensures))
+    (λ less. omega arith)
 
 pub returns-after-places : goal.returns-after-places
 returns-after-places g c = ends_so c.requires.whole c.places.invariant
-    (λ less. absurd (omega (arith, c.places-test.false, less)))
+    (λ less. absurd (omega arith))

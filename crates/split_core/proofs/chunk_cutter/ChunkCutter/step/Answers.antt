@@ -27,4 +27,4 @@ returns-in_ok-end_full g c =
 
 pub returns-else-self-end : goal.returns-else-self-end
 returns-else-self-end g c = steps_short c.args.text.now c.requires.some
-    (rw c.end_of-end.ensures at c.in_ok-n.ensures) (omega (arith, c.end_of-end.ensures, c.if-self-end.false))
+    (rw c.end_of-end.ensures at c.in_ok-n.ensures) (omega arith)

@@ -29,5 +29,5 @@ returns g c = let ends = c.in_ok-end.ensures in
     (rw (← c.self.view_is) at c.requires.ready) ends.brings (elim c.else-self-size.branch [
       | else-self-size-via-then-self-size+else-not-is_past w ↦
           inl (sym (w.if-not-is_past.ensures ∙ past_same _ _ ends.brings.stays ends.place))
-      | else-self-size-via-else-self-size w ↦ inr (omega (arith, w.if-self-size.false))
+      | else-self-size-via-else-self-size w ↦ inr (omega arith)
     ]))

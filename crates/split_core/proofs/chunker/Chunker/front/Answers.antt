@@ -9,7 +9,7 @@ returns-in-Bytes c = subst (λ start. TakesFront c.args.self.now (start, c.in-Ou
       aim = ap seen_aim c.in-Output.is;
       fresh = rw (← c.self.view_is) at c.requires;
     }) c.in-Bytes.is
-    (omega (arith, c.chunk_start-start.ensures, c.chunk_start-end.ensures, c.if-start-end.true))))
+    (omega arith)))
 
 pub returns-in-Lines : goal.returns-in-Lines
 returns-in-Lines c = subst (λ start. TakesFront c.args.self.now (start - 1, 0, true))
@@ -18,4 +18,4 @@ returns-in-Lines c = subst (λ start. TakesFront c.args.self.now (start - 1, 0, 
       aim = ap seen_aim c.in-Output.is;
       fresh = rw (← c.self.view_is) at c.requires;
     }) c.in-Lines.is
-    (omega (arith, c.chunk_start-start.ensures, c.if-start-gt1.true))))
+    (omega arith)))

@@ -16,11 +16,11 @@ returns-in_err-past g c = rw (← c.self.view_is) (result_is (PassesAs _ _ _ _ _
 pub returns-then-is_each : goal.returns-then-is_each
 returns-then-is_each g c = rw (← c.self.view_is) (changed_more _ c.args.piece.now
     (rw (← c.self.view_is) at c.requires.said) c.self.invariant.0 c.in_ok-past.ensures
-    (omega (arith, c.if-past-gt0.true)) (sym c.if-is_each.ensures))
+    (omega arith) (sym c.if-is_each.ensures))
 
 pub returns : goal.returns
 returns g c = rw (← c.self.view_is) (passes_said c.args.piece.now (rw (← c.self.view_is) at c.requires.said)
     c.self.invariant.0 _ refl c.in_ok-past.ensures (elim c.else-past-gt0.branch [
       | else-past-gt0-via-then-past-gt0+else-is_each w ↦ inr (sym w.if-is_each.ensures)
-      | else-past-gt0-via-else-past-gt0 w ↦ inl (omega (arith, w.if-past-gt0.false))
+      | else-past-gt0-via-else-past-gt0 w ↦ inl (omega arith)
     ]))

@@ -7,7 +7,7 @@ pub returns-then-ahead-eq0-clause-none : goal.returns-then-ahead-eq0-clause-none
 returns-then-ahead-eq0-clause-none c = sym (ap (λ (left : LinesLeft). delimiters left.delim left.text) c.self.view_is) ∙ none_seen c.find-ahead.ensures.sees c.if-ahead-eq0.true (c.find-ahead.ensures.found c.if-ahead-eq0.true)
 
 pub split_at-requires : goal.split_at-requires
-split_at-requires c = let first = (seen_at c.find-ahead.ensures.sees c.if-ahead-eq0.false).0 in omega (arith, first.within)
+split_at-requires c = let first = (seen_at c.find-ahead.ensures.sees c.if-ahead-eq0.false).0 in omega arith
 
 pub overflow_sub-self : goal.overflow_sub-self
 overflow_sub-self c = omega (arith, (seen_at c.find-ahead.ensures.sees c.if-ahead-eq0.false).1)

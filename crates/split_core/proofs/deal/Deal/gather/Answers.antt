@@ -11,7 +11,7 @@ pub lines-preserved-then-next-count : goal.lines-preserved-then-next-count
 lines-preserved-then-next-count c = (
   line_goes_on c.lines.reached _ c.lines.invariant.0 (by_delimiter _ _ _ c.lines.invariant.2 c.in-Some.ensures.some)
       (c.in_ok-append_to.ensures.ok ∙ ap (λ (line : List ℕ). changed_at c.lines.next (λ had. had ++ line) c.lines.self-inside.gathered.items) (first_taken _ (by_delimiter _ _ _ c.lines.invariant.2 c.in-Some.ensures.some) c.lines.invariant.1))
-      (omega (arith, ap (λ (deal : DealState). length deal.gathered) c.self.view_is, c.len-count.ensures, c.clear.ensures.count)) c.if-next-count.true,
+      (omega (arith, ap (λ (deal : DealState). length deal.gathered) c.self.view_is)) c.if-next-count.true,
   c.rest-left.ensures,
   c.next.ensures.same ∙ c.lines.invariant.2,
   c.lines.invariant.3,
@@ -22,7 +22,7 @@ pub lines-preserved : goal.lines-preserved
 lines-preserved c = (
   line_goes_round c.lines.reached _ c.lines.invariant.0 (by_delimiter _ _ _ c.lines.invariant.2 c.in-Some.ensures.some)
       (c.in_ok-append_to.ensures.ok ∙ ap (λ (line : List ℕ). changed_at c.lines.next (λ had. had ++ line) c.lines.self-inside.gathered.items) (first_taken _ (by_delimiter _ _ _ c.lines.invariant.2 c.in-Some.ensures.some) c.lines.invariant.1))
-      (omega (arith, ap (λ (deal : DealState). length deal.gathered) c.self.view_is, c.len-count.ensures, c.clear.ensures.count)) (omega (arith, c.if-next-count.false)),
+      (omega (arith, ap (λ (deal : DealState). length deal.gathered) c.self.view_is)) (omega arith),
   c.rest-left.ensures,
   c.next.ensures.same ∙ c.lines.invariant.2,
   c.lines.invariant.3,
@@ -37,4 +37,6 @@ returns-then-is_empty-clause-gathers c = subst
 
 pub returns-clause-gathers : goal.returns-clause-gathers
 returns-clause-gathers c = ends_open _ c.lines.invariant.0 (c.rest-open.ensures ∙ ap (λ (left : LinesLeft). left.text) c.in_default.ensures.stays) (rw c.lines.invariant.2 at c.in_default.ensures.none) (sym c.if-is_empty.ensures)
-    (c.in_ok-append_to-2.ensures.ok ∙ ap (λ (line : List ℕ). changed_at c.lines.next (λ had. had ++ line) c.lines.self-inside.gathered.items) (take_all (length c.rest-open.result.now) c.rest-open.result.now (omega arith))) (omega (arith, c.max-2.ensures))
+    (c.in_ok-append_to-2.ensures.ok ∙ ap
+    (λ (line : List ℕ). changed_at c.lines.next (λ had. had ++ line) c.lines.self-inside.gathered.items)
+    (take_all (length c.rest-open.result.now) c.rest-open.result.now (omega arith))) (omega arith)
