@@ -32,18 +32,18 @@ use Rattle.csplit_core.specs.{
     State, start, Step, Ending, Runs, search_line, line_after, state_after, step_of, is_used_up, misses, is_above,
     is_below, cuts,
   },
-  Planned.{Plan, plan, plan_within},
+  Planned.{Plan, plan},
   Section.{
     lines_between, is_last_kept, settled_end, whole_end, is_final, most_waiting, bytes_of, Section, section, section_of,
   },
   Progress.AimsAt,
   declared.{progress.Turn.{Turn, TheVariants.Below}, line_cutter.Cut.Cut},
   laws.{
-    PlanLaws.{plan_once, goes_on, runs},
+    PlanLaws.{plan_once, goes_on, line_some, runs_on},
     SectionLaws.{ends_as, closed_still, are_within, shares-append, section_grows},
   },
   inner.{
-    PlanLaws.{EndsAs, needed},
+    PlanLaws.EndsAs,
     Cutter.{
       Joins, settled_part, Keeps, part_at, Arrives, Holds, GoesPast, search_after, CutsNow, WentOn, PassesCut, IsAfter,
       CutAt, CutsAll, WillCut, IsEnd,
@@ -404,7 +404,7 @@ taken_is : {cutter : CutterState} {x left : List ℕ} {at : IsAt cutter x left} 
     → IsFit cutter → is_final arrives.ends.ending ≡ false
     → at.taken + over_of cutter left ≡ cutter.lines + 1 - cutter.progress.current - most_waiting arrives.ends.ending
 taken_is {cutter} {x} {at} arrives fit live =
-    let most : cutter.window.most ≡ most_waiting arrives.ends.ending = fit.most ∙ most_is (suppress_in cutter) (all_lines x) (state_in cutter) arrives.ends.ending (ends_as _ _ _ _ _ _ arrives.ends.runs) live in
+    let most : cutter.window.most ≡ most_waiting arrives.ends.ending = fit.most ∙ most_is (suppress_in cutter) (all_lines x) (state_in cutter) arrives.ends.ending (ends_as arrives.ends.runs) live in
     (grind (arith, common_steps, fit.fits.some, (few_taken at), (left_count at), arrives.enough))
     ∙ ap (λ n. cutter.lines + 1 - cutter.progress.current - n) most
 
@@ -488,7 +488,7 @@ hold_past {cutter = cutter} {window} {left} {slots} {n} aim ready all less dropp
   went = record {
     same = refl;
     window = dropped ∙ ap (λ held. record cutter.window { held = held }) (sym (ap (λ (w : Window). w.held) dropped));
-    stands = λ x at arrives. let is = plan_once (suppress_in cutter) cutter.operands (all_lines x) at.steps (state_in cutter) arrives.ends.ending (runs_to at arrives.ends) in inr (record {
+    stands = λ x at arrives. let is = plan_once (runs_to at arrives.ends) in inr (record {
       aim = aim;
       past = ap (λ (p : Plan). is_final p.ending) is ∙ past x at arrives;
       last = sym (ap (λ (p : Plan). p.last) is);
@@ -537,7 +537,7 @@ begun_by style operands {lines} steps {state} [] {last} {ending} rest all =
     (rw (append-nil steps) (begins_with style lines steps (section (is_last_kept ending) false (lines_between last.current (settled_end (length lines) ending) lines)) [] (kept_by state.operands) (at_end state last ending rest))) where
       at_end : (state last : State) (ending : Ending) → Runs style.suppress lines state [] last ending
           → kept_by state.operands ≡ is_last_kept ending
-      at_end state last ending (is_used_up state' none) = last_kept style.suppress lines state' ending (ends_as style.suppress lines state' [] state' ending (is_used_up state' none))
+      at_end state last ending (is_used_up state' none) = ap kept_by none
       at_end state last ending (misses state' operand those is none) = ap kept_by is
       at_end state last ending (is_above state' operand those matched cut is at far) = ap kept_by is
       at_end state last ending (is_below state' operand those matched cut is at within low) = ap kept_by is
@@ -599,10 +599,10 @@ pub cut_begins : {cutter : CutterState} {x left : List ℕ} (line : List ℕ) {b
 cut_begins {cutter} {x} {left} line {at} cut now fit will before_is =
     let state = state_after (suppress_in cutter) now.goes.operand now.goes.operands cutter.progress.repetition cut.matched cut.line in
     let on : cutter.progress.current + at.taken ≤ cut.line = (let p = now.place_is in let b = now.before in omega (arith, p, b)) in
-    let some : 1 ≤ state.current = (let least = Rattle.csplit_core.specs.laws.PlanLaws.line_some (suppress_in cutter) cut.line in let s = fit.fits.some in let f = will.from in omega (arith, least, s, f)) in
+    let some : 1 ≤ state.current = (let least = line_some (suppress_in cutter) cut.line in let s = fit.fits.some in let f = will.from in omega (arith, least, s, f)) in
     subst (λ draft. Begins (draft_part (manner_of cutter.style) draft) (settled_part cutter x))
     (sym (cut_draft at cut (kept_by state.operands) now.goes.are fit.fits.some on (before_is ∙ ap (λ n. first_lines newline (cut.line - n) left) now.place_is)))
-    (let p = plan_within (needed (length (all_lines x)) state) cutter.style.suppress (all_lines x) state in let rest = runs (needed (length (all_lines x)) state) cutter.style.suppress (all_lines x) state (omega arith) some in begun_by cutter.style cutter.operands {lines = (all_lines x)} (at.steps ++ step_at cutter now.goes.operand cut ∷ []) {state = state} p.steps {last = p.last} {ending = p.ending} rest ((leads_on at cut now.goes) p.steps p.last p.ending rest))
+    (let rest = runs_on cutter.style.suppress (all_lines x) state some in begun_by cutter.style cutter.operands (at.steps ++ step_at cutter now.goes.operand cut ∷ []) _ rest (leads_on at cut now.goes _ _ _ rest))
 
 -- What `cut_at` owes, by how far it came. First the lines before the cut are written; then the run goes on; then the next section begins.
 

@@ -322,7 +322,7 @@ ending_in cutter x = (plan (suppress_in cutter) cutter.operands (all_lines x)).e
 of_it : {cutter : CutterState} {x : List ℕ} → IsJudged cutter x
     → EndsAs (suppress_in cutter) (all_lines x) (state_in cutter) (ending_in cutter x)
 of_it {cutter} {x} judged =
-    rw (← judged.last) at (ends_as _ _ _ _ _ _ (plan_runs (suppress_in cutter) cutter.operands (all_lines x)))
+    rw (← judged.last) at (ends_as (plan_runs (suppress_in cutter) cutter.operands (all_lines x)))
 
 -- where no operand is left
 
@@ -439,7 +439,7 @@ past_end {cutter} {x} t whole past =
     ap (λ (p : Plan). part_of cutter.style (whole_sections (all_lines (x ++ t)) p)) same
     ∙ ap (λ lines. part_of cutter.style (whole_sections lines (plan (suppress_in cutter) cutter.operands (all_lines x)))) (all_lines-append t (inl whole))
     ∙ ap (part_of cutter.style) (final_sections (all_lines x) (all_lines t) (plan (suppress_in cutter) cutter.operands (all_lines x))
-    (are_within (suppress_in cutter) (all_lines x) (start cutter.operands) _ _ _ (plan_runs (suppress_in cutter) cutter.operands (all_lines x)) (omega arith)).0 past.past)
+    (are_within (plan_runs (suppress_in cutter) cutter.operands (all_lines x)) (omega arith)).0 past.past)
 
 pub past_verdict : {cutter : CutterState} {x : List ℕ} (t : List ℕ) → IsWhole x → IsPast cutter x
     → verdict_of (plan (suppress_in cutter) cutter.operands (all_lines (x ++ t))).ending

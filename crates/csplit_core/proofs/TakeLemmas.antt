@@ -61,7 +61,7 @@ live_before : {cutter : CutterState} {x : List ℕ} (t : List ℕ) (live : IsLiv
     → CutsAt (suppress_in cutter) (all_lines x ++ all_lines t) (state_in cutter) operand operand.target matched cut
     → settled_end (line_count newline x) live.ends.ending ≤ cut
 live_before {cutter} {x} t live matched cut are at =
-    let so = cuts_from (suppress_in cutter) (all_lines x) (all_lines t) (state_in cutter) live.ends.ending (ends_as _ _ _ _ _ _ live.ends.runs) are in
+    let so = cuts_from (suppress_in cutter) (all_lines x) (all_lines t) (state_in cutter) live.ends.ending (ends_as live.ends.runs) are in
     rw (length-all_lines x) at (so.1 matched cut at)
 
 pub place_before : {cutter : CutterState} {x : List ℕ} (t : List ℕ) {matched : ℕ} (cut : ℕ) (live : IsLive cutter x)
@@ -87,7 +87,7 @@ pub arrives_more : {cutter : CutterState} {lines : ℕ} {aim : Turn} {x : List �
 unfolding at_more
 arrives_more {cutter} {x} t live whole fit count ends =
     let few = few_taken live.at in
-    let most : cutter.window.most ≡ most_waiting live.ends.ending = fit.most ∙ most_is (suppress_in cutter) (all_lines x) (state_in cutter) live.ends.ending (ends_as _ _ _ _ _ _ live.ends.runs) live.live in
+    let most : cutter.window.most ≡ most_waiting live.ends.ending = fit.most ∙ most_is (suppress_in cutter) (all_lines x) (state_in cutter) live.ends.ending (ends_as live.ends.runs) live.live in
     let either = enough_left cutter.lines cutter.progress.current live.at.taken (most_waiting live.ends.ending) fit.fits.some few live.settled (left_count live.at) in record {
       ends = ends;
       low = λ past. (grind (arith, common_steps, ends_as, live_before, all_lines-append, live_taken, false≢true, whole, ends.runs, past));

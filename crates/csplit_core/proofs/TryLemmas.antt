@@ -94,7 +94,7 @@ pub stays : (suppress : Bool) (operands : List Operand) (a b : List Line)
     (plan suppress operands a).ending → plan suppress operands (a ++ b) ≡ plan suppress operands a
 stays suppress operands a b so =
     let here = plan_runs suppress operands a in
-    plan_once suppress operands (a ++ b) _ _ _ (goes_on b _ _ here (ends_still b here so))
+    plan_once (goes_on b _ _ here (ends_still b here so))
     ∙ ap (λ (steps : List Step). record (plan suppress operands a) { steps = steps }) (append-nil (plan suppress operands a).steps)
 
 -- What a turn says of the plan.
@@ -338,7 +338,7 @@ next_cut {cutter} {x} line {matched} {at} fit live whole one aim near few = grin
 pub next_looked : {cutter : CutterState} {x : List ℕ} (line : List ℕ) (live : IsLive cutter x) → IsWhole x → IsLine line
     → cutter.aim ≡ Missed → Looked (record cutter { lines = cutter.lines + 1 }) (x ++ line) line
 next_looked {cutter} {x} line live whole one aim =
-    let ends = ends_as _ _ _ _ _ _ live.ends.runs in
+    let ends = ends_as live.ends.runs in
     let count = lines_are live in
     let aims = rw aim at live.ends.aims in record {
       counted = ap (λ n. n + 1) live.at.counted ∙ sym (count-line line whole one);

@@ -7,7 +7,7 @@ use Rattle.std.proofs.{
   lemmas.Grind.common_steps,
 }
 use Rattle.csplit_core.specs.{
-  Plan.{line_after, start, Ending, State, Step, Runs, cuts},
+  Plan.{line_after, Ending, State, Step, Runs, cuts},
   Operand.{Operand, Line},
   Planned.plan,
   Section.{
@@ -77,7 +77,7 @@ pub none_lost_at_end : (operands : List Operand) (x : List Line) → is_final (p
     → lines_in (whole_sections x (plan false operands x)) ≡ x
 none_lost_at_end operands x live =
     let plan' = plan false operands x in
-    let some = (are_within false x (start operands) _ _ _ (plan_runs false operands x) (omega arith)).1 in
+    let some = (are_within (plan_runs false operands x) (omega arith)).1 in
     sym (append-nil (lines_in (whole_sections x plan'))) ∙ all_with true operands (lines_between plan'.last.current (whole_end (length x) plan'.ending) x) []
     (append-nil (lines_between plan'.last.current (whole_end (length x) plan'.ending) x)
     ∙ ap (λ end. lines_between plan'.last.current end x) (ends_after_all (length x) plan'.ending live) ∙ rest_is_all x plan'.last.current some)

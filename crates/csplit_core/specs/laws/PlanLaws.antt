@@ -243,7 +243,7 @@ none_by : (suppress : Bool) (lines : List Line) (state : State) (operands : List
 none_by suppress lines state [] is enough = is_used_up state is
 none_by suppress lines state (operand ∷ operands) is enough = grind (arith, common_steps)
 
-pub runs : (bound : ℕ) (suppress : Bool) (lines : List Line) (state : State) → needed (length lines) state ≤ bound
+runs : (bound : ℕ) (suppress : Bool) (lines : List Line) (state : State) → needed (length lines) state ≤ bound
     → 1 ≤ state.current → RunsAs suppress lines state (plan_within bound suppress lines state)
 runs zero suppress lines state enough some = none_by suppress lines state state.operands refl enough
 runs (suc bound) suppress lines state enough some =
@@ -254,6 +254,10 @@ runs (suc bound) suppress lines state enough some =
     runs bound suppress lines (state_after suppress operand operands state.repetition matched cut)
     (omega (arith, less, enough)) (omega (arith, least, some, from)))
 
+pub runs_on : (suppress : Bool) (lines : List Line) (state : State) → 1 ≤ state.current
+    → RunsAs suppress lines state (plan_within (needed (length lines) state) suppress lines state)
+runs_on suppress lines state some = runs (needed (length lines) state) suppress lines state (omega arith) some
+
 enough_at_start : (total : ℕ) (operands : List Operand) → needed total (start operands) ≤ length operands * (total + 1)
 enough_at_start total operands = let less = fewer_operands total (start operands) operands in omega (arith, less)
 
@@ -261,10 +265,10 @@ pub plan_runs : (suppress : Bool) (operands : List Operand) (lines : List Line)
     → RunsAs suppress lines (start operands) (plan suppress operands lines)
 plan_runs suppress operands lines = search (rules, runs, enough_at_start)
 
-pub plan_once : (suppress : Bool) (operands : List Operand) (lines : List Line) (steps : List Step) (last : State)
-    (ending : Ending) → Runs suppress lines (start operands) steps last ending
+pub plan_once : {suppress : Bool} {operands : List Operand} {lines : List Line} {steps : List Step} {last : State}
+    {ending : Ending} → Runs suppress lines (start operands) steps last ending
     → plan suppress operands lines ≡ so steps last ending
-plan_once suppress operands lines steps last ending is = grind (arith, common_steps, computed, enough_at_start)
+plan_once is = grind (arith, common_steps, computed, enough_at_start)
 
 -- What was cut off stays so
 

@@ -17,19 +17,16 @@ use Rattle.ports_core.{
 }
 use Rattle.csplit_core.specs.{
   Operand.{Operand, Line, is_kept},
-  Plan.{
-    State, start, Step, Ending, above, below, line_after, state_after, Runs, is_used_up, misses, is_above, is_below,
-    cuts,
-  },
-  Planned.{plan_within, plan},
+  Plan.{State, Step, Ending, above, below, line_after, Runs, is_used_up, misses, is_above, is_below, cuts},
+  Planned.plan,
   Section.{
     Section, section, section_of, lines_between, bytes_of, is_last_kept, whole_end, settled_end, sections_by,
     settled_sections,
   },
   Output.{Style, manner_of, opening_of, file_in, state_in, shares_in, part_of},
   Csplit.{settled_of, whole_of},
-  laws.PlanLaws.{line_some, goes_on, runs, plan_runs, plan_once},
-  inner.PlanLaws.{needed, EndsAs, AreWithin, Next, Covers, Grow, GoesOn, CutsFrom},
+  laws.PlanLaws.{line_some, goes_on, runs_on, plan_runs, plan_once},
+  inner.PlanLaws.{EndsAs, AreWithin, Next, Covers, Grow, GoesOn, CutsFrom},
 }
 
 -- Stretches of lines
@@ -58,29 +55,22 @@ between_grows first past more a b some within (inr less) =
       sym (ap (λ n. take n (drop (first - 1) a) ++ lines_between first more (a ++ b)) none),
     )
 
-pub ends_as : (suppress : Bool) (lines : List Line) (first : State) (steps : List Step) (last : State) (ending : Ending)
+pub ends_as : {suppress : Bool} {lines : List Line} {first : State} {steps : List Step} {last : State} {ending : Ending}
     → Runs suppress lines first steps last ending → EndsAs suppress lines last ending
-ends_as suppress lines first steps last ending (is_used_up state none) = none
-ends_as suppress lines first steps last ending (misses state operand operands is none) = (operands, is, none, refl)
-ends_as suppress lines first steps last ending (is_above state operand operands matched cut is at far) =
-    (operands, is, at, far, refl)
-ends_as suppress lines first steps last ending (is_below state operand operands matched cut is at within low) = grind
-    (arith, common_steps)
-ends_as suppress lines first steps last ending
-    (cuts state operand operands matched cut steps' last' ending' is at from within rest) =
-    ends_as suppress lines
-    (state_after suppress operand operands state.repetition matched cut) steps' last' ending' rest
+ends_as (is_used_up state none) = none
+ends_as (misses state operand operands is none) = (operands, is, none, refl)
+ends_as (is_above state operand operands matched cut is at far) = (operands, is, at, far, refl)
+ends_as (is_below state operand operands matched cut is at within low) = grind (arith, common_steps)
+ends_as (cuts state operand operands matched cut steps' last' ending' is at from within rest) = ends_as rest
 
-pub are_within : (suppress : Bool) (lines : List Line) (first : State) (steps : List Step) (last : State)
-    (ending : Ending) → Runs suppress lines first steps last ending → 1 ≤ first.current
+pub are_within : {suppress : Bool} {lines : List Line} {first : State} {steps : List Step} {last : State}
+    {ending : Ending} → Runs suppress lines first steps last ending → 1 ≤ first.current
     → AreWithin (length lines) steps × (1 ≤ last.current)
-are_within suppress lines first steps last ending
-    (cuts state operand operands matched cut steps' last' ending' is at from within rest) some =
+are_within {suppress} (cuts state operand operands matched cut steps' last' ending' is at from within rest) some =
     let least : cut ≤ line_after suppress cut = line_some suppress cut in
-    let those = are_within suppress lines (state_after suppress operand operands state.repetition matched cut) steps'
-    last' ending' rest (omega (arith, least, some, from)) in
+    let those = are_within rest (omega (arith, least, some, from)) in
     ((some, from, within, those.0), those.1)
-are_within suppress lines first steps last ending run some = (tt, some)
+are_within run some = (tt, some)
 
 pub closed_still : (a b : List Line) (steps : List Step) → AreWithin (length a) steps
     → map (section_of (a ++ b)) steps ≡ map (section_of a) steps
@@ -158,20 +148,8 @@ sections_grow {suppress} closed end_of covers {a} b {first} {steps} {last} {endi
 pub plan_goes_on : {suppress : Bool} (operands : List Operand) (a b : List Line) → GoesOn suppress operands a b
 plan_goes_on {suppress} operands a b =
     let here = plan_runs suppress operands a in
-    let within = are_within suppress a (start operands) (plan suppress operands a).steps (plan suppress operands a).last
-    (plan suppress operands a).ending here (omega arith) in
-    let rest = runs (needed (length (a ++ b)) (plan suppress operands a).last) suppress (a ++ b)
-    (plan suppress operands a).last (omega arith) within.1 in
-    record {
-      more = (plan_within (needed (length (a ++ b)) (plan suppress operands a).last) suppress (a ++ b)
-          (plan suppress operands a).last).steps;
-      end = (plan_within (needed (length (a ++ b)) (plan suppress operands a).last) suppress (a ++ b)
-          (plan suppress operands a).last).last;
-      how = (plan_within (needed (length (a ++ b)) (plan suppress operands a).last) suppress (a ++ b)
-          (plan suppress operands a).last).ending;
-      rest = rest;
-      is = plan_once suppress operands (a ++ b) _ _ _ (goes_on b _ _ here rest);
-    }
+    let rest = runs_on suppress (a ++ b) (plan suppress operands a).last (are_within here (omega arith)).1 in
+    record { more = _; end = _; how = _; rest = rest; is = plan_once (goes_on b _ _ here rest) }
 
 pub plan_grows : (suppress closed : Bool) (end_of : ℕ → Ending → ℕ) → Covers end_of
     → (operands : List Operand) (a b : List Line)
