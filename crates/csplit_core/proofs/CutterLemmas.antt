@@ -36,7 +36,7 @@ use Rattle.csplit_core.specs.{
   Section.{
     lines_between, is_last_kept, settled_end, whole_end, is_final, most_waiting, bytes_of, Section, section, section_of,
   },
-  Progress.AimsAt,
+  Progress.{AimsAt, EndsHere},
   declared.{progress.Turn.{Turn, TheVariants.Below}, line_cutter.Cut.Cut},
   laws.{
     PlanLaws.{plan_once, goes_on, line_some, runs_on},
@@ -45,13 +45,13 @@ use Rattle.csplit_core.specs.{
   inner.{
     PlanLaws.EndsAs,
     Cutter.{
-      Joins, settled_part, Keeps, part_at, Arrives, Holds, GoesPast, search_after, CutsNow, WentOn, PassesCut, IsAfter,
-      CutAt, CutsAll, WillCut, IsEnd,
+      Joins, settled_part, Keeps, KeepsBy, part_at, draft_at, bare, Puts, CutsIn, Arrives, Holds, search_after, CutsNow,
+      WentOn, PassesCut, IsAfter, CutAt, CutsAll, WillCut, IsEnd,
     },
   },
   Cutter.{
-    kept_by, most_by, text_from, draft_by, settled_draft, CutterState, suppress_in, state_in, IsAt, EndsNow, IsLive,
-    IsFit, Leads,
+    kept_by, most_by, text_from, draft_by, settled_draft, CutterState, suppress_in, state_in, IsAt, IsLive, IsFit,
+    Leads,
   },
 }
 use Rattle.csplit_core.proofs.{
@@ -165,8 +165,9 @@ pub aims_live : (aim : Turn) (ending : Ending) → AimsAt aim ending → (aim �
 aims_live aim ending aims differs = grind (arith, common_steps)
 
 -- one call after another
-pub keeps_on : {one two three : CutterState} {old mid new : List Slot} {fault : Option Fault}
-    → Keeps one two old mid None → Keeps two three mid new fault → Keeps one three old new fault
+pub keeps_on : {given : List Operand} {made : Style} {writer : WriterState} {two three : CutterState}
+    {old mid new : List Slot} {fault : Option Fault} → KeepsBy given made writer two old mid None
+    → Keeps two three mid new fault → KeepsBy given made writer three old new fault
 keeps_on first second = record { operands = second.operands ∙ first.operands; style = second.style ∙ first.style; writer = leaves_again first.writer second.writer }
 
 -- what is written of the sections, where the style stays
@@ -178,25 +179,27 @@ pub reaches_then : {told : Bool} {style other : Style} {low middle high : Part} 
 reaches_then {told} {low = low} {middle} {high} {mid = mid} {new} {fault} {two = two} {three} same begins first second = reaches_again begins first (rw same at second)
 
 -- what style and operands decide stays
-pub same_by : {A : Type 0} {cutter next : CutterState} {old new : List Slot} {fault : Option Fault}
-    (f : Style → List Operand → A) → Keeps cutter next old new fault
-    → f next.style next.operands ≡ f cutter.style cutter.operands
-same_by {cutter = cutter} {next} f keeps = grind (arith, common_steps)
+pub same_by : {A : Type 0} {given : List Operand} {made : Style} {writer : WriterState} {next : CutterState}
+    {old new : List Slot} {fault : Option Fault} (f : Style → List Operand → A)
+    → KeepsBy given made writer next old new fault → f next.style next.operands ≡ f made given
+same_by f keeps = grind (arith, common_steps)
 
-pub settled_same : {cutter next : CutterState} {old new : List Slot} {fault : Option Fault} (x : List ℕ)
-    → Keeps cutter next old new fault → settled_part next x ≡ settled_part cutter x
+pub settled_same : {given : List Operand} {made : Style} {writer : WriterState} {next : CutterState}
+    {old new : List Slot} {fault : Option Fault} (x : List ℕ) → KeepsBy given made writer next old new fault
+    → settled_part next x ≡ settled_of made given (all_lines x)
 settled_same x keeps = grind (arith, common_steps)
 
 -- the plan up to where the cutter stands
-pub runs_to : {cutter : CutterState} {x left : List ℕ} (at : IsAt cutter x left) (ends : EndsNow cutter x)
-    → Runs (suppress_in cutter) (all_lines x) (start cutter.operands) at.steps (state_in cutter) ends.ending
+pub runs_to : {cutter : CutterState} {x left : List ℕ} (at : IsAt cutter x left) {aim : Turn}
+    (ends : EndsHere (suppress_in cutter) (all_lines x) (state_in cutter) aim) → Runs (suppress_in cutter) (all_lines x) (start cutter.operands) at.steps (state_in cutter) ends.ending
 runs_to {cutter} {x} at ends = grind (arith, common_steps)
 
 -- more lines came in, and nothing was done with them yet
-unfoldable pub at_more : (cutter : CutterState) (lines : ℕ) (aim : Turn) (x t left : List ℕ) → Joins x t
-    → 1 ≤ cutter.progress.current → (at : IsAt cutter x left) → EndsNow cutter x → lines ≡ line_count newline (x ++ t)
-    → IsAt (record cutter { lines = lines; aim = aim }) (x ++ t) (left ++ t)
-at_more cutter lines aim x t left whole some at ends count =
+unfoldable pub at_more : {cutter : CutterState} {lines : ℕ} {x : List ℕ} (t : List ℕ) {left : List ℕ} → Joins x t
+    → 1 ≤ cutter.progress.current → (at : IsAt cutter x left) {aim : Turn}
+    → EndsHere (suppress_in cutter) (all_lines x) (state_in cutter) aim → lines ≡ line_count newline (x ++ t)
+    → IsAt (bare (record cutter { lines = lines })) (x ++ t) (left ++ t)
+at_more {cutter} {x = x} t whole some at ends count =
     let e = all_lines-append t whole in record {
       steps = at.steps;
       leads = λ more last ending run. rw (← e) at (goes_on (all_lines t) more last (runs_to at ends) (subst (λ those. Runs (suppress_in cutter) those (state_in cutter) more last ending) e run));
@@ -209,13 +212,12 @@ at_more cutter lines aim x t left whole some at ends count =
       writes = subst (Writes (manner_of cutter.style) cutter.writer) (ended_still cutter.style cutter.operands t (kept_by (state_in cutter).operands) at.written whole (runs_to at ends)) at.writes;
     }
 
-pub part_more : {cutter : CutterState} {lines : ℕ} (aim : Turn) {x : List ℕ} (t : List ℕ) {left : List ℕ}
-    (whole : Joins x t) (some : 1 ≤ cutter.progress.current) (at : IsAt cutter x left) (ends : EndsNow cutter x)
-    (count : lines ≡ line_count newline (x ++ t))
-    → part_at cutter x left at ≡ part_at (record cutter { lines = lines; aim = aim }) (x ++ t) (left ++ t)
-    (at_more cutter lines aim x t left whole some at ends count)
+pub part_more : {cutter : CutterState} {lines : ℕ} {x : List ℕ} (t : List ℕ) {left : List ℕ} (whole : Joins x t)
+    (some : 1 ≤ cutter.progress.current) (at : IsAt cutter x left) {aim : Turn}
+    (ends : EndsHere (suppress_in cutter) (all_lines x) (state_in cutter) aim)
+    (count : lines ≡ line_count newline (x ++ t)) → part_at at ≡ part_at (at_more t whole some at ends count)
 unfolding at_more
-part_more {cutter} aim t whole some at ends count =
+part_more {cutter} t whole some at ends count =
     ap (draft_part (manner_of cutter.style)) (ended_still cutter.style cutter.operands t (kept_by (state_in cutter).operands) at.written whole (runs_to at ends))
 
 -- where the plan isn't final, all lines of the last section are settled but the last ones
@@ -226,7 +228,7 @@ pub live_taken : {cutter : CutterState} {x : List ℕ} (live : IsLive cutter x)
 live_taken live = grind (arith, common_steps)
 
 pub live_part : {cutter : CutterState} {x : List ℕ} (live : IsLive cutter x)
-    → part_at cutter x cutter.window.held live.at ≡ settled_part cutter x
+    → part_at live.at ≡ settled_part cutter x
 live_part {cutter} {x} live =
     ap (draft_part (manner_of cutter.style)) (draft_is settled_end cutter.style cutter.operands x live.at.taken (runs_to live.at live.ends) (live_taken live) live.at.written_is)
     ∙ settled_part_is cutter.style cutter.operands (all_lines x)
@@ -242,7 +244,7 @@ few_taken {cutter} {x} at = grind (arith, common_steps)
 
 -- some lines of those that were left are written, and the others wait
 unfoldable pub at_held : (cutter : CutterState) (writer : WriterState) (x left bytes held : List ℕ) (n : ℕ)
-    → 1 ≤ cutter.progress.current → (at : IsAt cutter x left) → n ≤ line_count newline left
+    → 1 ≤ cutter.progress.current → (at : IsAt (bare cutter) x left) → n ≤ line_count newline left
     → bytes ≡ first_lines newline n left → held ≡ after_lines newline n left
     → ((draft : Draft) → Writes (manner_of cutter.style) cutter.writer draft
     → Writes (manner_of cutter.style) writer (with_bytes bytes draft))
@@ -260,7 +262,7 @@ at_held cutter writer x left bytes held n some at within bytes_is held_is writes
           ∙ sym (first_further cutter.progress.current at.taken n x some);
       left_is = held_is ∙ ap (after_lines newline n) at.left_is ∙ from_further (cutter.progress.current + at.taken) n x (omega (arith, some))
           ∙ ap (λ k. text_from k x) (let e : cutter.progress.current + at.taken + n ≡ cutter.progress.current + (at.taken + n) = omega arith in e);
-      writes = writes (draft_by cutter.style (all_lines x) at.steps (kept_by (state_in cutter).operands) at.written) at.writes;
+      writes = writes (draft_at at) at.writes;
     }
 
 -- how many lines are taken once as many wait as may
@@ -400,7 +402,7 @@ abbrev pub over_of : CutterState → List ℕ → ℕ
 over_of cutter left = line_count newline left - cutter.window.most
 
 -- then all lines but those that may wait are taken
-taken_is : {cutter : CutterState} {x left : List ℕ} {at : IsAt cutter x left} (arrives : Arrives cutter x left at)
+taken_is : {cutter : CutterState} {x left : List ℕ} {at : IsAt (bare cutter) x left} (arrives : Arrives cutter at)
     → IsFit cutter → is_final arrives.ends.ending ≡ false
     → at.taken + over_of cutter left ≡ cutter.lines + 1 - cutter.progress.current - most_waiting arrives.ends.ending
 taken_is {cutter} {x} {at} arrives fit live =
@@ -409,12 +411,10 @@ taken_is {cutter} {x} {at} arrives fit live =
     ∙ ap (λ n. cutter.lines + 1 - cutter.progress.current - n) most
 
 -- and what is written is what is settled
-held_part : {cutter : CutterState} {x left bytes : List ℕ} {at : IsAt cutter x left}
-    (arrives : Arrives cutter x left at) → IsFit cutter → is_final arrives.ends.ending ≡ false
+held_part : {cutter : CutterState} {x left bytes : List ℕ} {at : IsAt (bare cutter) x left}
+    (arrives : Arrives cutter at) → IsFit cutter → is_final arrives.ends.ending ≡ false
     → bytes ≡ first_lines newline (over_of cutter left) left
-    → draft_part (manner_of cutter.style)
-    (with_bytes bytes (draft_by cutter.style (all_lines x) at.steps (kept_by (state_in cutter).operands) at.written))
-    ≡ settled_part cutter x
+    → draft_part (manner_of cutter.style) (with_bytes bytes (draft_at at)) ≡ settled_part cutter x
 held_part {cutter} {x} {left} {bytes} {at} arrives fit live bytes_is =
     let written : at.written ++ bytes ≡ first_lines newline (at.taken + over_of cutter left) (text_from cutter.progress.current x) =
     ap (λ those. those ++ bytes) at.written_is
@@ -424,8 +424,8 @@ held_part {cutter} {x} {left} {bytes} {at} arrives fit live bytes_is =
     (taken_is arrives fit live ∙ (grind (arith, common_steps))) written)
     ∙ settled_part_is cutter.style cutter.operands (all_lines x)
 
-held_live : {cutter : CutterState} {writer : WriterState} {x left bytes held : List ℕ} {at : IsAt cutter x left}
-    (arrives : Arrives cutter x left at) → IsFit cutter → is_final arrives.ends.ending ≡ false
+held_live : {cutter : CutterState} {writer : WriterState} {x left bytes held : List ℕ} {at : IsAt (bare cutter) x left}
+    (arrives : Arrives cutter at) → IsFit cutter → is_final arrives.ends.ending ≡ false
     → bytes ≡ first_lines newline (over_of cutter left) left → held ≡ after_lines newline (over_of cutter left) left
     → ((draft : Draft) → Writes (manner_of cutter.style) cutter.writer draft
     → Writes (manner_of cutter.style) writer (with_bytes bytes draft)) → IsLive (holding cutter writer held) x
@@ -454,7 +454,7 @@ pub hold_goes : {told : Bool} {cutter : CutterState} {writer : WriterState} {win
 hold_goes {cutter = cutter} {writer} {window} {left} {fault = fault} fit differs goes waits fewer = record {
   keeps = record { operands = refl; style = refl; writer = goes.leaves };
   reaches = λ x at arrives. reaches_as refl (sym (held_part arrives fit (aims_live cutter.aim arrives.ends.ending arrives.ends.aims differs) bytes_is))
-      (goes.reaches (manner_of cutter.style) (draft_by cutter.style (all_lines x) at.steps (kept_by (state_in cutter).operands) at.written) at.writes);
+      (goes.reaches (manner_of cutter.style) (draft_at at) at.writes);
   went = where_three fault goes.writes waits fewer (λ writes kept size.
       let held_is : window.held ≡ after_lines newline (over_of cutter left) left = ap (λ (w : Window). w.held) kept ∙ ap (λ d. last_lines d cutter.window.most left) fit.delim in
       let window_is : window ≡ record cutter.window { held = window.held } = kept ∙ ap (λ held. record cutter.window { held = held }) (sym (ap (λ (w : Window). w.held) kept)) in record {
@@ -469,9 +469,8 @@ hold_goes {cutter = cutter} {writer} {window} {left} {fault = fault} fit differs
 
 -- where the cut is below the current line, none waits
 
-past_draft : {cutter : CutterState} {x left : List ℕ} {at : IsAt cutter x left} (arrives : Arrives cutter x left at)
-    → is_final arrives.ends.ending ≡ true
-    → draft_by cutter.style (all_lines x) at.steps (kept_by (state_in cutter).operands) at.written
+past_draft : {cutter : CutterState} {x left : List ℕ} {at : IsAt (bare cutter) x left} (arrives : Arrives cutter at)
+    → is_final arrives.ends.ending ≡ true → draft_at at
     ≡ settled_draft cutter.style cutter.operands (all_lines x)
 past_draft {cutter} {x} {at} arrives past =
     draft_is settled_end cutter.style cutter.operands x at.taken (runs_to at arrives.ends)
@@ -501,7 +500,7 @@ hold_past {cutter = cutter} {window} {left} {slots} {n} aim ready all less dropp
   none : window.held ≡ []
   none = ap (λ (w : Window). w.held) dropped ∙ drop_all n cutter.window.held (omega (arith, all))
 
-  past : (x : List ℕ) (at : IsAt cutter x left) (arrives : Arrives cutter x left at)
+  past : (x : List ℕ) (at : IsAt (bare cutter) x left) (arrives : Arrives cutter at)
       → is_final arrives.ends.ending ≡ true
   past x at arrives = (grind (arith, common_steps))
 
@@ -559,8 +558,7 @@ cut_draft : {cutter : CutterState} {x left before : List ℕ} (at : IsAt cutter 
     → 1 ≤ cutter.progress.current
     → cutter.progress.current + at.taken ≤ cut.line
     → before ≡ first_lines newline (cut.line - (cutter.progress.current + at.taken)) left
-    → with_next (opening_of cutter.style kept)
-    (with_bytes before (draft_by cutter.style (all_lines x) at.steps (kept_by (state_in cutter).operands) at.written))
+    → with_next (opening_of cutter.style kept) (with_bytes before (draft_at at))
     ≡ draft_by cutter.style (all_lines x) (at.steps ++ step_at cutter operand cut ∷ []) kept []
 cut_draft {cutter} {x} {before} at cut {operand} kept are some on before_is =
     let bytes : at.written ++ before ≡ bytes_of (lines_between cutter.progress.current cut.line (all_lines x)) =
@@ -576,15 +574,15 @@ cut_draft {cutter} {x} {before} at cut {operand} kept are some on before_is =
     (sym (ap (flat_map (file_in cutter.style)) (map-append (section_of (all_lines x)) at.steps (step_at cutter operand cut ∷ [])) ∙ flat_map-append (file_in cutter.style) (map (section_of (all_lines x)) at.steps) (next ∷ []) ∙ ap (λ one. ended ++ one) (append-nil (file_in cutter.style next))))
 
 leads_on : {cutter : CutterState} {x left : List ℕ} (at : IsAt cutter x left) (cut : Cut)
-    (goes : GoesPast (suppress_in cutter) (all_lines x) (state_in cutter) cut.matched cut.line)
+    (goes : CutsIn cutter x cut)
     → Leads (suppress_in cutter) (all_lines x) cutter.operands (at.steps ++ step_at cutter goes.operand cut ∷ [])
     (state_after (suppress_in cutter) goes.operand goes.operands cutter.progress.repetition cut.matched cut.line)
 leads_on {cutter} {x} at cut goes more last ending run =
     rw (← append_assoc at.steps (step_at cutter goes.operand cut ∷ []) more) at (at.leads (step_at cutter goes.operand cut ∷ more) last ending (cuts (state_in cutter) goes.operand goes.operands cut.matched cut.line more last ending goes.are goes.cuts goes.from goes.within run))
 
 -- what is settled begins with the sections after the cut
-pub cut_begins : {cutter : CutterState} {x left : List ℕ} (line : List ℕ) {before : List ℕ} {at : IsAt cutter x left}
-    (cut : Cut) {place : ℕ} (now : CutsNow cutter x left line cut place at) → IsFit cutter → WillCut cutter cut
+pub cut_begins : {cutter : CutterState} {x left : List ℕ} (line : List ℕ) {before : List ℕ}
+    {at : IsAt (bare cutter) x left} (cut : Cut) {place : ℕ} (now : CutsNow line cut place at) → IsFit cutter → WillCut cutter cut
     → before ≡ first_lines newline (cut.line - place) left
     → Begins
     (draft_part (manner_of cutter.style)
@@ -594,7 +592,7 @@ pub cut_begins : {cutter : CutterState} {x left : List ℕ} (line : List ℕ) {b
     (state_after
     (suppress_in cutter) now.goes.operand now.goes.operands cutter.progress.repetition cut.matched
     cut.line).operands))
-    (with_bytes before (draft_by cutter.style (all_lines x) at.steps (kept_by (state_in cutter).operands) at.written))))
+    (with_bytes before (draft_at at))))
     (settled_part cutter x)
 cut_begins {cutter} {x} {left} line {at} cut now fit will before_is =
     let state = state_after (suppress_in cutter) now.goes.operand now.goes.operands cutter.progress.repetition cut.matched cut.line in
@@ -606,16 +604,11 @@ cut_begins {cutter} {x} {left} line {at} cut now fit will before_is =
 
 -- What `cut_at` owes, by how far it came. First the lines before the cut are written; then the run goes on; then the next section begins.
 
--- the sections, where a cut is due
-abbrev draft_at : (cutter : CutterState) (x left : List ℕ) → IsAt cutter x left → Draft
-draft_at cutter x left at = draft_by cutter.style (all_lines x) at.steps (kept_by (state_in cutter).operands) at.written
-
 pub cut_stopped : {told : Bool} {cutter next : CutterState} {cut : Cut} {place : ℕ} {left line : List ℕ}
     {old new : List Slot} {fault : Fault} → next.operands ≡ cutter.operands → next.style ≡ cutter.style
     → Leaves cutter.writer next.writer old new (Some fault)
-    → ((x : List ℕ) (at : IsAt cutter x left) → CutsNow cutter x left line cut place at
-    → Reaches (sizes_wanted cutter.style) told cutter.writer next.writer (part_at cutter x left at)
-    (settled_part cutter x) old new (Some fault))
+    → ((x : List ℕ) (at : IsAt (bare cutter) x left) → CutsNow line cut place at
+    → Puts told cutter next (part_at at) (settled_part cutter x) old new (Some fault))
     → CutsAll told cutter cut place left line [] old new next (Some fault)
 cut_stopped {cutter = cutter} operands style leaves reaches = grind (arith, common_steps)
 
@@ -645,8 +638,8 @@ module _ {cutter : CutterState} {cut : Cut} {place : ℕ} {left before : List �
       → next.operands ≡ cutter.operands → next.style ≡ cutter.style
       → Goes told cutter.writer (with_bytes before) old new next.writer (Some fault)
       → CutsAll told cutter cut place left line [] old new next (Some fault)
-  cut_put_stopped line operands style goes = cut_stopped operands style goes.leaves (λ x at now. stops_wider (goes.reaches (manner_of cutter.style) (draft_at cutter x left at) at.writes)
-      (part_trans _ _ _ (next_begins (manner_of cutter.style) _ (with_bytes before (draft_at cutter x left at))) (cut_begins line cut now fit will before_is)))
+  cut_put_stopped line operands style goes = cut_stopped operands style goes.leaves (λ x at now. stops_wider (goes.reaches (manner_of cutter.style) (draft_at at) at.writes)
+      (part_trans _ _ _ (next_begins (manner_of cutter.style) _ (with_bytes before (draft_at at))) (cut_begins line cut now fit will before_is)))
 
   pub cut_pass_stopped : {told : Bool} {mid : CutterState} {writer : WriterState} {old new : List Slot} {fault : Fault}
       (line : List ℕ) → Goes told cutter.writer (with_bytes before) old new writer None
@@ -667,7 +660,7 @@ module _ {cutter : CutterState} {cut : Cut} {place : ℕ} {left before : List �
       cut_stopped (ap (λ (c : CutterState). c.operands) passed.same) (ap (λ (c : CutterState). c.style) passed.same) (leaves_again went.leaves stopped.leaves)
       (λ x at due.
       let manner = manner_of cutter.style in
-      let draft = draft_at cutter x left at in
+      let draft = draft_at at in
       reaches_again (bytes_begin manner before draft) (went.reaches manner draft at.writes)
       (stops_wider (stopped.reaches manner (with_bytes before draft) (went.writes manner draft at.writes))
       (rw (← (ap (λ (s : State). kept_by s.operands) (passed_state went passed due.goes.are))) at (cut_begins line cut due fit will before_is))))
@@ -702,8 +695,8 @@ module _ {told : Bool} {cutter mid : CutterState} {writer next : WriterState} {c
     (passed : WentOn (record cutter { writer = writer }) cut mid)
     (opening_is : opening ≡ opening_of mid.style (kept_by (state_in mid).operands))
     (began : Goes told mid.writer (with_next opening) between new next None) where
-  after_at : {x : List ℕ} (line : List ℕ) {at : IsAt cutter x left} (now : CutsNow cutter x left line cut place at)
-      → IsAfter told cutter x line (record mid { writer = next }) rest (part_at cutter x left at) old new
+  after_at : {x : List ℕ} (line : List ℕ) {at : IsAt (bare cutter) x left} (now : CutsNow line cut place at)
+      → IsAfter told cutter x line (record mid { writer = next }) rest (part_at at) old new
   after_at {x} line {at} now =
       let second = began_there cutter passed opening_is began in
       let manner = manner_of cutter.style in
@@ -719,7 +712,7 @@ module _ {told : Bool} {cutter mid : CutterState} {writer next : WriterState} {c
       let left_after : all ≡ text_from cut.line x = all_is ∙ ap (λ n. after_lines newline n left) same_count ∙ ap (after_lines newline (cut.line - (cutter.progress.current + at.taken))) at.left_is
       ∙ from_further (cutter.progress.current + at.taken) (cut.line - (cutter.progress.current + at.taken)) x (let s = fit.fits.some in omega (arith, s))
       ∙ ap (λ n. text_from n x) (let e : cutter.progress.current + at.taken + (cut.line - (cutter.progress.current + at.taken)) ≡ cut.line = omega (arith, on) in e) in
-      let draft = draft_at cutter x left at in
+      let draft = draft_at at in
       let steps = at.steps ++ step_at cutter now.goes.operand cut ∷ [] in
       let draft_is : with_next (opening_of cutter.style kept) (with_bytes before draft) ≡ draft_by cutter.style (all_lines x) steps kept [] =
       cut_draft at cut kept now.goes.are fit.fits.some on (before_is ∙ ap (λ n. first_lines newline n left) same_count) in
@@ -746,8 +739,8 @@ module _ {told : Bool} {cutter mid : CutterState} {writer next : WriterState} {c
         };
         near = near;
         none = refl;
-        grows = subst (Begins (part_at cutter x left at)) (ap (draft_part manner) draft_is ∙ now_part)
-            (part_trans (part_at cutter x left at) (draft_part manner (with_bytes before draft)) _ (bytes_begin manner before draft) (next_begins manner (opening_of cutter.style kept) (with_bytes before draft)));
+        grows = subst (Begins (part_at at)) (ap (draft_part manner) draft_is ∙ now_part)
+            (part_trans (part_at at) (draft_part manner (with_bytes before draft)) _ (bytes_begin manner before draft) (next_begins manner (opening_of cutter.style kept) (with_bytes before draft)));
         reaches = reaches_again (bytes_begin manner before draft) (went.reaches manner draft at.writes)
             (reaches_as refl (sym (ap (draft_part manner) draft_is ∙ now_part)) (second.reaches manner (with_bytes before draft) (went.writes manner draft at.writes)));
       }

@@ -69,15 +69,15 @@ use Rattle.csplit_core.specs.{
   laws.{PlanLaws.{plan_runs, plan_once}, SectionLaws.{ends_as, are_within, closed_still, ends_with as whole_grows}},
   Progress.{state_of, AimsAt, EndsHere},
   inner.Cutter.{
-    BegunNot, new_for, writer_for, AreSeen, Turns, MovesOn, Opened, settled_part, whole_part, IsJudged, EndsAll,
-    IsWhole, Takes, IsLine, Clears, Keeps, Closed, Closes, ended_so, Judges, Passes, ended_well, ended_short,
+    BegunNot, draft_at, new_for, writer_for, AreSeen, Turns, MovesOn, Opened, settled_part, whole_part, IsJudged,
+    EndsAll, IsWhole, Takes, IsLine, Clears, Keeps, Closed, Closes, ended_so, Judges, Passes, ended_well, ended_short,
   },
   inner.PlanLaws.{EndsAs, AreWithin},
   Section.{is_final, whole_end, bytes_of, waiting_lines, whole_sections},
   declared.progress.{Progress.Progress, Turn.{Turn, TheVariants.{Below, Missed, Above}}},
   Cutter.{
     CutterState, most_next, pattern_next, kept_next, next_of, most_by, pattern_by, kept_by, settled_draft, IsFit,
-    Stands, suppress_in, state_in, text_from, draft_by, IsLive, IsPast, IsSound, load,
+    Stands, suppress_in, state_in, text_from, IsLive, IsPast, IsSound, load,
   },
   CsplitState.{CsplitState, Holds, whole_lines, IsReady, Owns, terms, files, work},
 }
@@ -263,7 +263,7 @@ record LastDraft (cutter : CutterState) (x : List ℕ) : Type 0 where
 
 live_draft : {cutter : CutterState} {x : List ℕ} → IsFit cutter → IsLive cutter x → LastDraft cutter x
 live_draft {cutter} {x} fit live = record {
-  draft = draft_by cutter.style (all_lines x) live.at.steps (kept_by (state_in cutter).operands) live.at.written;
+  draft = draft_at live.at;
   writes = live.at.writes;
   settled = live_part live;
   whole = ap (λ draft. draft_part (manner_of cutter.style) (with_next Never draft)) (draft_is whole_end cutter.style cutter.operands x _ (runs_to live.at live.ends) refl

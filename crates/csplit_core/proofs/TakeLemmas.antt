@@ -30,8 +30,8 @@ use Rattle.csplit_core.specs.{
   Planned.{Plan, plan},
   laws.{PlanLaws.plan_runs, SectionLaws.{ends_as, cuts_from, grows}},
   inner.Cutter.{
-    GoesPast, IsFound, settled_part, part_at, IsWhole, IsLine, Joins, Arrives, Held, Holds, CutsNow, CutsAll, WillCut,
-    TriesNext, search_after, Takes, IsNextFound, Stretches, IsEnd, Tries, IsAfter, CutAt, Spreading, Spread, PassesOver,
+    CutsIn, bare, IsFound, settled_part, part_at, IsWhole, IsLine, Joins, Arrives, Held, Holds, CutsNow, CutsAll,
+    WillCut, TriesNext, search_after, Takes, IsNextFound, Stretches, IsEnd, Tries, IsAfter, CutAt, Spreading, Spread, PassesOver,
     StopsAt, CutsOn, GoesOn,
   },
   inner.PlanLaws.needed,
@@ -64,13 +64,16 @@ live_before {cutter} {x} t live matched cut are at =
     let so = cuts_from (suppress_in cutter) (all_lines x) (all_lines t) (state_in cutter) live.ends.ending (ends_as live.ends.runs) are in
     rw (length-all_lines x) at (so.1 matched cut at)
 
-pub place_before : {cutter : CutterState} {x : List ℕ} (t : List ℕ) {matched : ℕ} (cut : ℕ) (live : IsLive cutter x)
-    → IsWhole x → (goes : GoesPast (suppress_in cutter) (all_lines (x ++ t)) (state_in cutter) matched cut)
-    → IsFit cutter → cutter.progress.current ≤ cut → cutter.progress.current + live.at.taken ≤ cut
-place_before {cutter} {x} t {matched} cut live whole goes fit from =
-    let at = rw (all_lines-append t (inl whole)) at goes.cuts in omega (arith, live_taken live, live_before t live matched cut goes.are at, from)
+place_before : {cutter : CutterState} {x : List ℕ} (t : List ℕ) (cut : Cut) (live : IsLive cutter x) → IsWhole x
+    → CutsIn cutter (x ++ t) cut → cutter.progress.current ≤ cut.line
+    → cutter.progress.current + live.at.taken ≤ cut.line
+place_before {cutter} {x} t cut live whole goes from =
+    let at = rw (all_lines-append t (inl whole)) at goes.cuts in omega (arith, live_taken live, live_before t live cut.matched cut.line goes.are at, from)
 
 -- What arrives where more lines came.
+
+abbrev pub more_lines : CutterState → ℕ → Turn → CutterState
+more_lines cutter lines aim = record cutter { lines = lines; aim = aim }
 
 enough_left : (lines current taken most : ℕ) {left : ℕ} → 1 ≤ current → current + taken ≤ lines + 1
     → taken ≡ lines + 1 - current - most → left ≡ lines - (current + taken - 1) → (taken ≡ 0) ⊎ (most ≤ left)
@@ -81,9 +84,8 @@ enough_left lines current taken most some few is left_is = elim (cases_lt most (
 
 pub arrives_more : {cutter : CutterState} {lines : ℕ} {aim : Turn} {x : List ℕ} (t : List ℕ) (live : IsLive cutter x)
     (whole : IsWhole x) (fit : IsFit cutter) (count : lines ≡ line_count newline (x ++ t))
-    → EndsNow (record cutter { lines = lines; aim = aim }) (x ++ t)
-    → Arrives (record cutter { lines = lines; aim = aim }) (x ++ t) (cutter.window.held ++ t)
-    (at_more cutter lines aim x t cutter.window.held (inl whole) fit.fits.some live.at live.ends count)
+    → EndsNow (more_lines cutter lines aim) (x ++ t)
+    → Arrives (more_lines cutter lines aim) (at_more t (inl whole) fit.fits.some live.at live.ends count)
 unfolding at_more
 arrives_more {cutter} {x} t live whole fit count ends =
     let few = few_taken live.at in
@@ -100,9 +102,6 @@ arrives_more {cutter} {x} t live whole fit count ends =
 
 -- Once more lines came, and what is settled of them is written and the others held.
 
-abbrev pub more_lines : CutterState → ℕ → Turn → CutterState
-more_lines cutter lines aim = record cutter { lines = lines; aim = aim }
-
 -- it is live, where its aim isn't below the current line
 live_of : {cutter : CutterState} {x : List ℕ} → (cutter.aim ≡ Below → ⊥) → Stands cutter x → IsLive cutter x
 live_of differs (inl live) = live
@@ -117,9 +116,9 @@ sound_held held sound = grind (arith, common_steps)
 
 -- these lines are left where outputs have this part
 pub record Reached (low : Part) (cutter : CutterState) (x left : List ℕ) : Type 0 where
-  pub at : IsAt cutter x left
-  pub arrives : Arrives cutter x left at
-  pub same : low ≡ part_at cutter x left at
+  pub at : IsAt (bare cutter) x left
+  pub arrives : Arrives cutter at
+  pub same : low ≡ part_at at
 
 pub took_held : {told : Bool} {cutter next : CutterState} {lines : ℕ} {aim : Turn} {t : List ℕ} {old new : List Slot}
     {fault : Option Fault} → IsSound (more_lines cutter lines aim) → IsFit cutter → (cutter.aim ≡ Below → ⊥)
@@ -129,7 +128,7 @@ pub took_held : {told : Bool} {cutter next : CutterState} {lines : ℕ} {aim : T
     → Holds told (more_lines cutter lines aim) (cutter.window.held ++ t) old new next fault
     → Takes told cutter t old new next fault
 took_held {cutter = cutter} {next} {lines} {aim} {t} {fault = fault} sound fit differs few ends held = record {
-  keeps = record { operands = held.keeps.operands; style = held.keeps.style; writer = held.keeps.writer };
+  keeps = held.keeps;
   reaches = λ x whole stands. let there = reached x whole stands in reaches_as there.same refl (held.reaches (x ++ t) there.at there.arrives);
   went = where_well fault held.went (λ went. record {
     stands = λ x whole stands. let there = reached x whole stands in went.stands (x ++ t) there.at there.arrives;
@@ -143,23 +142,21 @@ took_held {cutter = cutter} {next} {lines} {aim} {t} {fault = fault} sound fit d
   reached : (x : List ℕ) → IsWhole x → Stands cutter x
       → Reached (settled_part cutter x) (more_lines cutter lines aim) (x ++ t) (cutter.window.held ++ t)
   reached x whole stands = let live = live_of differs stands in let there = ends x whole live in record {
-    at = at_more cutter lines aim x t cutter.window.held (inl whole) fit.fits.some live.at live.ends there.0;
+    at = at_more t (inl whole) fit.fits.some live.at live.ends there.0;
     arrives = arrives_more t live whole fit there.0 there.1;
-    same = sym (live_part live) ∙ part_more aim t (inl whole) fit.fits.some live.at live.ends there.0;
+    same = sym (live_part live) ∙ part_more t (inl whole) fit.fits.some live.at live.ends there.0;
   }
 
 -- Once a line came that is cut.
 
-cuts_there : {cutter : CutterState} {lines : ℕ} (aim : Turn) {x : List ℕ} (line : List ℕ) (cut : Cut)
+cuts_there : {cutter : CutterState} {lines : ℕ} {x : List ℕ} (line : List ℕ) (cut : Cut)
     (live : IsLive cutter x) (whole : IsWhole x) (fit : IsFit cutter) (one : IsLine line)
     (count : lines ≡ line_count newline (x ++ line)) → cutter.progress.current ≤ cut.line
-    → GoesPast (suppress_in cutter) (all_lines (x ++ line)) (state_in cutter) cut.matched cut.line
-    → lines ≤ search_after (suppress_in cutter) cut
-    → CutsNow (more_lines cutter lines aim) (x ++ line) (cutter.window.held ++ line) line cut
-    (lines - delimiters newline cutter.window.held)
-    (at_more cutter lines aim x line cutter.window.held (inl whole) fit.fits.some live.at live.ends count)
+    → CutsIn cutter (x ++ line) cut → lines ≤ search_after (suppress_in cutter) cut
+    → CutsNow line cut (lines - delimiters newline cutter.window.held)
+    (at_more line (inl whole) fit.fits.some live.at live.ends count)
 unfolding at_more
-cuts_there {cutter} {lines} aim {x} line cut live whole fit one count from goes near =
+cuts_there {cutter} {lines} {x} line cut live whole fit one count from goes near =
     let held = left_count live.at in
     let held_whole : IsWhole cutter.window.held = subst IsWhole (sym live.at.left_is) (whole_from (cutter.progress.current + live.at.taken) whole) in
     let same : line_count newline cutter.window.held ≡ delimiters newline cutter.window.held = whole_count held_whole in
@@ -169,14 +166,14 @@ cuts_there {cutter} {lines} aim {x} line cut live whole fit one count from goes 
       last = (all_lines x, all_lines-line line whole one, λ ends. whole-append line whole (inr ends));
       near = near;
       place_is = place;
-      before = (let b = place_before line cut.line live whole goes fit from in omega (arith, b, place));
+      before = (let b = place_before line cut live whole goes from in omega (arith, b, place));
       goes = goes;
     }
 
 record CutThere (low : Part) (cutter : CutterState) (x left line : List ℕ) (cut : Cut) (place : ℕ) : Type 0 where
-  at : IsAt cutter x left
-  now : CutsNow cutter x left line cut place at
-  same : low ≡ part_at cutter x left at
+  at : IsAt (bare cutter) x left
+  now : CutsNow line cut place at
+  same : low ≡ part_at at
 
 line_has : (line : List ℕ) → IsLine line → 1 ≤ length line
 line_has line one = grind (arith, common_steps)
@@ -189,7 +186,7 @@ took_cut : {told : Bool} {cutter next : CutterState} {lines : ℕ} {aim : Turn} 
     (cutter.window.held ++ line) line more old new next fault
     → Takes told cutter (line ++ more) old new next fault
 took_cut {cutter = cutter} {next} {lines} {aim} line more {cut} {fault = fault} fit differs one counted will tries all = record {
-  keeps = record { operands = all.keeps.operands; style = all.keeps.style; writer = all.keeps.writer };
+  keeps = all.keeps;
   reaches = λ x whole stands. let there = reached x whole stands in reaches_as there.same (ap (settled_part cutter) (sym (append_assoc x line more))) (all.reaches (x ++ line) there.at there.now);
   went = where_well fault all.went (λ went. record {
     stands = λ x whole stands. let there = reached x whole stands in subst (Stands next) (append_assoc x line more) (went.stands (x ++ line) there.at there.now);
@@ -206,9 +203,9 @@ took_cut {cutter = cutter} {next} {lines} {aim} line more {cut} {fault = fault} 
       (lines - delimiters newline cutter.window.held)
   reached x whole stands = let live = live_of differs stands in
       let count : lines ≡ line_count newline (x ++ line) = counted ∙ ap (λ n. n + 1) live.at.counted ∙ sym (count-line line whole one) in record {
-        at = at_more cutter lines aim x line cutter.window.held (inl whole) fit.fits.some live.at live.ends count;
-        now = cuts_there aim line cut live whole fit one count will.from (tries x whole live).0 (tries x whole live).1;
-        same = sym (live_part live) ∙ part_more aim line (inl whole) fit.fits.some live.at live.ends count;
+        at = at_more line (inl whole) fit.fits.some live.at live.ends count;
+        now = cuts_there line cut live whole fit one count will.from (tries x whole live).0 (tries x whole live).1;
+        same = sym (live_part live) ∙ part_more line (inl whole) fit.fits.some live.at live.ends count;
       }
 
 -- more lines came after it
@@ -348,15 +345,6 @@ takes_fewer {left = left} passed some more = grind (arith, common_steps)
 
 -- Cutting as often as operands cut the lines that are left.
 
--- What is said of the sections and of where the run stands doesn't depend on the aim or the lines that wait.
-
-abbrev pub alike : CutterState → Turn → Window → CutterState
-alike cutter aim window = record cutter { aim = aim; window = window }
-
-unfoldable pub at_alike : (cutter : CutterState) (aim : Turn) (window : Window) (x left : List ℕ) → IsAt cutter x left
-    → IsAt (alike cutter aim window) x left
-at_alike cutter aim window x left at = record { steps = at.steps; leads = at.leads; counted = at.counted; taken = at.taken; written = at.written; few = at.few; written_is = at.written_is; left_is = at.left_is; writes = at.writes }
-
 -- Trying the next operand changes the aim alone.
 
 pub spread_fit : {now mid : CutterState} → mid ≡ record now { aim = mid.aim } → IsFit now → IsFit mid
@@ -372,12 +360,10 @@ spread_fewer now {less} is fewer = grind (arith, common_steps)
 
 -- the next operand cuts as well
 
-cuts_again : {told : Bool} {cutter now : CutterState} {aim : Turn} (cut : Cut) {x : List ℕ} (line : List ℕ)
+cuts_again : {told : Bool} {cutter now : CutterState} (cut : Cut) {x : List ℕ} (line : List ℕ)
     {left : List ℕ} {low : Part} {old new : List Slot} (after : IsAfter told cutter x line now left low old new)
-    → Tries now line (record now { aim = aim }) (Some cut) → WillCut now cut
-    → CutsNow (record now { aim = aim }) x left line cut now.progress.current
-    (at_alike now aim now.window x left after.now)
-unfolding at_alike
+    → Tries now line now (Some cut) → WillCut now cut
+    → CutsNow line cut now.progress.current after.now
 cuts_again cut {x} line after tries will = grind (arith, common_steps)
 
 pub spread_more : {told : Bool} {cutter now mid next : CutterState} {cut cut' : Cut} {place : ℕ}
@@ -386,22 +372,20 @@ pub spread_more : {told : Bool} {cutter now mid next : CutterState} {cut cut' : 
     → mid ≡ record now { aim = mid.aim } → Tries now line mid (Some cut') → WillCut now cut'
     → CutAt told mid cut' mid.progress.current left between new next rest
     → Spreading told cutter cut place waiting line old new next rest
-unfolding at_alike
 spread_more {told} {cutter} {now} {mid} {next} {cut} {cut'} {waiting = waiting} {line} {left} {rest} {between = between} {new} so_far is tries will at_cut =
-    let tried = subst (λ (m : CutterState). Tries now line m (Some cut')) is tries in
     let once = (rw is at at_cut).spreading line in record {
-      keeps = keeps_on so_far.keeps (record { operands = once.keeps.operands; style = once.keeps.style; writer = once.keeps.writer });
+      keeps = keeps_on so_far.keeps once.keeps;
       lines = once.lines ∙ so_far.lines;
       fit = once.fit;
       held = once.held;
       after = λ x at here.
           let after = so_far.after x at here in
-          let again = once.after x (at_alike now mid.aim now.window x left after.now) (cuts_again cut' line after tried will) in record {
+          let again = once.after x after.now (cuts_again cut' line after tries will) in record {
             now = again.now;
             looked = again.looked;
             near = again.near;
             none = again.none;
-            grows = part_trans (part_at cutter x waiting at) (part_at now x left after.now) (part_at next x rest again.now) after.grows again.grows;
+            grows = part_trans (part_at at) (part_at after.now) (part_at again.now) after.grows again.grows;
             reaches = reaches_then so_far.keeps.style after.grows after.reaches again.reaches;
           };
       size = (let one = once.size in let two = so_far.size in omega (arith, one, two));
@@ -414,13 +398,11 @@ pub spread_stopped : {told : Bool} {cutter now mid next : CutterState} {cut cut'
     → mid ≡ record now { aim = mid.aim } → Tries now line mid (Some cut') → WillCut now cut'
     → CutsAll told mid cut' mid.progress.current left line [] between new next (Some fault)
     → CutsAll told cutter cut place waiting line [] old new next (Some fault)
-unfolding at_alike
 spread_stopped {told} {now = now} {mid} {next} {cut' = cut'} {line = line} {left} {between = between} {new} {fault} so_far is tries will stops =
-    let tried = subst (λ (m : CutterState). Tries now line m (Some cut')) is tries in
     let stopped = rw is at stops in record {
-      keeps = keeps_on so_far.keeps (record { operands = stopped.keeps.operands; style = stopped.keeps.style; writer = stopped.keeps.writer });
+      keeps = keeps_on so_far.keeps stopped.keeps;
       reaches = λ x at here. let after = so_far.after x at here in reaches_then so_far.keeps.style after.grows after.reaches
-          (reaches_as refl (sym (settled_same (x ++ []) so_far.keeps)) (stopped.reaches x (at_alike now mid.aim now.window x left after.now) (cuts_again cut' line after tried will)));
+          (reaches_as refl (sym (settled_same (x ++ []) so_far.keeps)) (stopped.reaches x after.now (cuts_again cut' line after tries will)));
       went = tt;
     }
 
@@ -430,13 +412,13 @@ pub spread_on : {told : Bool} {cutter now next : CutterState} {lines : ℕ} {aim
     {waiting line left more : List ℕ} {old between new : List Slot} {fault : Option Fault}
     (so_far : Spreading told cutter cut place waiting line old between now left)
     → IsSound (more_lines now lines aim) → lines ≤ cutter.lines + length more
-    → ((x : List ℕ) (at : IsAt cutter x waiting) (here : CutsNow cutter x waiting line cut place at)
-    → Reached (part_at now x left (so_far.after x at here).now) (more_lines now lines aim) (x ++ more)
+    → ((x : List ℕ) (at : IsAt (bare cutter) x waiting) (here : CutsNow line cut place at)
+    → Reached (part_at (so_far.after x at here).now) (more_lines now lines aim) (x ++ more)
     (left ++ more))
     → Holds told (more_lines now lines aim) (left ++ more) between new next fault
     → CutsAll told cutter cut place waiting line more old new next fault
 spread_on {cutter = cutter} {next = next} {lines} {left = left} {more} {fault = fault} so_far sound few reached held = record {
-  keeps = keeps_on so_far.keeps (record { operands = held.keeps.operands; style = held.keeps.style; writer = held.keeps.writer });
+  keeps = keeps_on so_far.keeps held.keeps;
   reaches = λ x at here. let after = so_far.after x at here in let there = reached x at here in
       reaches_then so_far.keeps.style after.grows after.reaches (reaches_as there.same (sym (settled_same (x ++ more) so_far.keeps)) (held.reaches (x ++ more) there.at there.arrives));
   went = where_well fault held.went (λ went. record {
@@ -452,7 +434,6 @@ pub spread_held : {told : Bool} {cutter mid next : CutterState} {cut : Cut} {pla
     → Spread told cutter cut place waiting line old between mid left
     → Holds told mid (mid.window.held ++ left) between new next fault
     → CutsAll told cutter cut place waiting line [] old new next fault
-unfolding at_alike
 spread_held {told} {cutter} {mid} {next} {left = left} {between = between} {new} {fault} spread held =
     let now = spread.now in
     let is : mid ≡ more_lines now now.lines mid.aim = spread.is in
@@ -460,9 +441,9 @@ spread_held {told} {cutter} {mid} {next} {left = left} {between = between} {new}
     spread_on spread.so_far (subst IsSound is (record { fit = spread_fit spread.is spread.so_far.fit; aim = spread.aim })) (let l = spread.so_far.lines in omega (arith, l))
     (λ x at here.
     let after = spread.so_far.after x at here in
-    let low = part_at now x left after.now in
+    let low = part_at after.now in
     let there : Reached low (more_lines now now.lines mid.aim) x left = record {
-      at = at_alike now mid.aim now.window x left after.now;
+      at = after.now;
       arrives = record { ends = rw is at (spread.tries x after.looked); low = λ past. after.none; enough = inl after.none };
       same = refl;
     } in
@@ -483,21 +464,14 @@ alone P cutter line none holds = grind (arith, common_steps)
 
 -- and where some do
 
-cuts_alike : {cutter : CutterState} (window : Window) {x left : List ℕ} (line : List ℕ) (cut : Cut) {place : ℕ}
-    {at : IsAt cutter x left} → CutsNow cutter x left line cut place at
-    → CutsNow (alike cutter cutter.aim window) x left line cut place (at_alike cutter cutter.aim window x left at)
-unfolding at_alike
-cuts_alike window line cut now = grind (arith, common_steps)
-
 all_alike : {told : Bool} (cutter : CutterState) {next : CutterState} (window : Window) {cut : Cut} {place : ℕ}
     {left line : List ℕ} {old new : List Slot} {fault : Option Fault}
-    → CutsAll told (alike cutter cutter.aim window) cut place left line [] old new next fault
+    → CutsAll told (record cutter { window = window }) cut place left line [] old new next fault
     → CutsAll told cutter cut place left line [] old new next fault
-unfolding at_alike
-all_alike cutter window {cut} {left = left} {line} {fault = fault} all = record {
-  keeps = record { operands = all.keeps.operands; style = all.keeps.style; writer = all.keeps.writer };
-  reaches = λ x at now. all.reaches x (at_alike cutter cutter.aim window x left at) (cuts_alike window line cut now);
-  went = where_well fault all.went (λ went. record { lines = went.lines; sound = went.sound; stands = λ x at now. went.stands x (at_alike cutter cutter.aim window x left at) (cuts_alike window line cut now); size = went.size });
+all_alike cutter window {fault = fault} all = record {
+  keeps = all.keeps;
+  reaches = all.reaches;
+  went = where_well fault all.went (λ went. record { lines = went.lines; sound = went.sound; stands = went.stands; size = went.size });
 }
 
 pub cut_drained : {told : Bool} {cutter next : CutterState} {window : Window} {cut : Cut} {place : ℕ}
@@ -563,16 +537,14 @@ there_of : {told : Bool} {now mid : CutterState} {aim : Turn} {x : List ℕ} (li
     {low : Part} {cutter : CutterState} {old new : List Slot} → IsFit now → Joins x (take n rest)
     → Tries now line (record now { aim = aim }) None → PassesOver (record now { aim = aim }) rest mid n
     → (after : IsAfter told cutter x line now left low old new)
-    → Reached (part_at now x left after.now) (more_lines now mid.lines aim) (x ++ take n rest) (left ++ take n rest)
-unfolding at_more at_alike
+    → Reached (part_at after.now) (more_lines now mid.lines aim) (x ++ take n rest) (left ++ take n rest)
+unfolding at_more
 there_of {now = now} {mid} {aim} {x} line {left} {rest} {n} fit whole tries over after =
-    let here = alike now aim now.window in
-    let at = at_alike now aim now.window x left after.now in
-    let ends : EndsNow here x = tries x after.looked in
+    let ends : EndsNow (record now { aim = aim }) x = tries x after.looked in
     let both = over.ends x whole after.now.counted ends in record {
-      at = at_more here mid.lines aim x (take n rest) left whole fit.fits.some at ends both.0;
+      at = at_more (take n rest) whole fit.fits.some after.now ends both.0;
       arrives = record { ends = rw over.same at both.1; low = λ past. after.none; enough = inl after.none };
-      same = part_more aim (take n rest) whole fit.fits.some at ends both.0;
+      same = part_more (take n rest) whole fit.fits.some after.now ends both.0;
     }
 
 -- where the first line is all, or complete
