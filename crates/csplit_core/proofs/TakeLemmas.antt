@@ -4,9 +4,10 @@ use Rattle.std.proofs.{
   Common.{
     ◌≡◌, ◌⊎◌, inl, inr, ℕ, ◌+◌, ◌-◌, ◌<◌, ◌≤◌, max, Bool, true, Option, Some, None, List, [], ◌∷◌, ◌++◌, length, refl,
     sym, ◌∙◌, ap, subst, arith, append_assoc, length-append, IfSome, Ok, Err, take, drop, eqb, Result, take_all,
-    append-nil, take-append-drop, length-drop, length-take-le, drop_at, drop-drop, is_some, take-add, IfOk, rules,
+    append-nil, take-append-drop, length-drop, length-take-le, drop_at, drop-drop, is_some, IfOk, rules,
   },
 }
+use Rattle.std.proofs.{lemmas.List.drop-append-le, Math.Seq.take-append-add}
 use Rattle.seg_core.{specs.{Line.{line_count, delimiters, ends_with}, Window.Window}, proofs.EndLines.line_count-grows}
 use Rattle.ports_core.{
   specs.{
@@ -32,7 +33,7 @@ use Rattle.csplit_core.specs.{
   inner.Cutter.{
     CutsIn, bare, IsFound, settled_part, part_at, IsWhole, IsLine, Joins, Arrives, Held, Holds, CutsNow, CutsAll,
     WillCut, TriesNext, search_after, Takes, IsNextFound, Stretches, IsEnd, Tries, IsAfter, CutAt, Spreading, Spread, PassesOver,
-    StopsAt, CutsOn, GoesOn,
+    Starts, StopsAt, CutsOn, GoesOn,
   },
   inner.PlanLaws.needed,
   Section.{is_final, most_waiting, settled_end},
@@ -310,22 +311,25 @@ takes_none {cutter = cutter} sound ready = grind (arith, common_steps)
 
 module _ {told : Bool} {cutter now : CutterState} {text left : List ℕ} {old mid : List Slot}
     (so_far : Taking told cutter now text left old mid) where
-  pub takes_more : {next : CutterState} {size : ℕ} (passed : Passed) {new : List Slot}
+  pub takes_more : {next : CutterState} {size : ℕ} (passed : Passed) {new : List Slot} → IsWhole (take size left)
       → Stretches told now left size mid new next (Ok passed)
       → Taking told cutter next text (take (length left - passed.size) (drop passed.size left)) old new
-  takes_more {next} passed {new} more = record {
-    front = so_far.front ++ take n left;
-    whole = so_far.whole ∙ ap (λ those. so_far.front ++ those) (sym (take-append-drop n left) ∙ ap (λ those. take n left ++ those) (sym (rest_all n left))) ∙ sym (append_assoc so_far.front (take n left) (take (length left - n) (drop n left)));
-    complete = whole-append (take n left) so_far.complete (rw (← more.size_is) at (more.whole so_far.rest));
-    rest = subst IsWhole (sym (rest_all n left)) (whole_drop n so_far.rest);
-    took = takes_again so_far.complete so_far.took (rw (← more.size_is) at more.took);
-  } where
-    n : ℕ
-    n = passed.size
+  takes_more {size = size} passed first more =
+      let front = take size left ++ take more.on.n (drop size left) in
+      let rest : take (length left - passed.size) (drop passed.size left) ≡ drop more.on.n (drop size left) = rest_all passed.size left ∙ ap (λ n. drop n left) more.on.size_is ∙ sym (drop-drop more.on.n size left) in record {
+        front = so_far.front ++ front;
+        whole = (grind (arith, common_steps, so_far.whole, rest));
+        complete = whole-append front so_far.complete (whole-append _ first more.on.whole);
+        rest = rw rest (whole_drop more.on.n (whole_drop size so_far.rest));
+        took = takes_again so_far.complete so_far.took more.took;
+      }
 
-  pub takes_stopped : {next : CutterState} {size : ℕ} {new : List Slot} {fault : Fault}
+  pub takes_stopped : {next : CutterState} {size : ℕ} {new : List Slot} {fault : Fault} → IsWhole (take size left)
       → Stretches told now left size mid new next (Err fault) → Takes told cutter text old new next (Some fault)
-  takes_stopped {next} {new = new} {fault} more = rw (← so_far.whole) at (takes_again so_far.complete so_far.took (subst (λ those. Takes told now those mid new next (Some fault)) (take-append-drop more.n left) (takes_wider (drop more.n left) (more.whole so_far.rest) more.took)))
+  takes_stopped {next} {size} {new} {fault} first more =
+      let front = take size left ++ take more.on.n (drop size left) in
+      let all : front ++ drop more.on.n (drop size left) ≡ left = (grind (arith, common_steps)) in
+      rw (← so_far.whole) at (takes_again so_far.complete so_far.took (subst (λ those. Takes told now those mid new next (Some fault)) all (takes_wider (drop more.on.n (drop size left)) (whole-append _ first more.on.whole) more.took)))
 
   pub takes_end : left ≡ [] → Takes told cutter text old mid now None
   takes_end none = grind (arith, common_steps)
@@ -339,9 +343,9 @@ pub found_next : {told : Bool} {now next : CutterState} {left : List ℕ} {size 
 found_next {next = next} {left} passed more = grind (arith, common_steps)
 
 pub takes_fewer : {told : Bool} {now next : CutterState} {left : List ℕ} {size : ℕ} (passed : Passed)
-    {mid new : List Slot} → 0 < size → Stretches told now left size mid new next (Ok passed)
+    {mid new : List Slot} → 0 < size → size ≤ length left → Stretches told now left size mid new next (Ok passed)
     → length (take (length left - passed.size) (drop passed.size left)) < length left
-takes_fewer {left = left} passed some more = grind (arith, common_steps)
+takes_fewer {left = left} passed some within more = grind (arith, common_steps)
 
 -- Cutting as often as operands cut the lines that are left.
 
@@ -503,32 +507,45 @@ found_by : {told : Bool} {mid next : CutterState} {left : List ℕ} {old new : L
 found_by rest (Some size) held is = grind (arith, common_steps)
 found_by rest None held is = is
 
-found_held : {told : Bool} {mid next : CutterState} {left : List ℕ} {old new : List Slot} (rest : List ℕ)
-    (result : Result Passed Fault) → Holds told mid left old new next (fault_in result)
-    → IfOk result (λ passed. IfSome passed.found (IsNextFound mid rest))
-    → IfOk result (λ passed. IfSome passed.found (IsNextFound next rest))
-found_held rest (Ok passed) held found = found_by rest passed.found held found
-found_held rest (Err fault) held found = tt
-
 ok_as : {P Q : Passed → Type 0} (result : Result Passed Fault) → ((passed : Passed) → P passed → Q passed)
     → IfOk result P → IfOk result Q
 ok_as result follows holds = grind (arith, common_steps)
 
 -- What `go_on` owes.
-pub gone_on : {told : Bool} {cutter mid next : CutterState} (text : List ℕ) {rest : List ℕ} (kept : ℕ) {passed : Passed}
-    {old new : List Slot} (result : Result Passed Fault) → kept ≤ length text → rest ≡ drop kept text
-    → StopsAt cutter rest mid passed
-    → Holds told mid (mid.window.held ++ take (kept + passed.size) text) old new next (fault_in result)
-    → IfOk result (λ all. (all.size ≡ kept + passed.size) × (all.found ≡ passed.found))
-    → GoesOn told cutter (take kept text) (drop kept text) old new next result
-gone_on {told} {cutter} {mid} {next} text kept {passed} {old} {new} result within rest_is stops held are =
+
+found_held : {told : Bool} {mid next : CutterState} {left : List ℕ} {old new : List Slot} (rest : List ℕ) (size : ℕ)
+    (found : Option ℕ) (result : Result Passed Fault) → Holds told mid left old new next (fault_in result)
+    → IfSome found (IsNextFound mid rest) → IfOk result (λ all. (all.size ≡ size) × (all.found ≡ found))
+    → IfOk result (λ all. IfSome all.found (IsNextFound next rest))
+found_held rest size found (Ok all) held is are = rw are.1 (found_by rest found held is)
+found_held rest size found (Err fault) held is are = tt
+
+piece_from : (text : List ℕ) (first size n : ℕ) → first ≤ size → size ≤ length text
+    → take (size + n - first) (drop first text) ≡ drop first (take size text) ++ take n (drop size text)
+piece_from text first size n low within =
+    let long : length (drop first (take size text)) ≡ size - first = length-drop first (take size text) ∙ ap (λ k. k - first) (length-take-le size text within) in
+    let parts : drop first text ≡ drop first (take size text) ++ drop size text = ap (drop first) (sym (take-append-drop size text)) ∙ drop-append-le first (take size text) (drop size text) (let e = length-take-le size text within in omega (arith, low, e)) in
+    ap (take (size + n - first)) parts ∙ ap (λ k. take k (drop first (take size text) ++ drop size text)) (let e : size + n - first ≡ length (drop first (take size text)) + n = omega (arith, long, low) in e)
+    ∙ take-append-add (drop first (take size text)) (drop size text) n
+
+pub gone_on : {told : Bool} {cutter mid next : CutterState} (text : List ℕ) {rest : List ℕ} (first size : ℕ)
+    {passed : Passed} {old new : List Slot} (result : Result Passed Fault) → first ≤ size → size ≤ length text
+    → rest ≡ drop size text → StopsAt cutter rest mid passed
+    → Holds told mid (mid.window.held ++ take (size + passed.size - first) (drop first text)) old new next
+    (fault_in result) → IfOk result (λ all. (all.size ≡ size + passed.size) × (all.found ≡ passed.found))
+    → GoesOn told cutter (drop first (take size text)) text size old new next result
+gone_on text first size {passed} result low within rest_is stops held are =
     let stops_there = rw rest_is at stops in record {
-      mid = mid;
-      n = passed.size;
+      on = record {
+        n = passed.size;
+        within = stops_there.over.within;
+        whole = stops_there.over.whole;
+        size_is = ok_as result (λ all both. both.0) are;
+        found = found_held (drop passed.size (drop size text)) _ passed.found result held stops_there.found are;
+      };
+      mid = _;
       over = stops_there.over;
-      held = rw (take-add kept passed.size text) at held;
-      size = ok_as result (λ all both. both.0 ∙ ap (λ k. k + passed.size) (sym (length-take-le kept text within))) are;
-      found = ok_as result (λ all both. rw (← both.1) at stops_there.found) are;
+      held = rw (piece_from text first size passed.size low within) at held;
     }
 
 -- The lines after a cut, up to where the next operand cuts: none of the open section is written before them.
@@ -566,57 +583,25 @@ spread_passes {told} {mid = mid} {end} {next} {line = line} {left} {rest} {n} {b
     (subst (λ those. Holds told (more_lines now end.lines mid.aim) (those ++ (left ++ take n rest)) between new next fault) spread.so_far.held
     (rw over_now.same at held))
 
--- The text from what is left of its first line on.
+-- What `cut_on` owes.
 
-pub from_left : (text left : List ℕ) (size : ℕ) → size ≤ length text → IsEnd left (take size text)
-    → take (length text - (size - length left)) (drop (size - length left) text) ≡ left ++ drop size text
+-- what is left of its first line stands at the end of it
+from_left : (text left : List ℕ) (size : ℕ) → size ≤ length text → IsEnd left (take size text)
+    → drop (size - length left) (take size text) ≡ left
 from_left text left size within (front, is) =
     let long : length (take size text) ≡ length front + length left = ap length is ∙ length-append front left in
     let all : length (take size text) ≡ size = length-take-le size text within in
-    let parts : text ≡ front ++ (left ++ drop size text) = sym (take-append-drop size text) ∙ ap (λ those. those ++ drop size text) is ∙ append_assoc front left (drop size text) in
-    rest_all (size - length left) text ∙ ap (drop (size - length left)) parts
-    ∙ drop_at front (left ++ drop size text) (size - length left) (omega (arith, long, all))
+    ap (drop (size - length left)) is ∙ drop_at front left (size - length left) (omega (arith, long, all))
 
-left_within : (text left : List ℕ) (size : ℕ) → size ≤ length text → IsEnd left (take size text) → length left ≤ size
-left_within text left size within (front, is) =
-    let long : length (take size text) ≡ length front + length left = ap length is ∙ length-append front left in
-    let all : length (take size text) ≡ size = length-take-le size text within in omega (arith, long, all)
-
--- What `cut_on` owes.
-
-gone_left : {told : Bool} {mid next : CutterState} {left rest tail : List ℕ} {kept : ℕ} {old new : List Slot}
-    {result : Result Passed Fault} → kept ≡ length left → tail ≡ left ++ rest
-    → GoesOn told mid (take kept tail) (drop kept tail) old new next result
-    → GoesOn told mid left rest old new next result
-gone_left {told} {mid} {next} {left} {rest} {tail} {kept} {old} {new} {result} kept_is is gone = grind (arith, common_steps)
-
-pub cut_on : {told : Bool} {cutter mid next : CutterState} {cut : Cut} (text : List ℕ) {tail left : List ℕ} (size : ℕ)
-    {kept : ℕ} {passed all : Passed} {old between new : List Slot} → size ≤ length text
-    → (drop size text ≡ []) ⊎ (ends_with newline (take size text) ≡ true)
-    → Spread told cutter cut cutter.lines (take size text) (take size text) old between mid left → kept ≡ length left
-    → tail ≡ left ++ drop size text → GoesOn told mid (take kept tail) (drop kept tail) between new next (Ok passed)
-    → all.size ≡ size - kept + passed.size → all.found ≡ passed.found
-    → CutsOn told cutter cut (take size text) (drop size text) old new next (Ok all)
-cut_on {next = next} text {left = left} size {passed = passed} within complete spread kept_is tail_is goes size_is found_is =
-    let gone = gone_left kept_is tail_is goes in
-    let few : length left ≤ size = left_within text left size within spread.so_far.end in
-    let long : length (take size text) ≡ size = length-take-le size text within in record {
-      n = gone.n;
-      within = gone.over.within;
-      whole = gone.over.whole;
-      all = spread_passes spread complete gone.over gone.held;
-      size = (let g = gone.size in omega (arith, size_is, g, few, kept_is, long));
-      found = rw found_is (found_by (drop gone.n (drop size text)) passed.found gone.held gone.found);
-    }
-
-pub cut_not_on : {told : Bool} {cutter mid next : CutterState} {cut : Cut} {line tail left rest : List ℕ} {kept : ℕ}
-    {old between new : List Slot} {fault : Fault} → (rest ≡ []) ⊎ (ends_with newline line ≡ true)
-    → Spread told cutter cut cutter.lines line line old between mid left
-    → kept ≡ length left → tail ≡ left ++ rest
-    → GoesOn told mid (take kept tail) (drop kept tail) between new next (Err fault)
-    → CutsOn told cutter cut line rest old new next (Err fault)
-cut_not_on complete spread kept_is tail_is goes =
-    let gone = gone_left kept_is tail_is goes in record { n = gone.n; within = gone.over.within; whole = gone.over.whole; all = spread_passes spread complete gone.over gone.held; size = tt; found = tt }
+pub cut_on : {told : Bool} {cutter mid next : CutterState} {cut : Cut} {text left : List ℕ} {size : ℕ}
+    {old between new : List Slot} {result : Result Passed Fault} → Starts text size
+    → Spread told cutter cut cutter.lines (take size text) (take size text) old between mid left
+    → GoesOn told mid (drop (size - length left) (take size text)) text size between new next result
+    → CutsOn told cutter cut text size old new next result
+cut_on {text = text} {left} {size} start spread gone = record {
+  on = gone.on;
+  all = spread_passes spread start.complete gone.over (rw (from_left text left size start.within spread.so_far.end) at gone.held);
+}
 
 -- What `stretch` owes. The first line isn't cut.
 
@@ -634,77 +619,67 @@ ends_on {cutter} {mid} {end} line {rest} {n} one complete mid_is tries over end_
       subst (EndsNow (more_lines cutter end.lines mid.aim)) is (rw end_is at both.1),
     )
 
-stretched : {told : Bool} {cutter next : CutterState} {text : List ℕ} {size n : ℕ} {old new : List Slot}
-    (result : Result Passed Fault) → size ≤ length text → n ≤ length (drop size text)
-    → (drop size text ≡ []) ⊎ (ends_with newline (take size text) ≡ true) → IsWhole (take n (drop size text))
-    → Takes told cutter (take size text ++ take n (drop size text)) old new next (fault_in result)
-    → IfOk result (λ passed. passed.size ≡ length (take size text) + n)
-    → IfOk result (λ passed. IfSome passed.found (IsNextFound next (drop n (drop size text))))
-    → Stretches told cutter text size old new next result
-stretched {told} {cutter} {next} {text} {size} {n} {old} {new} result within more complete whole took size_is found = record {
-  n = size + n;
-  least = omega arith;
-  within = (let long = length-drop size text in omega (arith, long, within, more));
-  whole = λ all. subst IsWhole (sym (take-add size n text)) (by complete all);
-  took = rw (← take-add size n text) at took;
-  size_is = ok_as result (λ passed is. is ∙ ap (λ k. k + n) (length-take-le size text within)) size_is;
-  found = ok_as result (λ passed found. rw (drop-drop n size text) at found) found;
-} where
-  by : (drop size text ≡ []) ⊎ (ends_with newline (take size text) ≡ true) → IsWhole text
-      → IsWhole (take size text ++ take n (drop size text))
-  by (inl none) all = subst IsWhole (sym (ap (λ those. take size text ++ take n those) none ∙ ap (λ those. take size text ++ those) (take_all n [] (omega arith) ∙ sym none) ∙ take-append-drop size text)) all
-  by (inr ends) all = whole-append (take n (drop size text)) (inr ends) whole
+module _ {told : Bool} {cutter mid next : CutterState} {text : List ℕ} {size : ℕ} {old new : List Slot}
+    (result : Result Passed Fault) (fit : IsFit cutter) (differs : cutter.aim ≡ Below → ⊥) (start : Starts text size)
+    (mid_is : mid ≡ record cutter { lines = cutter.lines + 1; aim = mid.aim }) where
+  pub stretch_on : TriesNext cutter (take size text) mid None
+      → GoesOn told mid (take size text) text size old new next result
+      → Stretches told cutter text size old new next result
+  stretch_on tries gone =
+      let end = gone.mid in
+      let line = take size text in
+      let more = take gone.on.n (drop size text) in
+      let end_is : end ≡ more_lines cutter end.lines mid.aim = gone.over.same ∙ ap (λ (c : CutterState). record c { lines = end.lines }) mid_is in
+      let some : 1 ≤ length line = line_has line start.line in
+      let longer : length (line ++ more) ≡ length line + length more = length-append line more in
+      let rest : length more ≡ gone.on.n = length-take-le gone.on.n (drop size text) gone.over.within in
+      let first : mid.lines ≡ cutter.lines + 1 = ap (λ (c : CutterState). c.lines) mid_is in record {
+        on = gone.on;
+        took = took_held (subst IsSound end_is gone.over.sound) fit differs (let few = gone.over.few in omega (arith, few, longer, rest, first, some))
+            (ends_on line start.line start.complete mid_is tries gone.over end_is) (rw end_is at gone.held);
+      }
 
-pub stretch_on : {told : Bool} {cutter mid next : CutterState} {text : List ℕ} {size : ℕ} {old new : List Slot}
-    (result : Result Passed Fault) → IsFit cutter → (cutter.aim ≡ Below → ⊥) → size ≤ length text
-    → IsLine (take size text) → (drop size text ≡ []) ⊎ (ends_with newline (take size text) ≡ true)
-    → mid ≡ record cutter { lines = cutter.lines + 1; aim = mid.aim } → TriesNext cutter (take size text) mid None
-    → GoesOn told mid (take size text) (drop size text) old new next result
-    → Stretches told cutter text size old new next result
-stretch_on {told} {cutter} {mid} {next} {text} {size} {old} {new} result fit differs within one complete mid_is tries gone =
-    let end = gone.mid in
-    let line = take size text in
-    let more = take gone.n (drop size text) in
-    let end_is : end ≡ more_lines cutter end.lines mid.aim = gone.over.same ∙ ap (λ (c : CutterState). record c { lines = end.lines }) mid_is in
-    let some : 1 ≤ length line = line_has line one in
-    let longer : length (line ++ more) ≡ length line + length more = length-append line more in
-    let rest : length more ≡ gone.n = length-take-le gone.n (drop size text) gone.over.within in
-    let first : mid.lines ≡ cutter.lines + 1 = ap (λ (c : CutterState). c.lines) mid_is in
-    stretched result within gone.over.within complete gone.over.whole (took_held (subst IsSound end_is gone.over.sound) fit differs (let few = gone.over.few in omega (arith, few, longer, rest, first, some))
-    (ends_on line one complete mid_is tries gone.over end_is) (rw end_is at gone.held)) gone.size (found_held (drop gone.n (drop size text)) result gone.held gone.found)
+  -- It is cut, and none waits.
+  pub stretch_cut : {cut : Cut} → mid.window.held ≡ [] → WillCut mid cut
+      → TriesNext cutter (take size text) mid (Some cut) → CutsOn told mid cut text size old new next result
+      → Stretches told cutter text size old new next result
+  stretch_cut {cut} none will tries on = let line = take size text in let more = take on.on.n (drop size text) in record {
+    on = on.on;
+    took = take_cut line more fit differs start.line mid_is will tries (alone (λ place those. CutsAll told mid cut place those line more old new next (fault_in result)) mid line none on.all);
+  }
 
--- It is cut, and none waits.
-pub stretch_cut : {told : Bool} {cutter mid next : CutterState} {text : List ℕ} {size : ℕ} {cut : Cut}
-    {old new : List Slot} (result : Result Passed Fault) → IsFit cutter → (cutter.aim ≡ Below → ⊥) → size ≤ length text
-    → IsLine (take size text) → (drop size text ≡ []) ⊎ (ends_with newline (take size text) ≡ true)
-    → mid ≡ record cutter { lines = cutter.lines + 1; aim = mid.aim } → mid.window.held ≡ [] → WillCut mid cut
-    → TriesNext cutter (take size text) mid (Some cut)
-    → CutsOn told mid cut (take size text) (drop size text) old new next result
-    → Stretches told cutter text size old new next result
-stretch_cut {told} {cutter} {mid} {next} {text} {size} {cut} {old} {new} result fit differs within one complete mid_is none will tries on =
-    let line = take size text in
-    let more = take on.n (drop size text) in
-    stretched result within on.within complete on.whole (take_cut line more fit differs one mid_is will tries (alone (λ place those. CutsAll told mid cut place those line more old new next (fault_in result)) mid line none on.all)) on.size on.found
-
--- It is cut, and some wait.
-pub stretch_first : {told : Bool} {cutter mid next : CutterState} {text : List ℕ} {size : ℕ} {cut : Cut}
-    {old new : List Slot} (result : Result Passed Fault) → IsFit cutter → (cutter.aim ≡ Below → ⊥) → size ≤ length text
-    → IsLine (take size text) → (drop size text ≡ []) ⊎ (ends_with newline (take size text) ≡ true)
-    → mid ≡ record cutter { lines = cutter.lines + 1; aim = mid.aim } → WillCut mid cut
-    → TriesNext cutter (take size text) mid (Some cut)
-    → CutsAll told mid cut (mid.lines - delimiters newline mid.window.held) (mid.window.held ++ take size text)
-    (take size text) [] old new next (fault_in result)
-    → IfOk result (λ passed. (passed.size ≡ size) × (passed.found ≡ None))
-    → Stretches told cutter text size old new next result
-stretch_first {told} {cutter} {next = next} {text} {size} {old = old} {new} result fit differs within one complete mid_is will tries all are =
-    stretched {n = 0} result within (omega arith) complete (inl refl) (take_cut (take size text) [] fit differs one mid_is will tries all)
-    (ok_as result (λ passed both. both.0 ∙ (let long = length-take-le size text within in omega (arith, long))) are) (ok_as result (λ passed both. rw both.1 tt) are)
+  -- It is cut, and some wait.
+  pub stretch_first : {cut : Cut} → WillCut mid cut → TriesNext cutter (take size text) mid (Some cut)
+      → CutsAll told mid cut (mid.lines - delimiters newline mid.window.held) (mid.window.held ++ take size text)
+      (take size text) [] old new next (fault_in result)
+      → IfOk result (λ passed. (passed.size ≡ size) × (passed.found ≡ None))
+      → Stretches told cutter text size old new next result
+  stretch_first will tries all are = record {
+    on = record {
+      n = 0;
+      within = omega arith;
+      whole = inl refl;
+      size_is = ok_as result (λ passed both. omega (arith, both.0)) are;
+      found = ok_as result (λ passed both. rw both.1 tt) are;
+    };
+    took = take_cut (take size text) [] fit differs start.line mid_is will tries all;
+  }
 
 -- All of it goes nowhere.
 pub stretch_past : {told : Bool} {cutter next : CutterState} {text : List ℕ} {size : ℕ} {old new : List Slot}
-    (passed : Passed) → size ≤ length text → Takes told cutter text old new next None → passed.size ≡ length text
+    (passed : Passed) → Starts text size → Takes told cutter text old new next None → passed.size ≡ length text
     → passed.found ≡ None → Stretches told cutter text size old new next (Ok passed)
-stretch_past {told} {cutter} {next} {text} {old = old} {new} passed within took size_is none = grind (arith, common_steps)
+stretch_past {told} {cutter} {next} {text} {size} {old} {new} passed start took size_is none =
+    let rest : take (length (drop size text)) (drop size text) ≡ drop size text = take_all _ (drop size text) (omega arith) in record {
+      on = record {
+        n = length (drop size text);
+        within = omega arith;
+        whole = rw rest start.rest;
+        size_is = (let long = length-drop size text in let within = start.within in omega (arith, size_is, long, within));
+        found = rw none tt;
+      };
+      took = rw rest (rw take-append-drop took);
+    }
 
 -- The text is one line.
 pub stretched_line : {told : Bool} {cutter next : CutterState} {line : List ℕ} {old new : List Slot}

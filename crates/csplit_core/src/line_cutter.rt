@@ -1,21 +1,20 @@
 //! Cutting lines into sections as they come in: what is settled of them goes to the sections, and the others wait.
 ghost use Rattle.std.specs.Prelude.{
-  ◌≡◌, ◌≢◌, ◌⊎◌, ◌+◌, ◌-◌, ◌<◌, ◌≤◌, ◌^◌, ◌++◌, List, ℕ, [], length, drop, take, Some, None, IfOk, IfErr, IfSome,
+  ◌≡◌, ◌≢◌, ◌+◌, ◌-◌, ◌<◌, ◌≤◌, ◌^◌, ◌++◌, List, ℕ, [], length, drop, take, Some, None, IfOk, IfErr, IfSome,
   IfNone, OnOk, IsTrue, true, false,
 };
 ghost use Rattle.bre_core.specs.Pattern.{Pattern};
-ghost use Rattle.seg_core.specs.Line.{delimiters, ends_with};
+ghost use Rattle.seg_core.specs.Line.{delimiters};
 ghost use Rattle.ports_core.specs.{Slot.is_writable, Swept.AreThere, Turn.fault_in, FileWriter.{IsReady, size_of}};
 ghost use Rattle.csplit_core.specs.{
   Csplit.verdict_of,
   Plan.{above, missed},
-  Planned.plan,
-  Cutter.{AimHolds, IsFit, IsSound, load, most_by, pattern_by, seen, state_in, suppress_in},
+  Cutter.{AimHolds, IsFit, IsSound, load, most_by, pattern_by, seen, state_in},
   inner.Cutter.{
-    AreClear, Clears, CutAt, CutsAll, CutsOn, EndsAll, GoesOn, IsJudged, Opens, Holds, IsFound, IsLine, IsNoCut,
-    IsWhole, PassesClear, PassesCut, PassesOver, Spread, StopsAt, Stretches, Takes, Tries, TriesNext, WillCut,
+    AreClear, Clears, CutAt, CutsAll, CutsOn, EndsAll, GoesOn, Judges, Opens, Holds, IsFound, IsLine, IsNoCut,
+    IsWhole, PassesClear, PassesCut, PassesOver, Spread, Starts, StopsAt, Stretches, Takes, Tries, TriesNext, WillCut,
   },
-  Input.{all_lines, newline, without_newline},
+  Input.{newline, without_newline},
 };
 ghost use Rattle.csplit_core.specs.declared.progress.Turn.TheVariants as turn_is;
 
@@ -139,8 +138,7 @@ impl<'o> LineCutter<'o> {
 
     /// The verdict with which the work ends where the input ends here, if it ends with one.
     pub(crate) fn verdict(&self) -> Option<Verdict>
-        ensures { (x : List ℕ) → IsJudged (seen self.now) x
-            → result ≡ verdict_of (plan (suppress_in (seen self.now)) (seen self.now).operands (all_lines x)).ending }
+        ensures { Judges (seen self.now) result }
     {
         let operand = self.operands.get(self.progress.done)?;
         let repetition = self.progress.repetition;
@@ -205,10 +203,7 @@ impl<'o> LineCutter<'o> {
         is_found: bool,
         outs: &mut O,
     ) -> Result<Passed, Fault>
-        requires within { size ≤ length text.now }
-        requires line { IsLine (take size text.now) }
-        requires rest { IsWhole (drop size text.now) }
-        requires complete { (drop size text.now ≡ []) ⊎ (ends_with newline (take size text.now) ≡ true) }
+        requires start { Starts text.now size }
         requires found { is_found ≡ true
             → IsFound (seen self.old) (without_newline (take size text.now)) (self.old.lines + 1) true }
         requires fits { load (seen self.old) + length text.now < 2 ^ 63 }
@@ -222,7 +217,7 @@ impl<'o> LineCutter<'o> {
         }
         let line = &text[..size];
         let Some(cut) = self.try_line(line, is_found) else {
-            return self.go_on(text, size, outs);
+            return self.go_on(text, 0, size, outs);
         };
         if self.window.is_empty() {
             return self.cut_on(cut, text, size, outs);
@@ -241,47 +236,46 @@ impl<'o> LineCutter<'o> {
         size: usize,
         outs: &mut O,
     ) -> Result<Passed, Fault>
-        requires within { size ≤ length text.now }
-        requires line { IsLine (take size text.now) }
-        requires rest { IsWhole (drop size text.now) }
-        requires complete { (drop size text.now ≡ []) ⊎ (ends_with newline (take size text.now) ≡ true) }
+        requires start { Starts text.now size }
         requires lines { self.old.lines + (length text.now - size) < 2 ^ 63 }
         requires fits { size_of self.old.writer.current + length text.now < 2 ^ 63 }
         requires fit { IsFit (seen self.old) }
         requires none { self.old.window.held ≡ [] }
         requires cuts { WillCut (seen self.old) cut }
         requires ready { IsReady (seen self.old).writer (O.slots outs.old) }
-        ensures { CutsOn O.told (seen self.old) cut (take size text.now) (drop size text.now) (O.slots outs.old)
-            (O.slots outs.new) (seen self.new) result }
+        ensures { CutsOn O.told (seen self.old) cut text.now size (O.slots outs.old) (O.slots outs.new) (seen self.new)
+            result }
     {
         let line = &text[..size];
         let left = self.cut_often(cut, self.lines, line, line, outs)?;
-        let kept = left.len();
-        let passed = self.go_on(&text[size - kept..], kept, outs)?;
-        Ok(Passed {
-            size: size - kept + passed.size,
-            found: passed.found,
-        })
+        self.go_on(text, size - left.len(), size, outs)
     }
 
-    /// Passes over the lines of a text after its first bytes, as far as the next operand stands as it does now, and holds
-    /// those bytes and these lines together: one write serves both. Returns how far that is, and how long the next line is
-    /// where the pattern that is searched for was found in it.
-    fn go_on<O: Outs>(&mut self, text: &[u8], kept: usize, outs: &mut O) -> Result<Passed, Fault>
-        requires within { kept ≤ length text.now }
-        requires rest { IsWhole (drop kept text.now) }
-        requires lines { self.old.lines + (length text.now - kept) < 2 ^ 63 }
-        requires fits { size_of self.old.writer.current + length self.old.window.held + length text.now < 2 ^ 63 }
+    /// Passes over the lines of a text after its first `size` bytes, as far as the next operand stands as it does now, and
+    /// holds what stands from `from` on of those bytes together with these lines: one write serves both. Returns how far that
+    /// is, and how long the next line is where the pattern that is searched for was found in it.
+    fn go_on<O: Outs>(
+        &mut self,
+        text: &[u8],
+        from: usize,
+        size: usize,
+        outs: &mut O,
+    ) -> Result<Passed, Fault>
+        requires from { from ≤ size }
+        requires within { size ≤ length text.now }
+        requires rest { IsWhole (drop size text.now) }
+        requires lines { self.old.lines + (length text.now - size) < 2 ^ 63 }
+        requires fits { size_of self.old.writer.current + length self.old.window.held + (length text.now - from) < 2 ^ 63 }
         requires sound { IsSound (seen self.old) }
         requires ready { IsReady (seen self.old).writer (O.slots outs.old) }
-        ensures { GoesOn O.told (seen self.old) (take kept text.now) (drop kept text.now) (O.slots outs.old)
+        ensures { GoesOn O.told (seen self.old) (drop from (take size text.now)) text.now size (O.slots outs.old)
             (O.slots outs.new) (seen self.new) result }
     {
-        let passed = self.pass_over(&text[kept..]);
-        let size = kept + passed.size;
-        self.hold(&text[..size], outs)?;
+        let passed = self.pass_over(&text[size..]);
+        let end = size + passed.size;
+        self.hold(&text[from..end], outs)?;
         Ok(Passed {
-            size,
+            size: end,
             found: passed.found,
         })
     }

@@ -362,39 +362,42 @@ pub record PassesClear (cutter : CutterState) (text : List ℕ) (next : CutterSt
   pub count : next.lines ≡ cutter.lines + line_count newline (take n text)
   pub clear : (pattern : Pattern) → cutter.sought ≡ Some pattern → AreClear pattern (take n text)
 
--- A stretch of the text was taken in, of this many bytes, with its first line at least; or a fault came among them. Returned
--- are these, and how many bytes the next line is, where the pattern that is searched for was found in it.
+-- a text begins with one line of this many bytes, which may lack its newline if it is the only one, and others follow
+pub record Starts (text : List ℕ) (size : ℕ) : Type 0 where
+  pub within : size ≤ length text
+  pub line : IsLine (take size text)
+  pub rest : IsWhole (drop size text)
+  pub complete : (drop size text ≡ []) ⊎ (ends_with newline (take size text) ≡ true)
+
+-- After the first bytes of a text these many were taken in too, complete lines. Returned are both, and how many bytes the
+-- next line is, where the pattern that is searched for was found in it.
+pub record Extends (text : List ℕ) (size : ℕ) (next : CutterState) (result : Result Passed Fault) : Type 0 where
+  pub n : ℕ
+  pub within : n ≤ length (drop size text)
+  pub whole : IsWhole (take n (drop size text))
+  pub size_is : IfOk result (λ passed. passed.size ≡ size + n)
+  pub found : IfOk result (λ passed. IfSome passed.found (IsNextFound next (drop n (drop size text))))
+
+-- A stretch of the text was taken in, with its first line at least; or a fault came among them.
 pub record Stretches (told : Bool) (cutter : CutterState) (text : List ℕ) (size : ℕ) (old new : List Slot)
-    (next : CutterState)
-    (result : Result Passed Fault) : Type 0 where
-  pub n : ℕ
-  pub least : size ≤ n
-  pub within : n ≤ length text
-  pub whole : IsWhole text → IsWhole (take n text)
-  pub took : Takes told cutter (take n text) old new next (fault_in result)
-  pub size_is : IfOk result (λ passed. passed.size ≡ n)
-  pub found : IfOk result (λ passed. IfSome passed.found (IsNextFound next (drop n text)))
+    (next : CutterState) (result : Result Passed Fault) : Type 0 where
+  pub on : Extends text size next result
+  pub took : Takes told cutter (take size text ++ take on.n (drop size text)) old new next (fault_in result)
 
--- The lines of a text were passed over, and then held together with what is left before them.
-pub record GoesOn (told : Bool) (cutter : CutterState) (left rest : List ℕ) (old new : List Slot) (next : CutterState)
-    (result : Result Passed Fault) : Type 0 where
+-- The lines of a text after its first bytes were passed over, and then held together with what is left of those bytes.
+pub record GoesOn (told : Bool) (cutter : CutterState) (left text : List ℕ) (size : ℕ) (old new : List Slot)
+    (next : CutterState) (result : Result Passed Fault) : Type 0 where
+  pub on : Extends text size next result
   pub mid : CutterState
-  pub n : ℕ
-  pub over : PassesOver cutter rest mid n
-  pub held : Holds told mid (mid.window.held ++ (left ++ take n rest)) old new next (fault_in result)
-  pub size : IfOk result (λ passed. passed.size ≡ length left + n)
-  pub found : IfOk result (λ passed. IfSome passed.found (IsNextFound mid (drop n rest)))
+  pub over : PassesOver cutter (drop size text) mid on.n
+  pub held : Holds told mid (mid.window.held ++ (left ++ take on.n (drop size text))) old new next (fault_in result)
 
--- A line was cut, and of the text after it the lines that aren't cut were taken in too, which are this many bytes.
-pub record CutsOn (told : Bool) (cutter : CutterState) (cut : Cut) (line rest : List ℕ) (old new : List Slot)
-    (next : CutterState)
-    (result : Result Passed Fault) : Type 0 where
-  pub n : ℕ
-  pub within : n ≤ length rest
-  pub whole : IsWhole (take n rest)
-  pub all : CutsAll told cutter cut cutter.lines line line (take n rest) old new next (fault_in result)
-  pub size : IfOk result (λ passed. passed.size ≡ length line + n)
-  pub found : IfOk result (λ passed. IfSome passed.found (IsNextFound next (drop n rest)))
+-- The first line of a text was cut, and the lines after it that aren't cut were taken in too.
+pub record CutsOn (told : Bool) (cutter : CutterState) (cut : Cut) (text : List ℕ) (size : ℕ) (old new : List Slot)
+    (next : CutterState) (result : Result Passed Fault) : Type 0 where
+  pub on : Extends text size next result
+  pub all : CutsAll told cutter cut cutter.lines (take size text) (take size text) (take on.n (drop size text)) old new
+      next (fault_in result)
 
 -- what is written where the input ends after these lines
 abbrev pub whole_part : CutterState → List ℕ → Part
