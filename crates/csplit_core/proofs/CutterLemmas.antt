@@ -343,9 +343,10 @@ pub record Parted (delim most over front : ℕ) (held text : List ℕ) : Type 0 
   pub stays : drop front held ++ drop (over - front) text ≡ last_lines delim most (held ++ text)
   pub within : over - front ≤ length text
 
-pub parted : {delim most over front : ℕ} {held text : List ℕ} → over ≡ length (but_last_lines delim most (held ++ text))
-    → front ≡ min over (length held) → Parted delim most over front held text
-parted {delim} {most} {over} {front} {held} {text} is at = elim (cases_lt over (length held)) [
+pub parted : {delim most over long front : ℕ} {held text : List ℕ}
+    → over ≡ length (but_last_lines delim most (held ++ text)) → long ≡ length held → front ≡ min over long
+    → Parted delim most over front held text
+parted {delim} {most} {over} {front = front} {held} {text} is all least = elim (cases_lt over (length held)) [
   | inl less ↦
       let low : over ≤ length held = omega (arith, less) in
       let none : over - front ≡ 0 = (let same : front ≡ over = at ∙ min-eq_left low in omega (arith, same)) in record {
@@ -361,6 +362,9 @@ parted {delim} {most} {over} {front} {held} {text} is at = elim (cases_lt over (
         within = (let all = over-le-length delim most held text in omega (arith, all, is, same));
       }
 ] where
+  at : front ≡ min over (length held)
+  at = least ∙ ap (min over) all
+
   taken : take over (held ++ text) ≡ but_last_lines delim most (held ++ text)
   taken = ap (λ n. take n (held ++ text)) is ∙ sym (first_lines-is_take delim (line_count delim (held ++ text) - most) (held ++ text))
 
@@ -632,14 +636,14 @@ began_there {told} cutter {mid} {writer} {next} {old = old} {new} {fault} passed
     rw (ap (λ (c : CutterState). c.writer) passed.same) at (subst (λ those. Goes told mid.writer (with_next those) old new next fault) (opening_is ∙ ap (λ (s : Style). opening_of s (kept_by (state_in mid).operands)) style) began)
 
 -- a cut of this cutter is due, and stands after these bytes of the lines that are left
-module _ {cutter : CutterState} {cut : Cut} {place : ℕ} {left before : List ℕ} (fit : IsFit cutter)
-    (will : WillCut cutter cut) (before_is : before ≡ first_lines newline (cut.line - place) left) where
+module _ {cutter : CutterState} {cut : Cut} {place n : ℕ} {left before : List ℕ} (fit : IsFit cutter)
+    (will : WillCut cutter cut) (n_is : n ≡ cut.line - place) (first : before ≡ first_lines newline n left) where
   pub cut_put_stopped : {told : Bool} {next : CutterState} {old new : List Slot} {fault : Fault} (line : List ℕ)
       → next.operands ≡ cutter.operands → next.style ≡ cutter.style
       → Goes told cutter.writer (with_bytes before) old new next.writer (Some fault)
       → CutsAll told cutter cut place left line [] old new next (Some fault)
   cut_put_stopped line operands style goes = cut_stopped operands style goes.leaves (λ x at now. stops_wider (goes.reaches (manner_of cutter.style) (draft_at at) at.writes)
-      (part_trans _ _ _ (next_begins (manner_of cutter.style) _ (with_bytes before (draft_at at))) (cut_begins line cut now fit will before_is)))
+      (part_trans _ _ _ (next_begins (manner_of cutter.style) _ (with_bytes before (draft_at at))) (cut_begins line cut now fit will (first ∙ ap (λ n. first_lines newline n left) n_is))))
 
   pub cut_pass_stopped : {told : Bool} {mid : CutterState} {writer : WriterState} {old new : List Slot} {fault : Fault}
       (line : List ℕ) → Goes told cutter.writer (with_bytes before) old new writer None
@@ -663,7 +667,7 @@ module _ {cutter : CutterState} {cut : Cut} {place : ℕ} {left before : List �
       let draft = draft_at at in
       reaches_again (bytes_begin manner before draft) (went.reaches manner draft at.writes)
       (stops_wider (stopped.reaches manner (with_bytes before draft) (went.writes manner draft at.writes))
-      (rw (← (ap (λ (s : State). kept_by s.operands) (passed_state went passed due.goes.are))) at (cut_begins line cut due fit will before_is))))
+      (rw (← (ap (λ (s : State). kept_by s.operands) (passed_state went passed due.goes.are))) at (cut_begins line cut due fit will (first ∙ ap (λ n. first_lines newline n left) n_is)))))
 
 -- the next section began
 
@@ -684,11 +688,10 @@ end_of true left {rest} all n all_is skipped whole = (
 )
 end_of false left all n all_is skipped whole = (first_lines newline n left, sym (first_lines_then_rest newline n left) ∙ ap (λ those. first_lines newline n left ++ those) (sym all_is ∙ sym (whole refl)))
 
-module _ {told : Bool} {cutter mid : CutterState} {writer next : WriterState} {cut : Cut} {place : ℕ}
+module _ {told : Bool} {cutter mid : CutterState} {writer next : WriterState} {cut : Cut} {place n : ℕ}
     {left before rest : List ℕ} (all : List ℕ) {opening : Opening} {old between new : List Slot} (fit : IsFit cutter)
-    (will : WillCut cutter cut)
-    (before_is : before ≡ first_lines newline (cut.line - place) left)
-    (all_is : all ≡ after_lines newline (cut.line - place) left)
+    (will : WillCut cutter cut) (n_is : n ≡ cut.line - place) (first_is : before ≡ first_lines newline n left)
+    (all_is : all ≡ after_lines newline n left)
     (skipped : mid.style.suppress ≡ true → rest ≡ after_lines newline 1 all)
     (whole : mid.style.suppress ≡ false → rest ≡ all)
     (went : Goes told cutter.writer (with_bytes before) old between writer None)
@@ -708,14 +711,14 @@ module _ {told : Bool} {cutter mid : CutterState} {writer next : WriterState} {c
       let lines_is : mid.lines ≡ cutter.lines = ap (λ (c : CutterState). c.lines) passed.same in
       let on : cutter.progress.current + at.taken ≤ cut.line = (let p = now.place_is in let b = now.before in omega (arith, p, b)) in
       let first : 1 ≤ cut.line = (let s = fit.fits.some in let f = will.from in omega (arith, s, f)) in
-      let same_count : cut.line - place ≡ cut.line - (cutter.progress.current + at.taken) = ap (λ n. cut.line - n) now.place_is in
+      let same_count : n ≡ cut.line - (cutter.progress.current + at.taken) = n_is ∙ ap (λ n. cut.line - n) now.place_is in
       let left_after : all ≡ text_from cut.line x = all_is ∙ ap (λ n. after_lines newline n left) same_count ∙ ap (after_lines newline (cut.line - (cutter.progress.current + at.taken))) at.left_is
       ∙ from_further (cutter.progress.current + at.taken) (cut.line - (cutter.progress.current + at.taken)) x (let s = fit.fits.some in omega (arith, s))
       ∙ ap (λ n. text_from n x) (let e : cutter.progress.current + at.taken + (cut.line - (cutter.progress.current + at.taken)) ≡ cut.line = omega (arith, on) in e) in
       let draft = draft_at at in
       let steps = at.steps ++ step_at cutter now.goes.operand cut ∷ [] in
       let draft_is : with_next (opening_of cutter.style kept) (with_bytes before draft) ≡ draft_by cutter.style (all_lines x) steps kept [] =
-      cut_draft at cut kept now.goes.are fit.fits.some on (before_is ∙ ap (λ n. first_lines newline n left) same_count) in
+      cut_draft at cut kept now.goes.are fit.fits.some on (first_is ∙ ap (λ n. first_lines newline n left) same_count) in
       let now_part : draft_part manner (draft_by cutter.style (all_lines x) steps kept []) ≡ draft_part (manner_of mid.style) (draft_by mid.style (all_lines x) steps kept []) = ap (λ (s : Style). draft_part (manner_of s) (draft_by s (all_lines x) steps kept [])) (sym style_is) in
       let near : mid.lines ≤ search_line mid.style.suppress (state_in mid) =
       (let e : search_line mid.style.suppress (state_in mid) ≡ search_after (suppress_in cutter) cut = ap (λ b. search_line b (state_in mid)) suppress_is
@@ -756,6 +759,6 @@ module _ {told : Bool} {cutter mid : CutterState} {writer next : WriterState} {c
       held = passed.held;
       after = λ x at now. after_at line now;
       size = omega (arith, empty, shorter);
-      end = end_of mid.style.suppress left all (cut.line - place) all_is skipped whole;
+      end = end_of mid.style.suppress left all n all_is skipped whole;
     };
   }

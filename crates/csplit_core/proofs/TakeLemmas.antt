@@ -4,7 +4,7 @@ use Rattle.std.proofs.{
   Common.{
     ◌≡◌, ◌⊎◌, inl, inr, ℕ, ◌+◌, ◌-◌, ◌<◌, ◌≤◌, max, Bool, true, Option, Some, None, List, [], ◌∷◌, ◌++◌, length, refl,
     sym, ◌∙◌, ap, subst, arith, append_assoc, length-append, IfSome, Ok, Err, take, drop, eqb, Result, take_all,
-    append-nil, take-append-drop, length-drop, length-take-le, drop_at, drop-drop, is_some, IfOk, rules,
+    append-nil, take-append-drop, length-drop, length-take-le, drop_at, take_at, drop-drop, is_some, IfOk, rules,
   },
 }
 use Rattle.std.proofs.{lemmas.List.drop-append-le, Math.Seq.take-append-add}
@@ -171,54 +171,44 @@ cuts_there {cutter} {lines} {x} line cut live whole fit one count from goes near
       goes = goes;
     }
 
-record CutThere (low : Part) (cutter : CutterState) (x left line : List ℕ) (cut : Cut) (place : ℕ) : Type 0 where
-  at : IsAt (bare cutter) x left
-  now : CutsNow line cut place at
-  same : low ≡ part_at at
-
 line_has : (line : List ℕ) → IsLine line → 1 ≤ length line
 line_has line one = grind (arith, common_steps)
 
-took_cut : {told : Bool} {cutter next : CutterState} {lines : ℕ} {aim : Turn} (line more : List ℕ) {cut : Cut}
-    {old new : List Slot} {fault : Option Fault} → IsFit cutter → (cutter.aim ≡ Below → ⊥) → IsLine line
-    → lines ≡ cutter.lines + 1 → WillCut (more_lines cutter lines aim) cut
-    → TriesNext cutter line (more_lines cutter lines aim) (Some cut)
-    → CutsAll told (more_lines cutter lines aim) cut (lines - delimiters newline cutter.window.held)
-    (cutter.window.held ++ line) line more old new next fault
-    → Takes told cutter (line ++ more) old new next fault
-took_cut {cutter = cutter} {next} {lines} {aim} line more {cut} {fault = fault} fit differs one counted will tries all = record {
+-- more lines came after it
+take_cut : {told : Bool} {cutter mid next : CutterState} (line more : List ℕ) {cut : Cut} {old new : List Slot}
+    {fault : Option Fault} → IsFit cutter → (cutter.aim ≡ Below → ⊥) → IsLine line
+    → mid ≡ more_lines cutter (cutter.lines + 1) mid.aim → WillCut mid cut → TriesNext cutter line mid (Some cut)
+    → CutsAll told mid cut (mid.lines - delimiters newline mid.window.held) (mid.window.held ++ line) line more old new
+    next fault → Takes told cutter (line ++ more) old new next fault
+take_cut {told} {cutter} {mid} {next} line more {cut} {old} {new} {fault} fit differs one is will tries cuts = record {
   keeps = all.keeps;
-  reaches = λ x whole stands. let there = reached x whole stands in reaches_as there.same (ap (settled_part cutter) (sym (append_assoc x line more))) (all.reaches (x ++ line) there.at there.now);
+  reaches = λ x whole stands. let there = reached x whole stands in reaches_as there.2 (ap (settled_part cutter) (sym (append_assoc x line more))) (all.reaches (x ++ line) there.0 there.1);
   went = where_well fault all.went (λ went. record {
-    stands = λ x whole stands. let there = reached x whole stands in subst (Stands next) (append_assoc x line more) (went.stands (x ++ line) there.at there.now);
+    stands = λ x whole stands. let there = reached x whole stands in subst (Stands next) (append_assoc x line more) (went.stands (x ++ line) there.0 there.1);
     sound = went.sound;
     size = (let some = line_has line one in
         let joined : length (cutter.window.held ++ line) ≡ length cutter.window.held + length line = length-append cutter.window.held line in
         let both : length (line ++ more) ≡ length line + length more = length-append line more in
         let n = went.lines in let s = went.size in
-        most_load cutter.lines (size_of next.writer.current + length next.window.held) (size_of cutter.writer.current + length cutter.window.held) next.lines (length (line ++ more)) 0 (omega (arith, n, counted, some, both)) (omega (arith, joined, both, s)));
+        most_load cutter.lines (size_of next.writer.current + length next.window.held) (size_of cutter.writer.current + length cutter.window.held) next.lines (length (line ++ more)) 0 (omega (arith, n, some, both)) (omega (arith, joined, both, s)));
   });
 } where
-  reached : (x : List ℕ) → IsWhole x → Stands cutter x
-      → CutThere (settled_part cutter x) (more_lines cutter lines aim) (x ++ line) (cutter.window.held ++ line) line cut
-      (lines - delimiters newline cutter.window.held)
-  reached x whole stands = let live = live_of differs stands in
-      let count : lines ≡ line_count newline (x ++ line) = counted ∙ ap (λ n. n + 1) live.at.counted ∙ sym (count-line line whole one) in record {
-        at = at_more line (inl whole) fit.fits.some live.at live.ends count;
-        now = cuts_there line cut live whole fit one count will.from (tries x whole live).0 (tries x whole live).1;
-        same = sym (live_part live) ∙ part_more line (inl whole) fit.fits.some live.at live.ends count;
-      }
+  all : CutsAll told (more_lines cutter (cutter.lines + 1) mid.aim) cut (cutter.lines + 1 - delimiters newline cutter.window.held)
+      (cutter.window.held ++ line) line more old new next fault
+  all = rw is at cuts
 
--- more lines came after it
-pub take_cut : {told : Bool} {cutter mid next : CutterState} (line more : List ℕ) {cut : Cut} {old new : List Slot}
-    {fault : Option Fault} → IsFit cutter → (cutter.aim ≡ Below → ⊥) → IsLine line
-    → mid ≡ record cutter { lines = cutter.lines + 1; aim = mid.aim }
-    → WillCut mid cut → TriesNext cutter line mid (Some cut)
-    → CutsAll told mid cut (mid.lines - delimiters newline mid.window.held)
-    (mid.window.held ++ line) line more old new next fault → Takes told cutter (line ++ more) old new next fault
-take_cut {told} {cutter} {next = next} line more {cut} {old} {new} {fault} fit differs one is will tries all =
-    took_cut line more fit differs one refl (rw is at will) (rw is at tries)
-    (rw is at all)
+  reached : (x : List ℕ) → IsWhole x → Stands cutter x
+      → (at : IsAt (bare (more_lines cutter (cutter.lines + 1) mid.aim)) (x ++ line) (cutter.window.held ++ line))
+      × CutsNow line cut (cutter.lines + 1 - delimiters newline cutter.window.held) at
+      × (settled_part cutter x ≡ part_at at)
+  reached x whole stands =
+      let live = live_of differs stands in
+      let cuts = tries x whole live in
+      let count : cutter.lines + 1 ≡ line_count newline (x ++ line) = ap (λ n. n + 1) live.at.counted ∙ sym (count-line line whole one) in (
+        at_more line (inl whole) fit.fits.some live.at live.ends count,
+        cuts_there line cut live whole fit one count (rw is at will).from cuts.0 (rw (ap (λ (c : CutterState). c.lines) is) at cuts.1),
+        sym (live_part live) ∙ part_more line (inl whole) fit.fits.some live.at live.ends count,
+      )
 
 -- Where the cut is below the current line, later lines go nowhere.
 
@@ -468,34 +458,27 @@ alone P cutter line none holds = grind (arith, common_steps)
 
 -- and where some do
 
-all_alike : {told : Bool} (cutter : CutterState) {next : CutterState} (window : Window) {cut : Cut} {place : ℕ}
-    {left line : List ℕ} {old new : List Slot} {fault : Option Fault}
-    → CutsAll told (record cutter { window = window }) cut place left line [] old new next fault
-    → CutsAll told cutter cut place left line [] old new next fault
-all_alike cutter window {fault = fault} all = record {
-  keeps = all.keeps;
-  reaches = all.reaches;
-  went = where_well fault all.went (λ went. record { lines = went.lines; sound = went.sound; stands = went.stands; size = went.size });
-}
+drained_place : (lines : ℕ) (held line : List ℕ) {items : List ℕ} {n count place : ℕ} → items ≡ held ++ line
+    → n ≡ length items → count ≡ delimiters newline (take (n - length line) items) → place ≡ lines - count
+    → place ≡ lines - delimiters newline held
+drained_place lines held line {items} {n} items_is long count_is place_is =
+    let all : length items ≡ length held + length line = ap length items_is ∙ length-append held line in
+    let size : n - length line ≡ length held = omega (arith, long, all) in
+    (grind (arith, common_steps, size, items_is, count_is, place_is, take_at))
 
-pub cut_drained : {told : Bool} {cutter next : CutterState} {window : Window} {cut : Cut} {place : ℕ}
-    {waiting line : List ℕ} {old new : List Slot} {fault : Option Fault} → waiting ≡ cutter.window.held ++ line
-    → place ≡ cutter.lines - delimiters newline cutter.window.held
+pub cut_drained : {told : Bool} {cutter next : CutterState} {window : Window} {cut : Cut} {n count place : ℕ}
+    {items waiting line : List ℕ} {old new : List Slot} {fault : Option Fault} → waiting ≡ cutter.window.held ++ line
+    → items ≡ cutter.window.held ++ line → n ≡ length items → count ≡ delimiters newline (take (n - length line) items)
+    → place ≡ cutter.lines - count
     → CutsAll told (record cutter { window = window }) cut place waiting line [] old new next fault
     → CutsAll told cutter cut (cutter.lines - delimiters newline cutter.window.held)
     (cutter.window.held ++ line) line [] old new next fault
-cut_drained {told} {cutter} {next} {window} {cut} {waiting = waiting} {line} {old} {new} {fault} waiting_is place_is cuts =
-    all_alike cutter window (rw waiting_is at (subst (λ n. CutsAll told (record cutter { window = window }) cut n waiting line [] old new next fault) place_is cuts))
-
--- how many lines wait
-pub waiting_count : (lines : ℕ) (held : List ℕ) {waiting : List ℕ} (line front : List ℕ) {size count place : ℕ}
-    → waiting ≡ held ++ line → size ≡ length held → front ≡ take size waiting → count ≡ delimiters newline front
-    → place ≡ lines - count → place ≡ lines - delimiters newline held
-waiting_count lines held line front {size} waiting_is size_is front_is count_is place_is = grind (arith, common_steps)
-
-pub waiting_size : (held line : List ℕ) {items : List ℕ} {n : ℕ} → items ≡ held ++ line → n ≡ length items
-    → n - length line ≡ length held
-waiting_size held line {items} is long = grind (arith, common_steps)
+cut_drained {told} {cutter} {next} {window} {cut} {waiting = waiting} {line} {old} {new} {fault} waiting_is items_is long count_is place_is cuts =
+    let all = rw waiting_is at (subst (λ n. CutsAll told (record cutter { window = window }) cut n waiting line [] old new next fault) (drained_place cutter.lines cutter.window.held line items_is long count_is place_is) cuts) in record {
+      keeps = all.keeps;
+      reaches = all.reaches;
+      went = where_well fault all.went (λ went. record { lines = went.lines; sound = went.sound; stands = went.stands; size = went.size });
+    }
 
 -- A line is cut, or isn't, and what is left of it is held together with the lines after it that aren't cut.
 

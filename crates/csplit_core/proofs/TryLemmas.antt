@@ -3,7 +3,7 @@ use Rattle.std.proofs.{
   Common.{
     ◌≡◌, inl, inr, ℕ, suc, ◌+◌, ◌-◌, ◌<◌, ◌≤◌, Bool, true, false, List, [], ◌∷◌, ◌++◌, length, get_or, refl, ◌∙◌, ap,
     arith, length-append, zero, ◌*◌, ◌^◌, drop, sym, subst, None, Result, Ok, Err, OnOk, IfErr, Option, Some, rules,
-    append-nil, min, cond, take, append_assoc,
+    append-nil, min, cond, take, append_assoc, map,
   },
   lemmas.{
     Grind.common_steps,
@@ -39,7 +39,7 @@ use Rattle.csplit_core.proofs.{
   WholeLemmas.after_within,
   LineLemmas.{
     all_lines-append, all_lines-line, length-all_lines, count-append, count-line, whole-append, whole_drop, whole_count,
-    whole_by, line_by,
+    whole_by, line_by, rest_all,
   },
 }
 use Rattle.bre_core.specs.{Pattern.Pattern, Search.contains}
@@ -53,7 +53,7 @@ use Rattle.seg_core.proofs.{
   LineCounts.{line_count-le-length, line_count_near, ends_with-append},
   LinesOf.{AreLines-lines_of, joined-lines_of},
 }
-use Rattle.memchr.specs.Find.{Nowhere, Passes, is_byte}
+use Rattle.memchr.specs.Find.{Nowhere, NoneBefore, Passes, is_byte}
 use Rattle.scan_core.specs.Clear.{IsClear}
 
 -- `count` lines come before these, and none of these has the operand's pattern, from the line on of number `from`
@@ -453,44 +453,59 @@ none_one : (operand : Operand) (count : ℕ) (line : Line) (from : ℕ) → (fro
     → NoneFrom operand count (line ∷ []) from
 none_one operand count line from here k less near = grind (arith, common_steps)
 
-one_more : {cutter : CutterState} {text left rest : List ℕ} {next : CutterState} (number end : ℕ)
-    → Unmatched cutter text left next → number ≡ next.lines + 1 → end < length left → Passes (is_byte newline) left end
-    → Nowhere (Passes (is_byte newline) left) 0 end → IsFound next (take end left) number false
-    → rest ≡ drop (suc end) left → Unmatched cutter text rest (record next { lines = number })
-one_more {cutter} {left} {rest} {next} number end so is within here none found rest_is =
+-- the first line of a text, which is complete, ends at this place
+pub record EndsFirst (text : List ℕ) (end : ℕ) : Type 0 where
+  pub within : end < length text
+  pub line : IsLine (take (suc end) text)
+  pub ends : ends_with newline (take (suc end) text) ≡ true
+  pub without : take end text ≡ without_newline (take (suc end) text)
+
+pub first_at : {text : List ℕ} (end : ℕ)
+    → NoneBefore (Passes (is_byte newline) text) 0 (length text) end × Passes (is_byte newline) text end
+    → EndsFirst text end
+first_at {text} end (place, here) = let parts = first_parts text end place.high here place.before in record {
+  within = place.high;
+  line = line_by (take (suc end) text) (inl (take end text, parts.0, parts.1));
+  ends = first_ends text end place.high here;
+  without = sym (ap without_newline parts.0 ∙ without_last (take end text) parts.1);
+}
+
+-- more lines are passed over
+unmatched_on : {cutter : CutterState} {text left : List ℕ} {next after : CutterState} (more rest : List ℕ)
+    → Unmatched cutter text left next → left ≡ more ++ rest → IsWhole more
+    → after ≡ record next { lines = after.lines } → after.lines ≡ next.lines + line_count newline more
+    → ((operand : Operand) → cutter.sought ≡ pattern_in operand.target
+    → NoneFrom operand next.lines (all_lines more) (search_line (suppress_in cutter) (state_in cutter)))
+    → Unmatched cutter text rest after
+unmatched_on {cutter} {after = after} more rest so parts whole same count others = record {
+  front = so.front ++ more;
+  all = so.all ∙ ap (λ those. so.front ++ those) parts ∙ sym (append_assoc so.front more rest);
+  whole = whole-append more so.whole whole;
+  same = same ∙ ap (λ (those : CutterState). record those { lines = after.lines }) so.same;
+  count = (let c = so.count in let m = count-append more (inl so.whole) in omega (arith, count, c, m));
+  none = λ operand is. rw (← all_lines-append more (inl so.whole)) at (none_more operand cutter.lines (all_lines so.front) (all_lines more) (search_line (suppress_in cutter) (state_in cutter)) (so.none operand is)
+      (subst (λ n. NoneFrom operand n (all_lines more) (search_line (suppress_in cutter) (state_in cutter))) (so.count ∙ ap (λ n. cutter.lines + n) (sym (length-all_lines so.front))) (others operand is)));
+}
+
+-- one more line, at which the cutter looked
+pub one_more : {cutter : CutterState} {text left : List ℕ} {next now : CutterState} (end : ℕ) {found : Bool}
+    → Unmatched cutter text left next → now ≡ next → EndsFirst left end
+    → IsFound next (take end left) (next.lines + 1) found → found ≡ false
+    → Unmatched cutter text (take (length left - (end + 1)) (drop (end + 1) left)) (record now { lines = now.lines + 1 })
+one_more {cutter} {left = left} {next} {now} end so is first finds not =
     let line = take (suc end) left in
-    let parts = first_parts left end within here none in
-    let one : IsLine line = line_by line (inl (take end left, parts.0, parts.1)) in
-    let found_at : IsFound (record cutter { lines = next.lines }) (take end left) number false = subst (λ (those : CutterState). IsFound those (take end left) number false) so.same found in
-    let before : length (all_lines so.front) ≡ line_count newline so.front = length-all_lines so.front in record {
-      front = so.front ++ line;
-      all = so.all ∙ ap (λ those. so.front ++ those) (sym (take-append-drop (suc end) left) ∙ ap (λ those. line ++ those) (sym rest_is)) ∙ sym (append_assoc so.front line rest);
-      whole = whole-append line so.whole (inr (first_ends left end within here));
-      same = ap (λ (those : CutterState). record those { lines = number }) so.same;
-      count = is ∙ (let more : line_count newline (so.front ++ line) ≡ line_count newline so.front + 1 = count-line line so.whole one in let c : next.lines ≡ cutter.lines + line_count newline so.front = so.count in omega (arith, more, c));
-      none = λ operand same. rw (← all_lines-line line so.whole one) at (none_more operand cutter.lines (all_lines so.front) (marked line ∷ []) (search_line (suppress_in cutter) (state_in cutter)) (so.none operand same)
-          (none_one operand _ (marked line) _ (λ near. found_is line number operand.target (sym (ap without_newline parts.0 ∙ without_last (take end left) parts.1)) same found_at
-          (let c : next.lines ≡ cutter.lines + line_count newline so.front = so.count in omega (arith, near, is, c, before)))));
-    }
+    let found_at : IsFound (record cutter { lines = next.lines }) (take end left) (next.lines + 1) false = subst (λ (those : CutterState). IsFound those (take end left) (next.lines + 1) false) so.same (rw not at finds) in
+    let lines_is : now.lines ≡ next.lines = ap (λ (those : CutterState). those.lines) is in
+    let one : line_count newline line ≡ 1 = ap length first.line in
+    unmatched_on line _ so (sym (take-append-drop (suc end) left) ∙ ap (λ those. line ++ those) ((let e : suc end ≡ end + 1 = omega arith in ap (λ n. drop n left) e) ∙ sym (rest_all (end + 1) left)))
+    (inr first.ends) (ap (λ (those : CutterState). record those { lines = now.lines + 1 }) is) (omega (arith, lines_is, one))
+    (λ operand same. rw (ap (map marked) first.line) (none_one operand next.lines (marked line) _ (λ near. found_is line (next.lines + 1) operand.target first.without same found_at near)))
 
 -- the numbers are small
 
 pub few_counted : {cutter : CutterState} {text left : List ℕ} {next : CutterState} → Unmatched cutter text left next
     → next.lines + length left ≤ cutter.lines + length text
 few_counted {cutter} {text} {left} {next} so = grind (arith, common_steps, line_count-le-length)
-
--- what is left of a slice
-pub all_left : (left : List ℕ) {n : ℕ} (end : ℕ) → n ≡ length left
-    → take (n - (end + 1)) (drop (end + 1) left) ≡ drop (suc end) left
-all_left left {n} end is = grind (arith, common_steps)
-
--- the same of a cutter that looked at the line
-pub one_more_at : {cutter : CutterState} {text left rest : List ℕ} {next now : CutterState} (end : ℕ) {found : Bool}
-    → Unmatched cutter text left next → now ≡ next → end < length left → Passes (is_byte newline) left end
-    → Nowhere (Passes (is_byte newline) left) 0 end
-    → IsFound next (take end left) (next.lines + 1) found → found ≡ false → rest ≡ drop (suc end) left
-    → Unmatched cutter text rest (record now { lines = now.lines + 1 })
-one_more_at {cutter} {text} {left} {rest} {next} end so is within here none finds not rest_is = search (rules, one_more)
 
 -- all that were looked at are passed over
 pub all_passed_at : {cutter : CutterState} {text left : List ℕ} {next now : CutterState} → IsSound cutter
@@ -505,10 +520,10 @@ all_passed_at {cutter} {text} {left} {next} sound aim so is =
 
 -- Lines that are seen to have no match
 
-marks_clear : (operand : Operand) (x : List ℕ)
-    → ((pattern : Pattern) → pattern_in operand.target ≡ Some pattern → AreClear pattern x) → (k : ℕ)
-    → k < length (all_lines x) → (get_or (all_lines x) k unmarked).marks operand ≡ false
-marks_clear operand x clear k less =
+marks_clear : (operand : Operand) (x : List ℕ) (count start : ℕ)
+    → ((pattern : Pattern) → pattern_in operand.target ≡ Some pattern → AreClear pattern x)
+    → NoneFrom operand count (all_lines x) start
+marks_clear operand x count start clear k less near =
     let few : k < line_count newline x = (let e : length (all_lines x) ≡ line_count newline x = length-all_lines x in omega (arith, e, less)) in
     ap (λ (l : Line). l.marks operand) (get_or-map marked (lines_of newline x) k [] unmarked few)
     ∙ (grind (arith, common_steps))
@@ -516,16 +531,10 @@ marks_clear operand x clear k less =
 pub more_clear : {cutter : CutterState} {text left rest : List ℕ} {next after : CutterState} {n : ℕ}
     → Unmatched cutter text left next → PassesClear next left after n → rest ≡ drop n left
     → Unmatched cutter text rest after
-more_clear {cutter} {left} {rest} {next} {after} {n} so clear rest_is =
-    let t = take n left in record {
-      front = so.front ++ t;
-      all = so.all ∙ ap (λ those. so.front ++ those) (sym (take-append-drop n left) ∙ ap (λ those. t ++ those) (sym rest_is)) ∙ sym (append_assoc so.front t rest);
-      whole = whole-append t so.whole clear.whole;
-      same = clear.same ∙ ap (λ (those : CutterState). record those { lines = after.lines }) so.same;
-      count = clear.count ∙ (let more : line_count newline (so.front ++ t) ≡ line_count newline so.front + line_count newline t = count-append t (inl so.whole) in let c : next.lines ≡ cutter.lines + line_count newline so.front = so.count in omega (arith, more, c));
-      none = λ operand same. rw (← all_lines-append t (inl so.whole)) at (none_more operand cutter.lines (all_lines so.front) (all_lines t) (search_line (suppress_in cutter) (state_in cutter)) (so.none operand same)
-          (λ k less near. marks_clear operand t (λ pattern is. clear.clear pattern (ap (λ (those : CutterState). those.sought) so.same ∙ same ∙ is)) k less));
-    }
+more_clear {left = left} {rest} {n = n} so clear rest_is =
+    let t = take n left in
+    unmatched_on t rest so (sym (take-append-drop n left) ∙ ap (λ those. t ++ those) (sym rest_is)) clear.whole clear.same clear.count
+    (λ operand same. marks_clear operand t _ _ (λ pattern is. clear.clear pattern (ap (λ (those : CutterState). those.sought) so.same ∙ same ∙ is)))
 
 pub counts_clear : {cutter now : CutterState} {text : List ℕ} {n count : ℕ} → cutter ≡ now → n ≤ length text
     → IsWhole (take n text) → count ≡ delimiters newline (take n text)
@@ -551,23 +560,20 @@ stops_unfound {cutter} {text} {next} passed over size_is found_is = grind (arith
 -- The line in which the pattern was found is the next one.
 
 pub next_found : {cutter : CutterState} {text left : List ℕ} {next now : CutterState} (end : ℕ) {found : Bool}
-    → cutter.aim ≡ Missed → Unmatched cutter text left next → now ≡ next → end < length left
-    → Passes (is_byte newline) left end → Nowhere (Passes (is_byte newline) left) 0 end
+    → cutter.aim ≡ Missed → Unmatched cutter text left next → now ≡ next → EndsFirst left end
     → IsFound next (take end left) (next.lines + 1) found → found ≡ true
     → IsNextFound now (drop (length text - length left) text) (end + 1)
-next_found {text} {left} {next} end {found} aim so now_is within here none finds sure =
+next_found {text = text} {left} {next} end aim so now_is first finds sure =
     let long : length text ≡ length so.front + length left = ap length so.all ∙ length-append so.front left in
     let left_is : drop (length text - length left) text ≡ left = ap (drop (length text - length left)) so.all ∙ drop_at so.front left (length text - length left) (omega (arith, long)) in
     let one : suc end ≡ end + 1 = omega arith in
-    let parts = first_parts left end within here none in
     rw (← now_is) at (subst (λ those. IsNextFound next those (end + 1)) (sym left_is) (subst (IsNextFound next left) one (record {
       some = omega arith;
-      within = omega (arith, within);
-      line = line_by (take (suc end) left) (inl (take end left, parts.0, parts.1));
-      ends = first_ends left end within here;
+      within = (let within = first.within in omega (arith, within));
+      line = first.line;
+      ends = first.ends;
       aim = ap (λ (those : CutterState). those.aim) so.same ∙ aim;
-      found = subst (λ those. IsFound next those (next.lines + 1) true) (sym (ap without_newline parts.0 ∙ without_last (take end left) parts.1))
-          (subst (IsFound next (take end left) (next.lines + 1)) sure finds);
+      found = subst (λ those. IsFound next those (next.lines + 1) true) first.without (rw sure at finds);
     })))
 
 -- Lines of a text that is seen to have no match up to a place, and lines without their newlines.
