@@ -2,8 +2,8 @@
 use Rattle.std.proofs.{
   Common.{
     ◌≡◌, inl, inr, ℕ, suc, ◌+◌, ◌-◌, ◌<◌, ◌≤◌, ◌&&◌, Bool, true, false, cond, List, [], ◌∷◌, ◌++◌, length, get_or, refl,
-    sym, ◌∙◌, ap, subst, arith, length-append, zero, map, take, drop, append_assoc, nat_lt, nat_le, min, length-take,
-    ◌⊎◌, ne_eqb, eq-eqb, length-drop, length-take-le, rules, ◌≢◌,
+    sym, ◌∙◌, ap, subst, arith, length-append, zero, map, take, drop, append_assoc, nat_lt, nat_le, min, length-take, ◌⊎◌,
+    ne_eqb, eq-eqb, length-drop, length-take-le, rules, ◌≢◌,
   },
   lemmas.{
     Bool.{cases_lt, false≢true, Decides.nat_tests},

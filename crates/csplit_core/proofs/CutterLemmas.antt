@@ -202,7 +202,7 @@ unfoldable pub at_more : {cutter : CutterState} {lines : ℕ} {x : List ℕ} (t 
 at_more {cutter} {x = x} t whole some at ends count =
     let e = all_lines-append t whole in record {
       steps = at.steps;
-      leads = λ more last ending run. rw (← e) at (goes_on (all_lines t) more last (runs_to at ends) (subst (λ those. Runs (suppress_in cutter) those (state_in cutter) more last ending) e run));
+      leads = λ more last ending run. rw (← e) at (goes_on (all_lines t) more last (runs_to at ends) (rw e at run));
       counted = count;
       taken = at.taken;
       written = at.written;
@@ -632,8 +632,7 @@ began_there : {told : Bool} (cutter : CutterState) {mid : CutterState} {writer n
     → Goes told mid.writer (with_next opening) old new next fault
     → Goes told writer (with_next (opening_of cutter.style (kept_by (state_in mid).operands))) old new next fault
 began_there {told} cutter {mid} {writer} {next} {old = old} {new} {fault} passed opening_is began =
-    let style : mid.style ≡ cutter.style = ap (λ (c : CutterState). c.style) passed.same in
-    rw (ap (λ (c : CutterState). c.writer) passed.same) at (subst (λ those. Goes told mid.writer (with_next those) old new next fault) (opening_is ∙ ap (λ (s : Style). opening_of s (kept_by (state_in mid).operands)) style) began)
+    rw (opening_is, ap (λ (c : CutterState). c.style) passed.same, ap (λ (c : CutterState). c.writer) passed.same) at began
 
 -- a cut of this cutter is due, and stands after these bytes of the lines that are left
 module _ {cutter : CutterState} {cut : Cut} {place n : ℕ} {left before : List ℕ} (fit : IsFit cutter)

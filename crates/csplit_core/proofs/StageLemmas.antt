@@ -180,7 +180,7 @@ first_opened told {style} {operands} {old} {new} {writer} aim two begun none say
       owns = begun.leaves.owns.owns (length old) (first_owns style two);
       ready = begun.leaves.ready;
       output = begun.leaves.output;
-      manner = subst (IsManner (manner_of style)) (sym (same_manner begun.leaves)) (first_manner style);
+      manner = rw (same_manner begun.leaves) (first_manner style);
       all = begun.leaves.keeps;
       sound = record { fit = (grind (arith, common_steps)); aim = (grind (arith, common_steps)) };
       size = ap (max 0) none';
@@ -200,16 +200,8 @@ pub opened_at : (told : Bool) {style : Style} {suppress : Bool} {operands : List
     → Turns suppress lines (state_of operands progress) aim)
     → (progress.matched ≤ 0 → MovesOn operands 0 progress aim)
     → Opened told style operands old new (opened operands style writer progress aim window sought)
-opened_at told {style} {suppress} {operands} {opening = opening} {old} {new} {writer = writer} {aim = aim} {window} {sought} next_is window_is sought_is opening_is suppress_is made two begun none start_is says moves =
-    let window_first : first_window operands ≡ window = sym (window_is ∙ ap (λ (o : Option Operand). record { most = most_next o; delim = newline; held = [] }) next_is) in
-    let sought_first : pattern_by operands ≡ sought = sym (sought_is ∙ ap pattern_next next_is) in
-    let opening_first : opening ≡ opening_of style (kept_by operands) = opening_is ∙ ap (λ o. opening_of style (kept_next o)) next_is in
-    let says_first : SaysFirst style.suppress operands aim = subst (λ s. SaysFirst s operands aim) suppress_is
-    (rw start_is at says) in
-    let moves_first : MovesOn operands 0 first_progress aim = subst (λ (p : Progress). p.matched ≤ 0 → MovesOn operands 0 p aim) start_is moves (omega arith) in
-    rw (← start_is) at (subst (λ w. Opened told style operands old new (opened operands style writer first_progress aim w sought)) window_first
-    (subst (λ s. Opened told style operands old new (opened operands style writer first_progress aim (first_window operands) s)) sought_first
-    (first_opened told aim two (subst (λ those. Goes told (writer_for style) (with_next those) old new writer None) opening_first (subst (λ w. Goes told (paused w) (with_next opening) old new writer None) made begun)) none says_first moves_first)))
+opened_at told next_is window_is sought_is opening_is suppress_is made two begun none start_is says moves =
+    rw (start_is, window_is, sought_is, next_is) (first_opened told _ two (rw (opening_is, next_is, made) at begun) none (rw (suppress_is, start_is) at says) ((rw start_is at moves) (omega arith)))
 
 begun_not : {told : Bool} {style : Style} {opening : Opening} {old new : List Slot} {next : WriterState} {f : Fault}
     → 2 ≤ length old → Goes told (writer_for style) (with_next opening) old new next (Some f) → next.files ≡ []
@@ -226,8 +218,8 @@ pub opened_not : (told : Bool) {style : Style} (operands : List Operand) {next :
     → first ≡ new_for style → 2 ≤ length old
     → Goes told (paused first) (with_next opening) old new writer (Some fault) → writer.files ≡ first.files
     → BegunNot told style (settled_of style operands []) old new fault
-opened_not told {style} operands {opening = opening} {old} {new} {writer = writer} {fault} next_is opening_is made two begun same =
-    rw (← (ap (λ those. draft_part (manner_of style) (with_next those nothing_yet)) (opening_is ∙ ap (λ o. opening_of style (kept_next o)) next_is) ∙ first_part style operands)) (begun_not two (subst (λ w. Goes told (paused w) (with_next opening) old new writer (Some fault)) made begun) (same ∙ ap (λ (w : WriterState). w.files) made))
+opened_not told {style} operands next_is opening_is made two begun same =
+    rw (← first_part style operands) (begun_not two (rw (opening_is, next_is, made) at begun) (same ∙ ap (λ (w : WriterState). w.files) made))
 
 none_told : (style : Style) → LinesTo (sizes_wanted style) nothing nothing 0 Memory
 none_told style = grind (arith, common_steps)
@@ -520,9 +512,8 @@ pub none_passes : {told : Bool} {view stage : CsplitState} (next : CsplitState) 
     → delimiters newline stage.rest ≡ 0 → next.cutter ≡ view.cutter
     → OnOk result ((view.cutter.aim ≡ Below → ⊥) → next.rest ≡ view.rest ++ piece)
     → IfErr result (λ fault. fault ≡ Memory) → Passes told stage piece slots slots next result
-none_passes {told} {view} {stage} next {piece} {slots} result is differs none ready sound unbroken cutter rest lacks = subst (λ (s : CsplitState). Passes told s piece slots slots next result) is (record {
-  took = takes_or_lacks result (rw cutter (subst (λ text. Takes told view.cutter text slots slots view.cutter None) (sym (front_is [] (view.rest ++ piece) (inl refl) (no_newline view.rest piece here none)))
-      (takes_none (subst (λ (s : CsplitState). IsSound s.cutter) (sym is) sound) (subst (λ (s : CsplitState). CanWrite s.cutter.writer slots) (sym is) ready)))) lacks;
+none_passes {told} {view} {stage} next {piece} {slots} result is differs none ready sound unbroken cutter rest lacks = rw (← is) (record {
+  took = takes_or_lacks result (rw (cutter, front_is [] (view.rest ++ piece) (inl refl) (no_newline view.rest piece here none)) (takes_none (rw (← is) at sound) (rw (← is) at ready))) lacks;
   passed = on_both result rest rest (λ rest same. record {
     live = λ also. rest differs ∙ sym (tail_is [] (inl refl) (no_newline view.rest piece here none));
     past = λ is_below was. absurd (differs (ap (λ (c : CutterState). c.aim) (sym cutter) ∙ is_below));
@@ -552,8 +543,7 @@ pub some_passes : {told : Bool} {view stage : CsplitState} (mid next : CsplitSta
     → OnOk result ((mid.cutter.aim ≡ Below → ⊥) → next.rest ≡ mid.rest ++ text)
     → IfErr result (λ fault. fault ≡ Memory) → Passes told stage piece old new next result
 some_passes {told} {view} {stage} mid next {piece} {lines} text end {old} {new} result is differs last lines_is text_is took empty cutter past live lacks = rw (← is) (record {
-  took = takes_or_lacks result (subst (λ (c : CutterState). Takes told view.cutter (whole_lines (view.rest ++ piece)) old new c None) (sym cutter)
-      (subst (λ those. Takes told view.cutter those old new mid.cutter None) (ap (λ those. view.rest ++ those) lines_is ∙ sym (piece_lines view.rest end last)) took)) lacks;
+  took = takes_or_lacks result (rw (cutter, piece_lines view.rest end last, ← lines_is) took) lacks;
   passed = on_both result past live (λ past live.
       let none : delimiters newline text ≡ 0 = ap (delimiters newline) text_is ∙ last.none_after in
       let rest = some_unbroken mid.cutter.aim mid next text empty none (below_or_not mid.cutter.aim) past live in record {
@@ -575,7 +565,7 @@ pub some_stopped : {told : Bool} {view stage : CsplitState} (next : CsplitState)
     {old new : List Slot} {fault : Fault} → view ≡ stage → LastEndsAt newline piece end → lines ≡ take end piece
     → Takes told view.cutter (view.rest ++ lines) old new next.cutter (Some fault)
     → Passes told stage piece old new next (Err fault)
-some_stopped {told} {view} next {piece} end {old} {new} {fault} is last lines_is stopped = rw (← is) (record { took = subst (λ those. Takes told view.cutter those old new next.cutter (Some fault)) (ap (λ those. view.rest ++ those) lines_is ∙ sym (piece_lines view.rest end last)) stopped; passed = tt })
+some_stopped {told} {view} next {piece} end {old} {new} {fault} is last lines_is stopped = rw (← is) (record { took = rw (piece_lines view.rest end last, ← lines_is) stopped; passed = tt })
 
 -- The last line
 
@@ -656,12 +646,12 @@ holds_by : {told : Bool} {stage next : CsplitState} {piece : List ℕ} {old new 
     → Passes told stage piece old new next (Ok tt) → Holds stage x
     → (stage.cutter.aim ≡ Below) ⊎ (stage.cutter.aim ≡ Below → ⊥) → Holds next (x ++ piece)
 holds_by {stage = stage} {next} {piece} {x} passed holds (inl is_below) = record {
-  stands = inr (rw (passed.passed.still is_below) (subst (IsPast stage.cutter) (sym (lines_more x piece)) (still_past (whole_lines (open_line x ++ piece)) (lines_whole x) (is_past is_below holds.stands))));
+  stands = inr (rw (passed.passed.still is_below, lines_more x piece) (still_past (whole_lines (open_line x ++ piece)) (lines_whole x) (is_past is_below holds.stands)));
   live = λ differs. absurd (differs (ap (λ (c : CutterState). c.aim) (passed.passed.still is_below) ∙ is_below));
   past = λ still. passed.passed.past still holds.past;
 }
 holds_by {stage = stage} {next} {piece} {x} passed holds (inr differs) = record {
-  stands = subst (Stands next.cutter) (lines_in stage.rest x piece (holds.live differs)) (passed.took.went.stands (whole_lines x) (lines_whole x) holds.stands);
+  stands = rw (lines_in stage.rest x piece (holds.live differs)) at (passed.took.went.stands (whole_lines x) (lines_whole x) holds.stands);
   live = λ other. passed.passed.live other ∙ ap (λ those. open_line (those ++ piece)) (holds.live differs) ∙ sym (open_more x piece);
   past = λ is_below. passed.passed.past is_below holds.past;
 }
@@ -705,8 +695,8 @@ passes_by told stage next piece old new (Err fault) stopped is_ready taken fits 
   owns = owns_on stopped.took.keeps.writer;
   there = stopped.took.keeps.writer.owns.there;
   cut = λ before x at. engine.cut (not_verdict stage.cutter.style old new fault is_ready.manner stopped.took.keeps.writer.slots)
-      (rw (settled_is stage x) at (subst (λ high. StoppedBetween (work stage).means.output told before (settled_part stage.cutter (whole_lines x)) high fault new) (settled_then piece at.holds)
-      (stopped_in_turn (work stage).means.output told before _ _ fault new (has_settled stage (whole_lines x)) ((stopped.took.reaches (whole_lines x) (lines_whole x) at.holds.stands).there before (stands_so told at)))));
+      (rw (settled_then piece at.holds, settled_is stage x) at
+      (stopped_in_turn (work stage).means.output told before _ _ fault new (has_settled stage (whole_lines x)) ((stopped.took.reaches (whole_lines x) (lines_whole x) at.holds.stands).there before (stands_so told at))));
   met = met_by refl (EndsWith terms piece stage) stage.cutter.style old new fault is_ready.manner stopped.took.keeps.writer.slots;
 }
 
@@ -748,8 +738,8 @@ module _ (told : Bool) (stage next : CsplitState) (old new : List Slot) where
   pub ends_short : {fault : Fault} → Closed told stage old new next (Some fault) → IsReady stage old
       → CutsOff terms stage (work stage).whole told old new fault
   ends_short {fault} stopped ready before x at = engine.cut (not_verdict stage.cutter.style old new fault ready.manner stopped.keeps.writer.slots)
-      (rw (settled_is stage x) at (subst (λ high. StoppedBetween (work stage).means.output told before (settled_part stage.cutter (whole_lines x)) high fault new) (whole_then stage x at.holds)
-      (stopped_in_turn (work stage).means.output told before _ _ fault new (has_settled stage (whole_lines x)) ((stopped.reaches (whole_lines x) (lines_whole x) at.holds.stands).there before (stands_so told at)))))
+      (rw (whole_then stage x at.holds, settled_is stage x) at
+      (stopped_in_turn (work stage).means.output told before _ _ fault new (has_settled stage (whole_lines x)) ((stopped.reaches (whole_lines x) (lines_whole x) at.holds.stands).there before (stands_so told at))))
 
   -- the work ends with a verdict, and the files were cleared away after it
   pub ends_judged : Closed told stage old new next None → {verdict : Verdict} → (cleared : List Slot)
@@ -826,7 +816,7 @@ pub sweeps : {view : CutterState} (stage next : CsplitState) {old new : List Slo
     → next.taken ≡ stage.taken → Clears view old new next.cutter → stage.cutter.style.keep ≡ false
     → AreThere (files stage) old → Sweeps terms stage next old new
 sweeps stage next {old} {new} is taken clears_view none are =
-    let clears = subst (λ (cutter : CutterState). Clears cutter old new next.cutter) is clears_view in
+    let clears = rw is at clears_view in
     let kept = files_left (ap (λ (c : CutterState). c.writer.keeps) clears.same) (ap (λ (c : CutterState). c.writer.current) clears.same) clears.removes in record {
       same = ap (λ (c : CutterState). csplit_work c.style c.operands) clears.same;
       size = omega (arith, taken);

@@ -319,7 +319,7 @@ module _ {told : Bool} {cutter now : CutterState} {text left : List ℕ} {old mi
   takes_stopped {next} {size} {new} {fault} first more =
       let front = take size left ++ take more.on.n (drop size left) in
       let all : front ++ drop more.on.n (drop size left) ≡ left = (grind (arith, common_steps)) in
-      rw (← so_far.whole) at (takes_again so_far.complete so_far.took (subst (λ those. Takes told now those mid new next (Some fault)) all (takes_wider (drop more.on.n (drop size left)) (whole-append _ first more.on.whole) more.took)))
+      rw (← so_far.whole) at (takes_again so_far.complete so_far.took (rw all at (takes_wider (drop more.on.n (drop size left)) (whole-append _ first more.on.whole) more.took)))
 
   pub takes_end : left ≡ [] → Takes told cutter text old mid now None
   takes_end none = grind (arith, common_steps)
@@ -474,7 +474,7 @@ pub cut_drained : {told : Bool} {cutter next : CutterState} {window : Window} {c
     → CutsAll told cutter cut (cutter.lines - delimiters newline cutter.window.held)
     (cutter.window.held ++ line) line [] old new next fault
 cut_drained {told} {cutter} {next} {window} {cut} {waiting = waiting} {line} {old} {new} {fault} waiting_is items_is long count_is place_is cuts =
-    let all = rw waiting_is at (subst (λ n. CutsAll told (record cutter { window = window }) cut n waiting line [] old new next fault) (drained_place cutter.lines cutter.window.held line items_is long count_is place_is) cuts) in record {
+    let all = rw (waiting_is, drained_place cutter.lines cutter.window.held line items_is long count_is place_is) at cuts in record {
       keeps = all.keeps;
       reaches = all.reaches;
       went = where_well fault all.went (λ went. record { lines = went.lines; sound = went.sound; stands = went.stands; size = went.size });
@@ -559,7 +559,7 @@ spread_passes : {told : Bool} {cutter mid end next : CutterState} {cut : Cut} {p
     → CutsAll told cutter cut place line line (take n rest) old new next fault
 spread_passes {told} {mid = mid} {end} {next} {line = line} {left} {rest} {n} {between = between} {new} {fault} spread complete over held =
     let now = spread.now in
-    let over_now = subst (λ (m : CutterState). PassesOver m rest end n) spread.is over in
+    let over_now = rw spread.is at over in
     let long : length (take n rest) ≡ n = length-take-le n rest over.within in
     spread_on spread.so_far (subst IsSound over_now.same over.sound) (let few = over_now.few in let s = spread.so_far.lines in omega (arith, few, s, long))
     (λ x at here. there_of line spread.so_far.fit (joins_by n complete here.last.2) (rw spread.is at spread.tries) over_now (spread.so_far.after x at here))

@@ -494,7 +494,7 @@ pub one_more : {cutter : CutterState} {text left : List ℕ} {next now : CutterS
     → Unmatched cutter text (take (length left - (end + 1)) (drop (end + 1) left)) (record now { lines = now.lines + 1 })
 one_more {cutter} {left = left} {next} {now} end so is first finds not =
     let line = take (suc end) left in
-    let found_at : IsFound (record cutter { lines = next.lines }) (take end left) (next.lines + 1) false = subst (λ (those : CutterState). IsFound those (take end left) (next.lines + 1) false) so.same (rw not at finds) in
+    let found_at : IsFound (record cutter { lines = next.lines }) (take end left) (next.lines + 1) false = rw (so.same, not) at finds in
     let lines_is : now.lines ≡ next.lines = ap (λ (those : CutterState). those.lines) is in
     let one : line_count newline line ≡ 1 = ap length first.line in
     unmatched_on line _ so (sym (take-append-drop (suc end) left) ∙ ap (λ those. line ++ those) ((let e : suc end ≡ end + 1 = omega arith in ap (λ n. drop n left) e) ∙ sym (rest_all (end + 1) left)))
@@ -516,7 +516,7 @@ all_passed_at {cutter} {text} {left} {next} sound aim so is =
     let count : length so.front ≡ length text - length left = omega (arith, long) in
     let front_is : so.front ≡ take (length text - length left) text = sym (ap (take (length text - length left)) so.all ∙ take_at so.front left (length text - length left) count) in
     rw (← (is ∙ so.same)) at (passes sound (omega arith) (subst IsWhole front_is so.whole) (so.count ∙ ap (λ those. cutter.lines + line_count newline those) front_is)
-    (subst (StaysOver cutter (take (length text - length left) text) next.lines) (sym aim) (subst (λ those. StaysOver cutter those next.lines Missed) front_is so.none)))
+    (rw (aim, ← front_is) so.none))
 
 -- Lines that are seen to have no match
 
@@ -567,14 +567,14 @@ next_found {text = text} {left} {next} end aim so now_is first finds sure =
     let long : length text ≡ length so.front + length left = ap length so.all ∙ length-append so.front left in
     let left_is : drop (length text - length left) text ≡ left = ap (drop (length text - length left)) so.all ∙ drop_at so.front left (length text - length left) (omega (arith, long)) in
     let one : suc end ≡ end + 1 = omega arith in
-    rw (← now_is) at (subst (λ those. IsNextFound next those (end + 1)) (sym left_is) (subst (IsNextFound next left) one (record {
+    rw (now_is, left_is, ← one) (record {
       some = omega arith;
       within = (let within = first.within in omega (arith, within));
       line = first.line;
       ends = first.ends;
       aim = ap (λ (those : CutterState). those.aim) so.same ∙ aim;
-      found = subst (λ those. IsFound next those (next.lines + 1) true) first.without (rw sure at finds);
-    })))
+      found = rw (first.without, sure) at finds;
+    })
 
 -- Lines of a text that is seen to have no match up to a place, and lines without their newlines.
 

@@ -156,10 +156,8 @@ pub plan_grows : (suppress closed : Bool) (end_of : ℕ → Ending → ℕ) → 
     → Grow (settled_sections a (plan suppress operands a))
     (sections_by closed end_of (a ++ b) (plan suppress operands (a ++ b)))
 plan_grows suppress closed end_of covers operands a b =
-    let goes = plan_goes_on operands a b in
-    subst (λ p. Grow (settled_sections a (plan suppress operands a)) (sections_by closed end_of (a ++ b) p))
-    (sym goes.is)
-    (sections_grow closed end_of covers b goes.more goes.end (omega arith) (plan_runs suppress operands a) goes.rest)
+    let goes = plan_goes_on {suppress = suppress} operands a b in
+    rw goes.is (sections_grow closed end_of covers b _ _ (omega arith) (plan_runs suppress operands a) goes.rest)
 
 -- What is put out grows with them
 
@@ -192,12 +190,10 @@ section_grows style front begun other more is_open kept rest bytes =
 
 pub parts_grow : (style : Style) {low high : List Section} → Grow low high
     → Begins (part_of style low) (part_of style high)
-parts_grow style {high} grow =
-    rw (← grow.low_is) at (subst (λ those. Begins (part_of style (grow.front ++ grow.begun ∷ [])) (part_of style those))
-    (sym (grow.high_is ∙ ap (λ those. grow.front ++ those) grow.next.are))
-    (section_grows style grow.front grow.begun grow.next.other grow.next.more grow.is_open grow.next.kept
-    (bytes_of grow.next.rest)
-    (ap bytes_of grow.next.lines ∙ bytes-append grow.begun.lines grow.next.rest)))
+parts_grow style grow =
+    rw (grow.low_is, grow.high_is, grow.next.are) (section_grows style grow.front grow.begun grow.next.other
+    grow.next.more grow.is_open grow.next.kept (bytes_of grow.next.rest)
+    (ap bytes_of grow.next.lines ∙ bytes-append grow.begun.lines grow.next.rest))
 
 pub settled_covers : Covers settled_end
 settled_covers total ending = omega arith

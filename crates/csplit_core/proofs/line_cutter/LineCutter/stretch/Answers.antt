@@ -1,9 +1,6 @@
-use Rattle.std.proofs.{Common.{Err, Ok, arith, subst, sym}, lemmas.Grind.common_steps}
-use Rattle.ports_core.{proofs.HandedOn.handed_on, specs.FileWriter.IsReady}
-use Rattle.csplit_core.{
-  specs.Cutter.CutterState,
-  proofs.TakeLemmas.{none_there, stretch_cut, stretch_first, stretch_on, stretch_past, took_past},
-}
+use Rattle.std.proofs.{Common.{Err, Ok, arith}, lemmas.Grind.common_steps}
+use Rattle.ports_core.{proofs.HandedOn.handed_on}
+use Rattle.csplit_core.{proofs.TakeLemmas.{none_there, stretch_cut, stretch_first, stretch_on, stretch_past, took_past}}
 use Rattle.csplit_core.proofs.line_cutter.LineCutter.stretch.Goals as goal
 
 pub returns-then-is_past : goal.returns-then-is_past
@@ -17,7 +14,7 @@ go_on-requires g c = record {
   lines = grind (arith, common_steps);
   fits = grind (arith, common_steps);
   sound = record { fit = c.try_line.ensures.fit; aim = c.in_default.ensures.aim };
-  ready = subst (λ (cutter : CutterState). IsReady cutter.writer (g.O.Outs.slots c.args.outs.now)) (sym c.try_line.ensures.same) c.requires.ready;
+  ready = grind (arith, common_steps);
 }
 
 pub returns-in_default : goal.returns-in_default
@@ -31,7 +28,7 @@ cut_on-requires g c = record {
   fit = c.try_line.ensures.fit;
   none = grind (arith, common_steps);
   cuts = c.in-Some.ensures.cuts;
-  ready = subst (λ (cutter : CutterState). IsReady cutter.writer (g.O.Outs.slots c.args.outs.now)) (sym c.try_line.ensures.same) c.requires.ready;
+  ready = grind (arith, common_steps);
 }
 
 pub returns-then-is_empty : goal.returns-then-is_empty
@@ -45,7 +42,7 @@ cut_line-requires g c = record {
   fits = grind (arith, common_steps);
   fit = c.try_line.ensures.fit;
   cuts = c.in-Some.ensures.cuts;
-  ready = subst (λ (cutter : CutterState). IsReady cutter.writer (g.O.Outs.slots c.args.outs.now)) (sym c.try_line.ensures.same) c.requires.ready;
+  ready = grind (arith, common_steps);
 }
 
 pub returns-in_err-cut_line : goal.returns-in_err-cut_line
