@@ -349,20 +349,22 @@ placed_from : {suppress : Bool} {lines : List Line} {first : State} {steps : Lis
     ≡ lines_into s (place_from suppress (length lines) index steps ending) first.current
     (drop (first.current - 1) lines)
 placed_from {suppress} {lines} (cuts state operand operands matched cut steps' last' ending' is cuts_at least within rest) some index zero {s} at =
-    sym (step_parts suppress lines state.current cut index s (place_from suppress (length lines) (index + 1) steps' ending') some least within ∙ (grind (
+    let later = place_from suppress (length lines) (index + 1) steps' ending' in
+    sym (step_parts suppress lines state.current cut index s later some least within ∙ (grind (
       arith,
       common_steps,
-      (into_none s (place_from suppress (length lines) (index + 1) steps' ending') (line_after suppress cut) (drop (line_after suppress cut - 1) lines)
-          (λ line from before. goes_elsewhere (place_from suppress (length lines) (index + 1) steps' ending' line) (in_later suppress (length lines) (index + 1) line steps' ending' (omega (arith, at))))),
+      (into_none s later (line_after suppress cut) (drop (line_after suppress cut - 1) lines)
+          (λ line from before. goes_elsewhere (later line) (in_later suppress (length lines) (index + 1) line steps' ending' (omega (arith, at))))),
     ))
     ∙ into_all (place_from suppress (length lines) index (step_of state operand matched cut ∷ steps') ending') state.current (lines_between state.current cut lines)
-    (λ line from before. step_before suppress lines state.current cut (place_from suppress (length lines) (index + 1) steps' ending') line some least within before ∙ ap in_section (let e : index ≡ s = omega (arith, at) in e)))
+    (λ line from before. step_before suppress lines state.current cut later line some least within before ∙ ap in_section (let e : index ≡ s = omega (arith, at) in e)))
 placed_from {suppress} {lines} (cuts state operand operands matched cut steps' last' ending' is cuts_at least within rest) some index (suc k) {s} at =
+    let later = place_from suppress (length lines) (index + 1) steps' ending' in
     placed_from rest (let more : cut ≤ line_after suppress cut = line_some suppress cut in omega (arith, more, some, least)) (index + 1) k (omega (arith, at))
-    ∙ sym (step_parts suppress lines state.current cut index s (place_from suppress (length lines) (index + 1) steps' ending') some least within
-    ∙ ap (λ those. those ++ lines_into s (place_from suppress (length lines) (index + 1) steps' ending') (line_after suppress cut) (drop (line_after suppress cut - 1) lines))
+    ∙ sym (step_parts suppress lines state.current cut index s later some least within
+    ∙ ap (λ those. those ++ lines_into s later (line_after suppress cut) (drop (line_after suppress cut - 1) lines))
     (into_none s (place_from suppress (length lines) index (step_of state operand matched cut ∷ steps') ending') state.current (lines_between state.current cut lines)
-    (λ line from before. ap (is_in s) (step_before suppress lines state.current cut (place_from suppress (length lines) (index + 1) steps' ending') line some least within before) ∙ ne_eqb s index (λ same. omega (arith, at, same)))))
+    (λ line from before. ap (is_in s) (step_before suppress lines state.current cut later line some least within before) ∙ ne_eqb s index (λ same. omega (arith, at, same)))))
 placed_from {lines} {first} {ending} run some index k at = rest_placed lines first.current (whole_end (length lines) ending) index some (end_is ending) k at
 
 -- Lines in no section

@@ -242,28 +242,17 @@ pub few_taken : {cutter : CutterState} {x left : List ℕ} (at : IsAt cutter x l
     → cutter.progress.current + at.taken ≤ cutter.lines + 1
 few_taken {cutter} {x} at = grind (arith, common_steps)
 
--- some lines of those that were left are written, and the others wait
-unfoldable pub at_held : (cutter : CutterState) (writer : WriterState) (x left bytes held : List ℕ) (n : ℕ)
-    → 1 ≤ cutter.progress.current → (at : IsAt (bare cutter) x left) → n ≤ line_count newline left
-    → bytes ≡ first_lines newline n left → held ≡ after_lines newline n left
-    → ((draft : Draft) → Writes (manner_of cutter.style) cutter.writer draft
-    → Writes (manner_of cutter.style) writer (with_bytes bytes draft))
-    → IsAt (record cutter { writer = writer; window = record cutter.window { held = held } }) x held
-at_held cutter writer x left bytes held n some at within bytes_is held_is writes =
-    let count : line_count newline left ≡ line_count newline x - (cutter.progress.current + at.taken - 1) = ap (line_count newline) at.left_is ∙ count_from (cutter.progress.current + at.taken) x in record {
-      steps = at.steps;
-      leads = at.leads;
-      counted = at.counted;
-      taken = at.taken + n;
-      written = at.written ++ bytes;
-      few = (let f : cutter.progress.current + at.taken ≤ line_count newline x + 1 = at.few in omega (arith, f, count, within, some));
-      written_is = ap (λ those. those ++ bytes) at.written_is
-          ∙ ap (λ those. first_lines newline at.taken (text_from cutter.progress.current x) ++ those) (bytes_is ∙ ap (first_lines newline n) at.left_is)
-          ∙ sym (first_further cutter.progress.current at.taken n x some);
-      left_is = held_is ∙ ap (after_lines newline n) at.left_is ∙ from_further (cutter.progress.current + at.taken) n x (omega (arith, some))
-          ∙ ap (λ k. text_from k x) (let e : cutter.progress.current + at.taken + n ≡ cutter.progress.current + (at.taken + n) = omega arith in e);
-      writes = writes (draft_at at) at.writes;
-    }
+-- with the first lines of those that were left more is written, and the lines after them are left
+module _ {cutter : CutterState} {x left : List ℕ} (n : ℕ) (some : 1 ≤ cutter.progress.current)
+    (at : IsAt cutter x left) where
+  written_on : {bytes : List ℕ} → bytes ≡ first_lines newline n left
+      → at.written ++ bytes ≡ first_lines newline (at.taken + n) (text_from cutter.progress.current x)
+  written_on {bytes} bytes_is = ap (λ those. those ++ bytes) at.written_is
+      ∙ ap (λ those. first_lines newline at.taken (text_from cutter.progress.current x) ++ those) (bytes_is ∙ ap (first_lines newline n) at.left_is)
+      ∙ sym (first_further cutter.progress.current at.taken n x some)
+
+  left_on : after_lines newline n left ≡ text_from (cutter.progress.current + at.taken + n) x
+  left_on = ap (after_lines newline n) at.left_is ∙ from_further (cutter.progress.current + at.taken) n x (omega (arith, some))
 
 -- how many lines are taken once as many wait as may
 
@@ -414,32 +403,35 @@ taken_is {cutter} {x} {at} arrives fit live =
     (grind (arith, common_steps, fit.fits.some, (few_taken at), (left_count at), arrives.enough))
     ∙ ap (λ n. cutter.lines + 1 - cutter.progress.current - n) most
 
--- and what is written is what is settled
-held_part : {cutter : CutterState} {x left bytes : List ℕ} {at : IsAt (bare cutter) x left}
-    (arrives : Arrives cutter at) → IsFit cutter → is_final arrives.ends.ending ≡ false
-    → bytes ≡ first_lines newline (over_of cutter left) left
-    → draft_part (manner_of cutter.style) (with_bytes bytes (draft_at at)) ≡ settled_part cutter x
-held_part {cutter} {x} {left} {bytes} {at} arrives fit live bytes_is =
-    let written : at.written ++ bytes ≡ first_lines newline (at.taken + over_of cutter left) (text_from cutter.progress.current x) =
-    ap (λ those. those ++ bytes) at.written_is
-    ∙ ap (λ those. first_lines newline at.taken (text_from cutter.progress.current x) ++ those) (bytes_is ∙ ap (first_lines newline (over_of cutter left)) at.left_is)
-    ∙ sym (first_further cutter.progress.current at.taken (over_of cutter left) x fit.fits.some) in
-    ap (draft_part (manner_of cutter.style)) (draft_is settled_end cutter.style cutter.operands x (at.taken + over_of cutter left) (runs_to at arrives.ends)
-    (taken_is arrives fit live ∙ (grind (arith, common_steps))) written)
-    ∙ settled_part_is cutter.style cutter.operands (all_lines x)
+module _ {cutter : CutterState} {x left bytes : List ℕ} {at : IsAt (bare cutter) x left} (arrives : Arrives cutter at)
+    (fit : IsFit cutter) (live : is_final arrives.ends.ending ≡ false)
+    (bytes_is : bytes ≡ first_lines newline (over_of cutter left) left) where
+  -- and what is written is what is settled
+  held_part : draft_part (manner_of cutter.style) (with_bytes bytes (draft_at at)) ≡ settled_part cutter x
+  held_part =
+      ap (draft_part (manner_of cutter.style)) (draft_is settled_end cutter.style cutter.operands x (at.taken + over_of cutter left) (runs_to at arrives.ends)
+      (taken_is arrives fit live ∙ (grind (arith, common_steps))) (written_on (over_of cutter left) fit.fits.some at bytes_is))
+      ∙ settled_part_is cutter.style cutter.operands (all_lines x)
 
-held_live : {cutter : CutterState} {writer : WriterState} {x left bytes held : List ℕ} {at : IsAt (bare cutter) x left}
-    (arrives : Arrives cutter at) → IsFit cutter → is_final arrives.ends.ending ≡ false
-    → bytes ≡ first_lines newline (over_of cutter left) left → held ≡ after_lines newline (over_of cutter left) left
-    → ((draft : Draft) → Writes (manner_of cutter.style) cutter.writer draft
-    → Writes (manner_of cutter.style) writer (with_bytes bytes draft)) → IsLive (holding cutter writer held) x
-unfolding at_held
-held_live {cutter} {writer} {x} {left} {bytes} {held} {at} arrives fit live bytes_is held_is writes = record {
-  at = at_held cutter writer x left bytes held (over_of cutter left) fit.fits.some at (omega arith) bytes_is held_is writes;
-  ends = (grind (arith, common_steps));
-  live = live;
-  settled = taken_is arrives fit live;
-}
+  held_live : {writer : WriterState} {held : List ℕ} → held ≡ after_lines newline (over_of cutter left) left
+      → ((draft : Draft) → Writes (manner_of cutter.style) cutter.writer draft
+      → Writes (manner_of cutter.style) writer (with_bytes bytes draft)) → IsLive (holding cutter writer held) x
+  held_live held_is writes = let over = over_of cutter left in let some = fit.fits.some in record {
+    at = record {
+      steps = at.steps;
+      leads = at.leads;
+      counted = at.counted;
+      taken = at.taken + over;
+      written = at.written ++ bytes;
+      few = (let few = few_taken at in let count = left_count at in let all = at.counted in omega (arith, few, count, all, some));
+      written_is = written_on over some at bytes_is;
+      left_is = held_is ∙ left_on over some at ∙ ap (λ k. text_from k x) (let e : cutter.progress.current + at.taken + over ≡ cutter.progress.current + (at.taken + over) = omega arith in e);
+      writes = writes (draft_at at) at.writes;
+    };
+    ends = (grind (arith, common_steps));
+    live = live;
+    settled = taken_is arrives fit live;
+  }
 
 pub hold_goes : {told : Bool} {cutter : CutterState} {writer : WriterState} {window : Window} {left : List ℕ}
     {old new : List Slot} {fault : Option Fault} → IsFit cutter → (cutter.aim ≡ Below → ⊥)
@@ -566,9 +558,7 @@ cut_draft : {cutter : CutterState} {x left before : List ℕ} (at : IsAt cutter 
     ≡ draft_by cutter.style (all_lines x) (at.steps ++ step_at cutter operand cut ∷ []) kept []
 cut_draft {cutter} {x} {before} at cut {operand} kept are some on before_is =
     let bytes : at.written ++ before ≡ bytes_of (lines_between cutter.progress.current cut.line (all_lines x)) =
-    ap (λ those. those ++ before) at.written_is
-    ∙ ap (λ those. first_lines newline at.taken (text_from cutter.progress.current x) ++ those) (before_is ∙ ap (first_lines newline (cut.line - (cutter.progress.current + at.taken))) at.left_is)
-    ∙ sym (first_further cutter.progress.current at.taken (cut.line - (cutter.progress.current + at.taken)) x some)
+    written_on (cut.line - (cutter.progress.current + at.taken)) some at before_is
     ∙ ap (λ n. first_lines newline n (text_from cutter.progress.current x)) (let e : at.taken + (cut.line - (cutter.progress.current + at.taken)) ≡ cut.line - cutter.progress.current = omega (arith, on) in e)
     ∙ sym (bytes_between cutter.progress.current cut.line x) in
     let ended = flat_map (file_in cutter.style) (map (section_of (all_lines x)) at.steps) in
@@ -711,9 +701,8 @@ module _ {told : Bool} {cutter mid : CutterState} {writer next : WriterState} {c
       let on : cutter.progress.current + at.taken ≤ cut.line = (let p = now.place_is in let b = now.before in omega (arith, p, b)) in
       let first : 1 ≤ cut.line = (let s = fit.fits.some in let f = will.from in omega (arith, s, f)) in
       let same_count : n ≡ cut.line - (cutter.progress.current + at.taken) = n_is ∙ ap (λ n. cut.line - n) now.place_is in
-      let left_after : all ≡ text_from cut.line x = all_is ∙ ap (λ n. after_lines newline n left) same_count ∙ ap (after_lines newline (cut.line - (cutter.progress.current + at.taken))) at.left_is
-      ∙ from_further (cutter.progress.current + at.taken) (cut.line - (cutter.progress.current + at.taken)) x (let s = fit.fits.some in omega (arith, s))
-      ∙ ap (λ n. text_from n x) (let e : cutter.progress.current + at.taken + (cut.line - (cutter.progress.current + at.taken)) ≡ cut.line = omega (arith, on) in e) in
+      let left_after : all ≡ text_from cut.line x = all_is ∙ left_on n fit.fits.some at
+      ∙ ap (λ n. text_from n x) (let e : cutter.progress.current + at.taken + n ≡ cut.line = omega (arith, on, same_count) in e) in
       let draft = draft_at at in
       let steps = at.steps ++ step_at cutter now.goes.operand cut ∷ [] in
       let draft_is : with_next (opening_of cutter.style kept) (with_bytes before draft) ≡ draft_by cutter.style (all_lines x) steps kept [] =

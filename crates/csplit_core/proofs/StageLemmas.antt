@@ -69,7 +69,7 @@ use Rattle.csplit_core.specs.{
   laws.{PlanLaws.{plan_runs, plan_once}, SectionLaws.{ends_as, are_within, closed_still, ends_with as whole_grows}},
   Progress.{state_of, AimsAt, EndsHere},
   inner.Cutter.{
-    BegunNot, draft_at, new_for, writer_for, AreSeen, Turns, MovesOn, Opened, settled_part, whole_part, IsJudged,
+    BegunNot, draft_at, plan_in, new_for, writer_for, AreSeen, Turns, MovesOn, Opened, settled_part, whole_part, IsJudged,
     EndsAll, IsWhole, Takes, IsLine, Clears, Keeps, Closed, Closes, ended_so, Judges, Passes, ended_well, ended_short,
   },
   inner.PlanLaws.{EndsAs, AreWithin},
@@ -307,12 +307,8 @@ end_short {cutter = cutter} fit all goes =
 
 -- The verdict with which the work ends, from where the cutter stands.
 
--- how the plan ends, where its ending is known from the cutter
-abbrev ending_in : CutterState → List ℕ → Ending
-ending_in cutter x = (plan (suppress_in cutter) cutter.operands (all_lines x)).ending
-
 of_it : {cutter : CutterState} {x : List ℕ} → IsJudged cutter x
-    → EndsAs (suppress_in cutter) (all_lines x) (state_in cutter) (ending_in cutter x)
+    → EndsAs (suppress_in cutter) (all_lines x) (state_in cutter) (plan_in cutter x).ending
 of_it {cutter} {x} judged =
     rw (← judged.last) at (ends_as (plan_runs (suppress_in cutter) cutter.operands (all_lines x)))
 
@@ -335,14 +331,14 @@ verdict_is suppress lines state aim ending ends are aims = search rules
 
 pub judged_none : {cutter : CutterState} {result : Option Verdict} {x : List ℕ}
     → false ≡ nat_lt cutter.progress.done (length cutter.operands) → result ≡ None → IsJudged cutter x
-    → result ≡ verdict_of (ending_in cutter x)
+    → result ≡ verdict_of (plan_in cutter x).ending
 judged_none {cutter} {x = x} over none judged = grind (arith, common_steps, nat_tests, of_it, drop_all)
 
 -- the operand that was looked up is the next
 pub judged_next : {cutter : CutterState} {operand : Operand} {aim : Turn} {result : Option Verdict} {x : List ℕ}
     → cutter.progress.done < length cutter.operands → operand ≡ get_or cutter.operands cutter.progress.done operand
     → cutter.aim ≡ aim → result ≡ verdict_at aim operand cutter.progress.repetition → IsJudged cutter x
-    → result ≡ verdict_of (ending_in cutter x)
+    → result ≡ verdict_of (plan_in cutter x).ending
 judged_next {cutter} {aim = aim} {x = x} within here aimed made judged = grind (arith, common_steps, verdict_is, of_it, left_is)
 
 -- How many bytes wait.
@@ -379,7 +375,7 @@ held_is {stage} {x} {result} holds few is = by holds.stands where
       let none : length stage.cutter.window.held ≡ 0 = ap length past.none in
       let rest_none : length stage.rest ≡ 0 = ap length (holds.past past.aim) in
       is ∙ min-eq_left (omega (arith, none, rest_none))
-      ∙ (let e : length stage.cutter.window.held + length stage.rest ≡ 0 = omega (arith, none, rest_none) in e) ∙ sym (ap length (ap (λ lines. waiting_of lines (plan (suppress_in stage.cutter) stage.cutter.operands lines) (open_line x)) (sym (all_complete x)) ∙ ap (λ final. cond final [] (bytes_of (waiting_lines (all_lines (whole_lines x)) (plan (suppress_in stage.cutter) stage.cutter.operands (all_lines (whole_lines x)))) ++ open_line x)) past.past))
+      ∙ (let e : length stage.cutter.window.held + length stage.rest ≡ 0 = omega (arith, none, rest_none) in e) ∙ sym (ap length (ap (λ lines. waiting_of lines (plan (suppress_in stage.cutter) stage.cutter.operands lines) (open_line x)) (sym (all_complete x)) ∙ ap (λ final. cond final [] (bytes_of (waiting_lines (all_lines (whole_lines x)) (plan_in stage.cutter (whole_lines x))) ++ open_line x)) past.past))
 
 -- What the stage that takes in bytes does with the cutter of lines.
 
@@ -429,13 +425,13 @@ pub past_end : {cutter : CutterState} {x : List ℕ} (t : List ℕ) → IsWhole 
 past_end {cutter} {x} t whole past =
     let same = past_plan (suppress_in cutter) cutter.operands t whole past.past in
     ap (λ (p : Plan). part_of cutter.style (whole_sections (all_lines (x ++ t)) p)) same
-    ∙ ap (λ lines. part_of cutter.style (whole_sections lines (plan (suppress_in cutter) cutter.operands (all_lines x)))) (all_lines-append t (inl whole))
-    ∙ ap (part_of cutter.style) (final_sections (all_lines x) (all_lines t) (plan (suppress_in cutter) cutter.operands (all_lines x))
+    ∙ ap (λ lines. part_of cutter.style (whole_sections lines (plan_in cutter x))) (all_lines-append t (inl whole))
+    ∙ ap (part_of cutter.style) (final_sections (all_lines x) (all_lines t) (plan_in cutter x)
     (are_within (plan_runs (suppress_in cutter) cutter.operands (all_lines x)) (omega arith)).0 past.past)
 
 pub past_verdict : {cutter : CutterState} {x : List ℕ} (t : List ℕ) → IsWhole x → IsPast cutter x
-    → verdict_of (plan (suppress_in cutter) cutter.operands (all_lines (x ++ t))).ending
-    ≡ verdict_of (plan (suppress_in cutter) cutter.operands (all_lines x)).ending
+    → verdict_of (plan_in cutter (x ++ t)).ending
+    ≡ verdict_of (plan_in cutter x).ending
 past_verdict {cutter} t whole past = grind (arith, common_steps, past_plan)
 
 -- The steps of the stage that takes in bytes. A stage is known by its fields and by its value.

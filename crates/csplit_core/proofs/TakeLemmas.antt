@@ -360,45 +360,42 @@ cuts_again : {told : Bool} {cutter now : CutterState} (cut : Cut) {x : List ℕ}
     → CutsNow line cut now.progress.current after.now
 cuts_again cut {x} line after tries will = grind (arith, common_steps)
 
-pub spread_more : {told : Bool} {cutter now mid next : CutterState} {cut cut' : Cut} {place : ℕ}
-    {waiting line left rest : List ℕ} {old between new : List Slot}
-    → Spreading told cutter cut place waiting line old between now left
-    → mid ≡ record now { aim = mid.aim } → Tries now line mid (Some cut') → WillCut now cut'
-    → CutAt told mid cut' mid.progress.current left between new next rest
-    → Spreading told cutter cut place waiting line old new next rest
-spread_more {told} {cutter} {now} {mid} {next} {cut} {cut'} {waiting = waiting} {line} {left} {rest} {between = between} {new} so_far is tries will at_cut =
-    let once = (rw is at at_cut).spreading line in record {
-      keeps = keeps_on so_far.keeps once.keeps;
-      lines = once.lines ∙ so_far.lines;
-      fit = once.fit;
-      held = once.held;
-      after = λ x at here.
-          let after = so_far.after x at here in
-          let again = once.after x after.now (cuts_again cut' line after tries will) in record {
-            now = again.now;
-            looked = again.looked;
-            near = again.near;
-            none = again.none;
-            grows = part_trans (part_at at) (part_at after.now) (part_at again.now) after.grows again.grows;
-            reaches = reaches_then so_far.keeps.style after.grows after.reaches again.reaches;
-          };
-      size = (let one = once.size in let two = so_far.size in omega (arith, one, two));
-      end = (so_far.end.0 ++ once.end.0, so_far.end.1 ∙ ap (λ those. so_far.end.0 ++ those) once.end.1 ∙ sym (append_assoc so_far.end.0 once.end.0 rest));
-    }
+module _ {told : Bool} {cutter now mid : CutterState} {cut cut' : Cut} {place : ℕ} {waiting line left : List ℕ}
+    {old between : List Slot} (so_far : Spreading told cutter cut place waiting line old between now left)
+    (is : mid ≡ record now { aim = mid.aim }) (tries : Tries now line mid (Some cut')) (will : WillCut now cut') where
+  pub spread_more : {next : CutterState} {rest : List ℕ} {new : List Slot}
+      → CutAt told mid cut' mid.progress.current left between new next rest
+      → Spreading told cutter cut place waiting line old new next rest
+  spread_more {next} {rest} at_cut =
+      let once = (rw is at at_cut).spreading line in record {
+        keeps = keeps_on so_far.keeps once.keeps;
+        lines = once.lines ∙ so_far.lines;
+        fit = once.fit;
+        held = once.held;
+        after = λ x at here.
+            let after = so_far.after x at here in
+            let again = once.after x after.now (cuts_again cut' line after tries will) in record {
+              now = again.now;
+              looked = again.looked;
+              near = again.near;
+              none = again.none;
+              grows = part_trans (part_at at) (part_at after.now) (part_at again.now) after.grows again.grows;
+              reaches = reaches_then so_far.keeps.style after.grows after.reaches again.reaches;
+            };
+        size = (let one = once.size in let two = so_far.size in omega (arith, one, two));
+        end = (so_far.end.0 ++ once.end.0, so_far.end.1 ∙ ap (λ those. so_far.end.0 ++ those) once.end.1 ∙ sym (append_assoc so_far.end.0 once.end.0 rest));
+      }
 
-pub spread_stopped : {told : Bool} {cutter now mid next : CutterState} {cut cut' : Cut} {place : ℕ}
-    {waiting line left : List ℕ} {old between new : List Slot} {fault : Fault}
-    → Spreading told cutter cut place waiting line old between now left
-    → mid ≡ record now { aim = mid.aim } → Tries now line mid (Some cut') → WillCut now cut'
-    → CutsAll told mid cut' mid.progress.current left line [] between new next (Some fault)
-    → CutsAll told cutter cut place waiting line [] old new next (Some fault)
-spread_stopped {told} {now = now} {mid} {next} {cut' = cut'} {line = line} {left} {between = between} {new} {fault} so_far is tries will stops =
-    let stopped = rw is at stops in record {
-      keeps = keeps_on so_far.keeps stopped.keeps;
-      reaches = λ x at here. let after = so_far.after x at here in reaches_then so_far.keeps.style after.grows after.reaches
-          (reaches_as refl (sym (settled_same (x ++ []) so_far.keeps)) (stopped.reaches x after.now (cuts_again cut' line after tries will)));
-      went = tt;
-    }
+  pub spread_stopped : {next : CutterState} {new : List Slot} {fault : Fault}
+      → CutsAll told mid cut' mid.progress.current left line [] between new next (Some fault)
+      → CutsAll told cutter cut place waiting line [] old new next (Some fault)
+  spread_stopped stops =
+      let stopped = rw is at stops in record {
+        keeps = keeps_on so_far.keeps stopped.keeps;
+        reaches = λ x at here. let after = so_far.after x at here in reaches_then so_far.keeps.style after.grows after.reaches
+            (reaches_as refl (sym (settled_same (x ++ []) so_far.keeps)) (stopped.reaches x after.now (cuts_again cut' line after tries will)));
+        went = tt;
+      }
 
 -- Then no operand cuts any more, and the lines that are left are held, perhaps with more.
 

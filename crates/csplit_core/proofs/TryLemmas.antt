@@ -22,7 +22,7 @@ use Rattle.csplit_core.specs.{
   Progress.{state_of, EndsHere, AimsAt, WillMove},
   inner.Cutter.{
     AreSeen, Turns, FallsAt, GoesPast, WillCut, PassesOn, PassesCut, IsWhole, IsLine, Joins, Looked, IsFound, IsNoCut,
-    search_after, StaysNear, Tries, TriesNext, AreClear, IsNextFound, PassesClear, PassesOver, StopsAt,
+    search_after, StaysNear, Tries, TriesNext, AreClear, IsNextFound, Lacks, equipped, PassesClear, PassesOver, StopsAt,
   },
   inner.PlanLaws.{needed, EndsAs},
   declared.{
@@ -31,9 +31,7 @@ use Rattle.csplit_core.specs.{
   },
   Measure.{Moves, IsRepeatedBy, IsRepeated, Fits},
   Input.{newline, without_newline, marked, all_lines, is_match_of},
-  Cutter.{
-    CutterState, state_in, most_by, pattern_by, suppress_in, IsFit, pattern_in, AimHolds, IsLive, EndsNow, IsSound,
-  },
+  Cutter.{CutterState, state_in, suppress_in, IsFit, pattern_in, AimHolds, IsLive, EndsNow, IsSound},
 }
 use Rattle.csplit_core.proofs.{
   WholeLemmas.after_within,
@@ -43,7 +41,7 @@ use Rattle.csplit_core.proofs.{
   },
 }
 use Rattle.bre_core.specs.{Pattern.Pattern, Search.contains}
-use Rattle.ports_core.specs.{declared.fault.Fault.{Fault, TheVariants.Memory}, Turn.fault_in}
+use Rattle.ports_core.specs.{declared.fault.Fault.Fault, Turn.fault_in}
 use Rattle.seg_core.specs.Line.{
   line_count, lines_of, delimiters, ends_with, EndsAt, FallsShort, joined, HasNone, IsComplete, AreLines,
 }
@@ -233,17 +231,8 @@ module _ {cutter : CutterState} {cut : Cut} {operand : Operand} (progress : Prog
 
   -- the next operand has got what it needs
   pub passes_next : (new : CutterState) (result : Result (Unit {0}) Fault)
-      → OnOk result
-      (new
-      ≡ record cutter {
-        progress = progress;
-        window = record
-            { most = most_by (drop progress.done cutter.operands); delim = newline; held = [] };
-        sought = pattern_by
-            (drop progress.done cutter.operands);
-      })
-      → IfErr result (λ fault. (fault ≡ Memory) × (new.writer ≡ cutter.writer) × (new.operands ≡ cutter.operands)
-      × (new.style ≡ cutter.style)) → PassesCut cutter cut new (fault_in result)
+      → OnOk result (new ≡ equipped (record cutter { progress = progress }))
+      → IfErr result (Lacks cutter new) → PassesCut cutter cut new (fault_in result)
   passes_next new (Ok done) is lacks = grind (arith, common_steps, fits, fewer, state)
   passes_next new (Err fault) is lacks = lacks
 

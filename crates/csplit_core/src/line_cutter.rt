@@ -9,10 +9,11 @@ ghost use Rattle.ports_core.specs.{Slot.is_writable, Swept.AreThere, Turn.fault_
 ghost use Rattle.csplit_core.specs.{
   Csplit.verdict_of,
   Plan.{above, missed},
-  Cutter.{AimHolds, IsFit, IsSound, load, most_by, pattern_by, seen, state_in},
+  Cutter.{IsFit, IsSound, load, seen},
   inner.Cutter.{
-    AreClear, Clears, CutAt, CutsAll, CutsOn, EndsAll, GoesOn, Judges, Opens, Holds, IsFound, IsLine, IsNoCut,
-    IsWhole, PassesClear, PassesCut, PassesOver, Spread, Starts, StopsAt, Stretches, Takes, Tries, TriesNext, WillCut,
+    AreClear, Clears, CutAt, CutsAll, CutsOn, EndsAll, GoesOn, Judges, Opens, Holds, IsAimed, IsFound, IsLine, IsNoCut,
+    IsWhole, Lacks, PassesClear, PassesCut, PassesOver, Spread, Starts, StopsAt, Stretches, Takes, Tries, TriesNext,
+    WillCut, equipped,
   },
   Input.{newline, without_newline},
 };
@@ -394,7 +395,7 @@ impl<'o> LineCutter<'o> {
         requires live { self.old.aim ≢ turn_is.Below }
         ensures same { seen self.new ≡ record (seen self.old) { lines = self.old.lines + 1; aim = self.new.aim } }
         ensures fit { IsFit (seen self.new) }
-        ensures aim { IfNone result (AimHolds (seen self.new).operands self.new.lines self.new.progress self.new.aim) }
+        ensures aim { IfNone result (IsAimed (seen self.new)) }
         ensures cuts { IfSome result (WillCut (seen self.new)) }
         ensures tries { TriesNext (seen self.old) line.now (seen self.new) result }
     {
@@ -420,7 +421,7 @@ impl<'o> LineCutter<'o> {
         requires few { self.old.lines ≤ 2 ^ 63 }
         requires fit { IsFit (seen self.old) }
         ensures same { seen self.new ≡ record (seen self.old) { aim = self.new.aim } }
-        ensures aim { IfNone result (AimHolds (seen self.new).operands self.new.lines self.new.progress self.new.aim) }
+        ensures aim { IfNone result (IsAimed (seen self.new)) }
         ensures cuts { IfSome result (WillCut (seen self.old)) }
         ensures tries { Tries (seen self.old) line.now (seen self.new) result }
     {
@@ -437,7 +438,7 @@ impl<'o> LineCutter<'o> {
         requires few { self.old.lines ≤ 2 ^ 63 }
         requires fit { IsFit (seen self.old) }
         ensures same { seen self.new ≡ record (seen self.old) { aim = self.new.aim } }
-        ensures aim { IfNone result (AimHolds (seen self.new).operands self.new.lines self.new.progress self.new.aim) }
+        ensures aim { IfNone result (IsAimed (seen self.new)) }
         ensures cuts { IfSome result (WillCut (seen self.old)) }
         ensures tries { (line : List ℕ) → IsFound (seen self.old) (without_newline line) self.old.lines found
             → Tries (seen self.old) line (seen self.new) result }
@@ -574,18 +575,8 @@ impl<'o> LineCutter<'o> {
 
     /// Gets what the next operand needs.
     fn equip(&mut self) -> Result<(), Fault>
-        ensures same { OnOk result (seen self.new
-            ≡ record (seen self.old) {
-              window = record {
-                most = most_by (state_in (seen self.old)).operands;
-                delim = newline;
-                held = [];
-              };
-              sought = pattern_by (state_in (seen self.old)).operands;
-            }) }
-        ensures err { IfErr result
-            (λ fault. (fault ≡ Fault.Memory) × ((seen self.new).writer ≡ (seen self.old).writer)
-            × ((seen self.new).operands ≡ (seen self.old).operands) × ((seen self.new).style ≡ (seen self.old).style)) }
+        ensures same { OnOk result (seen self.new ≡ equipped (seen self.old)) }
+        ensures err { IfErr result (Lacks (seen self.old) (seen self.new)) }
     {
         let next = next_operand(self.operands, self.progress.done);
         self.matcher = find_matcher(self.alloc, next)?;

@@ -19,7 +19,7 @@ use Rattle.csplit_core.specs.{
   inner.PlanLaws.needed,
   Section.is_final,
   Cutter.{
-    CutterState, AimHolds, seen, suppress_in, state_in, kept_by, IsFit, IsSound, load, draft_by, IsAt, EndsNow, IsLive,
+    CutterState, AimHolds, most_by, pattern_by, seen, suppress_in, state_in, kept_by, IsFit, IsSound, load, draft_by, IsAt, EndsNow, IsLive,
     Stands,
   },
   CsplitState.{CsplitState, terms, whole_lines},
@@ -123,6 +123,10 @@ CutsIn cutter x cut = GoesPast (suppress_in cutter) (all_lines x) (state_in cutt
 pub record IsJudged (cutter : CutterState) (x : List ℕ) : Type 0 where
   pub last : state_in cutter ≡ (plan_in cutter x).last
   pub aims : AimsAt cutter.aim (plan_in cutter x).ending
+
+-- what was found of the next operand stays so
+abbrev pub IsAimed : CutterState → Type 0
+IsAimed cutter = AimHolds cutter.operands cutter.lines cutter.progress cutter.aim
 
 -- What any call leaves of a cutter that had these, and of its outputs.
 pub record KeepsBy (given : List Operand) (made : Style) (before : WriterState) (next : CutterState)
@@ -260,11 +264,21 @@ pub record WentOn (cutter : CutterState) (cut : Cut) (next : CutterState) : Type
   pub fewer : needed next.lines (state_in next) < needed cutter.lines (state_in cutter)
   pub state : PassesOn cutter cut next
 
+-- for want of memory little was done
+abbrev pub Lacks : CutterState → CutterState → Fault → Type 0
+Lacks cutter next fault = (fault ≡ Memory) × (next.writer ≡ cutter.writer) × (next.operands ≡ cutter.operands)
+    × (next.style ≡ cutter.style)
+
 abbrev pub PassesCut : CutterState → Cut → CutterState → Option Fault → Type 0
 PassesCut cutter cut next None = WentOn cutter cut next
-PassesCut cutter cut next (Some fault) = (fault ≡ Memory) × (next.writer ≡ cutter.writer)
-    × (next.operands ≡ cutter.operands)
-    × (next.style ≡ cutter.style)
+PassesCut cutter cut next (Some fault) = Lacks cutter next fault
+
+-- the cutter with what its next operand needs
+abbrev pub equipped : CutterState → CutterState
+equipped cutter = record cutter {
+  window = record { most = most_by (state_in cutter).operands; delim = newline; held = [] };
+  sought = pattern_by (state_in cutter).operands;
+}
 
 -- one text ends with another
 abbrev pub IsEnd : List ℕ → List ℕ → Type 0
@@ -305,7 +319,7 @@ pub record Spread (told : Bool) (cutter : CutterState) (cut : Cut) (place : ℕ)
   pub so_far : Spreading told cutter cut place waiting line old new now left
   pub is : next ≡ record now { aim = next.aim }
   pub tries : Tries now line next None
-  pub aim : AimHolds next.operands next.lines next.progress next.aim
+  pub aim : IsAimed next
 
 -- the lines that were left were cut as often as operands cut, and more came in that aren't cut
 pub record CutAll (cutter : CutterState) (cut : Cut) (place : ℕ) (left line more : List ℕ)
