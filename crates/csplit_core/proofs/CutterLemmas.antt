@@ -377,11 +377,8 @@ module _ {delim most over front : ℕ} {held text : List ℕ} (parts : Parted de
 pub kept_window : {window mid : Window} (new : Window) {over front : ℕ} {text : List ℕ}
     (result : Result (Unit {0}) Fault) → Parted window.delim window.most over front window.held text
     → mid ≡ without_first window front
-    → OnOk result (new ≡ record { most = mid.most; delim = mid.delim; held = mid.held ++ drop (over - front) text })
-    → OnOk result
-    (new
-    ≡ record
-    { most = window.most; delim = window.delim; held = last_lines window.delim window.most (window.held ++ text) })
+    → OnOk result (new ≡ record mid { held = mid.held ++ drop (over - front) text })
+    → OnOk result (new ≡ record window { held = last_lines window.delim window.most (window.held ++ text) })
 kept_window new result parts dropped put = grind (arith, common_steps)
 
 -- What `hold` leaves: all that is settled of the lines that came in is written, and the others wait.
@@ -438,13 +435,7 @@ pub hold_goes : {told : Bool} {cutter : CutterState} {writer : WriterState} {win
     → Goes told cutter.writer
     (with_bytes (but_last_lines cutter.window.delim cutter.window.most left)) old new writer fault
     → IfNone fault
-    (window
-    ≡ record {
-      most = cutter.window.most;
-      delim = cutter.window.delim;
-      held = last_lines cutter.window.delim
-          cutter.window.most left;
-    })
+    (window ≡ record cutter.window { held = last_lines cutter.window.delim cutter.window.most left })
     → IfNone fault (size_of writer.current + length window.held ≤ size_of cutter.writer.current + length left)
     → Holds told cutter left old new (record cutter { writer = writer; window = window }) fault
 hold_goes {cutter = cutter} {writer} {window} {left} {fault = fault} fit differs goes waits fewer = record {

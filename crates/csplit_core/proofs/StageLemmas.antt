@@ -5,7 +5,7 @@ use Rattle.std.proofs.{
     subst, arith, ℕ, suc, ◌++◌, take, ◌<◌, nat_lt, get_or, rules, cond, drop, inr, ◌^◌, min, length-append, ◌⊎◌, Result,
     Ok, Err, IfErr, eqb, OnOk, IsTrue,
   },
-  lemmas.{List.{drop_all, drop-map, append-nil, take-append-drop}, Bool.Decides.nat_tests, Grind.common_steps},
+  lemmas.{List.{drop_all, drop-map, append-nil}, Bool.Decides.nat_tests, Grind.common_steps},
   Math.Nat.min-eq_left,
 }
 use Rattle.bre_core.specs.Pattern.{Pattern}
@@ -49,7 +49,7 @@ use Rattle.csplit_core.proofs.{
   },
   TryLemmas.{turn_ends, left_is},
   LineLemmas.{
-    count_from, from_further, bytes_marked, length-all_lines, all_complete, lines_then_open, all_lines-append,
+    count_from, from_further, bytes_marked, open_unbroken, length-all_lines, all_complete, lines_then_open, all_lines-append,
     joined_line, open_is_line, open_complete, first_complete, front_is, no_newline, tail_is, piece_lines, piece_open,
     lines_whole, lines_more, open_more,
   },
@@ -60,7 +60,7 @@ use Rattle.csplit_core.proofs.{
   },
 }
 use Rattle.csplit_core.specs.{
-  Csplit.{settled_of, whole_of, verdict_of, waiting, waiting_of, csplit_work, settled_by, verdict_by},
+  Csplit.{settled_of, whole_of, verdict_of, waiting, waiting_of, csplit_means, csplit_work, settled_by, verdict_by},
   Input.{newline, all_lines, open_line},
   Operand.{Operand, Line},
   Output.{Style, manner_of, opening_of, part_of, sizes_wanted},
@@ -463,23 +463,20 @@ pub lines_alone : {told : Bool} {before stage : CsplitState} {next : CutterState
     → Takes told stage.cutter (stage.rest ++ lines) old new next fault
 lines_alone {told} {before} {next = next} {lines} {old = old} {new} {fault} is size empty takes = grind (arith, common_steps)
 
-pub lines_stop : {told : Bool} {before stage : CsplitState} {next : CutterState} {lines text : List ℕ} (end : List ℕ)
-    {others : List ℕ} {old new : List Slot}
-    {fault : Fault} → before ≡ stage → text ≡ before.rest ++ end
-    → lines ≡ end ++ others → (ends_with newline end ≡ false → others ≡ []) → ends_with newline lines ≡ true
-    → Takes told before.cutter text old new next (Some fault)
-    → Takes told stage.cutter (stage.rest ++ lines) old new next (Some fault)
-lines_stop {told} {before} {next = next} end {others} {old} {new} {fault} same text_is is last whole stopped =
-    lines_from end others same is (takes_wider others (open_complete before.rest end (first_complete end last is whole)) (rw text_is at stopped))
+module _ {told : Bool} {before stage : CsplitState} {lines text : List ℕ} (end : List ℕ) {others : List ℕ}
+    (same : before ≡ stage) (text_is : text ≡ before.rest ++ end) (is : lines ≡ end ++ others)
+    (last : ends_with newline end ≡ false → others ≡ []) (whole : ends_with newline lines ≡ true) where
+  pub lines_stop : {next : CutterState} {old new : List Slot} {fault : Fault}
+      → Takes told before.cutter text old new next (Some fault)
+      → Takes told stage.cutter (stage.rest ++ lines) old new next (Some fault)
+  lines_stop stopped =
+      lines_from end others same is (takes_wider others (open_complete before.rest end (first_complete end last is whole)) (rw text_is at stopped))
 
-pub lines_after : {told : Bool} {before stage : CsplitState} {mid next : CutterState} {lines text : List ℕ}
-    (end : List ℕ) {others : List ℕ}
-    {old between new : List Slot} {fault : Option Fault} → before ≡ stage → text ≡ before.rest ++ end
-    → lines ≡ end ++ others → (ends_with newline end ≡ false → others ≡ []) → ends_with newline lines ≡ true
-    → Takes told before.cutter text old between mid None → Takes told mid others between new next fault
-    → Takes told stage.cutter (stage.rest ++ lines) old new next fault
-lines_after {told} {before} {mid = mid} end {others} {old} {between} same text_is is last whole first second =
-    lines_from end others same is (takes_again (open_complete before.rest end (first_complete end last is whole)) (rw text_is at first) second)
+  pub lines_after : {mid next : CutterState} {old between new : List Slot} {fault : Option Fault}
+      → Takes told before.cutter text old between mid None → Takes told mid others between new next fault
+      → Takes told stage.cutter (stage.rest ++ lines) old new next fault
+  lines_after first second =
+      lines_from end others same is (takes_again (open_complete before.rest end (first_complete end last is whole)) (rw text_is at first) second)
 
 -- A piece
 
@@ -501,6 +498,36 @@ on_both : {A B C : Type 0} (result : Result (Unit {0}) Fault) → OnOk result A 
     → OnOk result C
 on_both result one other follows = search rules
 
+-- what is kept of the open line
+kept_open : {A : Type 0} (tail after : List ℕ) → delimiters newline tail ≡ 0 → A ⊎ (A → ⊥) → (A → after ≡ [])
+    → ((A → ⊥) → after ≡ tail) → (delimiters newline after ≡ 0) × (length after ≤ length tail)
+kept_open tail after none (inl is) past live = rw (past is) (refl, omega arith)
+kept_open tail after none (inr differs) past live = rw (live differs) (none, omega arith)
+
+-- complete lines were taken in, and what follows them waits
+passes_on : {told : Bool} {view stage : CsplitState} (next : CsplitState) {mid : CutterState} {piece : List ℕ}
+    {old new : List Slot} (result : Result (Unit {0}) Fault) → view ≡ stage → (view.cutter.aim ≡ Below → ⊥)
+    → Takes told view.cutter (whole_lines (view.rest ++ piece)) old new mid None → next.cutter ≡ mid
+    → OnOk result (mid.aim ≡ Below → next.rest ≡ [])
+    → OnOk result ((mid.aim ≡ Below → ⊥) → next.rest ≡ open_line (view.rest ++ piece))
+    → IfErr result (λ fault. fault ≡ Memory) → Passes told stage piece old new next result
+passes_on {view = view} next {mid} {piece} result is differs took cutter past live lacks = rw (← is) (record {
+  took = takes_or_lacks result (rw cutter took) lacks;
+  passed = on_both result past live (λ past live.
+      let text = view.rest ++ piece in
+      let aim_is : next.cutter.aim ≡ mid.aim = ap (λ (c : CutterState). c.aim) cutter in
+      let rest = kept_open (open_line text) next.rest (open_unbroken text) (below_or_not mid.aim) past live in record {
+        live = λ other. live (λ is_below. other (aim_is ∙ is_below));
+        past = λ is_below was. past (sym aim_is ∙ is_below);
+        still = λ is_below. absurd (differs is_below);
+        unbroken = rest.0;
+        size = (let fewer : load mid ≤ load view.cutter + length (whole_lines text) = took.went.size in
+            let all : length view.rest + length piece ≡ length (whole_lines text) + length (open_line text) = sym (length-append view.rest piece) ∙ ap length (sym lines_then_open) ∙ length-append (whole_lines text) (open_line text) in
+            let same : load next.cutter ≡ load mid = ap load cutter in
+            let few : length next.rest ≤ length (open_line text) = rest.1 in omega (arith, fewer, all, same, few));
+      });
+})
+
 -- no newline came: the piece is more of the open line
 pub none_passes : {told : Bool} {view stage : CsplitState} (next : CsplitState) {piece : List ℕ} {slots : List Slot}
     (result : Result (Unit {0}) Fault) → view ≡ stage → (view.cutter.aim ≡ Below → ⊥) → delimiters newline piece ≡ 0
@@ -508,29 +535,13 @@ pub none_passes : {told : Bool} {view stage : CsplitState} (next : CsplitState) 
     → delimiters newline stage.rest ≡ 0 → next.cutter ≡ view.cutter
     → OnOk result ((view.cutter.aim ≡ Below → ⊥) → next.rest ≡ view.rest ++ piece)
     → IfErr result (λ fault. fault ≡ Memory) → Passes told stage piece slots slots next result
-none_passes {told} {view} {stage} next {piece} {slots} result is differs none ready sound unbroken cutter rest lacks = rw (← is) (record {
-  took = takes_or_lacks result (rw (cutter, front_is [] (view.rest ++ piece) (inl refl) (no_newline view.rest piece here none)) (takes_none (rw (← is) at sound) (rw (← is) at ready))) lacks;
-  passed = on_both result rest rest (λ rest same. record {
-    live = λ also. rest differs ∙ sym (tail_is [] (inl refl) (no_newline view.rest piece here none));
-    past = λ is_below was. absurd (differs (ap (λ (c : CutterState). c.aim) (sym cutter) ∙ is_below));
-    still = λ is_below. absurd (differs is_below);
-    unbroken = ap (delimiters newline) (rest differs) ∙ no_newline view.rest piece here none;
-    size = (let all : length next.rest ≡ length view.rest + length piece = ap length (rest differs) ∙ length-append view.rest piece in let same : load next.cutter ≡ load view.cutter = ap load cutter in omega (arith, all, same));
-  });
-}) where
-  here : delimiters newline view.rest ≡ 0
-  here = ap (λ (s : CsplitState). delimiters newline s.rest) is ∙ unbroken
+none_passes {view = view} next {piece} result is differs none ready sound unbroken cutter rest =
+    let here : delimiters newline (view.rest ++ piece) ≡ 0 = no_newline view.rest piece (ap (λ (s : CsplitState). delimiters newline s.rest) is ∙ unbroken) none in
+    passes_on next result is differs (rw (front_is [] (view.rest ++ piece) (inl refl) here) (takes_none (rw (← is) at sound) (rw (← is) at ready))) cutter
+    (on_both result rest rest (λ rest same is_below. absurd (differs is_below)))
+    (on_both result rest rest (λ rest same also. rest also ∙ sym (tail_is [] (inl refl) here)))
 
 -- the lines of the piece were taken in, and what follows them is the open line
-
-some_unbroken : (aim : Turn) (mid next : CsplitState) (text : List ℕ) → mid.rest ≡ [] → delimiters newline text ≡ 0
-    → (mid.cutter.aim ≡ Below) ⊎ (mid.cutter.aim ≡ Below → ⊥) → (mid.cutter.aim ≡ Below → next.rest ≡ mid.rest)
-    → ((mid.cutter.aim ≡ Below → ⊥) → next.rest ≡ mid.rest ++ text)
-    → (delimiters newline next.rest ≡ 0) × (length next.rest ≤ length text)
-some_unbroken aim mid next text empty none (inl is_below) past live = (ap (delimiters newline) (past is_below ∙ empty), (let e : length next.rest ≡ 0 = ap length (past is_below ∙ empty) in omega (arith, e)))
-some_unbroken aim mid next text empty none (inr differs) past live =
-    let is : next.rest ≡ text = live differs ∙ ap (λ those. those ++ text) empty in (ap (delimiters newline) is ∙ none, (let e : length next.rest ≡ length text = ap length is in omega (arith, e)))
-
 pub some_passes : {told : Bool} {view stage : CsplitState} (mid next : CsplitState) {piece lines : List ℕ}
     (text : List ℕ) (end : ℕ) {old new : List Slot} (result : Result (Unit {0}) Fault) → view ≡ stage
     → (view.cutter.aim ≡ Below → ⊥) → LastEndsAt newline piece end → lines ≡ take end piece → text ≡ drop end piece
@@ -538,24 +549,10 @@ pub some_passes : {told : Bool} {view stage : CsplitState} (mid next : CsplitSta
     → OnOk result (mid.cutter.aim ≡ Below → next.rest ≡ mid.rest)
     → OnOk result ((mid.cutter.aim ≡ Below → ⊥) → next.rest ≡ mid.rest ++ text)
     → IfErr result (λ fault. fault ≡ Memory) → Passes told stage piece old new next result
-some_passes {told} {view} {stage} mid next {piece} {lines} text end {old} {new} result is differs last lines_is text_is took empty cutter past live lacks = rw (← is) (record {
-  took = takes_or_lacks result (rw (cutter, piece_lines view.rest end last, ← lines_is) took) lacks;
-  passed = on_both result past live (λ past live.
-      let none : delimiters newline text ≡ 0 = ap (delimiters newline) text_is ∙ last.none_after in
-      let rest = some_unbroken mid.cutter.aim mid next text empty none (below_or_not mid.cutter.aim) past live in record {
-        live = λ other. live (λ is_below. other (ap (λ (c : CutterState). c.aim) cutter ∙ is_below)) ∙ ap (λ those. those ++ text) empty ∙ text_is ∙ sym (piece_open view.rest end last);
-        past = λ is_below was. past (ap (λ (c : CutterState). c.aim) (sym cutter) ∙ is_below) ∙ empty;
-        still = λ is_below. absurd (differs is_below);
-        unbroken = rest.0;
-        size = (let fewer : load mid.cutter ≤ load view.cutter + length (view.rest ++ lines) = took.went.size in
-            let all : length (view.rest ++ lines) ≡ length view.rest + length lines = length-append view.rest lines in
-            let parts : length (take end piece) + length (drop end piece) ≡ length piece = sym (length-append (take end piece) (drop end piece)) ∙ ap length (take-append-drop end piece) in
-            let first : length lines ≡ length (take end piece) = ap length lines_is in
-            let last_part : length text ≡ length (drop end piece) = ap length text_is in
-            let same : load next.cutter ≡ load mid.cutter = ap load cutter in
-            let few : length next.rest ≤ length text = rest.1 in omega (arith, fewer, all, parts, first, last_part, same, few));
-      });
-})
+some_passes {view = view} mid next text end result is differs last lines_is text_is took empty cutter past live =
+    passes_on next result is differs (rw (piece_lines view.rest end last, ← lines_is) took) cutter
+    (on_both result past past (λ past same is_below. past is_below ∙ empty))
+    (on_both result live live (λ live same also. live also ∙ ap (λ those. those ++ text) empty ∙ text_is ∙ sym (piece_open view.rest end last)))
 
 pub some_stopped : {told : Bool} {view stage : CsplitState} (next : CsplitState) {piece lines : List ℕ} (end : ℕ)
     {old new : List Slot} {fault : Fault} → view ≡ stage → LastEndsAt newline piece end → lines ≡ take end piece
@@ -593,18 +590,14 @@ lines_in : (rest x piece : List ℕ) → rest ≡ open_line x
     → whole_lines x ++ whole_lines (rest ++ piece) ≡ whole_lines (x ++ piece)
 lines_in rest x piece is = ap (λ those. whole_lines x ++ whole_lines (those ++ piece)) is ∙ sym (lines_more x piece)
 
-settled_by_cases : {stage : CsplitState} {x : List ℕ} (piece : List ℕ) → Holds stage x
-    → (stage.cutter.aim ≡ Below) ⊎ (stage.cutter.aim ≡ Below → ⊥)
-    → settled_part stage.cutter (whole_lines x ++ whole_lines (stage.rest ++ piece)) ≡ (work stage).settled (x ++ piece)
-settled_by_cases {stage} {x} piece holds (inl is_below) =
-    sym (past_part (whole_lines (stage.rest ++ piece)) (lines_whole x) (is_past is_below holds.stands))
-    ∙ past_part (whole_lines (open_line x ++ piece)) (lines_whole x) (is_past is_below holds.stands)
-    ∙ ap (settled_part stage.cutter) (sym (lines_more x piece)) ∙ settled_is stage (x ++ piece)
-settled_by_cases {stage} {x} piece holds (inr differs) = grind (arith, common_steps, lines_in, settled_is)
-
 settled_then : {stage : CsplitState} {x : List ℕ} (piece : List ℕ) → Holds stage x
     → settled_part stage.cutter (whole_lines x ++ whole_lines (stage.rest ++ piece)) ≡ (work stage).settled (x ++ piece)
-settled_then {stage} piece holds = settled_by_cases piece holds (below_or_not stage.cutter.aim)
+settled_then {stage} {x} piece holds = elim (below_or_not stage.cutter.aim) [
+  | inl is_below ↦ sym (past_part (whole_lines (stage.rest ++ piece)) (lines_whole x) (is_past is_below holds.stands))
+      ∙ past_part (whole_lines (open_line x ++ piece)) (lines_whole x) (is_past is_below holds.stands)
+      ∙ ap (settled_part stage.cutter) (sym (lines_more x piece)) ∙ settled_is stage (x ++ piece)
+  | inr differs ↦ ap (settled_part stage.cutter) (lines_in stage.rest x piece (holds.live differs)) ∙ settled_is stage (x ++ piece)
+]
 
 -- the outputs stay its own
 pub owns_on : {stage next : CsplitState} {old new : List Slot} {fault : Option Fault}
@@ -626,14 +619,7 @@ not_verdict style old new fault same breaks = grind (arith, common_steps)
 
 met_by : {Lacks : Type 0} → Lacks → (Ends : Verdict → Type 0) (style : Style) (old new : List Slot) (fault : Fault)
     {own : Manner} → IsManner (manner_of style) own → Breaks own old new fault
-    → IsMet
-    (record {
-      output = sizes_wanted style;
-      files = true;
-      feeding = record { memory = true; files = true };
-      closing = record
-          { memory = true; files = true };
-    }) (record { memory = true; files = true }) Lacks Ends old new fault
+    → IsMet (csplit_means style) (record { memory = true; files = true }) Lacks Ends old new fault
 met_by {Lacks} lacks Ends style old new fault same breaks = grind (arith, common_steps)
 
 -- a piece

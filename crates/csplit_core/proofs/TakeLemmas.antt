@@ -397,50 +397,6 @@ module _ {told : Bool} {cutter now mid : CutterState} {cut cut' : Cut} {place : 
         went = tt;
       }
 
--- Then no operand cuts any more, and the lines that are left are held, perhaps with more.
-
-pub spread_on : {told : Bool} {cutter now next : CutterState} {lines : ℕ} {aim : Turn} {cut : Cut} {place : ℕ}
-    {waiting line left more : List ℕ} {old between new : List Slot} {fault : Option Fault}
-    (so_far : Spreading told cutter cut place waiting line old between now left)
-    → IsSound (more_lines now lines aim) → lines ≤ cutter.lines + length more
-    → ((x : List ℕ) (at : IsAt (bare cutter) x waiting) (here : CutsNow line cut place at)
-    → Reached (part_at (so_far.after x at here).now) (more_lines now lines aim) (x ++ more)
-    (left ++ more))
-    → Holds told (more_lines now lines aim) (left ++ more) between new next fault
-    → CutsAll told cutter cut place waiting line more old new next fault
-spread_on {cutter = cutter} {next = next} {lines} {left = left} {more} {fault = fault} so_far sound few reached held = record {
-  keeps = keeps_on so_far.keeps held.keeps;
-  reaches = λ x at here. let after = so_far.after x at here in let there = reached x at here in
-      reaches_then so_far.keeps.style after.grows after.reaches (reaches_as there.same (sym (settled_same (x ++ more) so_far.keeps)) (held.reaches (x ++ more) there.at there.arrives));
-  went = where_well fault held.went (λ went. record {
-    lines = (let l : next.lines ≡ lines = ap (λ (c : CutterState). c.lines) went.same in omega (arith, l, few));
-    sound = sound_held went sound;
-    stands = λ x at here. let there = reached x at here in went.stands (x ++ more) there.at there.arrives;
-    size = (let one = went.size in let two = so_far.size in let joined : length (left ++ more) ≡ length left + length more = length-append left more in omega (arith, one, two, joined));
-  });
-}
-
-pub spread_held : {told : Bool} {cutter mid next : CutterState} {cut : Cut} {place : ℕ} {waiting line left : List ℕ}
-    {old between new : List Slot} {fault : Option Fault}
-    → Spread told cutter cut place waiting line old between mid left
-    → Holds told mid (mid.window.held ++ left) between new next fault
-    → CutsAll told cutter cut place waiting line [] old new next fault
-spread_held {told} {cutter} {mid} {next} {left = left} {between = between} {new} {fault} spread held =
-    let now = spread.now in
-    let is : mid ≡ more_lines now now.lines mid.aim = spread.is in
-    let none : mid.window.held ≡ [] = ap (λ (c : CutterState). c.window.held) is ∙ spread.so_far.held in
-    spread_on spread.so_far (subst IsSound is (record { fit = spread_fit spread.is spread.so_far.fit; aim = spread.aim })) (let l = spread.so_far.lines in omega (arith, l))
-    (λ x at here.
-    let after = spread.so_far.after x at here in
-    let low = part_at after.now in
-    let there : Reached low (more_lines now now.lines mid.aim) x left = record {
-      at = after.now;
-      arrives = record { ends = rw is at (spread.tries x after.looked); low = λ past. after.none; enough = inl after.none };
-      same = refl;
-    } in
-    rw (append-nil x) (subst (Reached low (more_lines now now.lines mid.aim) x) (sym (append-nil left)) there))
-    (rw (← append-nil left) at (subst (λ (m : CutterState). Holds told m left between new next fault) is (subst (λ those. Holds told mid those between new next fault) (ap (λ those. those ++ left) none) held)))
-
 -- Cutting the lines that wait and one more.
 
 -- where none waits
@@ -548,20 +504,50 @@ there_of {now = now} {mid} {aim} {x} line {left} {rest} {n} fit whole tries over
 joins_by : {E : Type 0} {x rest : List ℕ} (n : ℕ) → (rest ≡ []) ⊎ E → (E → IsWhole x) → Joins x (take n rest)
 joins_by n fact ends = grind (arith, common_steps)
 
-spread_passes : {told : Bool} {cutter mid end next : CutterState} {cut : Cut} {place : ℕ} {line left rest : List ℕ}
-    {n : ℕ} {old between new : List Slot} {fault : Option Fault}
-    → Spread told cutter cut place line line old between mid left → (rest ≡ []) ⊎ (ends_with newline line ≡ true)
-    → PassesOver mid rest end n
+-- Then no operand cuts any more, and the lines that are left are held, perhaps with more.
+
+pub spread_passes : {told : Bool} {cutter mid end next : CutterState} {cut : Cut} {place : ℕ}
+    {waiting line left rest : List ℕ} {n : ℕ} {old between new : List Slot} {fault : Option Fault}
+    → Spread told cutter cut place waiting line old between mid left
+    → (rest ≡ []) ⊎ (ends_with newline line ≡ true) → PassesOver mid rest end n
     → Holds told end (end.window.held ++ (left ++ take n rest)) between new next fault
-    → CutsAll told cutter cut place line line (take n rest) old new next fault
-spread_passes {told} {mid = mid} {end} {next} {line = line} {left} {rest} {n} {between = between} {new} {fault} spread complete over held =
-    let now = spread.now in
-    let over_now = rw spread.is at over in
-    let long : length (take n rest) ≡ n = length-take-le n rest over.within in
-    spread_on spread.so_far (subst IsSound over_now.same over.sound) (let few = over_now.few in let s = spread.so_far.lines in omega (arith, few, s, long))
-    (λ x at here. there_of line spread.so_far.fit (joins_by n complete here.last.2) (rw spread.is at spread.tries) over_now (spread.so_far.after x at here))
-    (subst (λ those. Holds told (more_lines now end.lines mid.aim) (those ++ (left ++ take n rest)) between new next fault) spread.so_far.held
-    (rw over_now.same at held))
+    → CutsAll told cutter cut place waiting line (take n rest) old new next fault
+spread_passes {told} {cutter} {mid} {end} {next} {cut} {place} {waiting} {line} {left} {rest} {n} {between = between} {new} {fault} spread complete over held = record {
+  keeps = keeps_on spread.so_far.keeps held_now.keeps;
+  reaches = λ x at here. let after = spread.so_far.after x at here in let there = reached x at here in
+      reaches_then spread.so_far.keeps.style after.grows after.reaches (reaches_as there.same (sym (settled_same (x ++ take n rest) spread.so_far.keeps)) (held_now.reaches (x ++ take n rest) there.at there.arrives));
+  went = where_well fault held_now.went (λ went. record {
+    lines = (let l : next.lines ≡ end.lines = ap (λ (c : CutterState). c.lines) went.same in let few = over_now.few in let s = spread.so_far.lines in let long : length (take n rest) ≡ n = length-take-le n rest over.within in omega (arith, l, few, s, long));
+    sound = sound_held went (subst IsSound over_now.same over.sound);
+    stands = λ x at here. let there = reached x at here in went.stands (x ++ take n rest) there.at there.arrives;
+    size = (let one = went.size in let two = spread.so_far.size in let joined : length (left ++ take n rest) ≡ length left + length (take n rest) = length-append left (take n rest) in omega (arith, one, two, joined));
+  });
+} where
+  over_now : PassesOver (record spread.now { aim = mid.aim }) rest end n
+  over_now = rw spread.is at over
+
+  held_now : Holds told (more_lines spread.now end.lines mid.aim) (left ++ take n rest) between new next fault
+  held_now = subst (λ those. Holds told (more_lines spread.now end.lines mid.aim) (those ++ (left ++ take n rest)) between new next fault) spread.so_far.held (rw over_now.same at held)
+
+  reached : (x : List ℕ) (at : IsAt (bare cutter) x waiting) (here : CutsNow line cut place at)
+      → Reached (part_at (spread.so_far.after x at here).now) (more_lines spread.now end.lines mid.aim) (x ++ take n rest)
+      (left ++ take n rest)
+  reached x at here = there_of line spread.so_far.fit (joins_by n complete here.last.2) (rw spread.is at spread.tries) over_now (spread.so_far.after x at here)
+
+-- they are held alone
+pub spread_held : {told : Bool} {cutter mid next : CutterState} {cut : Cut} {place : ℕ} {waiting line left : List ℕ}
+    {old between new : List Slot} {fault : Option Fault}
+    → Spread told cutter cut place waiting line old between mid left
+    → Holds told mid (mid.window.held ++ left) between new next fault
+    → CutsAll told cutter cut place waiting line [] old new next fault
+spread_held {left = left} spread held = spread_passes {rest = []} {n = 0} spread (inl refl) (record {
+  same = refl;
+  within = omega arith;
+  whole = inl refl;
+  few = omega arith;
+  sound = record { fit = spread_fit spread.is spread.so_far.fit; aim = spread.aim };
+  ends = λ x before counted ends. rw (append-nil x) (counted, ends);
+}) (rw (append-nil left) held)
 
 -- What `cut_on` owes.
 

@@ -101,57 +101,49 @@ stays suppress operands a b so =
 pub capped : (real cap most total : ℕ) → most ≡ min real cap → most ≤ total → total < cap → most ≡ real
 capped real cap most total is within low = grind (arith, common_steps)
 
-pub falls : (suppress : Bool) (all : List Line) {total : ℕ} (state : State) {operand : Operand}
-    {operands : List Operand} (matched real : ℕ) {most : ℕ} → length all ≡ total → state.operands ≡ operand ∷ operands
-    → CutsAt suppress all state operand operand.target matched real → most ≡ min real (2 ^ 64 - 1) → total < 2 ^ 64 - 1
-    → (turn : Turn) → FallsAt total state.current matched most turn → Turns suppress all state turn
-falls suppress all state {operand} {operands} matched real {most} count are at_cut is few (Above line cap) at = record {
-  ending = above operand state.repetition matched real;
-  runs = is_above state operand operands matched real are at_cut (let less : most ≤ real = (grind (arith, common_steps)) in omega (arith, less, at.2, count));
-  aims = (at.0, at.1 ∙ is);
-}
-falls suppress all {total} state {operand} {operands} matched real {most} count are at_cut is few Below at =
-    let same : most ≡ real = capped real (2 ^ 64 - 1) most total is at.0 few in
-    record { ending = below operand state.repetition; runs = is_below state operand operands matched real are at_cut (omega (arith, same, at.0, count)) (omega (arith, same, at.1)); aims = tt }
-falls suppress all {total} state {operand} {operands} matched real {most} count are at_cut is few (Cuts line cut) at = grind (arith, common_steps)
-falls suppress all state matched real count are at_cut is few turn at = absurd at
+module _ {suppress : Bool} (all : List Line) {total : ℕ} {state : State} {found : Bool} {operand : Operand}
+    {operands : List Operand} (are : state.operands ≡ operand ∷ operands)
+    (seen : AreSeen suppress all total state found) where
+  falls : (matched real : ℕ) {most : ℕ} → CutsAt suppress all state operand operand.target matched real
+      → most ≡ min real (2 ^ 64 - 1) → total < 2 ^ 64 - 1 → (turn : Turn)
+      → FallsAt total state.current matched most turn → Turns suppress all state turn
+  falls matched real {most} at_cut is few (Above line cap) at = record {
+    ending = above operand state.repetition matched real;
+    runs = is_above state operand operands matched real are at_cut (let less : most ≤ real = (grind (arith, common_steps)) in let count = seen.count in omega (arith, less, at.2, count));
+    aims = (at.0, at.1 ∙ is);
+  }
+  falls matched real {most} at_cut is few Below at =
+      let same : most ≡ real = capped real (2 ^ 64 - 1) most total is at.0 few in
+      let count = seen.count in
+      record { ending = below operand state.repetition; runs = is_below state operand operands matched real are at_cut (omega (arith, same, at.0, count)) (omega (arith, same, at.1)); aims = tt }
+  falls matched real {most} at_cut is few (Cuts line cut) at = let count = seen.count in (grind (arith, common_steps, count))
+  falls matched real at_cut is few turn at = absurd at
 
-pub falls_number : (suppress : Bool) (all : List Line) {total : ℕ} (state : State) {found : Bool} {operand : Operand}
-    {operands : List Operand} (number : ℕ) {most : ℕ} → state.operands ≡ operand ∷ operands
-    → operand.target ≡ Number number → AreSeen suppress all total state found
-    → most ≡ min (number * (state.repetition + 1)) (2 ^ 64 - 1) → total < 2 ^ 64 - 1 → (turn : Turn)
-    → FallsAt total state.current state.matched most turn → Turns suppress all state turn
-falls_number suppress all state {operand = operand} number are target seen is few turn at = falls suppress all state state.matched (number * (state.repetition + 1)) seen.count are
-    (rw target (refl, refl)) is few turn at
+  pub falls_number : (number : ℕ) {most : ℕ} → operand.target ≡ Number number
+      → most ≡ min (number * (state.repetition + 1)) (2 ^ 64 - 1) → total < 2 ^ 64 - 1 → (turn : Turn)
+      → FallsAt total state.current state.matched most turn → Turns suppress all state turn
+  falls_number number target = falls state.matched (number * (state.repetition + 1)) (rw target (refl, refl))
 
--- where the last line has the operand's pattern, its search ends there
-pub falls_search : (suppress : Bool) (all : List Line) {total : ℕ} (state : State) {found : Bool} {operand : Operand}
-    {operands : List Operand} {pattern : Pattern} {kept : Bool} (offset : Offset) {most : ℕ}
-    → state.operands ≡ operand ∷ operands → operand.target ≡ Search pattern kept offset
-    → AreSeen suppress all total state found → search_line suppress state ≤ total → found ≡ true
-    → most ≡ min (moved offset total) (2 ^ 64 - 1) → total < 2 ^ 64 - 1 → (turn : Turn)
-    → FallsAt total state.current total most turn → Turns suppress all state turn
-falls_search suppress all {total} state {operand = operand} {operands} {pattern} {kept} offset are target seen near is_found is few turn at = falls suppress all state total (moved offset total) seen.count are
-    (subst (λ t. CutsAt suppress all state operand t total (moved offset total)) (sym target)
-    (rw (← seen.count) (
-      (grind (arith, common_steps)),
-      refl,
-    ))) is few turn at
+  -- where the last line has the operand's pattern, its search ends there
+  pub falls_search : {pattern : Pattern} {kept : Bool} (offset : Offset) {most : ℕ}
+      → operand.target ≡ Search pattern kept offset → search_line suppress state ≤ total → found ≡ true
+      → most ≡ min (moved offset total) (2 ^ 64 - 1) → total < 2 ^ 64 - 1 → (turn : Turn)
+      → FallsAt total state.current total most turn → Turns suppress all state turn
+  falls_search {pattern} {kept} offset target near is_found = falls total (moved offset total)
+      (subst (λ t. CutsAt suppress all state operand t total (moved offset total)) (sym target)
+      (record { not_before = near; within = omega (arith, seen.count); match = seen.last operand operands are near ∙ is_found; first = seen.others operand operands are }, refl))
 
--- and where it has not, or the search begins after it, no line matches
-pub misses_search : {suppress : Bool} (all : List Line) {total : ℕ} {state : State} {found : Bool} {operand : Operand}
-    {operands : List Operand} {pattern : Pattern} {kept : Bool} {offset : Offset}
-    → state.operands ≡ operand ∷ operands → operand.target ≡ Search pattern kept offset
-    → AreSeen suppress all total state found → (search_line suppress state ≤ total → found ≡ false)
-    → EndsHere suppress all state Missed
-misses_search {suppress} all {total} {state} {operand = operand} {operands} are target seen none = record {
-  ending = missed operand state.repetition;
-  runs = misses state operand operands are (subst (Misses suppress all state operand) (sym target)
-      (looks_past operand all (search_line suppress state) (λ other from less. seen.others operand operands are other from (omega (arith, less, seen.count)))
-      (λ near. let at : search_line suppress state ≤ total = omega (arith, seen.count, near) in ap
-      (is_match operand all) seen.count ∙ seen.last operand operands are at ∙ none at)));
-  aims = tt;
-}
+  -- and where it has not, or the search begins after it, no line matches
+  pub misses_search : {pattern : Pattern} {kept : Bool} {offset : Offset} → operand.target ≡ Search pattern kept offset
+      → (search_line suppress state ≤ total → found ≡ false) → EndsHere suppress all state Missed
+  misses_search target none = record {
+    ending = missed operand state.repetition;
+    runs = misses state operand operands are (subst (Misses suppress all state operand) (sym target)
+        (looks_past operand all (search_line suppress state) (λ other from less. seen.others operand operands are other from (omega (arith, less, seen.count)))
+        (λ near. let at : search_line suppress state ≤ total = omega (arith, seen.count, near) in ap
+        (is_match operand all) seen.count ∙ seen.last operand operands are at ∙ none at)));
+    aims = tt;
+  }
 
 pub left_is : (operands : List Operand) (at : ℕ) {operand : Operand} → at < length operands
     → operand ≡ get_or operands at operand → drop at operands ≡ operand ∷ drop (at + 1) operands
