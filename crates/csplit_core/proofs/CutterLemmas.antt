@@ -3,13 +3,16 @@ use Rattle.std.{
   proofs.lemmas.{
     Grind.{common_steps, flat_map-append},
     Bool.cases_lt,
-    List.{append-nil, length-take-le, length-drop, take-append-le, take_all, drop_all, drop-drop, map-append},
+    List.{
+      append-nil, length-take-le, length-drop, take-append-le, drop-append-le, take_all, drop_all, drop-drop, map-append,
+    },
   },
   proofs.Common.{
     ◌≡◌, ℕ, ◌+◌, ◌-◌, ◌≤◌, Bool, true, false, List, [], ◌++◌, length, refl, sym, ◌∙◌, ap, arith, inl, inr, Option, None,
-    subst, ◌<◌, min, Some, Result, Err, OnOk, take, drop, IfNone, rules, suc, ◌∷◌, map, append_assoc,
+    subst, ◌<◌, min, Some, Result, Err, OnOk, take, drop, IfNone, rules, suc, ◌∷◌, ◌⊎◌, map,
+    append_assoc,
   },
-  proofs.Math.{Nat.{min-eq_left, min-eq_right}, Seq.{take-add, take-append-add}},
+  proofs.Math.Seq.{take-add, take-append-add, drop-append-add},
   specs.List.flat_map,
 }
 use Rattle.seg_core.{
@@ -20,7 +23,7 @@ use Rattle.seg_core.{
   },
   proofs.{
     FirstLines.{first_lines-is_take, first_lines-zero, first_lines_then_rest},
-    Carried.{left_after, left_alone, but_last_lines-last, over-le-length},
+    Carried.{but_last_lines-last, last_lines-is_drop, over-le-length},
   },
 }
 use Rattle.csplit_core.specs.{
@@ -284,41 +287,6 @@ module _ {told : Bool} {writer now : WriterState} {window left_in : Window} {n l
   pub left_within : n ≤ length window.held → left ≤ length left_in.held
   left_within enough = grind (arith, common_steps)
 
-  pub fits_front : (bytes most : ℕ) (front rest : List ℕ) → left_in.held ≡ front ++ rest → bytes ≤ length front
-      → size_of writer.current + length window.held < most → size_of now.current + length (take bytes front) < most
-  fits_front bytes most front rest is within fits = grind (arith, common_steps)
-
-  -- what went, with more bytes of what stands at the front
-  taken_more : (bytes : ℕ) (front rest : List ℕ) → left_in.held ≡ front ++ rest → bytes ≤ length front
-      → take (n - left) window.held ++ take bytes front ≡ take (n - left + bytes) window.held
-  taken_more bytes front rest is within = grind (arith, common_steps, take-add)
-
-  pub empties : (bytes : ℕ) (front rest : List ℕ) {next : WriterState} {after : Window} {new : List Slot}
-      → left_in.held ≡ front ++ rest → bytes ≤ length front → bytes ≤ left → after ≡ without_first left_in bytes
-      → Goes told now (with_bytes (take bytes front)) mid new next None
-      → size_of next.current ≤ size_of now.current + length (take bytes front)
-      → Emptying told writer next window after n (left - bytes) old new
-  empties bytes front rest {after = after} is within few dropped went more =
-      let long : length (take bytes front) ≡ bytes = length-take-le bytes front within in
-      let less : length front ≤ length left_in.held = (grind (arith, common_steps)) in
-      let after_long : length after.held ≡ length left_in.held - bytes = ap (λ (w : Window). length w.held) dropped ∙ length-drop bytes left_in.held in
-      let count : n - left + bytes ≡ n - (left - bytes) = (let all = so_far.few in omega (arith, all, few)) in record {
-        few = (let all = so_far.few in omega (arith, all));
-        rest = dropped ∙ ap (λ (w : Window). without_first w bytes) so_far.rest ∙ ap (λ held. record window { held = held }) (drop-drop bytes (n - left) window.held) ∙ ap (without_first window) count;
-        went = goes_as (taken_more bytes front rest is within ∙ ap (λ k. take k window.held) count) (goes_more (take (n - left) window.held) (take bytes front) so_far.went went);
-        size = (let size = so_far.size in omega (arith, size, more, long, less, after_long, within));
-      }
-
-  -- a write of it stopped
-  pub empties_short : (bytes : ℕ) (front rest : List ℕ) {next : WriterState} {new : List Slot} {fault : Fault}
-      → left_in.held ≡ front ++ rest → bytes ≤ length front → bytes ≤ left
-      → Goes told now (with_bytes (take bytes front)) mid new next (Some fault)
-      → Goes told writer (with_bytes (take n window.held)) old new next (Some fault)
-  empties_short bytes front rest is within few stopped =
-      let count : n - left + bytes + (left - bytes) ≡ n = (let all = so_far.few in omega (arith, all, few)) in
-      goes_as (ap (λ those. those ++ take (left - bytes) (drop (n - left + bytes) window.held)) (taken_more bytes front rest is within) ∙ sym (take-add (n - left + bytes) (left - bytes) window.held) ∙ ap (λ k. take k window.held) count)
-      (stops_among (take (n - left) window.held ++ take bytes front) (take (left - bytes) (drop (n - left + bytes) window.held)) (goes_more (take (n - left) window.held) (take bytes front) so_far.went stopped))
-
   -- all of it was written
   pub emptied_went : left ≤ 0 → Goes told writer (with_bytes (take n window.held)) old mid now None
   emptied_went none = goes_as (ap (λ k. take k window.held) (let e : n - left ≡ n = omega (arith, none) in e)) so_far.went
@@ -326,36 +294,67 @@ module _ {told : Bool} {writer now : WriterState} {window left_in : Window} {n l
   pub emptied_window : left ≤ 0 → left_in ≡ without_first window n
   emptied_window none = so_far.rest ∙ ap (without_first window) (let e : n - left ≡ n = omega (arith, none) in e)
 
+-- more bytes of what stands at its front go
+module _ {told : Bool} {writer now : WriterState} {window left_in : Window} {n left : ℕ} {old mid : List Slot}
+    (so_far : Emptying told writer now window left_in n left old mid) (bytes : ℕ) (front rest : List ℕ)
+    (is : left_in.held ≡ front ++ rest) (within : bytes ≤ length front) where
+  pub fits_front : (most : ℕ) → size_of writer.current + length window.held < most
+      → size_of now.current + length (take bytes front) < most
+  fits_front most fits = grind (arith, common_steps)
+
+  taken_more : take (n - left) window.held ++ take bytes front ≡ take (n - left + bytes) window.held
+  taken_more = grind (arith, common_steps, take-add)
+
+  pub empties : bytes ≤ left → {next : WriterState} {after : Window} {new : List Slot} → after ≡ without_first left_in bytes
+      → Goes told now (with_bytes (take bytes front)) mid new next None
+      → size_of next.current ≤ size_of now.current + length (take bytes front)
+      → Emptying told writer next window after n (left - bytes) old new
+  empties few {after = after} dropped went more =
+      let long : length (take bytes front) ≡ bytes = length-take-le bytes front within in
+      let less : length front ≤ length left_in.held = (grind (arith, common_steps)) in
+      let after_long : length after.held ≡ length left_in.held - bytes = ap (λ (w : Window). length w.held) dropped ∙ length-drop bytes left_in.held in
+      let count : n - left + bytes ≡ n - (left - bytes) = (let all = so_far.few in omega (arith, all, few)) in record {
+        few = (let all = so_far.few in omega (arith, all));
+        rest = dropped ∙ ap (λ (w : Window). without_first w bytes) so_far.rest ∙ ap (λ held. record window { held = held }) (drop-drop bytes (n - left) window.held) ∙ ap (without_first window) count;
+        went = goes_as (taken_more ∙ ap (λ k. take k window.held) count) (goes_more (take (n - left) window.held) (take bytes front) so_far.went went);
+        size = (let size = so_far.size in omega (arith, size, more, long, less, after_long, within));
+      }
+
+  -- a write of it stopped
+  pub empties_short : bytes ≤ left → {next : WriterState} {new : List Slot} {fault : Fault}
+      → Goes told now (with_bytes (take bytes front)) mid new next (Some fault)
+      → Goes told writer (with_bytes (take n window.held)) old new next (Some fault)
+  empties_short few stopped =
+      let count : n - left + bytes + (left - bytes) ≡ n = (let all = so_far.few in omega (arith, all, few)) in
+      goes_as (ap (λ those. those ++ take (left - bytes) (drop (n - left + bytes) window.held)) taken_more ∙ sym (take-add (n - left + bytes) (left - bytes) window.held) ∙ ap (λ k. take k window.held) count)
+      (stops_among (take (n - left) window.held ++ take bytes front) (take (left - bytes) (drop (n - left + bytes) window.held)) (goes_more (take (n - left) window.held) (take bytes front) so_far.went stopped))
+
 -- What leaves of the lines that wait and of a text after them, and what stays: of the text only where all that waited leaves.
 pub record Parted (delim most over front : ℕ) (held text : List ℕ) : Type 0 where
   pub goes : take front held ++ take (over - front) text ≡ but_last_lines delim most (held ++ text)
   pub stays : drop front held ++ drop (over - front) text ≡ last_lines delim most (held ++ text)
   pub within : over - front ≤ length text
 
+both_parts : (n : ℕ) (xs ys : List ℕ) {k : ℕ} → k ≡ min n (length xs) → (n < length xs) ⊎ (length xs ≤ n)
+    → (take k xs ++ take (n - k) ys ≡ take n (xs ++ ys)) × (drop k xs ++ drop (n - k) ys ≡ drop n (xs ++ ys))
+both_parts n xs ys {k} is (inl less) =
+    let e : k ≡ n = omega (arith, is, less) in
+    let none : n - k ≡ 0 = omega (arith, e) in
+    (grind (arith, common_steps, e, none, append-nil, take-append-le, drop-append-le))
+both_parts n xs ys {k} is (inr more) =
+    let e : k ≡ length xs = omega (arith, is, more) in
+    let all : length xs + (n - k) ≡ n = omega (arith, e, more) in
+    (grind (arith, common_steps, e, all, take-append-add xs ys (n - k), drop-append-add xs ys (n - k), take_all, drop_all))
+
 pub parted : {delim most over long front : ℕ} {held text : List ℕ}
     → over ≡ length (but_last_lines delim most (held ++ text)) → long ≡ length held → front ≡ min over long
     → Parted delim most over front held text
-parted {delim} {most} {over} {front = front} {held} {text} is all least = elim (cases_lt over (length held)) [
-  | inl less ↦
-      let low : over ≤ length held = omega (arith, less) in
-      let none : over - front ≡ 0 = (let same : front ≡ over = at ∙ min-eq_left low in omega (arith, same)) in record {
-        goes = ap (λ n. take front held ++ take n text) none ∙ append-nil (take front held) ∙ ap (λ n. take n held) (at ∙ min-eq_left low) ∙ sym (take-append-le over held text low) ∙ taken;
-        stays = ap (λ n. drop front held ++ drop n text) none ∙ ap (λ n. drop n held ++ text) (at ∙ min-eq_left low) ∙ left_after delim most held text over is low;
-        within = omega (arith, none);
-      }
-  | inr more ↦
-      let same : front ≡ length held = at ∙ min-eq_right more in record {
-        goes = ap (λ bytes. bytes ++ take (over - front) text) (ap (λ n. take n held) same ∙ take_all (length held) held (omega arith)) ∙ sym (take-append-add held text (over - front))
-            ∙ ap (λ n. take n (held ++ text)) (let e : length held + (over - front) ≡ over = omega (arith, more, same) in e) ∙ taken;
-        stays = ap (λ bytes. bytes ++ drop (over - front) text) (ap (λ n. drop n held) same ∙ drop_all (length held) held (omega arith)) ∙ left_alone delim most held text over (over - front) is (omega (arith, more, same));
-        within = (let all = over-le-length delim most held text in omega (arith, all, is, same));
-      }
-] where
-  at : front ≡ min over (length held)
-  at = least ∙ ap (min over) all
-
-  taken : take over (held ++ text) ≡ but_last_lines delim most (held ++ text)
-  taken = ap (λ n. take n (held ++ text)) is ∙ sym (first_lines-is_take delim (line_count delim (held ++ text) - most) (held ++ text))
+parted {delim} {most} {over} {long} {front} {held} {text} is all least =
+    let parts = both_parts over held text (least ∙ ap (min over) all) (cases_lt over (length held)) in record {
+      goes = parts.0 ∙ ap (λ n. take n (held ++ text)) is ∙ sym (first_lines-is_take delim (line_count delim (held ++ text) - most) (held ++ text));
+      stays = parts.1 ∙ ap (λ n. drop n (held ++ text)) is ∙ last_lines-is_drop delim most (held ++ text);
+      within = (let less = over-le-length delim most held text in omega (arith, less, is, all, least));
+    }
 
 -- what `hold_last` owes at each of its ends
 module _ {delim most over front : ℕ} {held text : List ℕ} (parts : Parted delim most over front held text) where
@@ -506,11 +505,14 @@ begins_with : (style : Style) (lines : List Line) (steps : List Step) (one : Sec
 begins_with style lines steps one more kept same =
     rw (← draft_shares style lines steps kept []) at (section_grows style (map (section_of lines) steps) (section kept false []) one more refl same (bytes_of one.lines) refl)
 
+-- the open section, where the plan ends there
+abbrev open_at : List Line → State → Ending → Section
+open_at lines last ending = section (is_last_kept ending) false
+    (lines_between last.current (settled_end (length lines) ending) lines)
+
 settled_by_plan : (style : Style) (operands : List Operand) {lines : List Line} {steps : List Step} {last : State}
     {ending : Ending} → Runs style.suppress lines (start operands) steps last ending
-    → settled_of style operands lines ≡ part_of style
-    (map (section_of lines) steps ++ section (is_last_kept ending) false
-    (lines_between last.current (settled_end (length lines) ending) lines) ∷ [])
+    → settled_of style operands lines ≡ part_of style (map (section_of lines) steps ++ open_at lines last ending ∷ [])
 settled_by_plan style operands {lines} {steps} {last} {ending} runs = grind (arith, common_steps, plan_once, runs)
 
 begun_by : (style : Style) (operands : List Operand) {lines : List Line} (steps : List Step) {state : State}
@@ -518,21 +520,20 @@ begun_by : (style : Style) (operands : List Operand) {lines : List Line} (steps 
     → Runs style.suppress lines (start operands) (steps ++ more) last ending
     → Begins (draft_part (manner_of style) (draft_by style lines steps (kept_by state.operands) []))
     (settled_of style operands lines)
-begun_by style operands {lines} steps {state} [] {last} {ending} rest all =
-    subst (Begins (draft_part (manner_of style) (draft_by style lines steps (kept_by state.operands) []))) (sym (settled_by_plan style operands all))
-    (rw (append-nil steps) (begins_with style lines steps (section (is_last_kept ending) false (lines_between last.current (settled_end (length lines) ending) lines)) [] (kept_by state.operands) (at_end state last ending rest))) where
-      at_end : (state last : State) (ending : Ending) → Runs style.suppress lines state [] last ending
-          → kept_by state.operands ≡ is_last_kept ending
-      at_end state last ending (is_used_up state' none) = ap kept_by none
-      at_end state last ending (misses state' operand those is none) = ap kept_by is
-      at_end state last ending (is_above state' operand those matched cut is at far) = ap kept_by is
-      at_end state last ending (is_below state' operand those matched cut is at within low) = ap kept_by is
-begun_by style operands {lines} steps {state} (step ∷ more) {last} {ending} rest all =
-    let tail = map (section_of lines) more ++ section (is_last_kept ending) false (lines_between last.current (settled_end (length lines) ending) lines) ∷ [] in
-    subst (Begins (draft_part (manner_of style) (draft_by style lines steps (kept_by state.operands) []))) (sym (settled_by_plan style operands all
-    ∙ ap (λ those. part_of style (those ++ section (is_last_kept ending) false (lines_between last.current (settled_end (length lines) ending) lines) ∷ [])) (map-append (section_of lines) steps (step ∷ more))
-    ∙ ap (part_of style) (append_assoc (map (section_of lines) steps) (section_of lines step ∷ map (section_of lines) more) _)))
-    (begins_with style lines steps (section_of lines step) tail (kept_by state.operands) (first_kept rest))
+begun_by style operands {lines} steps {state} more {last} {ending} rest all =
+    rw (settled_by_plan style operands all, map-append (section_of lines) steps more, append_assoc (map (section_of lines) steps) (map (section_of lines) more) (open_at lines last ending ∷ [])) (by state more last ending rest) where
+  at_end : (state last : State) (ending : Ending) → Runs style.suppress lines state [] last ending
+      → kept_by state.operands ≡ is_last_kept ending
+  at_end state last ending (is_used_up state' none) = ap kept_by none
+  at_end state last ending (misses state' operand those is none) = ap kept_by is
+  at_end state last ending (is_above state' operand those matched cut is at far) = ap kept_by is
+  at_end state last ending (is_below state' operand those matched cut is at within low) = ap kept_by is
+
+  by : (state : State) (more : List Step) (last : State) (ending : Ending) → Runs style.suppress lines state more last ending
+      → Begins (draft_part (manner_of style) (draft_by style lines steps (kept_by state.operands) []))
+      (part_of style (map (section_of lines) steps ++ (map (section_of lines) more ++ open_at lines last ending ∷ [])))
+  by state [] last ending rest = begins_with style lines steps (open_at lines last ending) [] (kept_by state.operands) (at_end state last ending rest)
+  by state (step ∷ more) last ending rest = begins_with style lines steps (section_of lines step) _ (kept_by state.operands) (first_kept rest)
 
 -- The sections once one more ended
 

@@ -1,8 +1,8 @@
 -- Lines of a text as operands see them, their bytes, and what follows the last newline, where more bytes come.
 use Rattle.std.proofs.{
   Common.{
-    ◌≡◌, ◌⊎◌, inl, inr, ℕ, ◌+◌, ◌-◌, ◌<◌, ◌≤◌, List, [], ◌∷◌, ◌++◌, length, map, take, drop, refl, sym, ◌∙◌, ap, arith,
-    length-append, Bool, true, false, cond, append_assoc, take-add, rules,
+    ◌≡◌, inl, inr, ℕ, ◌+◌, ◌-◌, ◌<◌, ◌≤◌, List, [], ◌∷◌, ◌++◌, length, map, take, drop, refl, sym, ◌∙◌, ap, arith,
+    length-append, Bool, true, false, cond, append_assoc, take-add, rules, subst,
   },
   lemmas.Bool.{cases_lt, cases_eq, eq-eqb, ne_eqb},
   lemmas.List.{
@@ -16,7 +16,7 @@ use Rattle.seg_core.specs.Line.{
 }
 use Rattle.seg_core.proofs.{
   LinesOf.{lines_of-append, joined-lines_of, AreLines-lines_of, lines_of-joined},
-  LineCounts.{line_count-closed, ends_with-append, line_count-le-length, line_count-open, ends_with-some},
+  LineCounts.{line_count-closed, ends_with-append, line_count-open, ends_with-some},
   FirstLines.{
     after_lines-is_drop, first_lines_then_rest, joined-append, lines_of-after_lines, first_lines-zero,
     delimiters-first_lines, lines_of-first_lines,
@@ -119,16 +119,7 @@ first_further first a b x some =
 
 -- all that is left is from a line on
 pub whole_from : (first : ℕ) {x : List ℕ} → IsWhole x → IsWhole (text_from first x)
-whole_from first {x} whole = by (cases_lt (first - 1) (line_count newline x)) where
-  by : (first - 1 < line_count newline x) ⊎ (line_count newline x ≤ first - 1) → IsWhole (text_from first x)
-  by (inr beyond) = inl (ap joined (drop_all (first - 1) (lines_of newline x) beyond))
-  by (inl on) = split whole where
-    split : IsWhole x → IsWhole (text_from first x)
-    split (inl none) = inl (ap (λ those. text_from first those) none ∙ ap joined (drop_all (first - 1) [] (omega arith)))
-    split (inr ends) =
-        let both : first_lines newline (first - 1) x ++ text_from first x ≡ x = first_lines_then_rest newline (first - 1) x in
-        let some : 0 < line_count newline (text_from first x) = (let e = count_from first x in omega (arith, e, on)) in
-        inr (sym (ends_with-append newline (first_lines newline (first - 1) x) (text_from first x) (let less = line_count-le-length newline (text_from first x) in omega (arith, less, some))) ∙ ap (ends_with newline) both ∙ ends)
+whole_from first {x} whole = subst IsWhole (sym (after_lines-is_drop newline (first - 1) x)) (whole_drop (length (first_lines newline (first - 1) x)) whole)
 
 -- what follows the first line
 pub after_first : (text line : List ℕ) {rest : List ℕ} → text ≡ line ++ rest
