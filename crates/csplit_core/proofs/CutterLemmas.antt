@@ -248,7 +248,7 @@ few_taken {cutter} {x} at = grind (arith, common_steps)
 -- with the first lines of those that were left more is written, and the lines after them are left
 module _ {cutter : CutterState} {x left : List ℕ} (n : ℕ) (some : 1 ≤ cutter.progress.current)
     (at : IsAt cutter x left) where
-  written_on : {bytes : List ℕ} → bytes ≡ first_lines newline n left
+  pub written_on : {bytes : List ℕ} → bytes ≡ first_lines newline n left
       → at.written ++ bytes ≡ first_lines newline (at.taken + n) (text_from cutter.progress.current x)
   written_on {bytes} bytes_is = ap (λ those. those ++ bytes) at.written_is
       ∙ ap (λ those. first_lines newline at.taken (text_from cutter.progress.current x) ++ those) (bytes_is ∙ ap (first_lines newline n) at.left_is)

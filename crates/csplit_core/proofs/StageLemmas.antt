@@ -2,16 +2,15 @@
 use Rattle.std.proofs.{
   Common.{
     ◌≡◌, inl, ◌+◌, ◌-◌, ◌≤◌, length, max, Bool, true, false, List, [], ◌∷◌, None, Option, Some, refl, sym, ◌∙◌, ap,
-    subst, arith, ℕ, suc, ◌++◌, take, ◌<◌, nat_lt, get_or, rules, cond, drop, inr, ◌^◌, min, length-append, ◌⊎◌, Result,
-    Ok, Err, IfErr, eqb, OnOk, IsTrue,
+    subst, arith, ℕ, ◌++◌, take, ◌<◌, nat_lt, get_or, rules, cond, drop, inr, ◌^◌, min, length-append, ◌⊎◌, Result, Ok,
+    Err, IfErr, eqb, OnOk, IsTrue,
   },
-  lemmas.{List.{drop_all, drop-map, append-nil}, Bool.Decides.nat_tests, Grind.common_steps},
-  Math.Nat.min-eq_left,
+  lemmas.{List.{drop_all, length-drop, drop-map, append-nil}, Bool.Decides.nat_tests, Grind.common_steps},
 }
 use Rattle.bre_core.specs.Pattern.{Pattern}
 use Rattle.seg_core.{
   specs.{Window.Window, Line.{line_count, first_lines, after_lines, delimiters, ends_with, LastEndsAt}},
-  proofs.FirstLines.{first_lines-all, first_lines_then_rest, lines_of-after_lines},
+  proofs.FirstLines.{first_lines-all, after_lines-is_drop, lines_of-after_lines},
 }
 use Rattle.ports_core.specs.{
   Slot.{Slot, is_writable},
@@ -44,12 +43,12 @@ use Rattle.ports_core.proofs.{
 }
 use Rattle.csplit_core.proofs.{
   CutterLemmas.{
-    draft_is, settled_part_is, whole_part_is, runs_to, live_part, live_taken, keeps_on, reaches_then, same_by,
-    settled_same,
+    draft_is, few_taken, left_count, written_on, settled_part_is, whole_part_is, runs_to, live_part, live_taken,
+    keeps_on, reaches_then, same_by, settled_same,
   },
   TryLemmas.{turn_ends, left_is},
   LineLemmas.{
-    count_from, from_further, bytes_marked, open_unbroken, length-all_lines, all_complete, lines_then_open, all_lines-append,
+    from_further, bytes_marked, open_unbroken, length-all_lines, all_complete, lines_then_open, all_lines-append,
     joined_line, open_is_line, open_complete, first_complete, front_is, no_newline, tail_is, piece_lines, piece_open,
     lines_whole, lines_more, open_more,
   },
@@ -69,15 +68,16 @@ use Rattle.csplit_core.specs.{
   laws.{PlanLaws.{plan_runs, plan_once}, SectionLaws.{ends_as, are_within, closed_still, ends_with as whole_grows}},
   Progress.{state_of, AimsAt, EndsHere},
   inner.Cutter.{
-    BegunNot, draft_at, plan_in, new_for, writer_for, AreSeen, Turns, MovesOn, Opened, settled_part, whole_part, IsJudged,
-    EndsAll, IsWhole, Takes, IsLine, Clears, Keeps, Closed, Closes, ended_so, Judges, Passes, ended_well, ended_short,
+    BegunNot, draft_at, plan_in, new_for, writer_for, AreSeen, Turns, MovesOn, Opened, settled_part, whole_part,
+    IsJudged, EndsAll, IsWhole, Takes, IsLine, Clears, Keeps, Closed, Closes, ended_so, Judges, Passes, ended_well,
+    ended_short,
   },
   inner.PlanLaws.{EndsAs, AreWithin},
   Section.{is_final, whole_end, bytes_of, waiting_lines, whole_sections},
   declared.progress.{Progress.Progress, Turn.{Turn, TheVariants.{Below, Missed, Above}}},
   Cutter.{
     CutterState, most_next, pattern_next, kept_next, next_of, most_by, pattern_by, kept_by, settled_draft, IsFit,
-    Stands, suppress_in, state_in, text_from, IsLive, IsPast, IsSound, load,
+    Stands, suppress_in, state_in, IsLive, IsPast, IsSound, load,
   },
   CsplitState.{CsplitState, Holds, whole_lines, IsReady, Owns, terms, files, work},
 }
@@ -233,18 +233,6 @@ opened_lacks told {style} operands {slots} lacks = search (rules, stops_wider, i
 
 -- The last section has all lines that are left, and none where the cut is below the current line.
 
-all_written : (x : List ℕ) {written held : List ℕ} (current taken : ℕ) (ending : Ending) → 1 ≤ current
-    → is_final ending ≡ false → written ≡ first_lines newline taken (text_from current x)
-    → held ≡ text_from (current + taken) x
-    → written ++ held ≡ first_lines newline (whole_end (line_count newline x) ending - current) (text_from current x)
-all_written x {held} current taken ending some live written_is held_is =
-    let all : first_lines newline taken (text_from current x) ++ after_lines newline taken (text_from current x) ≡ text_from current x = first_lines_then_rest newline taken (text_from current x) in
-    let end : whole_end (line_count newline x) ending ≡ suc (line_count newline x) = ends_after_all (line_count newline x) ending live in
-    let count : line_count newline (text_from current x) ≡ line_count newline x - (current - 1) = count_from current x in
-    ap (λ those. those ++ held) written_is
-    ∙ ap (λ those. first_lines newline taken (text_from current x) ++ those) (held_is ∙ sym (from_further current taken x some))
-    ∙ all ∙ sym (first_lines-all newline (whole_end (line_count newline x) ending - current) (omega (arith, end, count, some)))
-
 -- What is written before the end, and with the lines that wait, is what is settled and the whole.
 record LastDraft (cutter : CutterState) (x : List ℕ) : Type 0 where
   draft : Draft
@@ -254,14 +242,17 @@ record LastDraft (cutter : CutterState) (x : List ℕ) : Type 0 where
       ≡ whole_part cutter x
 
 live_draft : {cutter : CutterState} {x : List ℕ} → IsFit cutter → IsLive cutter x → LastDraft cutter x
-live_draft {cutter} {x} fit live = record {
-  draft = draft_at live.at;
-  writes = live.at.writes;
-  settled = live_part live;
-  whole = ap (λ draft. draft_part (manner_of cutter.style) (with_next Never draft)) (draft_is whole_end cutter.style cutter.operands x _ (runs_to live.at live.ends) refl
-      (all_written x cutter.progress.current live.at.taken live.ends.ending fit.fits.some live.live live.at.written_is live.at.left_is))
-      ∙ whole_part_is cutter.style cutter.operands (all_lines x);
-}
+live_draft {cutter} {x} fit live =
+    let n = line_count newline cutter.window.held in
+    let some = fit.fits.some in record {
+      draft = draft_at live.at;
+      writes = live.at.writes;
+      settled = live_part live;
+      whole = ap (λ draft. draft_part (manner_of cutter.style) (with_next Never draft)) (draft_is whole_end cutter.style cutter.operands x (live.at.taken + n) (runs_to live.at live.ends)
+          (omega (arith, left_count live.at, few_taken live.at, live.at.counted, ends_after_all (line_count newline x) live.ends.ending live.live, some))
+          (written_on n some live.at (sym (first_lines-all newline n (omega arith)))))
+          ∙ whole_part_is cutter.style cutter.operands (all_lines x);
+    }
 
 past_draft : {cutter : CutterState} {x : List ℕ} → IsPast cutter x → LastDraft cutter x
 past_draft {cutter} {x} past = grind (arith, common_steps, settled_part_is, whole_part_is)
@@ -350,9 +341,8 @@ judged_next {cutter} {aim = aim} {x = x} within here aimed made judged = grind (
 -- what the cutter holds is the end of the complete lines
 held_within : {cutter : CutterState} {x : List ℕ} → IsLive cutter x → length cutter.window.held ≤ length x
 held_within {cutter} {x} live =
-    let both : first_lines newline (cutter.progress.current + live.at.taken - 1) x ++ after_lines newline (cutter.progress.current + live.at.taken - 1) x ≡ x = first_lines_then_rest newline (cutter.progress.current + live.at.taken - 1) x in
-    let long : length x ≡ length (first_lines newline (cutter.progress.current + live.at.taken - 1) x) + length (text_from (cutter.progress.current + live.at.taken) x) = ap length (sym both) ∙ length-append (first_lines newline (cutter.progress.current + live.at.taken - 1) x) (text_from (cutter.progress.current + live.at.taken) x) in
-    let same : length cutter.window.held ≡ length (text_from (cutter.progress.current + live.at.taken) x) = ap length live.at.left_is in omega (arith, long, same)
+    let n = cutter.progress.current + live.at.taken - 1 in
+    let long : length cutter.window.held ≡ length x - length (first_lines newline n x) = ap length (live.at.left_is ∙ after_lines-is_drop newline n x) ∙ length-drop (length (first_lines newline n x)) x in omega (arith, long)
 
 live_waiting : (stage : CsplitState) (x : List ℕ) (live : IsLive stage.cutter (whole_lines x))
     → stage.rest ≡ open_line x
@@ -366,16 +356,13 @@ held_is {stage} {x} {result} holds few is = by holds.stands where
   by : Stands stage.cutter (whole_lines x) → result ≡ length (waiting stage.cutter.style stage.cutter.operands x)
   by (inl live) =
       let rest_is = holds.live (λ below. (grind (arith, common_steps))) in
-      let within = held_within live in
       let all : length (whole_lines x) + length (open_line x) ≡ length x = sym (length-append (whole_lines x) (open_line x)) ∙ ap length (lines_then_open) in
       let rest_long : length stage.rest ≡ length (open_line x) = ap length rest_is in
-      is ∙ min-eq_left (omega (arith, within, all, rest_long, few)) ∙ sym (length-append stage.cutter.window.held stage.rest)
-      ∙ sym (ap length (live_waiting stage x live rest_is))
+      let long : length (waiting stage.cutter.style stage.cutter.operands x) ≡ length stage.cutter.window.held + length stage.rest = ap length (live_waiting stage x live rest_is) ∙ length-append stage.cutter.window.held stage.rest in
+      omega (arith, is, held_within live, all, rest_long, few, long)
   by (inr past) =
-      let none : length stage.cutter.window.held ≡ 0 = ap length past.none in
-      let rest_none : length stage.rest ≡ 0 = ap length (holds.past past.aim) in
-      is ∙ min-eq_left (omega (arith, none, rest_none))
-      ∙ (let e : length stage.cutter.window.held + length stage.rest ≡ 0 = omega (arith, none, rest_none) in e) ∙ sym (ap length (ap (λ lines. waiting_of lines (plan (suppress_in stage.cutter) stage.cutter.operands lines) (open_line x)) (sym (all_complete x)) ∙ ap (λ final. cond final [] (bytes_of (waiting_lines (all_lines (whole_lines x)) (plan_in stage.cutter (whole_lines x))) ++ open_line x)) past.past))
+      let long : length (waiting stage.cutter.style stage.cutter.operands x) ≡ 0 = ap length (ap (λ lines. waiting_of lines (plan (suppress_in stage.cutter) stage.cutter.operands lines) (open_line x)) (sym (all_complete x)) ∙ ap (λ final. cond final [] (bytes_of (waiting_lines (all_lines (whole_lines x)) (plan_in stage.cutter (whole_lines x))) ++ open_line x)) past.past) in
+      omega (arith, is, ap length past.none, ap length (holds.past past.aim), long)
 
 -- What the stage that takes in bytes does with the cutter of lines.
 
