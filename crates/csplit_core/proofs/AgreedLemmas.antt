@@ -74,9 +74,8 @@ turned_by : {suppress : Bool} {x : List Line} {state : State} {operand : Operand
 turned_by {suppress} {x} {state} {operand} {operands} cut some is at within = elim (cases_lt cut state.current) [
   | inl low ↦ too_low low (is_below state operand operands (suc (length x)) cut is at within low)
   | inr from ↦
-      let least : cut ≤ line_after suppress cut = line_some suppress cut in
       turns from _ _ _ (cuts state operand operands (suc (length x)) cut _ _ _ is at from within
-      (runs_on _ _ _ (omega (arith, some, from, least))))
+      (runs_on _ _ _ (omega (arith, some, from, line_some suppress cut))))
 ]
 
 turned : {suppress : Bool} {x : List Line} {state : State} {operand : Operand} {operands : List Operand}
@@ -87,7 +86,7 @@ turned : {suppress : Bool} {x : List Line} {state : State} {operand : Operand} {
 turned {suppress} {x} {state} {operand} pattern kept k some is target none within =
     turned_by (suc (length x) - k) some is
     (subst (λ t. CutsAt suppress (x ++ matching) state operand t (suc (length x)) (suc (length x) - k)) (sym target) ((grind (arith, common_steps)), refl))
-    (let e : length (x ++ matching) ≡ length x + 1 = length-append x matching in omega (arith, e))
+    (omega (arith, length-append x matching))
 
 -- at the end of a plan either nothing waits, or one line more makes a cut that stands back
 pub data Waits (suppress : Bool) (x : List Line) (state : State) (ending : Ending) : Type 0 where
@@ -174,8 +173,7 @@ place_front run total total' index line more more' how how' from before = absurd
 current_grows : {suppress : Bool} {lines : List Line} {first : State} {steps : List Step} {last : State}
     {ending : Ending} → Runs suppress lines first steps last ending → first.current ≤ last.current
 current_grows {suppress} (cuts state operand operands matched cut steps' last' ending' is at least within rest) =
-    let on = current_grows rest in
-    let more : cut ≤ line_after suppress cut = line_some suppress cut in omega (arith, on, more, least)
+    omega (arith, current_grows rest, line_some suppress cut, least)
 current_grows run = omega arith
 
 -- from the current line on, what follows decides
@@ -186,8 +184,7 @@ place_after : {suppress : Bool} {lines : List Line} {first : State} {steps : Lis
     ≡ place_from suppress total (index + length steps) more how line
 place_after {suppress} (cuts state operand operands matched cut steps' last' ending' is at least within rest) total index line more how from =
     let on : line_after suppress cut ≤ last'.current = current_grows rest in
-    let more_cut : cut ≤ line_after suppress cut = line_some suppress cut in
-    ap (λ b. cond b (in_section index) (cond (suppress && nat_le line cut) (left_out index) (place_from suppress total (index + 1) (steps' ++ more) how line))) (not_less_test line cut (omega (arith, more_cut, on, from)))
+    ap (λ b. cond b (in_section index) (cond (suppress && nat_le line cut) (left_out index) (place_from suppress total (index + 1) (steps' ++ more) how line))) (not_less_test line cut (omega (arith, line_some suppress cut, on, from)))
     ∙ ap (λ b. cond b (left_out index) (place_from suppress total (index + 1) (steps' ++ more) how line)) (not_left suppress line cut (omega (arith, on, from)))
     ∙ place_after rest total (index + 1) line more how from
     ∙ ap (λ i. place_from suppress total i more how line) (let e : index + 1 + length steps' ≡ index + suc (length steps') = omega arith in e)
@@ -224,7 +221,7 @@ decided_by : (suppress : Bool) (a b : List Line) {last : State} (ending : Ending
 decided_by suppress a b (missed operand repetition) some is line from within not index more end rest = settled_place a b (missed operand repetition) is more end rest line from
     (elim (cases_lt line (suc (length a) - most_held operand.target)) [ inl less ↦ less | inr beyond ↦ absurd (not refl beyond) ])
 decided_by suppress a b {last} (below operand repetition) some (operands, matched, cut, is, at, in_lines, low, often) line from within not index more end rest =
-    nowhere_by matched cut is (cuts_still suppress a b last operand operand.target matched cut at) (let e : length (a ++ b) ≡ length a + length b = length-append a b in omega (arith, e, in_lines)) low more end rest index line
+    nowhere_by matched cut is (cuts_still suppress a b last operand operand.target matched cut at) (omega (arith, length-append a b, in_lines)) low more end rest index line
 decided_by suppress a b ending some is line from within not index more end rest = settled_place a b ending is more end rest line from (omega (arith, within))
 
 -- Two places for each that does
@@ -360,7 +357,7 @@ placed_from {suppress} {lines} (cuts state operand operands matched cut steps' l
     (λ line from before. step_before suppress lines state.current cut later line some least within before ∙ ap in_section (let e : index ≡ s = omega (arith, at) in e)))
 placed_from {suppress} {lines} (cuts state operand operands matched cut steps' last' ending' is cuts_at least within rest) some index (suc k) {s} at =
     let later = place_from suppress (length lines) (index + 1) steps' ending' in
-    placed_from rest (let more : cut ≤ line_after suppress cut = line_some suppress cut in omega (arith, more, some, least)) (index + 1) k (omega (arith, at))
+    placed_from rest (omega (arith, line_some suppress cut, some, least)) (index + 1) k (omega (arith, at))
     ∙ sym (step_parts suppress lines state.current cut index s later some least within
     ∙ ap (λ those. those ++ lines_into s later (line_after suppress cut) (drop (line_after suppress cut - 1) lines))
     (into_none s (place_from suppress (length lines) index (step_of state operand matched cut ∷ steps') ending') state.current (lines_between state.current cut lines)
@@ -542,7 +539,7 @@ module _ (suppress : Bool) (operands : List Operand) (x : List Line) where
         before = take n x;
         are_last = sym (take-append-drop n x) ∙ ap (λ rest. take n x ++ rest) (sym (drop-drop (settled_end (length x) made.ending - made.last.current) (made.last.current - 1) x));
         differ = λ i past within. differ_line (i + 1) (live, omega (arith, past, within, count, some), omega (arith, past, within, count, some), omega (arith, within)) end_waits;
-        decided = λ i within y z y_comes z_comes. same_line y z (i + 1) (omega arith) (omega (arith, within, count)) (λ waits. let current = waits.1 in let end = waits.2 in omega (arith, within, count, current, end, some));
+        decided = λ i within y z y_comes z_comes. same_line y z (i + 1) (omega arith) (omega (arith, within, count)) (λ waits. omega (arith, within, count, waits.1, waits.2, some));
       }
 
   pub waiting_is_undecided : IsUndecided (place_of suppress operands) x (waiting_lines x made)
@@ -555,6 +552,6 @@ module _ (suppress : Bool) (operands : List Operand) (x : List Line) where
     sections = λ k. placed_from here (omega arith) 0 k (omega arith);
     cuts = λ line cut some same.
         let left = left_at suppress (length x) 0 cut line made.steps made.ending same in
-        (left.so, ap (λ n. get_or (map (λ (step : Step). step.cut) made.steps) n 0) (let at : cut ≡ 0 + left.k = left.at in let e : cut ≡ left.k = omega (arith, at) in e) ∙ left.is);
+        (left.so, ap (λ n. get_or (map (λ (step : Step). step.cut) made.steps) n 0) (let e : cut ≡ left.k = omega (arith, left.at) in e) ∙ left.is);
     rest = λ line some within same. nowhere_at here 0 line some within same;
   }

@@ -209,7 +209,7 @@ at_more {cutter} {x = x} t whole some at ends count =
       counted = count;
       taken = at.taken;
       written = at.written;
-      few = (let f : cutter.progress.current + at.taken ≤ line_count newline x + 1 = at.few in let all = count-append t whole in omega (arith, f, all));
+      few = (omega (arith, at.few, count-append t whole));
       written_is = at.written_is ∙ sym (first_still at.taken cutter.progress.current t whole some at.few);
       left_is = ap (λ those. those ++ t) at.left_is ∙ rest_more (cutter.progress.current + at.taken) t whole (omega (arith, some)) at.few;
       writes = subst (Writes (manner_of cutter.style) cutter.writer) (ended_still cutter.style cutter.operands t (kept_by (state_in cutter).operands) at.written whole (runs_to at ends)) at.writes;
@@ -310,14 +310,12 @@ module _ {told : Bool} {writer now : WriterState} {window left_in : Window} {n l
       → size_of next.current ≤ size_of now.current + length (take bytes front)
       → Emptying told writer next window after n (left - bytes) old new
   empties few {after = after} dropped went more =
-      let long : length (take bytes front) ≡ bytes = length-take-le bytes front within in
       let less : length front ≤ length left_in.held = (grind (arith, common_steps)) in
-      let after_long : length after.held ≡ length left_in.held - bytes = ap (λ (w : Window). length w.held) dropped ∙ length-drop bytes left_in.held in
       let count : n - left + bytes ≡ n - (left - bytes) = (let all = so_far.few in omega (arith, all, few)) in record {
-        few = (let all = so_far.few in omega (arith, all));
+        few = (omega (arith, so_far.few));
         rest = dropped ∙ ap (λ (w : Window). without_first w bytes) so_far.rest ∙ ap (λ held. record window { held = held }) (drop-drop bytes (n - left) window.held) ∙ ap (without_first window) count;
         went = goes_as (taken_more ∙ ap (λ k. take k window.held) count) (goes_more (take (n - left) window.held) (take bytes front) so_far.went went);
-        size = (let size = so_far.size in omega (arith, size, more, long, less, after_long, within));
+        size = (omega (arith, so_far.size, more, length-take-le bytes front within, less, ap (λ (w : Window). length w.held) dropped ∙ length-drop bytes left_in.held, within));
       }
 
   -- a write of it stopped
@@ -353,7 +351,7 @@ parted {delim} {most} {over} {long} {front} {held} {text} is all least =
     let parts = both_parts over held text (least ∙ ap (min over) all) (cases_lt over (length held)) in record {
       goes = parts.0 ∙ ap (λ n. take n (held ++ text)) is ∙ sym (first_lines-is_take delim (line_count delim (held ++ text) - most) (held ++ text));
       stays = parts.1 ∙ ap (λ n. drop n (held ++ text)) is ∙ last_lines-is_drop delim most (held ++ text);
-      within = (let less = over-le-length delim most held text in omega (arith, less, is, all, least));
+      within = (omega (arith, over-le-length delim most held text, is, all, least));
     }
 
 -- what `hold_last` owes at each of its ends
@@ -419,7 +417,7 @@ module _ {cutter : CutterState} {x left bytes : List ℕ} {at : IsAt (bare cutte
       counted = at.counted;
       taken = at.taken + over;
       written = at.written ++ bytes;
-      few = (let few = few_taken at in let count = left_count at in let all = at.counted in omega (arith, few, count, all, some));
+      few = (omega (arith, few_taken at, left_count at, at.counted, some));
       written_is = written_on over some at bytes_is;
       left_is = held_is ∙ left_on over some at ∙ ap (λ k. text_from k x) (let e : cutter.progress.current + at.taken + over ≡ cutter.progress.current + (at.taken + over) = omega arith in e);
       writes = writes (draft_at at) at.writes;
@@ -480,7 +478,7 @@ hold_past {cutter = cutter} {window} {left} {slots} {n} aim ready all less dropp
       none = none;
       writes = subst (Writes (manner_of cutter.style) cutter.writer) (past_draft arrives (past x at arrives)) at.writes;
     });
-    size = (let e : length window.held ≡ 0 = ap length none in omega (arith, e));
+    size = (omega (arith, ap length none));
   };
 } where
   none : window.held ≡ []
@@ -582,8 +580,8 @@ pub cut_begins : {cutter : CutterState} {x left : List ℕ} (line : List ℕ) {b
     (settled_part cutter x)
 cut_begins {cutter} {x} {left} line {at} cut now fit will before_is =
     let state = state_after (suppress_in cutter) now.goes.operand now.goes.operands cutter.progress.repetition cut.matched cut.line in
-    let on : cutter.progress.current + at.taken ≤ cut.line = (let p = now.place_is in let b = now.before in omega (arith, p, b)) in
-    let some : 1 ≤ state.current = (let least = line_some (suppress_in cutter) cut.line in let s = fit.fits.some in let f = will.from in omega (arith, least, s, f)) in
+    let on : cutter.progress.current + at.taken ≤ cut.line = (let p = now.place_is in omega (arith, p, now.before)) in
+    let some : 1 ≤ state.current = (let least = line_some (suppress_in cutter) cut.line in omega (arith, least, fit.fits.some, will.from)) in
     subst (λ draft. Begins (draft_part (manner_of cutter.style) draft) (settled_part cutter x))
     (sym (cut_draft at cut (kept_by state.operands) now.goes.are fit.fits.some on (before_is ∙ ap (λ n. first_lines newline (cut.line - n) left) now.place_is)))
     (let rest = runs_on cutter.style.suppress (all_lines x) state some in begun_by cutter.style cutter.operands (at.steps ++ step_at cutter now.goes.operand cut ∷ []) _ rest (leads_on at cut now.goes _ _ _ rest))
@@ -691,7 +689,7 @@ module _ {told : Bool} {cutter mid : CutterState} {writer next : WriterState} {c
       let current : mid.progress.current ≡ line_after (suppress_in cutter) cut.line = ap (λ (s : State). s.current) state in
       let lines_is : mid.lines ≡ cutter.lines = ap (λ (c : CutterState). c.lines) passed.same in
       let on : cutter.progress.current + at.taken ≤ cut.line = (let p = now.place_is in let b = now.before in omega (arith, p, b)) in
-      let first : 1 ≤ cut.line = (let s = fit.fits.some in let f = will.from in omega (arith, s, f)) in
+      let first : 1 ≤ cut.line = (let s = fit.fits.some in omega (arith, s, will.from)) in
       let same_count : n ≡ cut.line - (cutter.progress.current + at.taken) = n_is ∙ ap (λ n. cut.line - n) now.place_is in
       let left_after : all ≡ text_from cut.line x = all_is ∙ left_on n fit.fits.some at
       ∙ ap (λ n. text_from n x) (let e : cutter.progress.current + at.taken + n ≡ cut.line = omega (arith, on, same_count) in e) in
@@ -709,7 +707,7 @@ module _ {told : Bool} {cutter mid : CutterState} {writer next : WriterState} {c
           counted = lines_is ∙ at.counted;
           taken = 0;
           written = [];
-          few = (let w : line_after (suppress_in cutter) cut.line ≤ suc cutter.lines = after_within (suppress_in cutter) cut.line cutter.lines will.within in let c = at.counted in omega (arith, current, w, c));
+          few = (omega (arith, current, after_within (suppress_in cutter) cut.line cutter.lines will.within, at.counted));
           written_is = sym (first_lines-zero newline (text_from mid.progress.current x));
           left_is = rest_from mid.style.suppress all cut.line x first left_after skipped whole
               ∙ ap (λ n. text_from n x) (ap (λ b. line_after b cut.line) suppress_is ∙ sym current ∙ (let e : mid.progress.current ≡ mid.progress.current + 0 = omega arith in e));

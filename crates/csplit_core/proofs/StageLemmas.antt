@@ -342,7 +342,7 @@ judged_next {cutter} {aim = aim} {x = x} within here aimed made judged = grind (
 held_within : {cutter : CutterState} {x : List ℕ} → IsLive cutter x → length cutter.window.held ≤ length x
 held_within {cutter} {x} live =
     let n = cutter.progress.current + live.at.taken - 1 in
-    let long : length cutter.window.held ≡ length x - length (first_lines newline n x) = ap length (live.at.left_is ∙ after_lines-is_drop newline n x) ∙ length-drop (length (first_lines newline n x)) x in omega (arith, long)
+    omega (arith, ap length (live.at.left_is ∙ after_lines-is_drop newline n x) ∙ length-drop (length (first_lines newline n x)) x)
 
 live_waiting : (stage : CsplitState) (x : List ℕ) (live : IsLive stage.cutter (whole_lines x))
     → stage.rest ≡ open_line x
@@ -508,10 +508,7 @@ passes_on {view = view} next {mid} {piece} result is differs took cutter past li
         past = λ is_below was. past (sym aim_is ∙ is_below);
         still = λ is_below. absurd (differs is_below);
         unbroken = rest.0;
-        size = (let fewer : load mid ≤ load view.cutter + length (whole_lines text) = took.went.size in
-            let all : length view.rest + length piece ≡ length (whole_lines text) + length (open_line text) = sym (length-append view.rest piece) ∙ ap length (sym lines_then_open) ∙ length-append (whole_lines text) (open_line text) in
-            let same : load next.cutter ≡ load mid = ap load cutter in
-            let few : length next.rest ≤ length (open_line text) = rest.1 in omega (arith, fewer, all, same, few));
+        size = (omega (arith, took.went.size, sym (length-append view.rest piece) ∙ ap length (sym lines_then_open) ∙ length-append (whole_lines text) (open_line text), ap load cutter, rest.1));
       });
 })
 
@@ -647,7 +644,7 @@ passes_by told stage next piece old new (Ok done) passes is_ready taken fits = r
     manner = rw (passes.took.keeps.style, same_manner passes.took.keeps.writer) is_ready.manner;
     sound = passes.took.went.sound;
     unbroken = passes.passed.unbroken;
-    room = (let size = passes.passed.size in let room = is_ready.room in omega (arith, size, room, taken));
+    room = (let size = passes.passed.size in omega (arith, size, is_ready.room, taken));
     few = omega (arith, taken, fits);
   };
   owns = owns_on passes.took.keeps.writer;
@@ -760,8 +757,7 @@ finishes_by told stage next old new (ended_so verdict mid reached closed judges 
 none_stands : (told : Bool) (style : Style) {before slots : List Slot} → 2 ≤ length slots
     → OutputsAt told before nothing slots → At told (writer_for style) before nothing slots
 none_stands told style {before} {slots} two at =
-    let size : length slots ≡ length before + 0 = outputs_count told before nothing slots at in
-    record { owns = rw (let e : length slots ≡ length before = omega (arith, size) in e) at (first_owns style two); outputs = at }
+    record { owns = rw (let e : length slots ≡ length before = omega (arith, outputs_count told before nothing slots at) in e) at (first_owns style two); outputs = at }
 
 -- the first section began, or could not; the operands are as they are handed over
 pub begins_at : (told : Bool) (style : Style) {given operands : List Operand} {writer : WriterState}

@@ -99,7 +99,7 @@ arrives_more {cutter} {x} t live whole fit count ends =
       more : {taken most other : ℕ} → (taken ≡ 0) ⊎ (other ≤ line_count newline cutter.window.held) → most ≡ other
           → (taken ≡ 0) ⊎ (most ≤ line_count newline (cutter.window.held ++ t))
       more (inl none) is = inl none
-      more {most = most} {other = other} (inr enough) is = inr (let grows = line_count-grows newline cutter.window.held t in omega (arith, grows, enough, is))
+      more {most = most} {other = other} (inr enough) is = inr (omega (arith, line_count-grows newline cutter.window.held t, enough, is))
 
 -- Once more lines came, and what is settled of them is written and the others held.
 
@@ -134,10 +134,7 @@ took_held {cutter = cutter} {next} {lines} {aim} {t} {fault = fault} sound fit d
   went = where_well fault held.went (λ went. record {
     stands = λ x whole stands. let there = reached x whole stands in went.stands (x ++ t) there.at there.arrives;
     sound = sound_held went sound;
-    size = (let lines_is : next.lines ≡ lines = ap (λ (c : CutterState). c.lines) went.same in
-        let joined : length (cutter.window.held ++ t) ≡ length cutter.window.held + length t = length-append cutter.window.held t in
-        let s = went.size in
-        most_load cutter.lines (size_of next.writer.current + length next.window.held) (size_of cutter.writer.current + length cutter.window.held) next.lines (length t) 0 (omega (arith, lines_is, few)) (omega (arith, joined, s)));
+    size = (most_load cutter.lines (size_of next.writer.current + length next.window.held) (size_of cutter.writer.current + length cutter.window.held) next.lines (length t) 0 (omega (arith, ap (λ (c : CutterState). c.lines) went.same, few)) (omega (arith, length-append cutter.window.held t, went.size)));
   });
 } where
   reached : (x : List ℕ) → IsWhole x → Stands cutter x
@@ -158,16 +155,13 @@ cuts_there : {cutter : CutterState} {lines : ℕ} {x : List ℕ} (line : List �
     (at_more line (inl whole) fit.fits.some live.at live.ends count)
 unfolding at_more
 cuts_there {cutter} {lines} {x} line cut live whole fit one count from goes near =
-    let held = left_count live.at in
     let held_whole : IsWhole cutter.window.held = subst IsWhole (sym live.at.left_is) (whole_from (cutter.progress.current + live.at.taken) whole) in
-    let same : line_count newline cutter.window.held ≡ delimiters newline cutter.window.held = whole_count held_whole in
-    let more : lines ≡ cutter.lines + 1 = (let l = count-line line whole one in let c = live.at.counted in omega (arith, count, l, c)) in
-    let few = few_taken live.at in
-    let place : lines - delimiters newline cutter.window.held ≡ cutter.progress.current + live.at.taken = (let s = fit.fits.some in omega (arith, held, same, more, few, s)) in record {
+    let more : lines ≡ cutter.lines + 1 = (let l = count-line line whole one in omega (arith, count, l, live.at.counted)) in
+    let place : lines - delimiters newline cutter.window.held ≡ cutter.progress.current + live.at.taken = (let s = fit.fits.some in omega (arith, left_count live.at, whole_count held_whole, more, few_taken live.at, s)) in record {
       last = (all_lines x, all_lines-line line whole one, λ ends. whole-append line whole (inr ends));
       near = near;
       place_is = place;
-      before = (let b = place_before line cut live whole goes from in omega (arith, b, place));
+      before = (omega (arith, place_before line cut live whole goes from, place));
       goes = goes;
     }
 
@@ -186,11 +180,8 @@ take_cut {told} {cutter} {mid} {next} line more {cut} {old} {new} {fault} fit di
   went = where_well fault all.went (λ went. record {
     stands = λ x whole stands. let there = reached x whole stands in subst (Stands next) (append_assoc x line more) (went.stands (x ++ line) there.0 there.1);
     sound = went.sound;
-    size = (let some = line_has line one in
-        let joined : length (cutter.window.held ++ line) ≡ length cutter.window.held + length line = length-append cutter.window.held line in
-        let both : length (line ++ more) ≡ length line + length more = length-append line more in
-        let n = went.lines in let s = went.size in
-        most_load cutter.lines (size_of next.writer.current + length next.window.held) (size_of cutter.writer.current + length cutter.window.held) next.lines (length (line ++ more)) 0 (omega (arith, n, some, both)) (omega (arith, joined, both, s)));
+    size = (let both : length (line ++ more) ≡ length line + length more = length-append line more in
+        most_load cutter.lines (size_of next.writer.current + length next.window.held) (size_of cutter.writer.current + length cutter.window.held) next.lines (length (line ++ more)) 0 (omega (arith, went.lines, line_has line one, both)) (omega (arith, length-append cutter.window.held line, both, went.size)));
   });
 } where
   all : CutsAll told (more_lines cutter (cutter.lines + 1) mid.aim) cut (cutter.lines + 1 - delimiters newline cutter.window.held)
@@ -273,7 +264,7 @@ takes_again {one = one} {three = three} {a} {b} {fault = fault} whole first seco
   went = where_well fault second.went (λ went. record {
     stands = λ x before stands. subst (Stands three) (append_assoc x a b) (went.stands (x ++ a) (whole-append a before whole) (first.went.stands x before stands));
     sound = went.sound;
-    size = (let all : length (a ++ b) ≡ length a + length b = length-append a b in let s = first.went.size in let t = went.size in omega (arith, all, s, t));
+    size = (omega (arith, length-append a b, first.went.size, went.size));
   });
 }
 
@@ -382,7 +373,7 @@ module _ {told : Bool} {cutter now mid : CutterState} {cut cut' : Cut} {place : 
               grows = part_trans (part_at at) (part_at after.now) (part_at again.now) after.grows again.grows;
               reaches = reaches_then so_far.keeps.style after.grows after.reaches again.reaches;
             };
-        size = (let one = once.size in let two = so_far.size in omega (arith, one, two));
+        size = (omega (arith, once.size, so_far.size));
         end = (so_far.end.0 ++ once.end.0, so_far.end.1 ∙ ap (λ those. so_far.end.0 ++ those) once.end.1 ∙ sym (append_assoc so_far.end.0 once.end.0 rest));
       }
 
@@ -415,8 +406,7 @@ drained_place : (lines : ℕ) (held line : List ℕ) {items : List ℕ} {n count
     → n ≡ length items → count ≡ delimiters newline (take (n - length line) items) → place ≡ lines - count
     → place ≡ lines - delimiters newline held
 drained_place lines held line {items} {n} items_is long count_is place_is =
-    let all : length items ≡ length held + length line = ap length items_is ∙ length-append held line in
-    let size : n - length line ≡ length held = omega (arith, long, all) in
+    let size : n - length line ≡ length held = omega (arith, long, ap length items_is ∙ length-append held line) in
     (grind (arith, common_steps, size, items_is, count_is, place_is, take_at))
 
 pub cut_drained : {told : Bool} {cutter next : CutterState} {window : Window} {cut : Cut} {n count place : ℕ}
@@ -517,10 +507,10 @@ spread_passes {told} {cutter} {mid} {end} {next} {cut} {place} {waiting} {line} 
   reaches = λ x at here. let after = spread.so_far.after x at here in let there = reached x at here in
       reaches_then spread.so_far.keeps.style after.grows after.reaches (reaches_as there.same (sym (settled_same (x ++ take n rest) spread.so_far.keeps)) (held_now.reaches (x ++ take n rest) there.at there.arrives));
   went = where_well fault held_now.went (λ went. record {
-    lines = (let l : next.lines ≡ end.lines = ap (λ (c : CutterState). c.lines) went.same in let few = over_now.few in let s = spread.so_far.lines in let long : length (take n rest) ≡ n = length-take-le n rest over.within in omega (arith, l, few, s, long));
+    lines = (omega (arith, ap (λ (c : CutterState). c.lines) went.same, over_now.few, spread.so_far.lines, length-take-le n rest over.within));
     sound = sound_held went (subst IsSound over_now.same over.sound);
     stands = λ x at here. let there = reached x at here in went.stands (x ++ take n rest) there.at there.arrives;
-    size = (let one = went.size in let two = spread.so_far.size in let joined : length (left ++ take n rest) ≡ length left + length (take n rest) = length-append left (take n rest) in omega (arith, one, two, joined));
+    size = (omega (arith, went.size, spread.so_far.size, length-append left (take n rest)));
   });
 } where
   over_now : PassesOver (record spread.now { aim = mid.aim }) rest end n
@@ -555,9 +545,7 @@ spread_held {left = left} spread held = spread_passes {rest = []} {n = 0} spread
 from_left : (text left : List ℕ) (size : ℕ) → size ≤ length text → IsEnd left (take size text)
     → drop (size - length left) (take size text) ≡ left
 from_left text left size within (front, is) =
-    let long : length (take size text) ≡ length front + length left = ap length is ∙ length-append front left in
-    let all : length (take size text) ≡ size = length-take-le size text within in
-    ap (drop (size - length left)) is ∙ drop_at front left (size - length left) (omega (arith, long, all))
+    ap (drop (size - length left)) is ∙ drop_at front left (size - length left) (omega (arith, ap length is ∙ length-append front left, length-take-le size text within))
 
 pub cut_on : {told : Bool} {cutter mid next : CutterState} {cut : Cut} {text left : List ℕ} {size : ℕ}
     {old between new : List Slot} {result : Result Passed Fault} → Starts text size
@@ -596,12 +584,9 @@ module _ {told : Bool} {cutter mid next : CutterState} {text : List ℕ} {size :
       let line = take size text in
       let more = take gone.on.n (drop size text) in
       let end_is : end ≡ more_lines cutter end.lines mid.aim = gone.over.same ∙ ap (λ (c : CutterState). record c { lines = end.lines }) mid_is in
-      let some : 1 ≤ length line = line_has line start.line in
-      let longer : length (line ++ more) ≡ length line + length more = length-append line more in
-      let rest : length more ≡ gone.on.n = length-take-le gone.on.n (drop size text) gone.over.within in
-      let first : mid.lines ≡ cutter.lines + 1 = ap (λ (c : CutterState). c.lines) mid_is in record {
+      record {
         on = gone.on;
-        took = took_held (subst IsSound end_is gone.over.sound) fit differs (let few = gone.over.few in omega (arith, few, longer, rest, first, some))
+        took = took_held (subst IsSound end_is gone.over.sound) fit differs (omega (arith, gone.over.few, length-append line more, length-take-le gone.on.n (drop size text) gone.over.within, ap (λ (c : CutterState). c.lines) mid_is, line_has line start.line))
             (ends_on line start.line start.complete mid_is tries gone.over end_is) (rw end_is at gone.held);
       }
 
@@ -641,7 +626,7 @@ stretch_past {told} {cutter} {next} {text} {size} {old} {new} passed start took 
         n = length (drop size text);
         within = omega arith;
         whole = rw rest start.rest;
-        size_is = (let long = length-drop size text in let within = start.within in omega (arith, size_is, long, within));
+        size_is = (omega (arith, size_is, length-drop size text, start.within));
         found = rw none tt;
       };
       took = rw rest (rw take-append-drop took);

@@ -84,7 +84,7 @@ ends_still {suppress} {a} b (misses state operand operands is none) still =
     misses state operand operands is ((grind (arith, common_steps, none, (still operand operands is))))
 ends_still {suppress} {a} b (is_above state operand operands matched cut is at far) still = is_above state operand operands matched cut is (cuts_still suppress a b state operand operand.target matched cut at) still
 ends_still {suppress} {a} b (is_below state operand operands matched cut is at within low) still =
-    is_below state operand operands matched cut is (cuts_still suppress a b state operand operand.target matched cut at) (let e : length (a ++ b) ≡ length a + length b = length-append a b in omega (arith, e, within)) low
+    is_below state operand operands matched cut is (cuts_still suppress a b state operand operand.target matched cut at) (omega (arith, length-append a b, within)) low
 ends_still b (cuts state operand operands matched cut steps' last' ending' is at from within rest) still = ends_still b rest still
 
 pub stays : (suppress : Bool) (operands : List Operand) (a b : List Line)
@@ -170,7 +170,7 @@ repeated_again : (total : ℕ) (state next : State) (target : Target) {matched :
     → next.matched ≡ matched
     → IsRepeatedBy total state target → IsRepeatedBy total next target
 repeated_again total state next (Number n) cut at some within again same few =
-    let less : total - next.repetition < total - state.repetition = fewer_left total state next (Number n) cut at some within again same in omega (arith, less, again)
+    omega (arith, fewer_left total state next (Number n) cut at some within again same, again)
 repeated_again total state next (Search pattern kept offset) cut at some within again same few = omega (arith, at.0, few, again, same)
 
 repeated_by : (total : ℕ) (state : State) (operand : Operand) (operands : List Operand) {matched : ℕ} (cut : ℕ)
@@ -185,8 +185,8 @@ fits_after : (suppress : Bool) {total : ℕ} {state : State} {operand : Operand}
     → Moves total state operand.target matched cut → matched ≤ total → state.current ≤ cut → cut ≤ total
     → Fits total (state_after suppress operand operands state.repetition matched cut)
 fits_after suppress {total} {state} {operand} {operands} matched cut fits are at few least within = record {
-  some = let more : cut ≤ line_after suppress cut = line_some suppress cut in omega (arith, more, fits.some, least);
-  current = let less : line_after suppress cut ≤ suc total = after_within suppress cut total within in omega (arith, less);
+  some = omega (arith, line_some suppress cut, fits.some, least);
+  current = omega (arith, after_within suppress cut total within);
   matched = few;
   repeated = repeated_by total state operand operands cut at (omega (arith, fits.some, least)) within (subst (IsRepeated total state) are fits.repeated)
       (has_more operand.times state.repetition) (state_after suppress operand operands state.repetition matched cut) refl refl;
@@ -278,11 +278,10 @@ pub ends_over : {cutter : CutterState} {lines : ℕ} (text : List ℕ) → IsFit
     → Joins x text → cutter.lines ≡ line_count newline x → EndsNow cutter x
     → (lines ≡ line_count newline (x ++ text)) × EndsNow (record cutter { lines = lines }) (x ++ text)
 ends_over {cutter} {lines} text fit count stays x before counted ends =
-    let sum : line_count newline (x ++ text) ≡ line_count newline x + line_count newline text = count-append text before in
     let here : length (all_lines x) ≡ line_count newline x = length-all_lines x in
     let there : length (all_lines text) ≡ line_count newline text = length-all_lines text in
     let both : length (all_lines x ++ all_lines text) ≡ length (all_lines x) + length (all_lines text) = length-append (all_lines x) (all_lines text) in (
-      omega (arith, count, counted, sum),
+      omega (arith, count, counted, count-append text before),
       record {
         ending = ends.ending;
         runs = rw (← all_lines-append text before) at (ends_still (all_lines text) ends.runs (grind (arith, common_steps)));
@@ -294,8 +293,7 @@ pub next_stays : {cutter : CutterState} {x : List ℕ} (line : List ℕ) {turn :
     → IsWhole x → IsLine line → cutter.aim ≡ turn → StaysOver cutter line (cutter.lines + 1) turn
     → EndsNow (record cutter { lines = cutter.lines + 1 }) (x ++ line)
 next_stays {cutter} {x} line fit live whole one aim stays =
-    let count : line_count newline line ≡ 1 = ap length one in
-    (ends_over line fit (omega (arith, count)) (subst (StaysOver cutter line (cutter.lines + 1)) (sym aim) stays) x (inl whole) live.at.counted live.ends).1
+    (ends_over line fit (omega (arith, ap length one)) (subst (StaysOver cutter line (cutter.lines + 1)) (sym aim) stays) x (inl whole) live.at.counted live.ends).1
 
 -- the lines as they are counted
 lines_are : {cutter : CutterState} {x : List ℕ} (live : IsLive cutter x) → length (all_lines x) ≡ cutter.lines
@@ -337,7 +335,7 @@ pub next_tries : {cutter : CutterState} (next : CutterState) (line : List ℕ) (
     → Tries (record cutter { lines = cutter.lines + 1 }) line next result → TriesNext cutter line next result
 next_tries next line None fit one aim counted tries = λ x whole live. tries (x ++ line) (next_looked line live whole one aim)
 next_tries next line (Some cut) fit one aim counted tries = λ x whole live.
-    let both = tries (x ++ line) (next_looked line live whole one aim) in let near = both.1 (inr (next_sought live fit aim)) in (both.0, omega (arith, near, counted))
+    let both = tries (x ++ line) (next_looked line live whole one aim) in (both.0, omega (arith, both.1 (inr (next_sought live fit aim)), counted))
 
 -- What stays so of a state when more lines come
 
@@ -349,7 +347,7 @@ passes {cutter} {text} {lines} {n} sound within whole count stays = record {
   same = refl;
   within = within;
   whole = whole;
-  few = let few : line_count newline (take n text) ≤ length (take n text) = line_count-le-length newline (take n text) in let long = length-take-le n text within in omega (arith, count, few, long);
+  few = omega (arith, count, line_count-le-length newline (take n text), length-take-le n text within);
   sound = (grind (arith, common_steps));
   ends = ends_over (take n text) sound.fit count stays;
 }
@@ -361,9 +359,7 @@ passes_all : {cutter : CutterState} {text : List ℕ} {n : ℕ} → IsSound cutt
     → PassesOver cutter text (record cutter { lines = cutter.lines + n }) (length text)
 passes_all {cutter} {text} {n} sound whole count stays =
     let all : text ≡ take (length text) text = sym (take_all (length text) text (omega arith)) in
-    let same : line_count newline text ≡ delimiters newline text = whole_count whole in
-    let taken : line_count newline text ≡ line_count newline (take (length text) text) = ap (line_count newline) all in
-    passes sound (omega arith) (subst IsWhole all whole) (omega (arith, count, same, taken)) (rw all at stays)
+    passes sound (omega arith) (subst IsWhole all whole) (omega (arith, count, whole_count whole, ap (line_count newline) all)) (rw all at stays)
 
 pub passes_used_up : {cutter : CutterState} {text : List ℕ} {n : ℕ} → IsSound cutter → IsWhole text
     → n ≡ delimiters newline text → cutter.aim ≡ UsedUp
@@ -381,7 +377,7 @@ passes_below {cutter} {text} line end sound (matched, aim) ends =
     let will : WillMove cutter.operands cutter.lines cutter.progress matched line = subst (AimHolds cutter.operands cutter.lines cutter.progress) aim sound.aim in
     let less : cutter.lines < line = will.above in
     let count : line_count newline (take end text) ≡ line - 1 - cutter.lines = (grind (arith, common_steps, EndsAt-enough, line_count_near, lines_of-first_lines, length-take-le, ends)) in
-    passes sound ends.within (whole_by (take end text) _ refl (let all = ends.complete in omega (arith, count, all))) (omega (arith, less, count))
+    passes sound ends.within (whole_by (take end text) _ refl (omega (arith, count, ends.complete))) (omega (arith, less, count))
     (subst (StaysOver cutter (take end text) (line - 1)) (sym aim) (let e : line - 1 < line = omega (arith, less) in e))
 
 pub passes_short : {cutter : CutterState} {text : List ℕ} (line : ℕ) {count : ℕ} → IsSound cutter → IsWhole text
@@ -463,7 +459,7 @@ unmatched_on {cutter} {after = after} more rest so parts whole same count others
   all = so.all ∙ ap (λ those. so.front ++ those) parts ∙ sym (append_assoc so.front more rest);
   whole = whole-append more so.whole whole;
   same = same ∙ ap (λ (those : CutterState). record those { lines = after.lines }) so.same;
-  count = (let c = so.count in let m = count-append more (inl so.whole) in omega (arith, count, c, m));
+  count = (omega (arith, count, so.count, count-append more (inl so.whole)));
   none = λ operand is. rw (← all_lines-append more (inl so.whole)) at (none_more operand cutter.lines (all_lines so.front) (all_lines more) (search_line (suppress_in cutter) (state_in cutter)) (so.none operand is)
       (subst (λ n. NoneFrom operand n (all_lines more) (search_line (suppress_in cutter) (state_in cutter))) (so.count ∙ ap (λ n. cutter.lines + n) (sym (length-all_lines so.front))) (others operand is)));
 }
@@ -476,10 +472,8 @@ pub one_more : {cutter : CutterState} {text left : List ℕ} {next now : CutterS
 one_more {cutter} {left = left} {next} {now} end so is first finds not =
     let line = take (suc end) left in
     let found_at : IsFound (record cutter { lines = next.lines }) (take end left) (next.lines + 1) false = rw (so.same, not) at finds in
-    let lines_is : now.lines ≡ next.lines = ap (λ (those : CutterState). those.lines) is in
-    let one : line_count newline line ≡ 1 = ap length first.line in
     unmatched_on line _ so (sym (take-append-drop (suc end) left) ∙ ap (λ those. line ++ those) ((let e : suc end ≡ end + 1 = omega arith in ap (λ n. drop n left) e) ∙ sym (rest_all (end + 1) left)))
-    (inr first.ends) (ap (λ (those : CutterState). record those { lines = now.lines + 1 }) is) (omega (arith, lines_is, one))
+    (inr first.ends) (ap (λ (those : CutterState). record those { lines = now.lines + 1 }) is) (omega (arith, ap (λ (those : CutterState). those.lines) is, ap length first.line))
     (λ operand same. rw (ap (map marked) first.line) (none_one operand next.lines (marked line) _ (λ near. found_is line (next.lines + 1) operand.target first.without same found_at near)))
 
 -- the numbers are small
@@ -493,8 +487,7 @@ pub all_passed_at : {cutter : CutterState} {text left : List ℕ} {next now : Cu
     → cutter.aim ≡ Missed → Unmatched cutter text left next → now ≡ next
     → PassesOver cutter text now (length text - length left)
 all_passed_at {cutter} {text} {left} {next} sound aim so is =
-    let long : length text ≡ length so.front + length left = ap length so.all ∙ length-append so.front left in
-    let count : length so.front ≡ length text - length left = omega (arith, long) in
+    let count : length so.front ≡ length text - length left = omega (arith, ap length so.all ∙ length-append so.front left) in
     let front_is : so.front ≡ take (length text - length left) text = sym (ap (take (length text - length left)) so.all ∙ take_at so.front left (length text - length left) count) in
     rw (← (is ∙ so.same)) at (passes sound (omega arith) (subst IsWhole front_is so.whole) (so.count ∙ ap (λ those. cutter.lines + line_count newline those) front_is)
     (rw (aim, ← front_is) so.none))
@@ -545,12 +538,11 @@ pub next_found : {cutter : CutterState} {text left : List ℕ} {next now : Cutte
     → IsFound next (take end left) (next.lines + 1) found → found ≡ true
     → IsNextFound now (drop (length text - length left) text) (end + 1)
 next_found {text = text} {left} {next} end aim so now_is first finds sure =
-    let long : length text ≡ length so.front + length left = ap length so.all ∙ length-append so.front left in
-    let left_is : drop (length text - length left) text ≡ left = ap (drop (length text - length left)) so.all ∙ drop_at so.front left (length text - length left) (omega (arith, long)) in
+    let left_is : drop (length text - length left) text ≡ left = ap (drop (length text - length left)) so.all ∙ drop_at so.front left (length text - length left) (omega (arith, ap length so.all ∙ length-append so.front left)) in
     let one : suc end ≡ end + 1 = omega arith in
     rw (now_is, left_is, ← one) (record {
       some = omega arith;
-      within = (let within = first.within in omega (arith, within));
+      within = (omega (arith, first.within));
       line = first.line;
       ends = first.ends;
       aim = ap (λ (those : CutterState). those.aim) so.same ∙ aim;
@@ -576,12 +568,10 @@ line_clear : (pattern : Pattern) {text : List ℕ} (place : ℕ) (front line mor
     → contains pattern (without_newline line) ≡ false
 line_clear pattern {text} place front line more rest clear all within (bytes, is, none) =
     let after = newline ∷ (more ++ rest) in
-    let long : length line ≡ length bytes + 1 = ap length is ∙ length-append bytes (newline ∷ []) in
-    let longer : length (line ++ more) ≡ length line + length more = length-append line more in
     let parts : text ≡ front ++ bytes ++ after = all ∙ append_assoc front (line ++ more) rest
     ∙ ap (λ those. front ++ those) (append_assoc line more rest ∙ ap (λ those. those ++ (more ++ rest)) is ∙ append_assoc bytes (newline ∷ []) (more ++ rest))
     ∙ sym (append_assoc front bytes after) in
-    ap (contains pattern) (ap without_newline is ∙ without_last bytes none) ∙ clear front bytes after parts (omega (arith, long, longer, within))
+    ap (contains pattern) (ap without_newline is ∙ without_last bytes none) ∙ clear front bytes after parts (omega (arith, ap length is ∙ length-append bytes (newline ∷ []), length-append line more, within))
 
 each_clear : (pattern : Pattern) {text : List ℕ} (place : ℕ) (front : List ℕ) (lines : List (List ℕ)) (rest : List ℕ)
     → IsClear pattern text place → text ≡ front ++ joined lines ++ rest → length front + length (joined lines) ≤ place
@@ -594,10 +584,8 @@ each_clear pattern place front (line ∷ []) rest clear all within (inr unended)
 each_clear pattern place front (line ∷ []) rest clear all within are ends (suc k) less = absurd (omega (arith, less))
 each_clear pattern place front (line ∷ next ∷ lines) rest clear all within are ends zero less = line_clear pattern place front line (joined (next ∷ lines)) rest clear all within are.0
 each_clear pattern place front (line ∷ next ∷ lines) rest clear all within are ends (suc k) less =
-    let both : length (front ++ line) ≡ length front + length line = length-append front line in
-    let these : length (line ++ joined (next ∷ lines)) ≡ length line + length (joined (next ∷ lines)) = length-append line (joined (next ∷ lines)) in
     each_clear pattern place (front ++ line) (next ∷ lines) rest clear
-    (all ∙ ap (λ those. those ++ rest) (sym (append_assoc front line (joined (next ∷ lines))))) (omega (arith, both, these, within)) are.1
+    (all ∙ ap (λ those. those ++ rest) (sym (append_assoc front line (joined (next ∷ lines))))) (omega (arith, length-append front line, length-append line (joined (next ∷ lines)), within)) are.1
     (λ some. sym (ends_with-append newline line (joined (next ∷ lines)) (grind (arith, common_steps))) ∙ ends (omega arith)) k (omega (arith, less))
 
 whole_ends : {x : List ℕ} → IsWhole x → 0 < length (lines_of newline x)
@@ -609,9 +597,8 @@ pub clear_front : (pattern : Pattern) (text : List ℕ) (place n : ℕ) → IsCl
 clear_front pattern text place n clear low within whole =
     let x = take n text in
     let joined_is : joined (lines_of newline x) ≡ x = joined-lines_of newline x in
-    let long : length (joined (lines_of newline x)) ≡ n = ap length joined_is ∙ length-take-le n text within in
     each_clear pattern place [] (lines_of newline x) (drop n text) clear (sym (take-append-drop n text) ∙ ap (λ those. those ++ drop n text) (sym joined_is))
-    (omega (arith, long, low)) (AreLines-lines_of newline x) (whole_ends whole)
+    (omega (arith, ap length joined_is ∙ length-take-le n text within, low)) (AreLines-lines_of newline x) (whole_ends whole)
 
 -- A line has its newline at its end, if it has one.
 

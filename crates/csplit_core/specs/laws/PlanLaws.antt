@@ -34,9 +34,9 @@ among operand front (line ∷ rest) {from} is = matched_on operand (front ++ lin
     (ap (λ n. (get_or (front ++ line ∷ rest) n unmarked).marks operand)
     (let e : from - 1 ≡ length front = omega (arith, is) in e)
     ∙ ap (λ (l : Line). l.marks operand) (get_or-append_seam front line rest unmarked))
-    (let e = length-append front (line ∷ rest) in omega (arith, e, is)) (first_among operand (suc from) rest)
+    (omega (arith, length-append front (line ∷ rest), is)) (first_among operand (suc from) rest)
     (rw (← append_assoc front (line ∷ []) rest) (among operand (front ++ line ∷ []) rest
-    (let e = length-append front (line ∷ []) in omega (arith, e, is))))
+    (omega (arith, length-append front (line ∷ []), is))))
 
 pub first_match_as : (operand : Operand) (lines : List Line) (from : ℕ) → 1 ≤ from
     → MatchesAs operand lines from (first_match operand lines from)
@@ -46,7 +46,7 @@ first_match_as operand lines from some = elim (cases_lt (length lines) (from - 1
   | inr on ↦ subst (λ those. MatchesAs operand those from (first_match operand lines from))
       (take-append-drop (from - 1) lines)
       (among operand (take (from - 1) lines) (drop (from - 1) lines)
-      (let e = length-take-le (from - 1) lines on in omega (arith, e, some)))
+      (omega (arith, length-take-le (from - 1) lines on, some)))
 ]
 
 pub search_some : (suppress : Bool) (state : State) → 1 ≤ search_line suppress state
@@ -113,13 +113,11 @@ fewer_by : (total : ℕ) (state : State) (operand : Operand) (operands : List Op
 fewer_by total state operand operands cut at some within true next left again same =
     let fewer : left_of total next operand.target < left_of total state operand.target =
     fewer_left total state next operand.target cut at some within again same in
-    let is : needed total next ≡ needed_by total next (operand ∷ operands) = ap (needed_by total next) left in
-    omega (arith, fewer, is)
+    omega (arith, fewer, ap (needed_by total next) left)
 fewer_by total state operand operands cut at some within false next left again same =
     let fewer : needed_by total next operands < length operands * (total + 1) + 1 =
     fewer_operands total next operands in
-    let is : needed total next ≡ needed_by total next operands = ap (needed_by total next) left in
-    omega (arith, fewer, is)
+    omega (arith, fewer, ap (needed_by total next) left)
 
 pub fewer_moves : (suppress : Bool) (total : ℕ) (state : State) {operand : Operand} {operands : List Operand}
     (matched cut : ℕ) → state.operands ≡ operand ∷ operands → Moves total state operand.target matched cut → 1 ≤ cut
@@ -187,7 +185,7 @@ computed {suppress} {lines} all end (cuts state operand operands matched cut ste
     (let less : needed (length lines) (state_after suppress operand operands state.repetition matched cut) < needed
     (length lines) state = fewer suppress lines state matched cut is at (omega (arith, some, from)) within in omega
     (arith, less, enough))
-    (let least : cut ≤ line_after suppress cut = line_some suppress cut in omega (arith, least, some, from)))
+    (omega (arith, line_some suppress cut, some, from)))
 
 -- an operand is left, and a plan goes on after its cuts
 module _ (bound : ℕ) (suppress : Bool) (lines : List Line)
@@ -250,16 +248,15 @@ runs (suc bound) suppress lines state enough some =
     mutual_runs bound suppress lines state state.operands refl (λ operand operands is matched cut at from within.
     let less : needed (length lines) (state_after suppress operand operands state.repetition matched cut) < needed
     (length lines) state = fewer suppress lines state matched cut is at (omega (arith, some, from)) within in
-    let least : cut ≤ line_after suppress cut = line_some suppress cut in
     runs bound suppress lines (state_after suppress operand operands state.repetition matched cut)
-    (omega (arith, less, enough)) (omega (arith, least, some, from)))
+    (omega (arith, less, enough)) (omega (arith, line_some suppress cut, some, from)))
 
 pub runs_on : (suppress : Bool) (lines : List Line) (state : State) → 1 ≤ state.current
     → RunsAs suppress lines state (plan_within (needed (length lines) state) suppress lines state)
 runs_on suppress lines state some = runs (needed (length lines) state) suppress lines state (omega arith) some
 
 enough_at_start : (total : ℕ) (operands : List Operand) → needed total (start operands) ≤ length operands * (total + 1)
-enough_at_start total operands = let less = fewer_operands total (start operands) operands in omega (arith, less)
+enough_at_start total operands = omega (arith, fewer_operands total (start operands) operands)
 
 pub plan_runs : (suppress : Bool) (operands : List Operand) (lines : List Line)
     → RunsAs suppress lines (start operands) (plan suppress operands lines)
@@ -286,6 +283,6 @@ goes_on {suppress} {a} b more end {how}
     (cuts state operand operands matched cut steps' last' ending' is at from within rest') rest =
     cuts state operand operands matched cut (steps' ++ more) end how is
     (cuts_still suppress a b state operand operand.target matched cut at) from
-    (let e : length (a ++ b) ≡ length a + length b = length-append a b in omega (arith, e, within))
+    (omega (arith, length-append a b, within))
     (goes_on b more end rest' rest)
 goes_on b more end run rest = rest

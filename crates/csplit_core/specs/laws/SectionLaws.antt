@@ -67,8 +67,7 @@ pub are_within : {suppress : Bool} {lines : List Line} {first : State} {steps : 
     {ending : Ending} → Runs suppress lines first steps last ending → 1 ≤ first.current
     → AreWithin (length lines) steps × (1 ≤ last.current)
 are_within {suppress} (cuts state operand operands matched cut steps' last' ending' is at from within rest) some =
-    let least : cut ≤ line_after suppress cut = line_some suppress cut in
-    let those = are_within rest (omega (arith, least, some, from)) in
+    let those = are_within rest (omega (arith, line_some suppress cut, some, from)) in
     ((some, from, within, those.0), those.1)
 are_within run some = (tt, some)
 
@@ -78,7 +77,7 @@ closed_still a b [] within = refl
 closed_still a b (step ∷ steps) within =
     ap (λ lines. section (is_kept step.operand.target) true lines ∷ map (section_of (a ++ b)) steps)
     (between_still step.current step.cut a b within.0
-    (let less : step.cut ≤ length a = within.2 in omega (arith, less))) ∙ ap (λ those. section_of a step ∷ those)
+    (omega (arith, within.2))) ∙ ap (λ those. section_of a step ∷ those)
     (closed_still a b steps within.3)
 
 next_by : (a b : List Line) (current past more : ℕ) {kept : Bool}
@@ -128,7 +127,7 @@ next_of {suppress} closed end_of covers a b ending some ends more end
     let so = cuts_from suppress a b state ending ends are in
     next_by a b state.current (settled_end (length a) ending)
     (end_of (length (a ++ b)) (below operand state.repetition)) closed some
-    (settled_most (length a) ending) (inr (let past = so.1 matched cut at in omega (arith, past, low))) so.0
+    (settled_most (length a) ending) (inr (omega (arith, so.1 matched cut at, low))) so.0
 next_of {suppress} closed end_of covers a b ending some ends more end
     (cuts state operand operands matched cut steps' last' ending' are at from in_lines rest) =
     let so = cuts_from suppress a b state ending ends are in

@@ -35,7 +35,7 @@ overflow_add-self-in-Some c = omega (arith, few_counted c.loop-end.invariant, ap
 pub pass_clear-clear-requires-in-Some : goal.pass_clear-clear-requires-in-Some
 pass_clear-clear-requires-in-Some c =
     let so = one_more c.in-Some.end c.loop-end.invariant c.is_match.ensures.same (first_at c.in-Some.end c.in-Some.ensures) c.is_match.ensures.found c.if-is_match.false in
-    record { whole = left_whole c.requires.whole so; fits = (let less = few_counted so in omega (arith, less, c.requires.fits)) }
+    record { whole = left_whole c.requires.whole so; fits = (omega (arith, few_counted so, c.requires.fits)) }
 
 pub overflow_add-left : goal.overflow_add-left
 overflow_add-left c = grind (arith, common_steps)
