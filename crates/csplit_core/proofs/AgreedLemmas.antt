@@ -199,8 +199,8 @@ settled_place : {suppress : Bool} (a b : List Line) {last : State} (ending : End
 settled_place a b ending ends more end (is_used_up state none) line from before = grind (arith, common_steps)
 settled_place a b ending ends more end (misses state operand operands are none) line from before = grind (arith, common_steps)
 settled_place a b ending ends more end (is_above state operand operands matched cut are at far) line from before = grind (arith, common_steps)
-settled_place {suppress} a b ending ends more end (is_below state operand operands matched cut are at in_lines low) line from before = grind (arith, common_steps)
-settled_place {suppress} a b ending ends more end (cuts state operand operands matched cut steps' last' ending' are at least in_lines rest) {index} line from before = grind (arith, common_steps)
+settled_place a b ending ends more end (is_below state operand operands matched cut are at in_lines low) line from before = grind (arith, common_steps)
+settled_place a b ending ends more end (cuts state operand operands matched cut steps' last' ending' are at least in_lines rest) line from before = grind (arith, common_steps)
 
 -- where the cut is below the current line all lines go nowhere
 
@@ -209,7 +209,7 @@ nowhere_by : {suppress : Bool} {lines : List Line} {first : State} {operand : Op
     → CutsAt suppress lines first operand operand.target matched cut → cut ≤ length lines → cut < first.current
     → (more : List Step) (end : State) {how : Ending} → Runs suppress lines first more end how → (index line : ℕ)
     → place_from suppress (length lines) index more how line ≡ nowhere
-nowhere_by {suppress} {lines} {first} {operand} {operands} matched cut is at within low more end run index line = search rules
+nowhere_by matched cut is at within low more end run index line = search rules
 
 -- One place for each line that doesn't wait
 
@@ -335,7 +335,7 @@ step_parts suppress lines current cut index s later some least within =
 step_before : (suppress : Bool) (lines : List Line) (current cut : ℕ) {index : ℕ} (later : ℕ → Place) (line : ℕ)
     → 1 ≤ current → current ≤ cut → cut ≤ length lines → line < current + length (lines_between current cut lines)
     → places_with suppress index cut later line ≡ in_section index
-step_before suppress lines current cut {index} later line some least within before = grind (arith, common_steps)
+step_before suppress lines current cut later line some least within before = grind (arith, common_steps)
 
 placed_from : {suppress : Bool} {lines : List Line} {first : State} {steps : List Step} {last : State} {ending : Ending}
     → Runs suppress lines first steps last ending → 1 ≤ first.current → (index k : ℕ) {s : ℕ} → s ≡ index + k
@@ -378,7 +378,7 @@ left_by_step : {suppress : Bool} {index : ℕ} (cut line : ℕ) {step : Step} {s
     → cond lt (in_section index) (cond le (left_out index) later) ≡ left_out cut
     → LeftAt suppress index cut line (step ∷ steps)
 left_by_step cut line true le lt_is le_is rest same = absurd (cc)
-left_by_step {suppress} {index} cut line {step} false true lt_is le_is rest same = grind (arith, common_steps)
+left_by_step cut line false true lt_is le_is rest same = grind (arith, common_steps)
 left_by_step {index} cut line false false lt_is le_is rest same =
     let there = rest same in let at : cut ≡ index + 1 + there.k = there.at in record { so = there.so; k = suc there.k; at = omega (arith, at); is = there.is }
 
@@ -401,7 +401,7 @@ nowhere_at (is_below state operand operands matched cut is cuts_at in_lines low)
 nowhere_at {suppress} (cuts state operand operands matched cut steps' last' ending' is cuts_at least in_lines rest) index line from within same =
     nowhere_by_step (nat_lt line cut) (suppress && nat_le line cut) index ((is_final ending' ≡ true) × (last'.current ≤ line))
     (λ lt le later. nowhere_at rest (index + 1) line (left_by suppress line cut lt le) within later) same
-nowhere_at {lines} run index line from within same = absurd (grind (arith, common_steps))
+nowhere_at run index line from within same = absurd (grind (arith, common_steps))
 
 -- The plan over the lines that came in
 

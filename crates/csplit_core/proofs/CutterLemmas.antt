@@ -104,7 +104,7 @@ pub draft_is : (past : ℕ → Ending → ℕ) (style : Style) (operands : List 
     → taken ≡ past (line_count newline x) ending - state.current
     → written ≡ first_lines newline taken (text_from state.current x)
     → draft_by style (all_lines x) steps (kept_by state.operands) written ≡ draft_to past style operands (all_lines x)
-draft_is past style operands x {steps} {state} {ending} taken {written} runs taken_is written_is = search (rules, last_kept, ends_as, length-all_lines, taken_is, bytes_between, plan_once)
+draft_is past style operands x taken runs taken_is written_is = search (rules, last_kept, ends_as, length-all_lines, taken_is, bytes_between, plan_once)
 
 -- what standard output has of sections is the sizes of the files that are closed
 pub sizes_are : (style : Style) → style.quiet ≡ false → (files : List File)
@@ -156,7 +156,7 @@ pub ended_still : (style : Style) (operands : List Operand) {x : List ℕ} (t : 
     {state : State} {ending : Ending} (kept : Bool) (written : List ℕ) → Joins x t
     → Runs style.suppress (all_lines x) (start operands) steps state ending
     → draft_by style (all_lines x) steps kept written ≡ draft_by style (all_lines (x ++ t)) steps kept written
-ended_still style operands {x} t {steps} {state} {ending} kept written whole runs = search (rules, are_within, all_lines-append, closed_still)
+ended_still style operands t kept written whole runs = search (rules, are_within, all_lines-append, closed_still)
 
 -- as many lines may wait as the next operand says
 pub most_is : (suppress : Bool) (lines : List Line) (state : State) (ending : Ending)
@@ -179,7 +179,7 @@ pub reaches_then : {told : Bool} {style other : Style} {low middle high : Part} 
     → Reaches (sizes_wanted style) told one two low middle old mid None
     → Reaches (sizes_wanted other) told two three middle high mid new fault
     → Reaches (sizes_wanted style) told one three low high old new fault
-reaches_then {told} {low = low} {middle} {high} {mid = mid} {new} {fault} {two = two} {three} same begins first second = reaches_again begins first (rw same at second)
+reaches_then same begins first second = reaches_again begins first (rw same at second)
 
 -- what style and operands decide stays
 pub same_by : {A : Type 0} {given : List Operand} {made : Style} {writer : WriterState} {next : CutterState}
@@ -195,14 +195,14 @@ settled_same x keeps = grind (arith, common_steps)
 -- the plan up to where the cutter stands
 pub runs_to : {cutter : CutterState} {x left : List ℕ} (at : IsAt cutter x left) {aim : Turn}
     (ends : EndsHere (suppress_in cutter) (all_lines x) (state_in cutter) aim) → Runs (suppress_in cutter) (all_lines x) (start cutter.operands) at.steps (state_in cutter) ends.ending
-runs_to {cutter} {x} at ends = grind (arith, common_steps)
+runs_to at ends = grind (arith, common_steps)
 
 -- more lines came in, and nothing was done with them yet
 unfoldable pub at_more : {cutter : CutterState} {lines : ℕ} {x : List ℕ} (t : List ℕ) {left : List ℕ} → Joins x t
     → 1 ≤ cutter.progress.current → (at : IsAt cutter x left) {aim : Turn}
     → EndsHere (suppress_in cutter) (all_lines x) (state_in cutter) aim → lines ≡ line_count newline (x ++ t)
     → IsAt (bare (record cutter { lines = lines })) (x ++ t) (left ++ t)
-at_more {cutter} {x = x} t whole some at ends count =
+at_more {cutter} t whole some at ends count =
     let e = all_lines-append t whole in record {
       steps = at.steps;
       leads = λ more last ending run. rw (← e) at (goes_on (all_lines t) more last (runs_to at ends) (rw e at run));
@@ -239,11 +239,11 @@ live_part {cutter} {x} live =
 -- how many lines are left
 pub left_count : {cutter : CutterState} {x left : List ℕ} (at : IsAt cutter x left)
     → line_count newline left ≡ cutter.lines - (cutter.progress.current + at.taken - 1)
-left_count {cutter} {x} at = grind (arith, common_steps, count_from)
+left_count at = grind (arith, common_steps, count_from)
 
 pub few_taken : {cutter : CutterState} {x left : List ℕ} (at : IsAt cutter x left)
     → cutter.progress.current + at.taken ≤ cutter.lines + 1
-few_taken {cutter} {x} at = grind (arith, common_steps)
+few_taken at = grind (arith, common_steps)
 
 -- with the first lines of those that were left more is written, and the lines after them are left
 module _ {cutter : CutterState} {x left : List ℕ} (n : ℕ) (some : 1 ≤ cutter.progress.current)
@@ -271,7 +271,7 @@ pub record Emptying (told : Bool) (writer now : WriterState) (window left_in : W
 
 pub all_held : {told : Bool} {writer : WriterState} {window : Window} {n : ℕ} {slots : List Slot} → IsReady writer slots
     → Emptying told writer writer window window n n slots slots
-all_held {told} {writer} {window} {n} {slots} ready =
+all_held {window = window} {n} ready =
     let none : n - n ≡ 0 = omega arith in record {
       few = omega arith;
       rest = ap (without_first window) (sym none);
@@ -309,7 +309,7 @@ module _ {told : Bool} {writer now : WriterState} {window left_in : Window} {n l
       → Goes told now (with_bytes (take bytes front)) mid new next None
       → size_of next.current ≤ size_of now.current + length (take bytes front)
       → Emptying told writer next window after n (left - bytes) old new
-  empties few {after = after} dropped went more =
+  empties few dropped went more =
       let less : length front ≤ length left_in.held = (grind (arith, common_steps)) in
       let count : n - left + bytes ≡ n - (left - bytes) = (let all = so_far.few in omega (arith, all, few)) in record {
         few = (omega (arith, so_far.few));
@@ -347,7 +347,7 @@ both_parts n xs ys {k} is (inr more) =
 pub parted : {delim most over long front : ℕ} {held text : List ℕ}
     → over ≡ length (but_last_lines delim most (held ++ text)) → long ≡ length held → front ≡ min over long
     → Parted delim most over front held text
-parted {delim} {most} {over} {long} {front} {held} {text} is all least =
+parted {delim} {most} {over} {held = held} {text} is all least =
     let parts = both_parts over held text (least ∙ ap (min over) all) (cases_lt over (length held)) in record {
       goes = parts.0 ∙ ap (λ n. take n (held ++ text)) is ∙ sym (first_lines-is_take delim (line_count delim (held ++ text) - most) (held ++ text));
       stays = parts.1 ∙ ap (λ n. drop n (held ++ text)) is ∙ last_lines-is_drop delim most (held ++ text);
@@ -465,7 +465,7 @@ pub hold_past : {told : Bool} {cutter : CutterState} {window : Window} {left : L
     → length cutter.window.held ≤ length left
     → window ≡ without_first cutter.window n
     → Holds told cutter left slots slots (record cutter { window = window }) None
-hold_past {cutter = cutter} {window} {left} {slots} {n} aim ready all less dropped = record {
+hold_past {cutter = cutter} {window} {left} {n = n} aim ready all less dropped = record {
   keeps = record { operands = refl; style = refl; writer = leaves_still ready };
   reaches = λ x at arrives. reaches_still keeps_files (ap (draft_part (manner_of cutter.style)) (past_draft arrives (past x at arrives)) ∙ settled_part_is cutter.style cutter.operands (all_lines x));
   went = record {
@@ -511,7 +511,7 @@ open_at lines last ending = section (is_last_kept ending) false
 settled_by_plan : (style : Style) (operands : List Operand) {lines : List Line} {steps : List Step} {last : State}
     {ending : Ending} → Runs style.suppress lines (start operands) steps last ending
     → settled_of style operands lines ≡ part_of style (map (section_of lines) steps ++ open_at lines last ending ∷ [])
-settled_by_plan style operands {lines} {steps} {last} {ending} runs = grind (arith, common_steps, plan_once, runs)
+settled_by_plan style operands runs = grind (arith, common_steps, plan_once, runs)
 
 begun_by : (style : Style) (operands : List Operand) {lines : List Line} (steps : List Step) {state : State}
     (more : List Step) {last : State} {ending : Ending} → Runs style.suppress lines state more last ending
@@ -561,7 +561,7 @@ leads_on : {cutter : CutterState} {x left : List ℕ} (at : IsAt cutter x left) 
     (goes : CutsIn cutter x cut)
     → Leads (suppress_in cutter) (all_lines x) cutter.operands (at.steps ++ step_at cutter goes.operand cut ∷ [])
     (state_after (suppress_in cutter) goes.operand goes.operands cutter.progress.repetition cut.matched cut.line)
-leads_on {cutter} {x} at cut goes more last ending run =
+leads_on {cutter} at cut goes more last ending run =
     rw (← append_assoc at.steps (step_at cutter goes.operand cut ∷ []) more) at (at.leads (step_at cutter goes.operand cut ∷ more) last ending (cuts (state_in cutter) goes.operand goes.operands cut.matched cut.line more last ending goes.are goes.cuts goes.from goes.within run))
 
 -- what is settled begins with the sections after the cut
@@ -594,7 +594,7 @@ pub cut_stopped : {told : Bool} {cutter next : CutterState} {cut : Cut} {place :
     → ((x : List ℕ) (at : IsAt (bare cutter) x left) → CutsNow line cut place at
     → Puts told cutter next (part_at at) (settled_part cutter x) old new (Some fault))
     → CutsAll told cutter cut place left line [] old new next (Some fault)
-cut_stopped {cutter = cutter} operands style leaves reaches = grind (arith, common_steps)
+cut_stopped operands style leaves reaches = grind (arith, common_steps)
 
 -- where the run stands after the cut
 passed_state : {told : Bool} {cutter mid : CutterState} {writer : WriterState} {cut : Cut} {before : List ℕ}
@@ -602,7 +602,7 @@ passed_state : {told : Bool} {cutter mid : CutterState} {writer : WriterState} {
     → WentOn (record cutter { writer = writer }) cut mid
     → {operand : Operand} {operands : List Operand} → (state_in cutter).operands ≡ operand ∷ operands
     → state_in mid ≡ state_after (suppress_in cutter) operand operands cutter.progress.repetition cut.matched cut.line
-passed_state {cutter = cutter} {cut = cut} goes passed {operand} {operands} are = grind (arith, common_steps)
+passed_state goes passed are = grind (arith, common_steps)
 
 -- the writer is as it was before
 began_there : {told : Bool} (cutter : CutterState) {mid : CutterState} {writer next : WriterState} {cut : Cut}
@@ -611,7 +611,7 @@ began_there : {told : Bool} (cutter : CutterState) {mid : CutterState} {writer n
     → opening ≡ opening_of mid.style (kept_by (state_in mid).operands)
     → Goes told mid.writer (with_next opening) old new next fault
     → Goes told writer (with_next (opening_of cutter.style (kept_by (state_in mid).operands))) old new next fault
-began_there {told} cutter {mid} {writer} {next} {old = old} {new} {fault} passed opening_is began =
+began_there cutter {writer = writer} passed opening_is began =
     rw (opening_is, ap (λ (c : CutterState). c.style) passed.same, ap (λ (c : CutterState). c.writer) passed.same) at began
 
 -- a cut of this cutter is due, and stands after these bytes of the lines that are left
@@ -628,7 +628,7 @@ module _ {cutter : CutterState} {cut : Cut} {place n : ℕ} {left before : List 
       (line : List ℕ) → Goes told cutter.writer (with_bytes before) old new writer None
       → PassesCut (record cutter { writer = writer }) cut mid (Some fault)
       → CutsAll told cutter cut place left line [] old new mid (Some fault)
-  cut_pass_stopped {told} {old = old} {new} {fault} line goes (is_memory, same_writer, same_operands, same_style) =
+  cut_pass_stopped {fault = fault} line goes (is_memory, same_writer, same_operands, same_style) =
       cut_put_stopped line same_operands same_style (rw (← same_writer) at (goes_or_lacks (Err fault) goes is_memory))
 
   pub cut_next_stopped : {told : Bool} {mid : CutterState} {writer next : WriterState} {opening : Opening}
@@ -638,7 +638,7 @@ module _ {cutter : CutterState} {cut : Cut} {place n : ℕ} {left before : List 
       → opening ≡ opening_of mid.style (kept_by (state_in mid).operands)
       → Goes told mid.writer (with_next opening) between new next (Some fault)
       → CutsAll told cutter cut place left line [] old new (record mid { writer = next }) (Some fault)
-  cut_next_stopped {told} {mid} {writer} {next} line went passed opening_is stops =
+  cut_next_stopped line went passed opening_is stops =
       let stopped = began_there cutter passed opening_is stops in
       cut_stopped (ap (λ (c : CutterState). c.operands) passed.same) (ap (λ (c : CutterState). c.style) passed.same) (leaves_again went.leaves stopped.leaves)
       (λ x at due.

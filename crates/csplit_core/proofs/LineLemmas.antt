@@ -39,7 +39,7 @@ pub lines-append : {x : List ℕ} (t : List ℕ) → Joins x t
 lines-append t fact = grind (arith, common_steps, lines_of-append)
 
 pub all_lines-append : {x : List ℕ} (t : List ℕ) → Joins x t → all_lines (x ++ t) ≡ all_lines x ++ all_lines t
-all_lines-append {x} t whole = grind (arith, common_steps, lines-append, map-append)
+all_lines-append t whole = grind (arith, common_steps, lines-append, map-append)
 
 pub all_lines-line : {x : List ℕ} (line : List ℕ) → IsWhole x → IsLine line
     → all_lines (x ++ line) ≡ all_lines x ++ marked line ∷ []
@@ -98,7 +98,7 @@ first_from n first x = ap (λ those. joined (take n those)) (lines_of-after_line
 -- what follows complete lines changes nothing among them
 pub first_still : (n first : ℕ) {x : List ℕ} (t : List ℕ) → Joins x t → 1 ≤ first → first + n ≤ line_count newline x + 1
     → first_lines newline n (text_from first (x ++ t)) ≡ first_lines newline n (text_from first x)
-first_still n first {x} t whole some within = search (rules, length-drop, first_from, lines-append, drop-append-le, take-append-le)
+first_still n first t whole some within = search (rules, length-drop, first_from, lines-append, drop-append-le, take-append-le)
 
 pub rest_more : (first : ℕ) {x : List ℕ} (t : List ℕ) → Joins x t → 1 ≤ first → first ≤ line_count newline x + 1
     → text_from first x ++ t ≡ text_from first (x ++ t)
@@ -188,7 +188,7 @@ pub ends_by : (x : List ℕ) → IsWhole x → 0 < length x → ends_with newlin
 ends_by x fact some = grind (arith, common_steps)
 
 pub piece_ends : {piece : List ℕ} (end : ℕ) → LastEndsAt newline piece end → ends_with newline (take end piece) ≡ true
-piece_ends {piece} end last = grind (arith, common_steps, ends_by, lines_whole)
+piece_ends end last = grind (arith, common_steps, ends_by, lines_whole)
 
 some_ends : (rest text : List ℕ) → ends_with newline text ≡ true → ends_with newline (rest ++ text) ≡ true
 some_ends rest text ends = ends_with-append newline rest text (ends_with-some newline text ends) ∙ ends

@@ -117,7 +117,7 @@ first_writes style = record { same = first_manner style; made = refl; kept = λ 
 
 pub first_ready : (style : Style) {writer : WriterState} {slots : List Slot} → writer ≡ new_for style → 2 ≤ length slots
     → IsTrue (is_writable slots 0) → CanWrite writer slots
-first_ready style {slots = slots} is two can = grind (arith, common_steps)
+first_ready style is two can = grind (arith, common_steps)
 
 -- The first turn, before any line came in.
 
@@ -129,7 +129,7 @@ SaysFirst suppress operands turn = (lines : List Line) → AreSeen suppress line
 
 first_ends : {suppress : Bool} (operands : List Operand) {turn : Turn} → SaysFirst suppress operands turn
     → MovesOn operands 0 first_progress turn → EndsHere suppress [] (start operands) turn
-first_ends {suppress} operands {turn} says moves =
+first_ends operands {turn} says moves =
     turn_ends turn (grind (arith, common_steps)) (says [] (grind (arith, common_steps)))
 
 -- The cutter that was opened
@@ -163,7 +163,7 @@ first_stands operands style writes ends false live = inl (record {
   live = live;
   settled = omega arith;
 })
-first_stands operands style {writer} {aim} writes ends true past = grind (arith, common_steps, plan_once, first_settled)
+first_stands operands style writes ends true past = grind (arith, common_steps, plan_once, first_settled)
 
 first_opened : (told : Bool) {style : Style} {operands : List Operand} {old new : List Slot} {writer : WriterState}
     (aim : Turn) → 2 ≤ length old
@@ -227,7 +227,7 @@ none_told style = grind (arith, common_steps)
 -- where there is no memory, nothing was done
 pub opened_lacks : (told : Bool) {style : Style} (operands : List Operand) {slots : List Slot} {fault : Fault}
     → fault ≡ Memory → BegunNot told style (settled_of style operands []) slots slots fault
-opened_lacks told {style} operands {slots} lacks = search (rules, stops_wider, in_turn, none_told, nothing_begins_part, none_past)
+opened_lacks told operands lacks = search (rules, stops_wider, in_turn, none_told, nothing_begins_part, none_past)
 
 -- What ending the cutter leaves: all lines that waited belong to the last section, which ends; and the fault with which the work ends.
 
@@ -255,7 +255,7 @@ live_draft {cutter} {x} fit live =
     }
 
 past_draft : {cutter : CutterState} {x : List ℕ} → IsPast cutter x → LastDraft cutter x
-past_draft {cutter} {x} past = grind (arith, common_steps, settled_part_is, whole_part_is)
+past_draft past = grind (arith, common_steps, settled_part_is, whole_part_is)
 
 last_draft : {cutter : CutterState} {x : List ℕ} → IsFit cutter → Stands cutter x → LastDraft cutter x
 last_draft fit fact = grind (arith, common_steps, live_draft, past_draft)
@@ -269,14 +269,14 @@ judged_now fact = grind (arith, common_steps, plan_once, runs_to)
 
 all_held : (cutter : CutterState) {n : ℕ} → n ≡ length cutter.window.held
     → take n cutter.window.held ≡ cutter.window.held
-all_held cutter {n} all = grind (arith, common_steps)
+all_held cutter all = grind (arith, common_steps)
 
 pub end_goes : {told : Bool} {cutter : CutterState} {between next : WriterState} (window : Window) {n : ℕ}
     {old mid new : List Slot} {fault : Option Fault} → IsFit cutter → n ≡ length cutter.window.held
     → Goes told cutter.writer (with_bytes (take n cutter.window.held)) old mid between None
     → Goes told between (with_next Never) mid new next fault
     → EndsAll told cutter old new (record cutter { writer = next; window = window }) fault
-end_goes {told} {cutter} {between = between} {next} window {mid = mid} {new} {fault} fit all goes ends =
+end_goes {cutter = cutter} window {fault = fault} fit all goes ends =
     let went = goes_as (all_held cutter all) goes in record {
       keeps = record { operands = refl; style = refl; writer = leaves_again went.leaves ends.leaves };
       reaches = λ x stands. let last = last_draft fit stands in let manner = manner_of cutter.style in
@@ -323,14 +323,14 @@ verdict_is suppress lines state aim ending ends are aims = search rules
 pub judged_none : {cutter : CutterState} {result : Option Verdict} {x : List ℕ}
     → false ≡ nat_lt cutter.progress.done (length cutter.operands) → result ≡ None → IsJudged cutter x
     → result ≡ verdict_of (plan_in cutter x).ending
-judged_none {cutter} {x = x} over none judged = grind (arith, common_steps, nat_tests, of_it, drop_all)
+judged_none over none judged = grind (arith, common_steps, nat_tests, of_it, drop_all)
 
 -- the operand that was looked up is the next
 pub judged_next : {cutter : CutterState} {operand : Operand} {aim : Turn} {result : Option Verdict} {x : List ℕ}
     → cutter.progress.done < length cutter.operands → operand ≡ get_or cutter.operands cutter.progress.done operand
     → cutter.aim ≡ aim → result ≡ verdict_at aim operand cutter.progress.repetition → IsJudged cutter x
     → result ≡ verdict_of (plan_in cutter x).ending
-judged_next {cutter} {aim = aim} {x = x} within here aimed made judged = grind (arith, common_steps, verdict_is, of_it, left_is)
+judged_next within here aimed made judged = grind (arith, common_steps, verdict_is, of_it, left_is)
 
 -- How many bytes wait.
 
@@ -381,7 +381,7 @@ pub takes_or_lacks : {told : Bool} {cutter next : CutterState} {t : List ℕ} {o
     (result : Result (Unit {0}) Fault) → Takes told cutter t old new next None → IfErr result (λ fault. fault ≡ Memory)
     → Takes told cutter t old new next (fault_in result)
 takes_or_lacks (Ok done) took lacks = took
-takes_or_lacks {told} {cutter} {next} {t} {old} {new} (Err fault) took lacks = rw (← lacks) at (takes_lacking took)
+takes_or_lacks (Err fault) took lacks = rw (← lacks) at (takes_lacking took)
 
 -- The end
 
@@ -389,7 +389,7 @@ pub closed_on : {told : Bool} {stage : CsplitState} (last : CsplitState) {next :
     {old mid new : List Slot} {fault : Option Fault} → two ≡ last.cutter
     → Takes told stage.cutter stage.rest old mid last.cutter None → EndsAll told two mid new next.cutter fault
     → Closed told stage old new next fault
-closed_on {told} {stage} last {old = old} {mid} {fault = fault} is took second = let first = rw (← is) at took in record {
+closed_on {stage = stage} last {fault = fault} is took second = let first = rw (← is) at took in record {
   keeps = keeps_on first.keeps second.keeps;
   reaches = λ x front stands. reaches_then first.keeps.style (more_settled stage.cutter stage.rest front) (first.reaches x front stands)
       (reaches_as (sym (settled_same (x ++ stage.rest) first.keeps)) (sym (same_by (λ style operands. whole_of style operands (all_lines (x ++ stage.rest))) first.keeps)) (second.reaches (x ++ stage.rest) (first.went.stands x front stands)));
@@ -419,7 +419,7 @@ past_end {cutter} {x} t whole past =
 pub past_verdict : {cutter : CutterState} {x : List ℕ} (t : List ℕ) → IsWhole x → IsPast cutter x
     → verdict_of (plan_in cutter (x ++ t)).ending
     ≡ verdict_of (plan_in cutter x).ending
-past_verdict {cutter} t whole past = grind (arith, common_steps, past_plan)
+past_verdict t whole past = grind (arith, common_steps, past_plan)
 
 -- The steps of the stage that takes in bytes. A stage is known by its fields and by its value.
 
@@ -427,12 +427,12 @@ past_verdict {cutter} t whole past = grind (arith, common_steps, past_plan)
 
 pub line_at : {before stage : CsplitState} {text : List ℕ} (end : List ℕ) → before ≡ stage → text ≡ before.rest ++ end
     → delimiters newline stage.rest ≡ 0 → IsLine end → IsLine text
-line_at {before} end is text_is none line = grind (arith, common_steps, joined_line)
+line_at end is text_is none line = grind (arith, common_steps, joined_line)
 
 pub lacks_at : {told : Bool} {before stage : CsplitState} (t : List ℕ) {slots : List Slot} → before ≡ stage
     → IsSound stage.cutter → CanWrite stage.cutter.writer slots
     → Takes told stage.cutter t slots slots before.cutter (Some Memory)
-lacks_at {told} {stage = stage} t {slots} is sound ready = rw is (takes_wider t (inl refl) (takes_lacking (takes_none sound ready)))
+lacks_at t is sound ready = rw is (takes_wider t (inl refl) (takes_lacking (takes_none sound ready)))
 
 -- the first of the lines was taken in, and then the others
 
@@ -441,14 +441,14 @@ lines_from : {told : Bool} {before stage : CsplitState} {next : CutterState} {li
     → before ≡ stage → lines ≡ end ++ others
     → Takes told before.cutter ((before.rest ++ end) ++ others) old new next fault
     → Takes told stage.cutter (stage.rest ++ lines) old new next fault
-lines_from {told} {before} {next = next} {lines} end others {old} {new} {fault} same is takes = grind (arith, common_steps)
+lines_from end others same is takes = grind (arith, common_steps)
 
 -- no line was open
 pub lines_alone : {told : Bool} {before stage : CsplitState} {next : CutterState} {lines : List ℕ} {n : ℕ}
     {old new : List Slot} {fault : Option Fault} → before ≡ stage → n ≡ length before.rest → eqb n 0 ≡ true
     → Takes told before.cutter lines old new next fault
     → Takes told stage.cutter (stage.rest ++ lines) old new next fault
-lines_alone {told} {before} {next = next} {lines} {old = old} {new} {fault} is size empty takes = grind (arith, common_steps)
+lines_alone is size empty takes = grind (arith, common_steps)
 
 module _ {told : Bool} {before stage : CsplitState} {lines text : List ℕ} (end : List ℕ) {others : List ℕ}
     (same : before ≡ stage) (text_is : text ≡ before.rest ++ end) (is : lines ≡ end ++ others)
@@ -471,7 +471,7 @@ pub past_passes : {told : Bool} {view stage : CsplitState} {piece : List ℕ} {s
     → view.cutter.aim ≡ Below → CanWrite stage.cutter.writer slots → IsSound stage.cutter
     → delimiters newline stage.rest ≡ 0
     → Passes told stage piece slots slots view (Ok tt)
-past_passes {told} {stage = stage} {piece} {slots} is aim ready sound unbroken =
+past_passes {stage = stage} is aim ready sound unbroken =
     let aimed : stage.cutter.aim ≡ Below = ap (λ (s : CsplitState). s.cutter.aim) (sym is) ∙ aim in
     rw is (record {
       took = took_past aimed sound ready;
@@ -542,19 +542,19 @@ pub some_stopped : {told : Bool} {view stage : CsplitState} (next : CsplitState)
     {old new : List Slot} {fault : Fault} → view ≡ stage → LastEndsAt newline piece end → lines ≡ take end piece
     → Takes told view.cutter (view.rest ++ lines) old new next.cutter (Some fault)
     → Passes told stage piece old new next (Err fault)
-some_stopped {told} {view} next {piece} end {old} {new} {fault} is last lines_is stopped = rw (← is) (record { took = rw (piece_lines view.rest end last, ← lines_is) stopped; passed = tt })
+some_stopped {view = view} next end is last lines_is stopped = rw (← is) (record { took = rw (piece_lines view.rest end last, ← lines_is) stopped; passed = tt })
 
 -- The last line
 
 pub last_none : {told : Bool} {before stage : CsplitState} {n : ℕ} {slots : List Slot} → before ≡ stage
     → n ≡ length before.rest → eqb n 0 ≡ true → CanWrite stage.cutter.writer slots → IsSound stage.cutter
     → Takes told stage.cutter stage.rest slots slots stage.cutter None
-last_none {told} {stage = stage} {slots = slots} is size empty ready sound =
+last_none is size empty ready sound =
     rw (ap (λ (s : CsplitState). s.rest) (sym is) ∙ none_there (ap (λ k. eqb k 0) size) empty) (takes_none sound ready)
 
 pub last_line : {before stage : CsplitState} {n : ℕ} {text : List ℕ} → before ≡ stage → text ≡ before.rest
     → n ≡ length before.rest → eqb n 0 ≡ false → delimiters newline stage.rest ≡ 0 → IsLine text
-last_line {before} is text_is size some unbroken = grind (arith, common_steps, open_is_line)
+last_line is text_is size some unbroken = grind (arith, common_steps, open_is_line)
 
 -- the work ends with a verdict, and the files are removed then
 pub judged_by : {told : Bool} {stage mid next : CsplitState} {reached new old : List Slot} {result : Option Verdict}
@@ -593,7 +593,7 @@ owns_on leaves first own = grind (arith, common_steps)
 stands_so : (told : Bool) {before : List Slot} {stage : CsplitState} {x : List ℕ} {now : List Slot}
     → StandsAt terms stage told before x now
     → At told stage.cutter.writer before (settled_part stage.cutter (whole_lines x)) now
-stands_so told {before} {stage} {x} {now} at = grind (arith, common_steps, settled_is)
+stands_so told at = grind (arith, common_steps, settled_is)
 
 -- faults
 
@@ -604,14 +604,14 @@ not_verdict style old new fault same breaks = grind (arith, common_steps)
 met_by : {Lacks : Type 0} → Lacks → (Ends : Verdict → Type 0) (style : Style) (old new : List Slot) (fault : Fault)
     {own : Manner} → IsManner (manner_of style) own → Breaks own old new fault
     → IsMet (csplit_means style) (record { memory = true; files = true }) Lacks Ends old new fault
-met_by {Lacks} lacks Ends style old new fault same breaks = grind (arith, common_steps)
+met_by lacks Ends style old new fault same breaks = grind (arith, common_steps)
 
 -- a piece
 
 holds_by : {told : Bool} {stage next : CsplitState} {piece : List ℕ} {old new : List Slot} {x : List ℕ}
     → Passes told stage piece old new next (Ok tt) → Holds stage x
     → (stage.cutter.aim ≡ Below) ⊎ (stage.cutter.aim ≡ Below → ⊥) → Holds next (x ++ piece)
-holds_by {stage = stage} {next} {piece} {x} passed holds (inl is_below) = record {
+holds_by {piece = piece} {x} passed holds (inl is_below) = record {
   stands = inr (rw (passed.passed.still is_below, lines_more x piece) (still_past (whole_lines (open_line x ++ piece)) (lines_whole x) (is_past is_below holds.stands)));
   live = λ differs. absurd (differs (ap (λ (c : CutterState). c.aim) (passed.passed.still is_below) ∙ is_below));
   past = λ still. passed.passed.past still holds.past;
@@ -683,7 +683,7 @@ module _ (stage : CsplitState) (x : List ℕ) (holds : Holds stage x) where
       → Keeps stage.cutter next old new fault
       → verdict_of (plan (suppress_in next) next.operands (all_lines (whole_lines x ++ stage.rest))).ending
       ≡ (work stage).verdict x
-  verdict_then {next} keeps =
+  verdict_then keeps =
       same_by (λ style operands. verdict_by style.suppress operands (whole_lines x ++ stage.rest)) keeps
       ∙ all_then (verdict_by (suppress_in stage.cutter) stage.cutter.operands) (λ t. past_verdict t (lines_whole x)) (below_or_not stage.cutter.aim)
 
@@ -765,7 +765,7 @@ pub begins_at : (told : Bool) (style : Style) {given operands : List Operand} {w
     → Reaches (sizes_wanted style) told (writer_for style) writer nothing (settled_of style given []) old new None
     → (before : List Slot) → OutputsAt told before nothing old
     → OutputsAt told before (settled_by style operands []) new
-begins_at told style {new} same two reaches before at =
+begins_at told style same two reaches before at =
     rw same at (reaches.there before (none_stands told style two at)).outputs
 
 pub cannot_begin : (told : Bool) {style : Style} {given operands : List Operand} {old new : List Slot} {fault : Fault}

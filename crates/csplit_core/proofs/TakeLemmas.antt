@@ -68,7 +68,7 @@ live_before {cutter} {x} t live matched cut are at =
 place_before : {cutter : CutterState} {x : List ℕ} (t : List ℕ) (cut : Cut) (live : IsLive cutter x) → IsWhole x
     → CutsIn cutter (x ++ t) cut → cutter.progress.current ≤ cut.line
     → cutter.progress.current + live.at.taken ≤ cut.line
-place_before {cutter} {x} t cut live whole goes from =
+place_before t cut live whole goes from =
     let at = rw (all_lines-append t (inl whole)) at goes.cuts in omega (arith, live_taken live, live_before t live cut.matched cut.line goes.are at, from)
 
 -- What arrives where more lines came.
@@ -206,7 +206,7 @@ take_cut {told} {cutter} {mid} {next} line more {cut} {old} {new} {fault} fit di
 pub past_plan : (suppress : Bool) (operands : List Operand) {x : List ℕ} (t : List ℕ) → IsWhole x
     → is_final (plan suppress operands (all_lines x)).ending ≡ true
     → plan suppress operands (all_lines (x ++ t)) ≡ plan suppress operands (all_lines x)
-past_plan suppress operands {x} t whole final = grind (arith, common_steps, all_lines-append, stays)
+past_plan suppress operands t whole final = grind (arith, common_steps, all_lines-append, stays)
 
 final_draft : (style : Style) (operands : List Operand) (x : List ℕ)
     → is_final (plan style.suppress operands (all_lines x)).ending ≡ true
@@ -233,11 +233,11 @@ pub is_past : {cutter : CutterState} {x : List ℕ} → cutter.aim ≡ Below →
 is_past aim fact = grind (arith, common_steps)
 
 pub still_past : {cutter : CutterState} {x : List ℕ} (t : List ℕ) → IsWhole x → IsPast cutter x → IsPast cutter (x ++ t)
-still_past {cutter} t whole past = search (rules, past_plan, past_draft)
+still_past t whole past = search (rules, past_plan, past_draft)
 
 pub took_past : {told : Bool} {cutter : CutterState} {t : List ℕ} {slots : List Slot} → cutter.aim ≡ Below
     → IsSound cutter → IsReady cutter.writer slots → Takes told cutter t slots slots cutter None
-took_past {t = t} aim sound ready = search (rules, keeps_files, leaves_still, reaches_still, past_part, is_past, still_past)
+took_past aim sound ready = search (rules, keeps_files, leaves_still, reaches_still, past_part, is_past, still_past)
 
 -- Taking a text of complete lines in, stretch by stretch.
 
@@ -288,7 +288,7 @@ pub record Taking (told : Bool) (cutter now : CutterState) (text left : List ℕ
 
 pub takes_none : {told : Bool} {cutter : CutterState} {slots : List Slot} → IsSound cutter → IsReady cutter.writer slots
     → Takes told cutter [] slots slots cutter None
-takes_none {cutter = cutter} sound ready = grind (arith, common_steps)
+takes_none sound ready = grind (arith, common_steps)
 
 module _ {told : Bool} {cutter now : CutterState} {text left : List ℕ} {old mid : List Slot}
     (so_far : Taking told cutter now text left old mid) where
@@ -307,7 +307,7 @@ module _ {told : Bool} {cutter now : CutterState} {text left : List ℕ} {old mi
 
   pub takes_stopped : {next : CutterState} {size : ℕ} {new : List Slot} {fault : Fault} → IsWhole (take size left)
       → Stretches told now left size mid new next (Err fault) → Takes told cutter text old new next (Some fault)
-  takes_stopped {next} {size} {new} {fault} first more =
+  takes_stopped {size = size} first more =
       let front = take size left ++ take more.on.n (drop size left) in
       let all : front ++ drop more.on.n (drop size left) ≡ left = (grind (arith, common_steps)) in
       rw (← so_far.whole) at (takes_again so_far.complete so_far.took (rw all at (takes_wider (drop more.on.n (drop size left)) (whole-append _ first more.on.whole) more.took)))
@@ -321,12 +321,12 @@ module _ {told : Bool} {cutter now : CutterState} {text left : List ℕ} {old mi
 pub found_next : {told : Bool} {now next : CutterState} {left : List ℕ} {size : ℕ} (passed : Passed)
     {mid new : List Slot} → Stretches told now left size mid new next (Ok passed)
     → IfSome passed.found (IsNextFound next (take (length left - passed.size) (drop passed.size left)))
-found_next {next = next} {left} passed more = grind (arith, common_steps)
+found_next passed more = grind (arith, common_steps)
 
 pub takes_fewer : {told : Bool} {now next : CutterState} {left : List ℕ} {size : ℕ} (passed : Passed)
     {mid new : List Slot} → 0 < size → size ≤ length left → Stretches told now left size mid new next (Ok passed)
     → length (take (length left - passed.size) (drop passed.size left)) < length left
-takes_fewer {left = left} passed some within more = grind (arith, common_steps)
+takes_fewer passed some within more = grind (arith, common_steps)
 
 -- Cutting as often as operands cut the lines that are left.
 
@@ -337,11 +337,11 @@ spread_fit is fit = grind (arith, common_steps)
 
 pub spread_ready : (now : CutterState) {mid : CutterState} {slots : List Slot} → mid ≡ record now { aim = mid.aim }
     → IsReady now.writer slots → IsReady mid.writer slots
-spread_ready now {slots} is ready = grind (arith, common_steps)
+spread_ready now is ready = grind (arith, common_steps)
 
 pub spread_fewer : (now : CutterState) {mid : CutterState} {less : ℕ} → mid ≡ record now { aim = mid.aim }
     → less < needed mid.lines (state_in mid) → less < needed now.lines (state_in now)
-spread_fewer now {less} is fewer = grind (arith, common_steps)
+spread_fewer now is fewer = grind (arith, common_steps)
 
 -- the next operand cuts as well
 
@@ -349,7 +349,7 @@ cuts_again : {told : Bool} {cutter now : CutterState} (cut : Cut) {x : List ℕ}
     {left : List ℕ} {low : Part} {old new : List Slot} (after : IsAfter told cutter x line now left low old new)
     → Tries now line now (Some cut) → WillCut now cut
     → CutsNow line cut now.progress.current after.now
-cuts_again cut {x} line after tries will = grind (arith, common_steps)
+cuts_again cut line after tries will = grind (arith, common_steps)
 
 module _ {told : Bool} {cutter now mid : CutterState} {cut cut' : Cut} {place : ℕ} {waiting line left : List ℕ}
     {old between : List Slot} (so_far : Spreading told cutter cut place waiting line old between now left)
@@ -393,7 +393,7 @@ module _ {told : Bool} {cutter now mid : CutterState} {cut cut' : Cut} {place : 
 -- where none waits
 
 pub none_there : {held : List ℕ} {empty : Bool} → empty ≡ eqb (length held) 0 → empty ≡ true → held ≡ []
-none_there {held} is true_is = grind (arith, common_steps)
+none_there is true_is = grind (arith, common_steps)
 
 pub alone : (P : ℕ → List ℕ → Type 0) (cutter : CutterState) (line : List ℕ) → cutter.window.held ≡ []
     → P cutter.lines line
@@ -405,7 +405,7 @@ alone P cutter line none holds = grind (arith, common_steps)
 drained_place : (lines : ℕ) (held line : List ℕ) {items : List ℕ} {n count place : ℕ} → items ≡ held ++ line
     → n ≡ length items → count ≡ delimiters newline (take (n - length line) items) → place ≡ lines - count
     → place ≡ lines - delimiters newline held
-drained_place lines held line {items} {n} items_is long count_is place_is =
+drained_place lines held line {n = n} items_is long count_is place_is =
     let size : n - length line ≡ length held = omega (arith, long, ap length items_is ∙ length-append held line) in
     (grind (arith, common_steps, size, items_is, count_is, place_is, take_at))
 
@@ -416,7 +416,7 @@ pub cut_drained : {told : Bool} {cutter next : CutterState} {window : Window} {c
     → CutsAll told (record cutter { window = window }) cut place waiting line [] old new next fault
     → CutsAll told cutter cut (cutter.lines - delimiters newline cutter.window.held)
     (cutter.window.held ++ line) line [] old new next fault
-cut_drained {told} {cutter} {next} {window} {cut} {waiting = waiting} {line} {old} {new} {fault} waiting_is items_is long count_is place_is cuts =
+cut_drained {cutter = cutter} {window = window} {line = line} {fault = fault} waiting_is items_is long count_is place_is cuts =
     let all = rw (waiting_is, drained_place cutter.lines cutter.window.held line items_is long count_is place_is) at cuts in record {
       keeps = all.keeps;
       reaches = all.reaches;
@@ -620,7 +620,7 @@ module _ {told : Bool} {cutter mid next : CutterState} {text : List ℕ} {size :
 pub stretch_past : {told : Bool} {cutter next : CutterState} {text : List ℕ} {size : ℕ} {old new : List Slot}
     (passed : Passed) → Starts text size → Takes told cutter text old new next None → passed.size ≡ length text
     → passed.found ≡ None → Stretches told cutter text size old new next (Ok passed)
-stretch_past {told} {cutter} {next} {text} {size} {old} {new} passed start took size_is none =
+stretch_past {text = text} {size} passed start took size_is none =
     let rest : take (length (drop size text)) (drop size text) ≡ drop size text = take_all _ (drop size text) (omega arith) in record {
       on = record {
         n = length (drop size text);
@@ -636,4 +636,4 @@ stretch_past {told} {cutter} {next} {text} {size} {old} {new} passed start took 
 pub stretched_line : {told : Bool} {cutter next : CutterState} {line : List ℕ} {old new : List Slot}
     {result : Result Passed Fault} → Stretches told cutter line (length line) old new next result
     → Takes told cutter line old new next (fault_in result)
-stretched_line {told} {cutter} {next} {line} {old} {new} {result} stretch = grind (arith, common_steps)
+stretched_line stretch = grind (arith, common_steps)

@@ -80,7 +80,7 @@ pub ends_still : {suppress : Bool} {a : List Line} (b : List Line) {first : Stat
     → EndsStill suppress (length a) b (length (a ++ b)) last ending
     → Runs suppress (a ++ b) last [] last ending
 ends_still b (is_used_up state none) still = is_used_up state none
-ends_still {suppress} {a} b (misses state operand operands is none) still =
+ends_still b (misses state operand operands is none) still =
     misses state operand operands is ((grind (arith, common_steps, none, (still operand operands is))))
 ends_still {suppress} {a} b (is_above state operand operands matched cut is at far) still = is_above state operand operands matched cut is (cuts_still suppress a b state operand operand.target matched cut at) still
 ends_still {suppress} {a} b (is_below state operand operands matched cut is at within low) still =
@@ -116,7 +116,7 @@ module _ {suppress : Bool} (all : List Line) {total : ℕ} {state : State} {foun
       let same : most ≡ real = capped real (2 ^ 64 - 1) most total is at.0 few in
       let count = seen.count in
       record { ending = below operand state.repetition; runs = is_below state operand operands matched real are at_cut (omega (arith, same, at.0, count)) (omega (arith, same, at.1)); aims = tt }
-  falls matched real {most} at_cut is few (Cuts line cut) at = let count = seen.count in (grind (arith, common_steps, count))
+  falls matched real at_cut is few (Cuts line cut) at = let count = seen.count in (grind (arith, common_steps, count))
   falls matched real at_cut is few turn at = absurd at
 
   pub falls_number : (number : ℕ) {most : ℕ} → operand.target ≡ Number number
@@ -129,7 +129,7 @@ module _ {suppress : Bool} (all : List Line) {total : ℕ} {state : State} {foun
       → operand.target ≡ Search pattern kept offset → search_line suppress state ≤ total → found ≡ true
       → most ≡ min (moved offset total) (2 ^ 64 - 1) → total < 2 ^ 64 - 1 → (turn : Turn)
       → FallsAt total state.current total most turn → Turns suppress all state turn
-  falls_search {pattern} {kept} offset target near is_found = falls total (moved offset total)
+  falls_search offset target near is_found = falls total (moved offset total)
       (subst (λ t. CutsAt suppress all state operand t total (moved offset total)) (sym target)
       (record { not_before = near; within = omega (arith, seen.count); match = seen.last operand operands are near ∙ is_found; first = seen.others operand operands are }, refl))
 
@@ -147,7 +147,7 @@ module _ {suppress : Bool} (all : List Line) {total : ℕ} {state : State} {foun
 
 pub left_is : (operands : List Operand) (at : ℕ) {operand : Operand} → at < length operands
     → operand ≡ get_or operands at operand → drop at operands ≡ operand ∷ drop (at + 1) operands
-left_is operands at {operand} within is = grind (arith, common_steps)
+left_is operands at within is = grind (arith, common_steps)
 
 drop_next : (operands : List Operand) {rest : List Operand} {operand : Operand} (at : ℕ)
     → drop at operands ≡ operand ∷ rest → drop (suc at) operands ≡ rest
@@ -161,7 +161,7 @@ pub passes_on : (suppress : Bool) (operands : List Operand) {rest : List Operand
     → has_more operand.times repetition ≡ false → current ≡ line_after suppress cut → next ≡ at + 1
     → state_of operands (record { done = next; repetition = 0; current = current; matched = matched })
     ≡ state_after suppress operand rest repetition matched cut
-passes_on suppress operands {rest} {operand} at repetition matched cut {current} {next} are none is on = search (rules, drop_next, at, are)
+passes_on suppress operands at repetition matched cut are none is on = search (rules, drop_next, at, are)
 
 -- A cut moves on, and the numbers stay small.
 
@@ -244,7 +244,7 @@ turn_ends turn no_cut ends = grind (arith, common_steps)
 pub cut_near : {cutter : CutterState} {x : List ℕ} (line : List ℕ) (cut : Cut) {turn : Turn}
     → turn ≡ Cuts cut.matched cut.line → IsFit cutter → Looked cutter x line
     → Turns (suppress_in cutter) (all_lines x) (state_in cutter) turn → StaysNear cutter cut
-cut_near {cutter} {x} line cut is fit looked turns = search rules
+cut_near line cut is fit looked turns = search rules
 
 -- what `try_last` owes
 
@@ -277,7 +277,7 @@ pub ends_over : {cutter : CutterState} {lines : ℕ} (text : List ℕ) → IsFit
     → lines ≡ cutter.lines + line_count newline text → StaysOver cutter text lines cutter.aim → (x : List ℕ)
     → Joins x text → cutter.lines ≡ line_count newline x → EndsNow cutter x
     → (lines ≡ line_count newline (x ++ text)) × EndsNow (record cutter { lines = lines }) (x ++ text)
-ends_over {cutter} {lines} text fit count stays x before counted ends =
+ends_over text fit count stays x before counted ends =
     let here : length (all_lines x) ≡ line_count newline x = length-all_lines x in
     let there : length (all_lines text) ≡ line_count newline text = length-all_lines text in
     let both : length (all_lines x ++ all_lines text) ≡ length (all_lines x) + length (all_lines text) = length-append (all_lines x) (all_lines text) in (
@@ -297,7 +297,7 @@ next_stays {cutter} {x} line fit live whole one aim stays =
 
 -- the lines as they are counted
 lines_are : {cutter : CutterState} {x : List ℕ} (live : IsLive cutter x) → length (all_lines x) ≡ cutter.lines
-lines_are {x} live = grind (arith, common_steps)
+lines_are live = grind (arith, common_steps)
 
 -- the line of a cut that was above the last one came in
 above_cuts : {suppress : Bool} (lines : List Line) (line : Line) {state : State} {total matched at : ℕ}
@@ -310,13 +310,13 @@ pub next_cut : {cutter : CutterState} {x : List ℕ} (line : List ℕ) {matched 
     → IsWhole x → IsLine line → cutter.aim ≡ Above matched at → at ≤ cutter.lines + 1 → cutter.lines < 2 ^ 63
     → GoesPast (suppress_in cutter) (all_lines (x ++ line)) (state_in cutter) matched at
     × (cutter.lines + 1 ≤ search_after (suppress_in cutter) (record { matched = matched; line = at }))
-next_cut {cutter} {x} line {matched} {at} fit live whole one aim near few = grind (arith, common_steps, above_cuts, lines_are, ends_as, all_lines-line)
+next_cut line fit live whole one aim near few = grind (arith, common_steps, above_cuts, lines_are, ends_as, all_lines-line)
 
 -- where a pattern matched no line so far
 
 pub next_looked : {cutter : CutterState} {x : List ℕ} (line : List ℕ) (live : IsLive cutter x) → IsWhole x → IsLine line
     → cutter.aim ≡ Missed → Looked (record cutter { lines = cutter.lines + 1 }) (x ++ line) line
-next_looked {cutter} {x} line live whole one aim =
+next_looked {x = x} line live whole one aim =
     let ends = ends_as live.ends.runs in
     let count = lines_are live in
     let aims = rw aim at live.ends.aims in record {
@@ -328,7 +328,7 @@ next_looked {cutter} {x} line live whole one aim =
 
 pub next_sought : {cutter : CutterState} {x : List ℕ} (live : IsLive cutter x) → IsFit cutter → cutter.aim ≡ Missed
     → cutter.sought ≡ None → ⊥
-next_sought {cutter} {x} live fit aim none = search rules
+next_sought live fit aim none = search rules
 
 pub next_tries : {cutter : CutterState} (next : CutterState) (line : List ℕ) (result : Option Cut) → IsFit cutter
     → IsLine line → cutter.aim ≡ Missed → next.lines ≡ cutter.lines + 1
@@ -343,7 +343,7 @@ pub passes : {cutter : CutterState} {text : List ℕ} {lines n : ℕ} → IsSoun
     → IsWhole (take n text) → lines ≡ cutter.lines + line_count newline (take n text)
     → StaysOver cutter (take n text) lines cutter.aim
     → PassesOver cutter text (record cutter { lines = lines }) n
-passes {cutter} {text} {lines} {n} sound within whole count stays = record {
+passes {text = text} {n = n} sound within whole count stays = record {
   same = refl;
   within = within;
   whole = whole;
@@ -357,7 +357,7 @@ passes {cutter} {text} {lines} {n} sound within whole count stays = record {
 passes_all : {cutter : CutterState} {text : List ℕ} {n : ℕ} → IsSound cutter → IsWhole text
     → n ≡ delimiters newline text → StaysOver cutter text (cutter.lines + n) cutter.aim
     → PassesOver cutter text (record cutter { lines = cutter.lines + n }) (length text)
-passes_all {cutter} {text} {n} sound whole count stays =
+passes_all {text = text} sound whole count stays =
     let all : text ≡ take (length text) text = sym (take_all (length text) text (omega arith)) in
     passes sound (omega arith) (subst IsWhole all whole) (omega (arith, count, whole_count whole, ap (line_count newline) all)) (rw all at stays)
 
@@ -383,7 +383,7 @@ passes_below {cutter} {text} line end sound (matched, aim) ends =
 pub passes_short : {cutter : CutterState} {text : List ℕ} (line : ℕ) {count : ℕ} → IsSound cutter → IsWhole text
     → (matched : ℕ) × (cutter.aim ≡ Above matched line) → FallsShort newline (line - 1 - cutter.lines) text count
     → PassesOver cutter text (record cutter { lines = cutter.lines + count }) (length text)
-passes_short {cutter} {text} line {count} sound whole (matched, aim) short = search (rules, passes_all, StaysOver)
+passes_short line sound whole (matched, aim) short = search (rules, passes_all, StaysOver)
 
 -- Lines without the pattern that is searched for
 
@@ -480,13 +480,13 @@ one_more {cutter} {left = left} {next} {now} end so is first finds not =
 
 pub few_counted : {cutter : CutterState} {text left : List ℕ} {next : CutterState} → Unmatched cutter text left next
     → next.lines + length left ≤ cutter.lines + length text
-few_counted {cutter} {text} {left} {next} so = grind (arith, common_steps, line_count-le-length)
+few_counted so = grind (arith, common_steps, line_count-le-length)
 
 -- all that were looked at are passed over
 pub all_passed_at : {cutter : CutterState} {text left : List ℕ} {next now : CutterState} → IsSound cutter
     → cutter.aim ≡ Missed → Unmatched cutter text left next → now ≡ next
     → PassesOver cutter text now (length text - length left)
-all_passed_at {cutter} {text} {left} {next} sound aim so is =
+all_passed_at {cutter} {text} {left} sound aim so is =
     let count : length so.front ≡ length text - length left = omega (arith, ap length so.all ∙ length-append so.front left) in
     let front_is : so.front ≡ take (length text - length left) text = sym (ap (take (length text - length left)) so.all ∙ take_at so.front left (length text - length left) count) in
     rw (← (is ∙ so.same)) at (passes sound (omega arith) (subst IsWhole front_is so.whole) (so.count ∙ ap (λ those. cutter.lines + line_count newline those) front_is)
@@ -514,7 +514,7 @@ pub counts_clear : {cutter now : CutterState} {text : List ℕ} {n count : ℕ} 
     → IsWhole (take n text) → count ≡ delimiters newline (take n text)
     → ((pattern : Pattern) → now.sought ≡ Some pattern → AreClear pattern (take n text))
     → PassesClear now text (record cutter { lines = cutter.lines + count }) n
-counts_clear {cutter} {text} {n} {count} is within whole counted clear = search (rules, whole_count)
+counts_clear is within whole counted clear = search (rules, whole_count)
 
 -- what is left is complete lines
 pub left_whole : {cutter : CutterState} {text left : List ℕ} {next : CutterState} → IsWhole text
@@ -525,11 +525,11 @@ left_whole {left} whole so = subst IsWhole (ap (drop (length so.front)) so.all �
 pub fits_clear : {cutter now : CutterState} (text : List ℕ) {n count : ℕ} → cutter ≡ now
     → now.lines + length text < 2 ^ 64 → n ≤ length text → count ≡ delimiters newline (take n text)
     → cutter.lines + count < 2 ^ 64
-fits_clear {cutter} {now} text {n} is fits within counted = search (rules, delimiters-le-length, length-take-le)
+fits_clear text is fits within counted = search (rules, delimiters-le-length, length-take-le)
 
 pub stops_unfound : {cutter : CutterState} {text : List ℕ} {next : CutterState} {n : ℕ} (passed : Passed)
     → PassesOver cutter text next n → passed.size ≡ n → passed.found ≡ None → StopsAt cutter text next passed
-stops_unfound {cutter} {text} {next} passed over size_is found_is = grind (arith, common_steps)
+stops_unfound passed over size_is found_is = grind (arith, common_steps)
 
 -- The line in which the pattern was found is the next one.
 
@@ -537,7 +537,7 @@ pub next_found : {cutter : CutterState} {text left : List ℕ} {next now : Cutte
     → cutter.aim ≡ Missed → Unmatched cutter text left next → now ≡ next → EndsFirst left end
     → IsFound next (take end left) (next.lines + 1) found → found ≡ true
     → IsNextFound now (drop (length text - length left) text) (end + 1)
-next_found {text = text} {left} {next} end aim so now_is first finds sure =
+next_found {text = text} {left} end aim so now_is first finds sure =
     let left_is : drop (length text - length left) text ≡ left = ap (drop (length text - length left)) so.all ∙ drop_at so.front left (length text - length left) (omega (arith, ap length so.all ∙ length-append so.front left)) in
     let one : suc end ≡ end + 1 = omega arith in
     rw (now_is, left_is, ← one) (record {

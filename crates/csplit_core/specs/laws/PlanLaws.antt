@@ -132,7 +132,7 @@ pub fewer : (suppress : Bool) (lines : List Line) (state : State) {operand : Ope
     → CutsAt suppress lines state operand operand.target matched cut → 1 ≤ cut → cut ≤ length lines
     → needed (length lines) (state_after suppress operand operands state.repetition matched cut)
     < needed (length lines) state
-fewer suppress lines state {operand} matched cut is at some within = grind (arith, common_steps, fewer_moves)
+fewer suppress lines state matched cut is at some within = grind (arith, common_steps, fewer_moves)
 
 pub line_some : (suppress : Bool) (cut : ℕ) → cut ≤ line_after suppress cut
 line_some suppress cut = grind (arith, common_steps)
@@ -148,7 +148,7 @@ tested : (suppress : Bool) (total : ℕ) (state : State) (operand : Operand) (op
     → turn_at suppress total state operand operands matched cut
     ≡ cond far (ends (above operand state.repetition matched cut)) (cond low (ends (below operand state.repetition))
     (goes (step_of state operand matched cut) (state_after suppress operand operands state.repetition matched cut)))
-tested suppress total state operand operands matched cut {far} is are = grind (arith, common_steps)
+tested suppress total state operand operands matched cut is are = grind (arith, common_steps)
 
 -- A plan is the one that is computed
 pub computed : {suppress : Bool} {lines : List Line} {first : State} (all : List Step) (end : State) {how : Ending}
@@ -156,7 +156,7 @@ pub computed : {suppress : Bool} {lines : List Line} {first : State} (all : List
     → (bound : ℕ) → needed (length lines) first ≤ bound → 1 ≤ first.current
     → plan_within bound suppress lines first ≡ so all end how
 computed all end (is_used_up state none) zero enough some = refl
-computed {suppress} {lines} all end (is_used_up state none) (suc bound) enough some = grind (arith, common_steps)
+computed all end (is_used_up state none) (suc bound) enough some = grind (arith, common_steps)
 computed {suppress} {lines} all end (misses state operand operands is none) bound enough some =
     ends_within bound suppress lines state is (turn_missed suppress lines state operands operand.target none) enough
 computed {suppress} {lines} all end (is_above state operand operands matched cut is at far) bound enough some =

@@ -17,7 +17,7 @@ use Rattle.ports_core.{
 }
 use Rattle.csplit_core.specs.{
   Operand.{Operand, Line, is_kept},
-  Plan.{State, Step, Ending, above, below, line_after, Runs, is_used_up, misses, is_above, is_below, cuts},
+  Plan.{State, Step, Ending, above, below, Runs, is_used_up, misses, is_above, is_below, cuts},
   Planned.plan,
   Section.{
     Section, section, section_of, lines_between, bytes_of, is_last_kept, whole_end, settled_end, sections_by,
@@ -110,9 +110,9 @@ next_of : {suppress : Bool} (closed : Bool) (end_of : ℕ → Ending → ℕ) �
     → (more : List Step) (end : State) {how : Ending} → Runs suppress (a ++ b) last more end how
     → Next (section (is_last_kept ending) false (lines_between last.current (settled_end (length a) ending) a))
     (sections_by closed end_of (a ++ b) (record { steps = more; last = end; ending = how }))
-next_of {suppress} closed end_of covers a b ending some ends more end (is_used_up state none) = grind
+next_of closed end_of covers a b ending some ends more end (is_used_up state none) = grind
     (arith, common_steps, next_by, settled_most, cuts_from)
-next_of {suppress} closed end_of covers a b ending some ends more end (misses state operand operands are none) = grind
+next_of closed end_of covers a b ending some ends more end (misses state operand operands are none) = grind
     (arith, common_steps, cuts_from, next_by, settled_most)
 next_of {suppress} closed end_of covers a b ending some ends more end
     (is_above state operand operands matched cut are at far) =
@@ -141,7 +141,7 @@ sections_grow : {suppress : Bool} (closed : Bool) (end_of : ℕ → Ending → �
     → Runs suppress (a ++ b) last more end how
     → Grow (settled_sections a (record { steps = steps; last = last; ending = ending }))
     (sections_by closed end_of (a ++ b) (record { steps = steps ++ more; last = end; ending = how }))
-sections_grow {suppress} closed end_of covers {a} b {first} {steps} {last} {ending} more end {how} some runs_a rest =
+sections_grow closed end_of covers b more end some runs_a rest =
     grind (arith, common_steps, are_within, map-append, closed_still, next_of, ends_as)
 
 pub plan_goes_on : {suppress : Bool} (operands : List Operand) (a b : List Line) → GoesOn suppress operands a b

@@ -1,4 +1,4 @@
-use Rattle.std.proofs.Common.{◌≡◌, List, [], length, refl, ap, arith}
+use Rattle.std.proofs.Common.{List, [], length, refl, ap, arith}
 use Rattle.seg_core.specs.Line.{delimiters}
 use Rattle.ports_core.{specs.{Part.{OutputsAt, StoppedBetween, nothing}, Slot.Slot}, proofs.HandedOn.fault_is}
 use Rattle.csplit_core.{
