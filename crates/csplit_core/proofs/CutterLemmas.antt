@@ -440,11 +440,10 @@ hold_goes {cutter = cutter} {writer} {window} {left} {fault = fault} fit differs
   reaches = λ x at arrives. reaches_as refl (sym (held_part arrives fit (aims_live cutter.aim arrives.ends.ending arrives.ends.aims differs) bytes_is))
       (goes.reaches (manner_of cutter.style) (draft_at at) at.writes);
   went = where_three fault goes.writes waits fewer (λ writes kept size.
-      let held_is : window.held ≡ after_lines newline (over_of cutter left) left = ap (λ (w : Window). w.held) kept ∙ ap (λ d. last_lines d cutter.window.most left) fit.delim in
       let window_is : window ≡ record cutter.window { held = window.held } = kept ∙ ap (λ held. record cutter.window { held = held }) (sym (ap (λ (w : Window). w.held) kept)) in record {
         same = refl;
         window = window_is;
-        stands = λ x at arrives. rw window_is (inl (held_live arrives fit (aims_live cutter.aim arrives.ends.ending arrives.ends.aims differs) bytes_is held_is (writes (manner_of cutter.style))));
+        stands = λ x at arrives. rw window_is (inl (held_live arrives fit (aims_live cutter.aim arrives.ends.ending arrives.ends.aims differs) bytes_is (ap (λ (w : Window). w.held) kept ∙ ap (λ d. last_lines d cutter.window.most left) fit.delim) (writes (manner_of cutter.style))));
         size = size;
       });
 } where
@@ -728,10 +727,10 @@ module _ {told : Bool} {cutter mid : CutterState} {writer next : WriterState} {c
 
   pub cut_done : size_of next.current ≡ 0 → length rest ≤ length left
       → CutAt told cutter cut place left old new (record mid { writer = next }) rest
-  cut_done empty shorter = let second = began_there cutter passed opening_is began in record {
+  cut_done empty shorter = record {
     fewer = passed.fewer;
     spreading = λ line. record {
-      keeps = record { operands = ap (λ (c : CutterState). c.operands) passed.same; style = ap (λ (c : CutterState). c.style) passed.same; writer = leaves_again went.leaves second.leaves };
+      keeps = record { operands = ap (λ (c : CutterState). c.operands) passed.same; style = ap (λ (c : CutterState). c.style) passed.same; writer = leaves_again went.leaves (began_there cutter passed opening_is began).leaves };
       lines = ap (λ (c : CutterState). c.lines) passed.same;
       fit = record { fits = passed.fit.fits; most = passed.fit.most; delim = passed.fit.delim; sought = passed.fit.sought };
       held = passed.held;

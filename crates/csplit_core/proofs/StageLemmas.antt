@@ -410,8 +410,7 @@ final_sections a b p within final = grind (arith, common_steps, closed_still)
 pub past_end : {cutter : CutterState} {x : List ℕ} (t : List ℕ) → IsWhole x → IsPast cutter x
     → whole_part cutter (x ++ t) ≡ whole_part cutter x
 past_end {cutter} {x} t whole past =
-    let same = past_plan (suppress_in cutter) cutter.operands t whole past.past in
-    ap (λ (p : Plan). part_of cutter.style (whole_sections (all_lines (x ++ t)) p)) same
+    ap (λ (p : Plan). part_of cutter.style (whole_sections (all_lines (x ++ t)) p)) (past_plan (suppress_in cutter) cutter.operands t whole past.past)
     ∙ ap (λ lines. part_of cutter.style (whole_sections lines (plan_in cutter x))) (all_lines-append t (inl whole))
     ∙ ap (part_of cutter.style) (final_sections (all_lines x) (all_lines t) (plan_in cutter x)
     (are_within (plan_runs (suppress_in cutter) cutter.operands (all_lines x)) (omega arith)).0 past.past)

@@ -155,9 +155,8 @@ cuts_there : {cutter : CutterState} {lines : ℕ} {x : List ℕ} (line : List �
     (at_more line (inl whole) fit.fits.some live.at live.ends count)
 unfolding at_more
 cuts_there {cutter} {lines} {x} line cut live whole fit one count from goes near =
-    let held_whole : IsWhole cutter.window.held = subst IsWhole (sym live.at.left_is) (whole_from (cutter.progress.current + live.at.taken) whole) in
     let more : lines ≡ cutter.lines + 1 = (let l = count-line line whole one in omega (arith, count, l, live.at.counted)) in
-    let place : lines - delimiters newline cutter.window.held ≡ cutter.progress.current + live.at.taken = (let s = fit.fits.some in omega (arith, left_count live.at, whole_count held_whole, more, few_taken live.at, s)) in record {
+    let place : lines - delimiters newline cutter.window.held ≡ cutter.progress.current + live.at.taken = (let s = fit.fits.some in omega (arith, left_count live.at, whole_count (subst IsWhole (sym live.at.left_is) (whole_from (cutter.progress.current + live.at.taken) whole)), more, few_taken live.at, s)) in record {
       last = (all_lines x, all_lines-line line whole one, λ ends. whole-append line whole (inr ends));
       near = near;
       place_is = place;
@@ -308,8 +307,7 @@ module _ {told : Bool} {cutter now : CutterState} {text left : List ℕ} {old mi
   pub takes_stopped : {next : CutterState} {size : ℕ} {new : List Slot} {fault : Fault} → IsWhole (take size left)
       → Stretches told now left size mid new next (Err fault) → Takes told cutter text old new next (Some fault)
   takes_stopped {size = size} first more =
-      let front = take size left ++ take more.on.n (drop size left) in
-      let all : front ++ drop more.on.n (drop size left) ≡ left = (grind (arith, common_steps)) in
+      let all : (take size left ++ take more.on.n (drop size left)) ++ drop more.on.n (drop size left) ≡ left = (grind (arith, common_steps)) in
       rw (← so_far.whole) at (takes_again so_far.complete so_far.took (rw all at (takes_wider (drop more.on.n (drop size left)) (whole-append _ first more.on.whole) more.took)))
 
   pub takes_end : left ≡ [] → Takes told cutter text old mid now None
@@ -449,9 +447,8 @@ found_held rest size found (Err fault) held is are = tt
 piece_from : (text : List ℕ) (first size n : ℕ) → first ≤ size → size ≤ length text
     → take (size + n - first) (drop first text) ≡ drop first (take size text) ++ take n (drop size text)
 piece_from text first size n low within =
-    let long : length (drop first (take size text)) ≡ size - first = length-drop first (take size text) ∙ ap (λ k. k - first) (length-take-le size text within) in
     let parts : drop first text ≡ drop first (take size text) ++ drop size text = ap (drop first) (sym (take-append-drop size text)) ∙ drop-append-le first (take size text) (drop size text) (let e = length-take-le size text within in omega (arith, low, e)) in
-    ap (take (size + n - first)) parts ∙ ap (λ k. take k (drop first (take size text) ++ drop size text)) (let e : size + n - first ≡ length (drop first (take size text)) + n = omega (arith, long, low) in e)
+    ap (take (size + n - first)) parts ∙ ap (λ k. take k (drop first (take size text) ++ drop size text)) (let e : size + n - first ≡ length (drop first (take size text)) + n = omega (arith, length-drop first (take size text) ∙ ap (λ k. k - first) (length-take-le size text within), low) in e)
     ∙ take-append-add (drop first (take size text)) (drop size text) n
 
 pub gone_on : {told : Bool} {cutter mid next : CutterState} (text : List ℕ) {rest : List ℕ} (first size : ℕ)
@@ -582,11 +579,10 @@ module _ {told : Bool} {cutter mid next : CutterState} {text : List ℕ} {size :
   stretch_on tries gone =
       let end = gone.mid in
       let line = take size text in
-      let more = take gone.on.n (drop size text) in
       let end_is : end ≡ more_lines cutter end.lines mid.aim = gone.over.same ∙ ap (λ (c : CutterState). record c { lines = end.lines }) mid_is in
       record {
         on = gone.on;
-        took = took_held (subst IsSound end_is gone.over.sound) fit differs (omega (arith, gone.over.few, length-append line more, length-take-le gone.on.n (drop size text) gone.over.within, ap (λ (c : CutterState). c.lines) mid_is, line_has line start.line))
+        took = took_held (subst IsSound end_is gone.over.sound) fit differs (omega (arith, gone.over.few, length-append line (take gone.on.n (drop size text)), length-take-le gone.on.n (drop size text) gone.over.within, ap (λ (c : CutterState). c.lines) mid_is, line_has line start.line))
             (ends_on line start.line start.complete mid_is tries gone.over end_is) (rw end_is at gone.held);
       }
 

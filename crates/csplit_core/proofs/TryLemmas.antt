@@ -19,7 +19,7 @@ use Rattle.csplit_core.specs.{
   },
   Planned.plan,
   laws.{PlanLaws.{cuts_still, goes_on, plan_runs, plan_once, line_some, fewer_left, fewer_moves}, SectionLaws.ends_as},
-  Progress.{state_of, EndsHere, AimsAt, WillMove},
+  Progress.{state_of, EndsHere, AimsAt},
   inner.Cutter.{
     AreSeen, Turns, FallsAt, GoesPast, WillCut, PassesOn, PassesCut, IsWhole, IsLine, Joins, Looked, IsFound, IsNoCut,
     search_after, StaysNear, Tries, TriesNext, AreClear, IsNextFound, Lacks, equipped, PassesClear, PassesOver, StopsAt,
@@ -109,14 +109,13 @@ module _ {suppress : Bool} (all : List Line) {total : ℕ} {state : State} {foun
       → FallsAt total state.current matched most turn → Turns suppress all state turn
   falls matched real {most} at_cut is few (Above line cap) at = record {
     ending = above operand state.repetition matched real;
-    runs = is_above state operand operands matched real are at_cut (let less : most ≤ real = (grind (arith, common_steps)) in let count = seen.count in omega (arith, less, at.2, count));
+    runs = is_above state operand operands matched real are at_cut (let less : most ≤ real = (grind (arith, common_steps)) in omega (arith, less, at.2, seen.count));
     aims = (at.0, at.1 ∙ is);
   }
   falls matched real {most} at_cut is few Below at =
       let same : most ≡ real = capped real (2 ^ 64 - 1) most total is at.0 few in
-      let count = seen.count in
-      record { ending = below operand state.repetition; runs = is_below state operand operands matched real are at_cut (omega (arith, same, at.0, count)) (omega (arith, same, at.1)); aims = tt }
-  falls matched real at_cut is few (Cuts line cut) at = let count = seen.count in (grind (arith, common_steps, count))
+      record { ending = below operand state.repetition; runs = is_below state operand operands matched real are at_cut (omega (arith, same, at.0, seen.count)) (omega (arith, same, at.1)); aims = tt }
+  falls matched real at_cut is few (Cuts line cut) at = (grind (arith, common_steps, seen.count))
   falls matched real at_cut is few turn at = absurd at
 
   pub falls_number : (number : ℕ) {most : ℕ} → operand.target ≡ Number number
@@ -374,8 +373,7 @@ pub passes_below : {cutter : CutterState} {text : List ℕ} (line end : ℕ) →
     → (matched : ℕ) × (cutter.aim ≡ Above matched line) → EndsAt newline (line - 1 - cutter.lines) text end
     → PassesOver cutter text (record cutter { lines = line - 1 }) end
 passes_below {cutter} {text} line end sound (matched, aim) ends =
-    let will : WillMove cutter.operands cutter.lines cutter.progress matched line = subst (AimHolds cutter.operands cutter.lines cutter.progress) aim sound.aim in
-    let less : cutter.lines < line = will.above in
+    let less : cutter.lines < line = (subst (AimHolds cutter.operands cutter.lines cutter.progress) aim sound.aim).above in
     let count : line_count newline (take end text) ≡ line - 1 - cutter.lines = (grind (arith, common_steps, EndsAt-enough, line_count_near, lines_of-first_lines, length-take-le, ends)) in
     passes sound ends.within (whole_by (take end text) _ refl (omega (arith, count, ends.complete))) (omega (arith, less, count))
     (subst (StaysOver cutter (take end text) (line - 1)) (sym aim) (let e : line - 1 < line = omega (arith, less) in e))

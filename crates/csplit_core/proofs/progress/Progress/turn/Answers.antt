@@ -7,7 +7,7 @@ use Rattle.csplit_core.proofs.progress.Progress.turn.Goals as goal
 
 pub returns-in_default-clause-says : goal.returns-in_default-clause-says
 returns-in_default-clause-says c lines seen =
-    record { ending = used_up; runs = is_used_up _ (drop_all c.args.self.now.done c.args.operands.now (let beyond = c.in_default.ensures.lookup.0 in grind (arith, nat_tests, beyond))); aims = tt }
+    record { ending = used_up; runs = is_used_up _ (drop_all c.args.self.now.done c.args.operands.now (grind (arith, nat_tests, c.in_default.ensures.lookup.0))); aims = tt }
 
 pub returns-then-total-search_line-clause-says : goal.returns-then-total-search_line-clause-says
 returns-then-total-search_line-clause-says c lines seen =
