@@ -465,7 +465,7 @@ module _ (suppress : Bool) (operands : List Operand) (x : List Line) where
     more = [];
     are = ap (λ those. whole_sections those (plan suppress operands those)) (append-nil x);
     kept = refl;
-    short = (grind (arith, common_steps));
+    short = grind (arith, common_steps);
   }
   decides (some_wait k kept past (too_low low rest)) =
       decides_by matching _ _ matching_comes rest refl kept

@@ -209,7 +209,7 @@ at_more {cutter} t whole some at ends count =
       counted = count;
       taken = at.taken;
       written = at.written;
-      few = (omega (arith, at.few, count-append t whole));
+      few = omega (arith, at.few, count-append t whole);
       written_is = at.written_is ∙ sym (first_still at.taken cutter.progress.current t whole some at.few);
       left_is = ap (λ those. those ++ t) at.left_is ∙ rest_more (cutter.progress.current + at.taken) t whole (omega (arith, some)) at.few;
       writes = subst (Writes (manner_of cutter.style) cutter.writer) (ended_still cutter.style cutter.operands t (kept_by (state_in cutter).operands) at.written whole (runs_to at ends)) at.writes;
@@ -222,8 +222,6 @@ pub part_more : {cutter : CutterState} {lines : ℕ} {x : List ℕ} (t : List �
 unfolding at_more
 part_more {cutter} t whole some at ends count =
     ap (draft_part (manner_of cutter.style)) (ended_still cutter.style cutter.operands t (kept_by (state_in cutter).operands) at.written whole (runs_to at ends))
-
--- where the plan isn't final, all lines of the last section are settled but the last ones
 
 -- what is written of the open section, where all but the last lines that may wait are taken, is what is settled
 pub live_taken : {cutter : CutterState} {x : List ℕ} (live : IsLive cutter x)
@@ -257,8 +255,6 @@ module _ {cutter : CutterState} {x left : List ℕ} (n : ℕ) (some : 1 ≤ cutt
   left_on : after_lines newline n left ≡ text_from (cutter.progress.current + at.taken + n) x
   left_on = ap (after_lines newline n) at.left_is ∙ from_further (cutter.progress.current + at.taken) n x (omega (arith, some))
 
--- how many lines are taken once as many wait as may
-
 -- Writing lines that wait to the open section.
 
 -- A beginning of what waited was written and dropped, and `left` bytes are still to go.
@@ -278,8 +274,6 @@ all_held {window = window} {n} ready =
       went = put_nothing (ap (λ k. take k window.held) none) ready;
       size = omega arith;
     }
-
--- the first bytes of what stands at the front are the first of all
 
 module _ {told : Bool} {writer now : WriterState} {window left_in : Window} {n left : ℕ} {old mid : List Slot}
     (so_far : Emptying told writer now window left_in n left old mid) where
@@ -312,10 +306,10 @@ module _ {told : Bool} {writer now : WriterState} {window left_in : Window} {n l
   empties few dropped went more =
       let less : length front ≤ length left_in.held = (grind (arith, common_steps)) in
       let count : n - left + bytes ≡ n - (left - bytes) = (let all = so_far.few in omega (arith, all, few)) in record {
-        few = (omega (arith, so_far.few));
+        few = omega (arith, so_far.few);
         rest = dropped ∙ ap (λ (w : Window). without_first w bytes) so_far.rest ∙ ap (λ held. record window { held = held }) (drop-drop bytes (n - left) window.held) ∙ ap (without_first window) count;
         went = goes_as (taken_more ∙ ap (λ k. take k window.held) count) (goes_more (take (n - left) window.held) (take bytes front) so_far.went went);
-        size = (omega (arith, so_far.size, more, length-take-le bytes front within, less, ap (λ (w : Window). length w.held) dropped ∙ length-drop bytes left_in.held, within));
+        size = omega (arith, so_far.size, more, length-take-le bytes front within, less, ap (λ (w : Window). length w.held) dropped ∙ length-drop bytes left_in.held, within);
       }
 
   -- a write of it stopped
@@ -351,7 +345,7 @@ parted {delim} {most} {over} {held = held} {text} is all least =
     let parts = both_parts over held text (least ∙ ap (min over) all) (cases_lt over (length held)) in record {
       goes = parts.0 ∙ ap (λ n. take n (held ++ text)) is ∙ sym (first_lines-is_take delim (line_count delim (held ++ text) - most) (held ++ text));
       stays = parts.1 ∙ ap (λ n. drop n (held ++ text)) is ∙ last_lines-is_drop delim most (held ++ text);
-      within = (omega (arith, over-le-length delim most held text, is, all, least));
+      within = omega (arith, over-le-length delim most held text, is, all, least);
     }
 
 -- what `hold_last` owes at each of its ends
@@ -417,12 +411,12 @@ module _ {cutter : CutterState} {x left bytes : List ℕ} {at : IsAt (bare cutte
       counted = at.counted;
       taken = at.taken + over;
       written = at.written ++ bytes;
-      few = (omega (arith, few_taken at, left_count at, at.counted, some));
+      few = omega (arith, few_taken at, left_count at, at.counted, some);
       written_is = written_on over some at bytes_is;
       left_is = held_is ∙ left_on over some at ∙ ap (λ k. text_from k x) (let e : cutter.progress.current + at.taken + over ≡ cutter.progress.current + (at.taken + over) = omega arith in e);
       writes = writes (draft_at at) at.writes;
     };
-    ends = (grind (arith, common_steps));
+    ends = grind (arith, common_steps);
     live = live;
     settled = taken_is arrives fit live;
   }
@@ -477,7 +471,7 @@ hold_past {cutter = cutter} {window} {left} {n = n} aim ready all less dropped =
       none = none;
       writes = subst (Writes (manner_of cutter.style) cutter.writer) (past_draft arrives (past x at arrives)) at.writes;
     });
-    size = (omega (arith, ap length none));
+    size = omega (arith, ap length none);
   };
 } where
   none : window.held ≡ []
@@ -702,11 +696,11 @@ module _ {told : Bool} {cutter mid : CutterState} {writer next : WriterState} {c
       ∙ (grind (arith, common_steps)) in let n = now.near in omega (arith, e, n, lines_is)) in record {
         now = record {
           steps = steps;
-          leads = (grind (arith, common_steps, suppress_is, (ap (λ (c : CutterState). c.operands) passed.same), state, (leads_on at cut now.goes)));
+          leads = grind (arith, common_steps, suppress_is, (ap (λ (c : CutterState). c.operands) passed.same), state, (leads_on at cut now.goes));
           counted = lines_is ∙ at.counted;
           taken = 0;
           written = [];
-          few = (omega (arith, current, after_within (suppress_in cutter) cut.line cutter.lines will.within, at.counted));
+          few = omega (arith, current, after_within (suppress_in cutter) cut.line cutter.lines will.within, at.counted);
           written_is = sym (first_lines-zero newline (text_from mid.progress.current x));
           left_is = rest_from mid.style.suppress all cut.line x first left_after skipped whole
               ∙ ap (λ n. text_from n x) (ap (λ b. line_after b cut.line) suppress_is ∙ sym current ∙ (let e : mid.progress.current ≡ mid.progress.current + 0 = omega arith in e));

@@ -86,8 +86,6 @@ use Rattle.ports_core.specs.Engine as engine
 
 -- What opening the cutter leaves: the first section, with no line yet.
 
--- Over no line a plan has no step.
-
 -- the first section, without a byte, is what is settled
 
 abbrev nothing_yet : Draft
@@ -182,7 +180,7 @@ first_opened told {style} {operands} {old} {new} {writer} aim two begun none say
       output = begun.leaves.output;
       manner = rw (same_manner begun.leaves) (first_manner style);
       all = begun.leaves.keeps;
-      sound = record { fit = (grind (arith, common_steps)); aim = (grind (arith, common_steps)) };
+      sound = record { fit = grind (arith, common_steps); aim = grind (arith, common_steps) };
       size = ap (max 0) none';
     }
 
@@ -230,8 +228,6 @@ pub opened_lacks : (told : Bool) {style : Style} (operands : List Operand) {slot
 opened_lacks told operands lacks = search (rules, stops_wider, in_turn, none_told, nothing_begins_part, none_past)
 
 -- What ending the cutter leaves: all lines that waited belong to the last section, which ends; and the fault with which the work ends.
-
--- The last section has all lines that are left, and none where the cut is below the current line.
 
 -- What is written before the end, and with the lines that wait, is what is settled and the whole.
 record LastDraft (cutter : CutterState) (x : List ℕ) : Type 0 where
@@ -303,8 +299,6 @@ of_it : {cutter : CutterState} {x : List ℕ} → IsJudged cutter x
 of_it {cutter} {x} judged =
     rw (← judged.last) at (ends_as (plan_runs (suppress_in cutter) cutter.operands (all_lines x)))
 
--- where no operand is left
-
 -- the verdict on the next operand, by what it did
 abbrev pub verdict_at : Turn → Operand → ℕ → Option Verdict
 verdict_at Missed operand repetition = verdict_of (missed operand repetition)
@@ -331,10 +325,6 @@ pub judged_next : {cutter : CutterState} {operand : Operand} {aim : Turn} {resul
     → cutter.aim ≡ aim → result ≡ verdict_at aim operand cutter.progress.repetition → IsJudged cutter x
     → result ≡ verdict_of (plan_in cutter x).ending
 judged_next within here aimed made judged = grind (arith, common_steps, verdict_is, of_it, left_is)
-
--- How many bytes wait.
-
--- the lines after the first ones, as bytes
 
 -- How many bytes wait.
 
@@ -507,7 +497,7 @@ passes_on {view = view} next {mid} {piece} result is differs took cutter past li
         past = λ is_below was. past (sym aim_is ∙ is_below);
         still = λ is_below. absurd (differs is_below);
         unbroken = rest.0;
-        size = (omega (arith, took.went.size, sym (length-append view.rest piece) ∙ ap length (sym lines_then_open) ∙ length-append (whole_lines text) (open_line text), ap load cutter, rest.1));
+        size = omega (arith, took.went.size, sym (length-append view.rest piece) ∙ ap length (sym lines_then_open) ∙ length-append (whole_lines text) (open_line text), ap load cutter, rest.1);
       });
 })
 
@@ -643,7 +633,7 @@ passes_by told stage next piece old new (Ok done) passes is_ready taken fits = r
     manner = rw (passes.took.keeps.style, same_manner passes.took.keeps.writer) is_ready.manner;
     sound = passes.took.went.sound;
     unbroken = passes.passed.unbroken;
-    room = (let size = passes.passed.size in omega (arith, size, is_ready.room, taken));
+    room = let size = passes.passed.size in omega (arith, size, is_ready.room, taken);
     few = omega (arith, taken, fits);
   };
   owns = owns_on passes.took.keeps.writer;

@@ -160,7 +160,7 @@ cuts_there {cutter} {lines} {x} line cut live whole fit one count from goes near
       last = (all_lines x, all_lines-line line whole one, λ ends. whole-append line whole (inr ends));
       near = near;
       place_is = place;
-      before = (omega (arith, place_before line cut live whole goes from, place));
+      before = omega (arith, place_before line cut live whole goes from, place);
       goes = goes;
     }
 
@@ -179,8 +179,8 @@ take_cut {told} {cutter} {mid} {next} line more {cut} {old} {new} {fault} fit di
   went = where_well fault all.went (λ went. record {
     stands = λ x whole stands. let there = reached x whole stands in subst (Stands next) (append_assoc x line more) (went.stands (x ++ line) there.0 there.1);
     sound = went.sound;
-    size = (let both : length (line ++ more) ≡ length line + length more = length-append line more in
-        most_load cutter.lines (size_of next.writer.current + length next.window.held) (size_of cutter.writer.current + length cutter.window.held) next.lines (length (line ++ more)) 0 (omega (arith, went.lines, line_has line one, both)) (omega (arith, length-append cutter.window.held line, both, went.size)));
+    size = let both : length (line ++ more) ≡ length line + length more = length-append line more in
+        most_load cutter.lines (size_of next.writer.current + length next.window.held) (size_of cutter.writer.current + length cutter.window.held) next.lines (length (line ++ more)) 0 (omega (arith, went.lines, line_has line one, both)) (omega (arith, length-append cutter.window.held line, both, went.size));
   });
 } where
   all : CutsAll told (more_lines cutter (cutter.lines + 1) mid.aim) cut (cutter.lines + 1 - delimiters newline cutter.window.held)
@@ -263,7 +263,7 @@ takes_again {one = one} {three = three} {a} {b} {fault = fault} whole first seco
   went = where_well fault second.went (λ went. record {
     stands = λ x before stands. subst (Stands three) (append_assoc x a b) (went.stands (x ++ a) (whole-append a before whole) (first.went.stands x before stands));
     sound = went.sound;
-    size = (omega (arith, length-append a b, first.went.size, went.size));
+    size = omega (arith, length-append a b, first.went.size, went.size);
   });
 }
 
@@ -298,7 +298,7 @@ module _ {told : Bool} {cutter now : CutterState} {text left : List ℕ} {old mi
       let front = take size left ++ take more.on.n (drop size left) in
       let rest : take (length left - passed.size) (drop passed.size left) ≡ drop more.on.n (drop size left) = rest_all passed.size left ∙ ap (λ n. drop n left) more.on.size_is ∙ sym (drop-drop more.on.n size left) in record {
         front = so_far.front ++ front;
-        whole = (grind (arith, common_steps, so_far.whole, rest));
+        whole = grind (arith, common_steps, so_far.whole, rest);
         complete = whole-append front so_far.complete (whole-append _ first more.on.whole);
         rest = rw rest (whole_drop more.on.n (whole_drop size so_far.rest));
         took = takes_again so_far.complete so_far.took more.took;
@@ -371,7 +371,7 @@ module _ {told : Bool} {cutter now mid : CutterState} {cut cut' : Cut} {place : 
               grows = part_trans (part_at at) (part_at after.now) (part_at again.now) after.grows again.grows;
               reaches = reaches_then so_far.keeps.style after.grows after.reaches again.reaches;
             };
-        size = (omega (arith, once.size, so_far.size));
+        size = omega (arith, once.size, so_far.size);
         end = (so_far.end.0 ++ once.end.0, so_far.end.1 ∙ ap (λ those. so_far.end.0 ++ those) once.end.1 ∙ sym (append_assoc so_far.end.0 once.end.0 rest));
       }
 
@@ -504,10 +504,10 @@ spread_passes {told} {cutter} {mid} {end} {next} {cut} {place} {waiting} {line} 
   reaches = λ x at here. let after = spread.so_far.after x at here in let there = reached x at here in
       reaches_then spread.so_far.keeps.style after.grows after.reaches (reaches_as there.same (sym (settled_same (x ++ take n rest) spread.so_far.keeps)) (held_now.reaches (x ++ take n rest) there.at there.arrives));
   went = where_well fault held_now.went (λ went. record {
-    lines = (omega (arith, ap (λ (c : CutterState). c.lines) went.same, over_now.few, spread.so_far.lines, length-take-le n rest over.within));
+    lines = omega (arith, ap (λ (c : CutterState). c.lines) went.same, over_now.few, spread.so_far.lines, length-take-le n rest over.within);
     sound = sound_held went (subst IsSound over_now.same over.sound);
     stands = λ x at here. let there = reached x at here in went.stands (x ++ take n rest) there.at there.arrives;
-    size = (omega (arith, went.size, spread.so_far.size, length-append left (take n rest)));
+    size = omega (arith, went.size, spread.so_far.size, length-append left (take n rest));
   });
 } where
   over_now : PassesOver (record spread.now { aim = mid.aim }) rest end n
@@ -622,7 +622,7 @@ stretch_past {text = text} {size} passed start took size_is none =
         n = length (drop size text);
         within = omega arith;
         whole = rw rest start.rest;
-        size_is = (omega (arith, size_is, length-drop size text, start.within));
+        size_is = omega (arith, size_is, length-drop size text, start.within);
         found = rw none tt;
       };
       took = rw rest (rw take-append-drop took);

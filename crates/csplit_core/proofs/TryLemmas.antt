@@ -58,8 +58,6 @@ use Rattle.scan_core.specs.Clear.{IsClear}
 abbrev pub NoneFrom : Operand → (count : ℕ) → List Line → (from : ℕ) → Type 0
 NoneFrom operand count lines from = (k : ℕ) → k < length lines → from ≤ count + suc k → (get_or lines k unmarked).marks operand ≡ false
 
--- After a cut, no line before the last one has to be looked at again
-
 -- where no line before the last one is matched, that line alone decides
 
 pub looks_past : (operand : Operand) (lines : List Line) (from : ℕ)
@@ -269,8 +267,6 @@ StaysOver cutter text lines Missed = (operand : Operand) → cutter.sought ≡ p
 StaysOver cutter text lines (Above matched line) = lines < line
 StaysOver cutter text lines turn = Unit {0}
 
--- that is so where the next operand stands as it did
-
 -- what passing over a text leaves of the plan
 pub ends_over : {cutter : CutterState} {lines : ℕ} (text : List ℕ) → IsFit cutter
     → lines ≡ cutter.lines + line_count newline text → StaysOver cutter text lines cutter.aim → (x : List ℕ)
@@ -347,7 +343,7 @@ passes {text = text} {n = n} sound within whole count stays = record {
   within = within;
   whole = whole;
   few = omega (arith, count, line_count-le-length newline (take n text), length-take-le n text within);
-  sound = (grind (arith, common_steps));
+  sound = grind (arith, common_steps);
   ends = ends_over (take n text) sound.fit count stays;
 }
 
@@ -366,8 +362,6 @@ pub passes_used_up : {cutter : CutterState} {text : List ℕ} {n : ℕ} → IsSo
 passes_used_up {cutter} {text} {n} sound whole counted aim = passes_all sound whole counted (subst (StaysOver cutter text (cutter.lines + n)) (sym aim) tt)
 
 -- Lines before the line of a cut
-
--- the lines that end there
 
 pub passes_below : {cutter : CutterState} {text : List ℕ} (line end : ℕ) → IsSound cutter
     → (matched : ℕ) × (cutter.aim ≡ Above matched line) → EndsAt newline (line - 1 - cutter.lines) text end
@@ -457,7 +451,7 @@ unmatched_on {cutter} {after = after} more rest so parts whole same count others
   all = so.all ∙ ap (λ those. so.front ++ those) parts ∙ sym (append_assoc so.front more rest);
   whole = whole-append more so.whole whole;
   same = same ∙ ap (λ (those : CutterState). record those { lines = after.lines }) so.same;
-  count = (omega (arith, count, so.count, count-append more (inl so.whole)));
+  count = omega (arith, count, so.count, count-append more (inl so.whole));
   none = λ operand is. rw (← all_lines-append more (inl so.whole)) at (none_more operand cutter.lines (all_lines so.front) (all_lines more) (search_line (suppress_in cutter) (state_in cutter)) (so.none operand is)
       (subst (λ n. NoneFrom operand n (all_lines more) (search_line (suppress_in cutter) (state_in cutter))) (so.count ∙ ap (λ n. cutter.lines + n) (sym (length-all_lines so.front))) (others operand is)));
 }
@@ -540,7 +534,7 @@ next_found {text = text} {left} end aim so now_is first finds sure =
     let one : suc end ≡ end + 1 = omega arith in
     rw (now_is, left_is, ← one) (record {
       some = omega arith;
-      within = (omega (arith, first.within));
+      within = omega (arith, first.within);
       line = first.line;
       ends = first.ends;
       aim = ap (λ (those : CutterState). those.aim) so.same ∙ aim;

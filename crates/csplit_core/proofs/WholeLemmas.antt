@@ -17,8 +17,6 @@ use Rattle.csplit_core.specs.{
   laws.{PlanLaws.plan_runs, SectionLaws.are_within},
 }
 
--- The last section: all of its lines but the last ones are settled, as many as the offset goes back.
-
 -- the current line is at most one past the last
 pub after_within : (suppress : Bool) (cut total : ℕ) → cut ≤ total → line_after suppress cut ≤ suc total
 after_within suppress cut total within = grind (arith, common_steps)

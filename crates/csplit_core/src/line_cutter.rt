@@ -252,9 +252,9 @@ impl<'o> LineCutter<'o> {
         self.go_on(text, size - left.len(), size, outs)
     }
 
-    /// Passes over the lines of a text after its first `size` bytes, as far as the next operand stands as it does now, and
-    /// holds what stands from `from` on of those bytes together with these lines: one write serves both. Returns how far that
-    /// is, and how long the next line is where the pattern that is searched for was found in it.
+    /// Passes over the lines of a text after its first `size` bytes, as far as the next operand stands as it does now,
+    /// and holds what stands from `from` on of those bytes together with these lines: one write serves both. Returns
+    /// how far that is, and how long the next line is where the pattern that is searched for was found in it.
     fn go_on<O: Outs>(
         &mut self,
         text: &[u8],
@@ -266,7 +266,8 @@ impl<'o> LineCutter<'o> {
         requires within { size ≤ length text.now }
         requires rest { IsWhole (drop size text.now) }
         requires lines { self.old.lines + (length text.now - size) < 2 ^ 63 }
-        requires fits { size_of self.old.writer.current + length self.old.window.held + (length text.now - from) < 2 ^ 63 }
+        requires fits { size_of self.old.writer.current + length self.old.window.held + (length text.now - from)
+            < 2 ^ 63 }
         requires sound { IsSound (seen self.old) }
         requires ready { IsReady (seen self.old).writer (O.slots outs.old) }
         ensures { GoesOn O.told (seen self.old) (drop from (take size text.now)) text.now size (O.slots outs.old)

@@ -19,8 +19,8 @@ use Rattle.csplit_core.specs.{
   inner.PlanLaws.needed,
   Section.is_final,
   Cutter.{
-    CutterState, AimHolds, most_by, pattern_by, seen, suppress_in, state_in, kept_by, IsFit, IsSound, load, draft_by, IsAt, EndsNow, IsLive,
-    Stands,
+    CutterState, AimHolds, most_by, pattern_by, seen, suppress_in, state_in, kept_by, IsFit, IsSound, load, draft_by,
+    IsAt, EndsNow, IsLive, Stands,
   },
   CsplitState.{CsplitState, terms, whole_lines},
 }
@@ -383,8 +383,8 @@ pub record Starts (text : List ℕ) (size : ℕ) : Type 0 where
   pub rest : IsWhole (drop size text)
   pub complete : (drop size text ≡ []) ⊎ (ends_with newline (take size text) ≡ true)
 
--- After the first bytes of a text these many were taken in too, complete lines. Returned are both, and how many bytes the
--- next line is, where the pattern that is searched for was found in it.
+-- After the first bytes of a text these many were taken in too, complete lines. Returned are both, and how many bytes
+-- the next line is, where the pattern that is searched for was found in it.
 pub record Extends (text : List ℕ) (size : ℕ) (next : CutterState) (result : Result Passed Fault) : Type 0 where
   pub n : ℕ
   pub within : n ≤ length (drop size text)

@@ -57,8 +57,6 @@ first_is : (suppress : Bool) (operand : Operand) (lines : List Line) (state : St
     → first_match operand lines (search_line suppress state) ≡ matched
 first_is suppress operand lines state matched is = grind (arith, common_steps, first_match_as, search_some)
 
--- Laws that traits cite: the plan that is computed is the one plan there is, and it goes on as the lines do.
-
 pub less_test : (a b : ℕ) → a < b → nat_lt a b ≡ true
 less_test a b less = grind (arith, nat_tests, less)
 
