@@ -39,7 +39,7 @@ use Rattle.csplit_core.specs.{
   Section.{
     lines_between, is_last_kept, settled_end, whole_end, is_final, most_waiting, bytes_of, Section, section, section_of,
   },
-  Progress.{AimsAt, EndsHere},
+  Progress.AimsAt,
   declared.{progress.Turn.{Turn, TheVariants.Below}, line_cutter.Cut.Cut},
   laws.{
     PlanLaws.{plan_once, goes_on, line_some, runs_on},
@@ -53,7 +53,7 @@ use Rattle.csplit_core.specs.{
     },
   },
   Cutter.{
-    kept_by, most_by, text_from, draft_by, settled_draft, CutterState, suppress_in, state_in, IsAt, IsLive, IsFit,
+    kept_by, most_by, text_from, draft_by, settled_draft, CutterState, suppress_in, state_in, IsAt, EndsNow, IsLive, IsFit,
     Leads,
   },
 }
@@ -194,13 +194,14 @@ settled_same x keeps = grind (arith, common_steps)
 
 -- the plan up to where the cutter stands
 pub runs_to : {cutter : CutterState} {x left : List ℕ} (at : IsAt cutter x left) {aim : Turn}
-    (ends : EndsHere (suppress_in cutter) (all_lines x) (state_in cutter) aim) → Runs (suppress_in cutter) (all_lines x) (start cutter.operands) at.steps (state_in cutter) ends.ending
+    (ends : EndsNow (record cutter { aim = aim }) x)
+    → Runs (suppress_in cutter) (all_lines x) (start cutter.operands) at.steps (state_in cutter) ends.ending
 runs_to at ends = grind (arith, common_steps)
 
 -- more lines came in, and nothing was done with them yet
 unfoldable pub at_more : {cutter : CutterState} {lines : ℕ} {x : List ℕ} (t : List ℕ) {left : List ℕ} → Joins x t
     → 1 ≤ cutter.progress.current → (at : IsAt cutter x left) {aim : Turn}
-    → EndsHere (suppress_in cutter) (all_lines x) (state_in cutter) aim → lines ≡ line_count newline (x ++ t)
+    → EndsNow (record cutter { aim = aim }) x → lines ≡ line_count newline (x ++ t)
     → IsAt (bare (record cutter { lines = lines })) (x ++ t) (left ++ t)
 at_more {cutter} t whole some at ends count =
     let e = all_lines-append t whole in record {
@@ -217,7 +218,7 @@ at_more {cutter} t whole some at ends count =
 
 pub part_more : {cutter : CutterState} {lines : ℕ} {x : List ℕ} (t : List ℕ) {left : List ℕ} (whole : Joins x t)
     (some : 1 ≤ cutter.progress.current) (at : IsAt cutter x left) {aim : Turn}
-    (ends : EndsHere (suppress_in cutter) (all_lines x) (state_in cutter) aim)
+    (ends : EndsNow (record cutter { aim = aim }) x)
     (count : lines ≡ line_count newline (x ++ t)) → part_at at ≡ part_at (at_more t whole some at ends count)
 unfolding at_more
 part_more {cutter} t whole some at ends count =
@@ -299,8 +300,8 @@ module _ {told : Bool} {writer now : WriterState} {window left_in : Window} {n l
   taken_more : take (n - left) window.held ++ take bytes front ≡ take (n - left + bytes) window.held
   taken_more = grind (arith, common_steps, take-add)
 
-  pub empties : bytes ≤ left → {next : WriterState} {after : Window} {new : List Slot} → after ≡ without_first left_in bytes
-      → Goes told now (with_bytes (take bytes front)) mid new next None
+  pub empties : bytes ≤ left → {next : WriterState} {after : Window} {new : List Slot}
+      → after ≡ without_first left_in bytes → Goes told now (with_bytes (take bytes front)) mid new next None
       → size_of next.current ≤ size_of now.current + length (take bytes front)
       → Emptying told writer next window after n (left - bytes) old new
   empties few dropped went more =
@@ -520,7 +521,8 @@ begun_by style operands {lines} steps {state} more {last} {ending} rest all =
   at_end state last ending (is_above state' operand those matched cut is at far) = ap kept_by is
   at_end state last ending (is_below state' operand those matched cut is at within low) = ap kept_by is
 
-  by : (state : State) (more : List Step) (last : State) (ending : Ending) → Runs style.suppress lines state more last ending
+  by : (state : State) (more : List Step) (last : State) (ending : Ending)
+      → Runs style.suppress lines state more last ending
       → Begins (draft_part (manner_of style) (draft_by style lines steps (kept_by state.operands) []))
       (part_of style (map (section_of lines) steps ++ (map (section_of lines) more ++ open_at lines last ending ∷ [])))
   by state [] last ending rest = begins_with style lines steps (open_at lines last ending) [] (kept_by state.operands) (at_end state last ending rest)
@@ -559,8 +561,8 @@ leads_on {cutter} at cut goes more last ending run =
 
 -- what is settled begins with the sections after the cut
 pub cut_begins : {cutter : CutterState} {x left : List ℕ} (line : List ℕ) {before : List ℕ}
-    {at : IsAt (bare cutter) x left} (cut : Cut) {place : ℕ} (now : CutsNow line cut place at) → IsFit cutter → WillCut cutter cut
-    → before ≡ first_lines newline (cut.line - place) left
+    {at : IsAt (bare cutter) x left} (cut : Cut) {place : ℕ} (now : CutsNow line cut place at) → IsFit cutter
+    → WillCut cutter cut → before ≡ first_lines newline (cut.line - place) left
     → Begins
     (draft_part (manner_of cutter.style)
     (with_next

@@ -183,8 +183,9 @@ take_cut {told} {cutter} {mid} {next} line more {cut} {old} {new} {fault} fit di
         most_load cutter.lines (size_of next.writer.current + length next.window.held) (size_of cutter.writer.current + length cutter.window.held) next.lines (length (line ++ more)) 0 (omega (arith, went.lines, line_has line one, both)) (omega (arith, length-append cutter.window.held line, both, went.size));
   });
 } where
-  all : CutsAll told (more_lines cutter (cutter.lines + 1) mid.aim) cut (cutter.lines + 1 - delimiters newline cutter.window.held)
-      (cutter.window.held ++ line) line more old new next fault
+  all : CutsAll told (more_lines cutter (cutter.lines + 1) mid.aim) cut
+      (cutter.lines + 1 - delimiters newline cutter.window.held) (cutter.window.held ++ line) line more old new next
+      fault
   all = rw is at cuts
 
   reached : (x : List ℕ) → IsWhole x → Stands cutter x
@@ -517,8 +518,8 @@ spread_passes {told} {cutter} {mid} {end} {next} {cut} {place} {waiting} {line} 
   held_now = subst (λ those. Holds told (more_lines spread.now end.lines mid.aim) (those ++ (left ++ take n rest)) between new next fault) spread.so_far.held (rw over_now.same at held)
 
   reached : (x : List ℕ) (at : IsAt (bare cutter) x waiting) (here : CutsNow line cut place at)
-      → Reached (part_at (spread.so_far.after x at here).now) (more_lines spread.now end.lines mid.aim) (x ++ take n rest)
-      (left ++ take n rest)
+      → Reached (part_at (spread.so_far.after x at here).now) (more_lines spread.now end.lines mid.aim)
+      (x ++ take n rest) (left ++ take n rest)
   reached x at here = there_of line spread.so_far.fit (joins_by n complete here.last.2) (rw spread.is at spread.tries) over_now (spread.so_far.after x at here)
 
 -- they are held alone

@@ -460,7 +460,8 @@ unmatched_on {cutter} {after = after} more rest so parts whole same count others
 pub one_more : {cutter : CutterState} {text left : List ℕ} {next now : CutterState} (end : ℕ) {found : Bool}
     → Unmatched cutter text left next → now ≡ next → EndsFirst left end
     → IsFound next (take end left) (next.lines + 1) found → found ≡ false
-    → Unmatched cutter text (take (length left - (end + 1)) (drop (end + 1) left)) (record now { lines = now.lines + 1 })
+    → Unmatched cutter text (take (length left - (end + 1)) (drop (end + 1) left))
+    (record now { lines = now.lines + 1 })
 one_more {cutter} {left = left} {next} {now} end so is first finds not =
     let line = take (suc end) left in
     let found_at : IsFound (record cutter { lines = next.lines }) (take end left) (next.lines + 1) false = rw (so.same, not) at finds in
