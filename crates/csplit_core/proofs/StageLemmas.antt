@@ -9,7 +9,7 @@ use Rattle.std.proofs.{
 }
 use Rattle.bre_core.specs.Pattern.{Pattern}
 use Rattle.seg_core.{
-  specs.{Window.Window, Line.{line_count, first_lines, after_lines, delimiters, ends_with, LastEndsAt}},
+  specs.{Window.Window, Line.{line_count, first_lines, delimiters, ends_with, LastEndsAt}},
   proofs.FirstLines.{first_lines-all, after_lines-is_drop, lines_of-after_lines},
 }
 use Rattle.ports_core.specs.{

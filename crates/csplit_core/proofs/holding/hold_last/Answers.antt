@@ -1,5 +1,5 @@
 use Rattle.ports_core.proofs.{HandedOn.handed_on, WriterSteps.goes_or_lacks}
-use Rattle.std.proofs.{Common.{◌++◌, drop, min, ◌∙◌, ap, arith}, lemmas.Grind.common_steps}
+use Rattle.std.proofs.{Common.{◌++◌, drop, ◌∙◌, ap, arith}, lemmas.Grind.common_steps}
 use Rattle.seg_core.specs.{Line.but_last_lines, Window.Window}
 use Rattle.csplit_core.proofs.CutterLemmas.{hold_on, hold_short, kept_window, parted, rest_fits}
 use Rattle.csplit_core.proofs.holding.hold_last.Goals as goal
