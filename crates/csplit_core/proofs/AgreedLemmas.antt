@@ -12,11 +12,11 @@ use Rattle.std.proofs.{
 use Rattle.csplit_core.specs.{
   Agreed.{CanCome, kept_lines, whole_outputs, settled_outputs, AreFronts, IsAgreed},
   Operand.{Minus, Target, Number, Search, Operand, Line, Plus, most_held, is_kept},
-  Plan.{State, start, Step, Ending, below, search_line, MatchesNone, CutsAt, line_after, state_after, step_of, Runs},
-  Plan.{is_below, cuts, missed, Misses, is_used_up, misses, is_above},
-  laws.PlanLaws.{line_some, runs, goes_on, plan_runs, plan_once, cuts_still, less_test, not_less_test},
+  Plan.{State, start, Step, Ending, below, search_line, MatchesNone, CutsAt, line_after, step_of, Runs, is_below, cuts},
+  Plan.{missed, Misses, is_used_up, misses, is_above},
+  laws.PlanLaws.{line_some, runs_on, goes_on, plan_runs, plan_once, cuts_still, less_test, not_less_test},
   laws.SectionLaws.{between_still, ends_as, are_within, closed_still, plan_grows, whole_covers, plan_goes_on},
-  inner.PlanLaws.{needed, EndsAs},
+  inner.PlanLaws.{AreWithin, EndsAs, GoesOn},
   Planned.{plan, Plan},
   Section.{Section, section, section_of, lines_between, is_last_kept, whole_end, settled_end, sections_by},
   Section.{whole_sections, is_final, waiting_lines},
@@ -43,35 +43,33 @@ search_within {suppress} {lines} (cuts state operand operands matched' cut steps
 search_within run matched within = within
 
 -- a line that each operand finds
-abbrev pub matching_line : Line
-matching_line = record { text = 10 ∷ []; marks = λ operand. true }
+abbrev pub matching : List Line
+matching = record { text = 10 ∷ []; marks = λ operand. true } ∷ []
 
 pub none_comes : CanCome []
 none_comes = grind (arith, common_steps)
 
-pub matching_comes : CanCome (matching_line ∷ [])
+pub matching_comes : CanCome matching
 matching_comes = grind (arith, common_steps)
 
 -- the cut falls within the lines that are there: the section ends there, or the cut is below it
 pub data Turned (suppress : Bool) (x : List Line) (state : State) (operand : Operand) (cut : ℕ) : Type 0 where
   too_low : cut < state.current
-      → Runs suppress (x ++ matching_line ∷ []) state [] state (below operand state.repetition)
+      → Runs suppress (x ++ matching) state [] state (below operand state.repetition)
       → Turned suppress x state operand cut
   turns : state.current ≤ cut → (rest : List Step) (end : State) (how : Ending)
-      → Runs suppress (x ++ matching_line ∷ []) state (step_of state operand (suc (length x)) cut ∷ rest) end how
+      → Runs suppress (x ++ matching) state (step_of state operand (suc (length x)) cut ∷ rest) end how
       → Turned suppress x state operand cut
 
 turned_by : {suppress : Bool} {x : List Line} {state : State} {operand : Operand} {operands : List Operand} (cut : ℕ)
     → 1 ≤ state.current → state.operands ≡ operand ∷ operands
-    → CutsAt suppress (x ++ matching_line ∷ []) state operand operand.target (suc (length x)) cut
-    → cut ≤ length (x ++ matching_line ∷ []) → Turned suppress x state operand cut
+    → CutsAt suppress (x ++ matching) state operand operand.target (suc (length x)) cut
+    → cut ≤ length (x ++ matching) → Turned suppress x state operand cut
 turned_by {suppress} {x} {state} {operand} {operands} cut some is at within = elim (cases_lt cut state.current) [
   | inl low ↦ too_low low (is_below state operand operands (suc (length x)) cut is at within low)
   | inr from ↦
-      let least : cut ≤ line_after suppress cut = line_some suppress cut in
       turns from _ _ _ (cuts state operand operands (suc (length x)) cut _ _ _ is at from within
-      (runs (needed (length (x ++ matching_line ∷ [])) (state_after suppress operand operands state.repetition (suc (length x)) cut)) suppress (x ++ matching_line ∷ [])
-      (state_after suppress operand operands state.repetition (suc (length x)) cut) (omega arith) (omega (arith, some, from, least))))
+      (runs_on _ _ _ (omega (arith, some, from, line_some suppress cut))))
 ]
 
 turned : {suppress : Bool} {x : List Line} {state : State} {operand : Operand} {operands : List Operand}
@@ -81,8 +79,8 @@ turned : {suppress : Bool} {x : List Line} {state : State} {operand : Operand} {
     → Turned suppress x state operand (suc (length x) - k)
 turned {suppress} {x} {state} {operand} pattern kept k some is target none within =
     turned_by (suc (length x) - k) some is
-    (subst (λ t. CutsAt suppress (x ++ matching_line ∷ []) state operand t (suc (length x)) (suc (length x) - k)) (sym target) ((grind (arith, common_steps)), refl))
-    (let e : length (x ++ matching_line ∷ []) ≡ length x + 1 = length-append x (matching_line ∷ []) in omega (arith, e))
+    (subst (λ t. CutsAt suppress (x ++ matching) state operand t (suc (length x)) (suc (length x) - k)) (sym target) ((grind (arith, common_steps)), refl))
+    (omega (arith, length-append x matching))
 
 -- at the end of a plan either nothing waits, or one line more makes a cut that stands back
 pub data Waits (suppress : Bool) (x : List Line) (state : State) (ending : Ending) : Type 0 where
@@ -100,12 +98,6 @@ waits_by {suppress} {x} {state} (missed operand repetition) (left, are, none, of
   by (Search pattern kept (Plus k)) is none = none_waits (sym (ap (λ t. suc (length x) - most_held t) is ∙ (let e : suc (length x) - 0 ≡ suc (length x) = omega arith in e)))
   by (Search pattern kept (Minus k)) is none = some_wait k refl (ap (λ t. suc (length x) - most_held t) is) (turned pattern kept k some are is none within)
 waits_by _ ends some within = none_waits refl
-
-pub end_waits : (suppress : Bool) (operands : List Operand) (x : List Line)
-    → Waits suppress x (plan suppress operands x).last (plan suppress operands x).ending
-end_waits suppress operands x =
-    let here = plan_runs suppress operands x in
-    waits_by (plan suppress operands x).ending (ends_as suppress x (start operands) _ _ _ here) (are_within suppress x (start operands) _ _ _ here (omega arith)).1 (search_within here (omega arith) (grind (arith, common_steps)))
 
 -- What is settled is what all continuations agree on.
 
@@ -130,24 +122,7 @@ kept-append (one ∷ a) b = by one.is_kept (kept-append a b) where
   by true is = ap (λ those. one.lines ∷ those) is
   by false is = is
 
-fewest : (suppress : Bool) (operands : List Operand) (x : List Line)
-    → length (whole_outputs suppress operands (x ++ [])) ≡ length (settled_outputs suppress operands x)
-fewest suppress operands x = grind (arith, common_steps, append-nil, kept-append)
-
 -- no front is longer than the whole
-
--- A continuation after which the open section has no more than what is settled
-pub record Decides (suppress : Bool) (operands : List Operand) (x : List Line) : Type 0 where
-  pub y : List Line
-  pub comes : CanCome y
-  pub next : Section
-  pub more : List Section
-  pub are : whole_sections (x ++ y) (plan suppress operands (x ++ y))
-      ≡ map (section_of x) (plan suppress operands x).steps ++ next ∷ more
-  pub kept : is_last_kept (plan suppress operands x).ending ≡ next.is_kept
-  pub short : length next.lines ≤ length
-      (lines_between (plan suppress operands x).last.current
-      (settled_end (length x) (plan suppress operands x).ending) x)
 
 short_by : (has : Bool) (front : List (List Line)) (one other : List Line) (more : List (List Line)) (place : ℕ)
     → length other ≤ length one → place < length (front ++ cond has (one ∷ []) [])
@@ -160,74 +135,6 @@ no_longer : (front : List Section) (one other : Section) (more : List Section) (
     → length (get_or (kept_lines (front ++ other ∷ more)) place []) ≤ length
     (get_or (kept_lines (front ++ one ∷ [])) place [])
 no_longer front one other more place same short less = grind (arith, common_steps, kept-append, short_by)
-
--- Such a continuation is there: none at all, or under an offset back one line that the operand finds
-
-decides_by : {suppress : Bool} {operands : List Operand} {x : List Line} (y : List Line) (more : List Step)
-    (end : State) {how : Ending} → CanCome y → Runs suppress (x ++ y) (plan suppress operands x).last more end how
-    → {next : Section} {rest' : List Section}
-    → sections_by true whole_end (x ++ y) (record { steps = more; last = end; ending = how }) ≡ next ∷ rest'
-    → is_last_kept (plan suppress operands x).ending ≡ next.is_kept
-    → length next.lines ≤ length
-    (lines_between (plan suppress operands x).last.current (settled_end (length x) (plan suppress operands x).ending) x)
-    → Decides suppress operands x
-decides_by {suppress} {operands} {x} y more end {how} comes rest {next} {rest'} are kept short =
-    let here = plan_runs suppress operands x in
-    let within = are_within suppress x (start operands) _ _ _ here (omega arith) in record {
-      y = y;
-      comes = comes;
-      next = next;
-      more = rest';
-      are = ap (whole_sections (x ++ y)) (plan_once suppress operands (x ++ y) _ _ _ (goes_on y _ _ here rest))
-          ∙ ap (λ those. those ++ section (is_last_kept how) true (lines_between end.current (whole_end (length (x ++ y)) how) (x ++ y)) ∷ [])
-          (map-append (section_of (x ++ y)) (plan suppress operands x).steps more ∙ ap (λ those. those ++ map (section_of (x ++ y)) more) (closed_still x y (plan suppress operands x).steps within.0))
-          ∙ append_assoc (map (section_of x) (plan suppress operands x).steps) (map (section_of (x ++ y)) more) _
-          ∙ ap (λ those. map (section_of x) (plan suppress operands x).steps ++ those) are;
-      kept = kept;
-      short = short;
-    }
-
-decides_now : {suppress : Bool} {operands : List Operand} {x : List Line}
-    → whole_end (length x) (plan suppress operands x).ending ≡ settled_end (length x) (plan suppress operands x).ending
-    → Decides suppress operands x
-decides_now {suppress} {operands} {x} same = record {
-  y = [];
-  comes = none_comes;
-  next = section (is_last_kept (plan suppress operands x).ending) true (lines_between (plan suppress operands x).last.current (whole_end (length x) (plan suppress operands x).ending) x);
-  more = [];
-  are = ap (λ those. whole_sections those (plan suppress operands those)) (append-nil x);
-  kept = refl;
-  short = (grind (arith, common_steps));
-}
-
-decides_back : {suppress : Bool} {operands : List Operand} {x : List Line} {operand : Operand} (k : ℕ)
-    → 1 ≤ (plan suppress operands x).last.current
-    → is_last_kept (plan suppress operands x).ending ≡ is_kept operand.target
-    → settled_end (length x) (plan suppress operands x).ending ≡ suc (length x) - k
-    → Turned suppress x (plan suppress operands x).last operand (suc (length x) - k) → Decides suppress operands x
-decides_back {suppress} {operands} {x} k some kept past (too_low low rest) =
-    decides_by (matching_line ∷ []) _ _ matching_comes rest refl kept
-    (let e : length (lines_between (plan suppress operands x).last.current 0 (x ++ matching_line ∷ [])) ≡ 0 = (grind (arith, common_steps)) in omega (arith, e))
-decides_back {suppress} {operands} {x} k some kept past (turns from steps end how rest) =
-    decides_by (matching_line ∷ []) _ _ matching_comes rest refl kept
-    (let e : length (lines_between (plan suppress operands x).last.current (suc (length x) - k) (x ++ matching_line ∷ [])) ≡ length (lines_between (plan suppress operands x).last.current (settled_end (length x) (plan suppress operands x).ending) x)
-    = ap length (between_still (plan suppress operands x).last.current (suc (length x) - k) x (matching_line ∷ []) some (omega arith) ∙ ap (λ p. lines_between (plan suppress operands x).last.current p x) (sym past)) in omega (arith, e))
-
-decides : {suppress : Bool} {operands : List Operand} {x : List Line}
-    → Waits suppress x (plan suppress operands x).last (plan suppress operands x).ending → Decides suppress operands x
-decides (none_waits same) = decides_now same
-decides {suppress} {operands} {x} (some_wait k kept past turned) = decides_back k (are_within suppress x (start operands) _ _ _ (plan_runs suppress operands x) (omega arith)).1 kept past turned
-
--- What is settled is what all continuations agree on
-pub settled_is_agreed : (suppress : Bool) (operands : List Operand) (x : List Line)
-    → IsAgreed (whole_outputs suppress operands) x (settled_outputs suppress operands x)
-settled_is_agreed suppress operands x =
-    let made = plan suppress operands x in
-    let open_section = section (is_last_kept made.ending) false (lines_between made.last.current (settled_end (length x) made.ending) x) in
-    let decides = decides (end_waits suppress operands x) in
-    agreed_as [] decides.y (λ y comes. (grind (arith, common_steps, kept_grow, (plan_grows suppress true whole_end whole_covers operands x y))))
-    none_comes decides.comes (fewest suppress operands x)
-    (λ place less. rw decides.are (no_longer (map (section_of x) made.steps) open_section decides.next decides.more place decides.kept decides.short less))
 
 -- The lines that wait are those that two continuations put into different places.
 
@@ -260,8 +167,7 @@ place_front run total total' index line more more' how how' from before = absurd
 current_grows : {suppress : Bool} {lines : List Line} {first : State} {steps : List Step} {last : State}
     {ending : Ending} → Runs suppress lines first steps last ending → first.current ≤ last.current
 current_grows {suppress} (cuts state operand operands matched cut steps' last' ending' is at least within rest) =
-    let on = current_grows rest in
-    let more : cut ≤ line_after suppress cut = line_some suppress cut in omega (arith, on, more, least)
+    omega (arith, current_grows rest, line_some suppress cut, least)
 current_grows run = omega arith
 
 -- from the current line on, what follows decides
@@ -272,8 +178,7 @@ place_after : {suppress : Bool} {lines : List Line} {first : State} {steps : Lis
     ≡ place_from suppress total (index + length steps) more how line
 place_after {suppress} (cuts state operand operands matched cut steps' last' ending' is at least within rest) total index line more how from =
     let on : line_after suppress cut ≤ last'.current = current_grows rest in
-    let more_cut : cut ≤ line_after suppress cut = line_some suppress cut in
-    ap (λ b. cond b (in_section index) (cond (suppress && nat_le line cut) (left_out index) (place_from suppress total (index + 1) (steps' ++ more) how line))) (not_less_test line cut (omega (arith, more_cut, on, from)))
+    ap (λ b. cond b (in_section index) (cond (suppress && nat_le line cut) (left_out index) (place_from suppress total (index + 1) (steps' ++ more) how line))) (not_less_test line cut (omega (arith, line_some suppress cut, on, from)))
     ∙ ap (λ b. cond b (left_out index) (place_from suppress total (index + 1) (steps' ++ more) how line)) (not_left suppress line cut (omega (arith, on, from)))
     ∙ place_after rest total (index + 1) line more how from
     ∙ ap (λ i. place_from suppress total i more how line) (let e : index + 1 + length steps' ≡ index + suc (length steps') = omega arith in e)
@@ -288,8 +193,8 @@ settled_place : {suppress : Bool} (a b : List Line) {last : State} (ending : End
 settled_place a b ending ends more end (is_used_up state none) line from before = grind (arith, common_steps)
 settled_place a b ending ends more end (misses state operand operands are none) line from before = grind (arith, common_steps)
 settled_place a b ending ends more end (is_above state operand operands matched cut are at far) line from before = grind (arith, common_steps)
-settled_place {suppress} a b ending ends more end (is_below state operand operands matched cut are at in_lines low) line from before = grind (arith, common_steps)
-settled_place {suppress} a b ending ends more end (cuts state operand operands matched cut steps' last' ending' are at least in_lines rest) {index} line from before = grind (arith, common_steps)
+settled_place a b ending ends more end (is_below state operand operands matched cut are at in_lines low) line from before = grind (arith, common_steps)
+settled_place a b ending ends more end (cuts state operand operands matched cut steps' last' ending' are at least in_lines rest) line from before = grind (arith, common_steps)
 
 -- where the cut is below the current line all lines go nowhere
 
@@ -298,13 +203,9 @@ nowhere_by : {suppress : Bool} {lines : List Line} {first : State} {operand : Op
     → CutsAt suppress lines first operand operand.target matched cut → cut ≤ length lines → cut < first.current
     → (more : List Step) (end : State) {how : Ending} → Runs suppress lines first more end how → (index line : ℕ)
     → place_from suppress (length lines) index more how line ≡ nowhere
-nowhere_by {suppress} {lines} {first} {operand} {operands} matched cut is at within low more end run index line = search rules
+nowhere_by matched cut is at within low more end run index line = search rules
 
 -- One place for each line that doesn't wait
-
--- the line of this number came in, and stands after what is settled of the last section
-abbrev WaitsAt : (total : ℕ) → Plan → ℕ → Type 0
-WaitsAt total plan line = (is_final plan.ending ≡ false) × (plan.last.current ≤ line) × (settled_end total plan.ending ≤ line) × (line ≤ total)
 
 decided_by : (suppress : Bool) (a b : List Line) {last : State} (ending : Ending) → 1 ≤ last.current
     → EndsAs suppress a last ending → (line : ℕ) → last.current ≤ line → line ≤ length a
@@ -314,27 +215,8 @@ decided_by : (suppress : Bool) (a b : List Line) {last : State} (ending : Ending
 decided_by suppress a b (missed operand repetition) some is line from within not index more end rest = settled_place a b (missed operand repetition) is more end rest line from
     (elim (cases_lt line (suc (length a) - most_held operand.target)) [ inl less ↦ less | inr beyond ↦ absurd (not refl beyond) ])
 decided_by suppress a b {last} (below operand repetition) some (operands, matched, cut, is, at, in_lines, low, often) line from within not index more end rest =
-    nowhere_by matched cut is (cuts_still suppress a b last operand operand.target matched cut at) (let e : length (a ++ b) ≡ length a + length b = length-append a b in omega (arith, e, in_lines)) low more end rest index line
+    nowhere_by matched cut is (cuts_still suppress a b last operand operand.target matched cut at) (omega (arith, length-append a b, in_lines)) low more end rest index line
 decided_by suppress a b ending some is line from within not index more end rest = settled_place a b ending is more end rest line from (omega (arith, within))
-
-place_here : (suppress : Bool) (operands : List Operand) (x y : List Line) (line : ℕ) → 1 ≤ line → line ≤ length x
-    → (WaitsAt (length x) (plan suppress operands x) line → ⊥)
-    → place_of suppress operands (x ++ y) line ≡ place_of suppress operands x line
-place_here suppress operands x y line some within not =
-    let goes = plan_goes_on operands x y in
-    let here = plan_runs suppress operands x in
-    let over = plan_goes_on operands x [] in
-    let first = (are_within suppress x (start operands) _ _ _ here (omega arith)).1 in
-    ap (λ (p : Plan). place_from suppress (length (x ++ y)) 0 p.steps p.ending line) goes.is ∙ elim (cases_lt line (plan suppress operands x).last.current) [
-      | inl before ↦ place_front here (length (x ++ y)) (length x) 0 line goes.more [] goes.how (plan suppress operands x).ending some before
-          ∙ ap (λ those. place_from suppress (length x) 0 those (plan suppress operands x).ending line) (append-nil (plan suppress operands x).steps)
-      | inr from ↦ place_after here (length (x ++ y)) 0 line goes.more goes.how from
-          ∙ decided_by suppress x y _ first (ends_as suppress x (start operands) _ _ _ here) line from within (λ live past. not (live, from, past, within)) _ goes.more goes.end goes.rest
-          ∙ sym (decided_by suppress x [] _ first (ends_as suppress x (start operands) _ _ _ here) line from within (λ live past. not (live, from, past, within)) _ over.more over.end over.rest)
-          ∙ sym (place_after here (length (x ++ [])) 0 line over.more over.how from)
-          ∙ sym (ap (λ (p : Plan). place_from suppress (length (x ++ [])) 0 p.steps p.ending line) over.is)
-          ∙ ap (λ those. place_of suppress operands those line) (append-nil x)
-    ]
 
 -- Two places for each that does
 
@@ -353,61 +235,9 @@ in_later suppress total other line (step ∷ steps) how less is =
 
 turned_away : {suppress : Bool} {x : List Line} {state : State} {operand : Operand} (k line : ℕ)
     → Turned suppress x state operand (suc (length x) - k) → suc (length x) - k ≤ line
-    → (steps : List Step) × (end : State) × (how : Ending) × Runs suppress (x ++ matching_line ∷ []) state steps end how
-    × ((index : ℕ) → place_from suppress (length (x ++ matching_line ∷ [])) index steps how line ≡ in_section index → ⊥)
+    → (steps : List Step) × (end : State) × (how : Ending) × Runs suppress (x ++ matching) state steps end how
+    × ((index : ℕ) → place_from suppress (length (x ++ matching)) index steps how line ≡ in_section index → ⊥)
 turned_away k line fact from = grind (arith, common_steps, not_less_test, in_later)
-
--- the rest as it is puts the line into its section
-
-differ_line : (suppress : Bool) (operands : List Operand) (x : List Line) (line : ℕ)
-    → WaitsAt (length x) (plan suppress operands x) line
-    → Waits suppress x (plan suppress operands x).last (plan suppress operands x).ending
-    → (y : List Line) × (z : List Line) × CanCome y × CanCome z
-    × (place_of suppress operands (x ++ y) line ≢ place_of suppress operands (x ++ z) line)
-differ_line suppress operands x line (live, from, past, within) (none_waits same) = absurd (omega (arith, ends_after_all (length x) (plan suppress operands x).ending live, same, past, within))
-differ_line suppress operands x line (live, from, past, within) (some_wait k kept settled turned) =
-    let away = turned_away k line turned (omega (arith, settled, past)) in (
-      [],
-      matching_line ∷ [],
-      none_comes,
-      matching_comes,
-      λ same. away.4 (0 + length (plan suppress operands x).steps)
-          (sym (ap (λ (p : Plan). place_from suppress (length (x ++ matching_line ∷ [])) 0 p.steps p.ending line)
-          (plan_once suppress operands (x ++ matching_line ∷ []) _ _ _ (goes_on (matching_line ∷ []) _ _ (plan_runs suppress operands x) away.3))
-          ∙ place_after (plan_runs suppress operands x) (length (x ++ matching_line ∷ [])) 0 line away.0 away.2 from)
-          ∙ sym same ∙ ap (λ those. place_of suppress operands those line) (append-nil x)
-          ∙ (ap (λ those. place_from suppress (length x) 0 those (plan suppress operands x).ending line) (sym (append-nil (plan suppress operands x).steps)) ∙ place_after (plan_runs suppress operands x) (length x) 0 line [] (plan suppress operands x).ending from ∙ (grind (arith, common_steps)))),
-    )
-
-same_line : (suppress : Bool) (operands : List Operand) (x y z : List Line) (line : ℕ) → 1 ≤ line → line ≤ length x
-    → (WaitsAt (length x) (plan suppress operands x) line → ⊥)
-    → place_of suppress operands (x ++ y) line ≡ place_of suppress operands (x ++ z) line
-same_line suppress operands x y z line some within not = grind (arith, common_steps, place_here)
-
--- how many of the lines don't wait, where more may follow
-abbrev gone : ℕ → Plan → ℕ
-gone total plan = plan.last.current - 1 + (settled_end total plan.ending - plan.last.current)
-
-undecided_by : (suppress : Bool) (operands : List Operand) {x : List Line} → 1 ≤ (plan suppress operands x).last.current
-    → (final : Bool) → is_final (plan suppress operands x).ending ≡ final
-    → IsUndecided (place_of suppress operands) x
-    (cond final []
-    (drop (settled_end (length x) (plan suppress operands x).ending - (plan suppress operands x).last.current)
-    (drop ((plan suppress operands x).last.current - 1) x)))
-undecided_by suppress operands {x} some true final = nothing_waits (λ i within y z. same_line suppress operands x y z (i + 1) (omega arith) (omega (arith, within)) (λ waits. false≢true (sym waits.0 ∙ final)))
-undecided_by suppress operands {x} some false live =
-    let n = gone (length x) (plan suppress operands x) in
-    let count : length (take n x) ≡ min n (length x) = length-take n x in record {
-      before = take n x;
-      are_last = sym (take-append-drop n x) ∙ ap (λ rest. take n x ++ rest) (sym (drop-drop (settled_end (length x) (plan suppress operands x).ending - (plan suppress operands x).last.current) ((plan suppress operands x).last.current - 1) x));
-      differ = λ i past within. differ_line suppress operands x (i + 1) (live, omega (arith, past, within, count, some), omega (arith, past, within, count, some), omega (arith, within)) (end_waits suppress operands x);
-      decided = λ i within y z y_comes z_comes. same_line suppress operands x y z (i + 1) (omega arith) (omega (arith, within, count)) (λ waits. let current = waits.1 in let end = waits.2 in omega (arith, within, count, current, end, some));
-    }
-
-pub waiting_is_undecided : (suppress : Bool) (operands : List Operand) (x : List Line)
-    → IsUndecided (place_of suppress operands) x (waiting_lines x (plan suppress operands x))
-waiting_is_undecided suppress operands x =
-    undecided_by suppress operands (are_within suppress x (start operands) _ _ _ (plan_runs suppress operands x) (omega arith)).1 (is_final (plan suppress operands x).ending) refl
 
 -- Places are right: each section has the lines that go into it.
 
@@ -499,7 +329,7 @@ step_parts suppress lines current cut index s later some least within =
 step_before : (suppress : Bool) (lines : List Line) (current cut : ℕ) {index : ℕ} (later : ℕ → Place) (line : ℕ)
     → 1 ≤ current → current ≤ cut → cut ≤ length lines → line < current + length (lines_between current cut lines)
     → places_with suppress index cut later line ≡ in_section index
-step_before suppress lines current cut {index} later line some least within before = grind (arith, common_steps)
+step_before suppress lines current cut later line some least within before = grind (arith, common_steps)
 
 placed_from : {suppress : Bool} {lines : List Line} {first : State} {steps : List Step} {last : State} {ending : Ending}
     → Runs suppress lines first steps last ending → 1 ≤ first.current → (index k : ℕ) {s : ℕ} → s ≡ index + k
@@ -510,20 +340,22 @@ placed_from : {suppress : Bool} {lines : List Line} {first : State} {steps : Lis
     ≡ lines_into s (place_from suppress (length lines) index steps ending) first.current
     (drop (first.current - 1) lines)
 placed_from {suppress} {lines} (cuts state operand operands matched cut steps' last' ending' is cuts_at least within rest) some index zero {s} at =
-    sym (step_parts suppress lines state.current cut index s (place_from suppress (length lines) (index + 1) steps' ending') some least within ∙ (grind (
+    let later = place_from suppress (length lines) (index + 1) steps' ending' in
+    sym (step_parts suppress lines state.current cut index s later some least within ∙ (grind (
       arith,
       common_steps,
-      (into_none s (place_from suppress (length lines) (index + 1) steps' ending') (line_after suppress cut) (drop (line_after suppress cut - 1) lines)
-          (λ line from before. goes_elsewhere (place_from suppress (length lines) (index + 1) steps' ending' line) (in_later suppress (length lines) (index + 1) line steps' ending' (omega (arith, at))))),
+      (into_none s later (line_after suppress cut) (drop (line_after suppress cut - 1) lines)
+          (λ line from before. goes_elsewhere (later line) (in_later suppress (length lines) (index + 1) line steps' ending' (omega (arith, at))))),
     ))
     ∙ into_all (place_from suppress (length lines) index (step_of state operand matched cut ∷ steps') ending') state.current (lines_between state.current cut lines)
-    (λ line from before. step_before suppress lines state.current cut (place_from suppress (length lines) (index + 1) steps' ending') line some least within before ∙ ap in_section (let e : index ≡ s = omega (arith, at) in e)))
+    (λ line from before. step_before suppress lines state.current cut later line some least within before ∙ ap in_section (let e : index ≡ s = omega (arith, at) in e)))
 placed_from {suppress} {lines} (cuts state operand operands matched cut steps' last' ending' is cuts_at least within rest) some index (suc k) {s} at =
-    placed_from rest (let more : cut ≤ line_after suppress cut = line_some suppress cut in omega (arith, more, some, least)) (index + 1) k (omega (arith, at))
-    ∙ sym (step_parts suppress lines state.current cut index s (place_from suppress (length lines) (index + 1) steps' ending') some least within
-    ∙ ap (λ those. those ++ lines_into s (place_from suppress (length lines) (index + 1) steps' ending') (line_after suppress cut) (drop (line_after suppress cut - 1) lines))
+    let later = place_from suppress (length lines) (index + 1) steps' ending' in
+    placed_from rest (omega (arith, line_some suppress cut, some, least)) (index + 1) k (omega (arith, at))
+    ∙ sym (step_parts suppress lines state.current cut index s later some least within
+    ∙ ap (λ those. those ++ lines_into s later (line_after suppress cut) (drop (line_after suppress cut - 1) lines))
     (into_none s (place_from suppress (length lines) index (step_of state operand matched cut ∷ steps') ending') state.current (lines_between state.current cut lines)
-    (λ line from before. ap (is_in s) (step_before suppress lines state.current cut (place_from suppress (length lines) (index + 1) steps' ending') line some least within before) ∙ ne_eqb s index (λ same. omega (arith, at, same)))))
+    (λ line from before. ap (is_in s) (step_before suppress lines state.current cut later line some least within before) ∙ ne_eqb s index (λ same. omega (arith, at, same)))))
 placed_from {lines} {first} {ending} run some index k at = rest_placed lines first.current (whole_end (length lines) ending) index some (end_is ending) k at
 
 -- Lines in no section
@@ -540,7 +372,7 @@ left_by_step : {suppress : Bool} {index : ℕ} (cut line : ℕ) {step : Step} {s
     → cond lt (in_section index) (cond le (left_out index) later) ≡ left_out cut
     → LeftAt suppress index cut line (step ∷ steps)
 left_by_step cut line true le lt_is le_is rest same = absurd (cc)
-left_by_step {suppress} {index} cut line {step} false true lt_is le_is rest same = grind (arith, common_steps)
+left_by_step cut line false true lt_is le_is rest same = grind (arith, common_steps)
 left_by_step {index} cut line false false lt_is le_is rest same =
     let there = rest same in let at : cut ≡ index + 1 + there.k = there.at in record { so = there.so; k = suc there.k; at = omega (arith, at); is = there.is }
 
@@ -563,15 +395,157 @@ nowhere_at (is_below state operand operands matched cut is cuts_at in_lines low)
 nowhere_at {suppress} (cuts state operand operands matched cut steps' last' ending' is cuts_at least in_lines rest) index line from within same =
     nowhere_by_step (nat_lt line cut) (suppress && nat_le line cut) index ((is_final ending' ≡ true) × (last'.current ≤ line))
     (λ lt le later. nowhere_at rest (index + 1) line (left_by suppress line cut lt le) within later) same
-nowhere_at {lines} run index line from within same = absurd (grind (arith, common_steps))
+nowhere_at run index line from within same = absurd (grind (arith, common_steps))
 
-pub are_placed : (suppress : Bool) (operands : List Operand) (x : List Line)
-    → ArePlaced (place_of suppress operands x) suppress (plan suppress operands x) x
-are_placed suppress operands x =
-    let here = plan_runs suppress operands x in record {
-      sections = λ k. placed_from here (omega arith) 0 k (omega arith);
-      cuts = λ line cut some same.
-          let left = left_at suppress (length x) 0 cut line (plan suppress operands x).steps (plan suppress operands x).ending same in
-          (left.so, ap (λ n. get_or (map (λ (step : Step). step.cut) (plan suppress operands x).steps) n 0) (let at : cut ≡ 0 + left.k = left.at in let e : cut ≡ left.k = omega (arith, at) in e) ∙ left.is);
-      rest = λ line some within same. nowhere_at here 0 line some within same;
-    }
+-- The plan over the lines that came in
+
+module _ (suppress : Bool) (operands : List Operand) (x : List Line) where
+  abbrev made : Plan
+  made = plan suppress operands x
+
+  here : Runs suppress x (start operands) made.steps made.last made.ending
+  here = plan_runs suppress operands x
+
+  inside : AreWithin (length x) made.steps × (1 ≤ made.last.current)
+  inside = are_within here (omega arith)
+
+  end_waits : Waits suppress x made.last made.ending
+  end_waits = waits_by made.ending (ends_as here) inside.1 (search_within here (omega arith) (grind (arith, common_steps)))
+
+  -- What is settled is what all continuations agree on.
+
+  fewest : length (whole_outputs suppress operands (x ++ [])) ≡ length (settled_outputs suppress operands x)
+  fewest = grind (arith, common_steps, append-nil, kept-append)
+
+  -- what is settled of the last section
+  abbrev open_lines : List Line
+  open_lines = lines_between made.last.current (settled_end (length x) made.ending) x
+
+  -- A continuation after which the open section has no more than what is settled
+  record Decides : Type 0 where
+    y : List Line
+    comes : CanCome y
+    next : Section
+    more : List Section
+    are : whole_sections (x ++ y) (plan suppress operands (x ++ y)) ≡ map (section_of x) made.steps ++ next ∷ more
+    kept : is_last_kept made.ending ≡ next.is_kept
+    short : length next.lines ≤ length open_lines
+
+  -- Such a continuation is there: none at all, or under an offset back one line that the operand finds
+
+  decides_by : (y : List Line) (more : List Step) (end : State) {how : Ending} → CanCome y
+      → Runs suppress (x ++ y) made.last more end how → {next : Section} {rest' : List Section}
+      → sections_by true whole_end (x ++ y) (record { steps = more; last = end; ending = how }) ≡ next ∷ rest'
+      → is_last_kept made.ending ≡ next.is_kept → length next.lines ≤ length open_lines → Decides
+  decides_by y more end {how} comes rest {next} {rest'} are kept short = record {
+    y = y;
+    comes = comes;
+    next = next;
+    more = rest';
+    are = ap (whole_sections (x ++ y)) (plan_once (goes_on y _ _ here rest))
+        ∙ ap (λ those. those ++ section (is_last_kept how) true (lines_between end.current (whole_end (length (x ++ y)) how) (x ++ y)) ∷ [])
+        (map-append (section_of (x ++ y)) made.steps more ∙ ap (λ those. those ++ map (section_of (x ++ y)) more) (closed_still x y made.steps inside.0))
+        ∙ append_assoc (map (section_of x) made.steps) (map (section_of (x ++ y)) more) _
+        ∙ ap (λ those. map (section_of x) made.steps ++ those) are;
+    kept = kept;
+    short = short;
+  }
+
+  decides : Waits suppress x made.last made.ending → Decides
+  decides (none_waits same) = record {
+    y = [];
+    comes = none_comes;
+    next = section (is_last_kept made.ending) true (lines_between made.last.current (whole_end (length x) made.ending) x);
+    more = [];
+    are = ap (λ those. whole_sections those (plan suppress operands those)) (append-nil x);
+    kept = refl;
+    short = grind (arith, common_steps);
+  }
+  decides (some_wait k kept past (too_low low rest)) =
+      decides_by matching _ _ matching_comes rest refl kept
+      (let e : length (lines_between made.last.current 0 (x ++ matching)) ≡ 0 = (grind (arith, common_steps)) in omega (arith, e))
+  decides (some_wait k kept past (turns from steps end how rest)) =
+      decides_by matching _ _ matching_comes rest refl kept
+      (let e : length (lines_between made.last.current (suc (length x) - k) (x ++ matching)) ≡ length open_lines
+      = ap length (between_still made.last.current (suc (length x) - k) x matching inside.1 (omega arith) ∙ ap (λ p. lines_between made.last.current p x) (sym past)) in omega (arith, e))
+
+  pub settled_is_agreed : IsAgreed (whole_outputs suppress operands) x (settled_outputs suppress operands x)
+  settled_is_agreed =
+      let decides = decides end_waits in
+      agreed_as [] decides.y (λ y comes. (grind (arith, common_steps, kept_grow, (plan_grows suppress true whole_end whole_covers operands x y))))
+      none_comes decides.comes fewest
+      (λ place less. rw decides.are (no_longer (map (section_of x) made.steps) (section (is_last_kept made.ending) false open_lines) decides.next decides.more place decides.kept decides.short less))
+
+  -- The lines that wait are those that two continuations put into different places.
+
+  -- the line of this number came in, and stands after what is settled of the last section
+  abbrev WaitsAt : ℕ → Type 0
+  WaitsAt line = (is_final made.ending ≡ false) × (made.last.current ≤ line) × (settled_end (length x) made.ending ≤ line) × (line ≤ length x)
+
+  goes : (y : List Line) → GoesOn suppress operands x y
+  goes = plan_goes_on operands x
+
+  -- a line after the cuts has one place where it doesn't wait
+  place_there : (y : List Line) (line : ℕ) → made.last.current ≤ line → line ≤ length x → (WaitsAt line → ⊥)
+      → place_of suppress operands (x ++ y) line
+      ≡ cond (is_final made.ending) nowhere (in_section (0 + length made.steps))
+  place_there y line from within not =
+      ap (λ (p : Plan). place_from suppress (length (x ++ y)) 0 p.steps p.ending line) (goes y).is
+      ∙ place_after here (length (x ++ y)) 0 line (goes y).more (goes y).how from
+      ∙ decided_by suppress x y _ inside.1 (ends_as here) line from within (λ live past. not (live, from, past, within)) _ (goes y).more (goes y).end (goes y).rest
+
+  same_line : (y z : List Line) (line : ℕ) → 1 ≤ line → line ≤ length x → (WaitsAt line → ⊥)
+      → place_of suppress operands (x ++ y) line ≡ place_of suppress operands (x ++ z) line
+  same_line y z line some within not = elim (cases_lt line made.last.current) [
+    | inl before ↦ ap (λ (p : Plan). place_from suppress (length (x ++ y)) 0 p.steps p.ending line) (goes y).is
+        ∙ place_front here (length (x ++ y)) (length (x ++ z)) 0 line (goes y).more (goes z).more (goes y).how (goes z).how some before
+        ∙ sym (ap (λ (p : Plan). place_from suppress (length (x ++ z)) 0 p.steps p.ending line) (goes z).is)
+    | inr from ↦ place_there y line from within not ∙ sym (place_there z line from within not)
+  ]
+
+  -- the rest as it is puts a line that waits into its section
+  differ_line : (line : ℕ) → WaitsAt line → Waits suppress x made.last made.ending
+      → (y : List Line) × (z : List Line) × CanCome y × CanCome z
+      × (place_of suppress operands (x ++ y) line ≢ place_of suppress operands (x ++ z) line)
+  differ_line line (live, from, past, within) (none_waits same) = absurd (omega (arith, ends_after_all (length x) made.ending live, same, past, within))
+  differ_line line (live, from, past, within) (some_wait k kept settled turned) =
+      let away = turned_away k line turned (omega (arith, settled, past)) in (
+        [],
+        matching,
+        none_comes,
+        matching_comes,
+        λ same. away.4 (0 + length made.steps)
+            (sym (ap (λ (p : Plan). place_from suppress (length (x ++ matching)) 0 p.steps p.ending line)
+            (plan_once (goes_on matching _ _ here away.3))
+            ∙ place_after here (length (x ++ matching)) 0 line away.0 away.2 from)
+            ∙ sym same ∙ ap (λ those. place_of suppress operands those line) (append-nil x)
+            ∙ (ap (λ those. place_from suppress (length x) 0 those made.ending line) (sym (append-nil made.steps)) ∙ place_after here (length x) 0 line [] made.ending from ∙ (grind (arith, common_steps)))),
+      )
+
+  undecided_by : (final : Bool) → is_final made.ending ≡ final → IsUndecided (place_of suppress operands) x
+      (cond final []
+      (drop (settled_end (length x) made.ending - made.last.current) (drop (made.last.current - 1) x)))
+  undecided_by true final = nothing_waits (λ i within y z. same_line y z (i + 1) (omega arith) (omega (arith, within)) (λ waits. false≢true (sym waits.0 ∙ final)))
+  undecided_by false live =
+      let n = made.last.current - 1 + (settled_end (length x) made.ending - made.last.current) in
+      let some : 1 ≤ made.last.current = inside.1 in
+      let count : length (take n x) ≡ min n (length x) = length-take n x in record {
+        before = take n x;
+        are_last = sym (take-append-drop n x) ∙ ap (λ rest. take n x ++ rest) (sym (drop-drop (settled_end (length x) made.ending - made.last.current) (made.last.current - 1) x));
+        differ = λ i past within. differ_line (i + 1) (live, omega (arith, past, within, count, some), omega (arith, past, within, count, some), omega (arith, within)) end_waits;
+        decided = λ i within y z y_comes z_comes. same_line y z (i + 1) (omega arith) (omega (arith, within, count)) (λ waits. omega (arith, within, count, waits.1, waits.2, some));
+      }
+
+  pub waiting_is_undecided : IsUndecided (place_of suppress operands) x (waiting_lines x made)
+  waiting_is_undecided = undecided_by (is_final made.ending) refl
+
+  -- Places are right.
+
+  pub are_placed : ArePlaced (place_of suppress operands x) suppress made x
+  are_placed = record {
+    sections = λ k. placed_from here (omega arith) 0 k (omega arith);
+    cuts = λ line cut some same.
+        let left = left_at suppress (length x) 0 cut line made.steps made.ending same in
+        (left.so, ap (λ n. get_or (map (λ (step : Step). step.cut) made.steps) n 0) (let e : cut ≡ left.k = omega (arith, left.at) in e) ∙ left.is);
+    rest = λ line some within same. nowhere_at here 0 line some within same;
+  }

@@ -3,12 +3,13 @@ use Rattle.std.{
   proofs.lemmas.{
     Grind.{common_steps, flat_map-append},
     Bool.cases_lt,
-    List.{append-nil, length-take-le, length-drop, take-append-le, take_all, drop_all, drop-drop, map-append},
+    List.{append-nil, length-take-le, length-drop, take-append-le, drop-append-le, take_all, drop_all, drop-drop},
+    List.map-append,
   },
   proofs.Common.{◌≡◌, ℕ, ◌+◌, ◌-◌, ◌≤◌, Bool, true, false, List, [], ◌++◌, length, refl, sym, ◌∙◌, ap, arith, inl, inr},
-  proofs.Common.{Option, None, subst, ◌<◌, min, Some, Result, Err, OnOk, take, drop, IfNone, rules, suc, ◌∷◌, map},
+  proofs.Common.{Option, None, subst, ◌<◌, min, Some, Result, Err, OnOk, take, drop, IfNone, rules, suc, ◌∷◌, ◌⊎◌, map},
   proofs.Common.append_assoc,
-  proofs.Math.{Nat.{min-eq_left, min-eq_right}, Seq.{take-add, take-append-add}},
+  proofs.Math.Seq.{take-add, take-append-add, drop-append-add},
   specs.List.flat_map,
 }
 use Rattle.seg_core.{
@@ -19,7 +20,7 @@ use Rattle.seg_core.{
   },
   proofs.{
     FirstLines.{first_lines-is_take, first_lines-zero, first_lines_then_rest},
-    Carried.{left_after, left_alone, but_last_lines-last, over-le-length},
+    Carried.{but_last_lines-last, last_lines-is_drop, over-le-length},
   },
 }
 use Rattle.csplit_core.specs.{
@@ -29,19 +30,19 @@ use Rattle.csplit_core.specs.{
   Output.{Style, manner_of, opening_of, file_in, shares_in, part_of, sizes_wanted},
   Plan.{State, start, Step, Ending, Runs, search_line, line_after, state_after, step_of, is_used_up, misses, is_above},
   Plan.{is_below, cuts},
-  Planned.{Plan, plan, plan_within},
+  Planned.{Plan, plan},
   Section.{lines_between, is_last_kept, settled_end, whole_end, is_final, most_waiting, bytes_of, Section, section},
   Section.section_of,
   Progress.AimsAt,
   declared.{progress.Turn.{Turn, TheVariants.Below}, line_cutter.Cut.Cut},
   laws.{
-    PlanLaws.{plan_once, goes_on, runs},
+    PlanLaws.{plan_once, goes_on, line_some, runs_on},
     SectionLaws.{ends_as, closed_still, are_within, shares-append, section_grows},
   },
   inner.{
-    PlanLaws.{EndsAs, needed},
-    Cutter.{Joins, settled_part, Keeps, part_at, Arrives, Holds, GoesPast, search_after, CutsNow, WentOn, PassesCut},
-    Cutter.{IsAfter, CutAt, CutsAll, WillCut, IsEnd},
+    PlanLaws.EndsAs,
+    Cutter.{Joins, settled_part, Keeps, KeepsBy, part_at, draft_at, bare, Puts, CutsIn, Arrives, Holds, search_after},
+    Cutter.{CutsNow, WentOn, PassesCut, IsAfter, CutAt, CutsAll, WillCut, IsEnd},
   },
   Cutter.{kept_by, most_by, text_from, draft_by, settled_draft, CutterState, suppress_in, state_in, IsAt, EndsNow},
   Cutter.{IsLive, IsFit, Leads},
@@ -87,7 +88,7 @@ pub draft_is : (past : ℕ → Ending → ℕ) (style : Style) (operands : List 
     → taken ≡ past (line_count newline x) ending - state.current
     → written ≡ first_lines newline taken (text_from state.current x)
     → draft_by style (all_lines x) steps (kept_by state.operands) written ≡ draft_to past style operands (all_lines x)
-draft_is past style operands x {steps} {state} {ending} taken {written} runs taken_is written_is = search (rules, last_kept, ends_as, length-all_lines, taken_is, bytes_between, plan_once)
+draft_is past style operands x taken runs taken_is written_is = search (rules, last_kept, ends_as, length-all_lines, taken_is, bytes_between, plan_once)
 
 -- what standard output has of sections is the sizes of the files that are closed
 pub sizes_are : (style : Style) → style.quiet ≡ false → (files : List File)
@@ -139,7 +140,7 @@ pub ended_still : (style : Style) (operands : List Operand) {x : List ℕ} (t : 
     {state : State} {ending : Ending} (kept : Bool) (written : List ℕ) → Joins x t
     → Runs style.suppress (all_lines x) (start operands) steps state ending
     → draft_by style (all_lines x) steps kept written ≡ draft_by style (all_lines (x ++ t)) steps kept written
-ended_still style operands {x} t {steps} {state} {ending} kept written whole runs = search (rules, are_within, all_lines-append, closed_still)
+ended_still style operands t kept written whole runs = search (rules, are_within, all_lines-append, closed_still)
 
 -- as many lines may wait as the next operand says
 pub most_is : (suppress : Bool) (lines : List Line) (state : State) (ending : Ending)
@@ -151,8 +152,9 @@ pub aims_live : (aim : Turn) (ending : Ending) → AimsAt aim ending → (aim �
 aims_live aim ending aims differs = grind (arith, common_steps)
 
 -- one call after another
-pub keeps_on : {one two three : CutterState} {old mid new : List Slot} {fault : Option Fault}
-    → Keeps one two old mid None → Keeps two three mid new fault → Keeps one three old new fault
+pub keeps_on : {given : List Operand} {made : Style} {writer : WriterState} {two three : CutterState}
+    {old mid new : List Slot} {fault : Option Fault} → KeepsBy given made writer two old mid None
+    → Keeps two three mid new fault → KeepsBy given made writer three old new fault
 keeps_on first second = record { operands = second.operands ∙ first.operands; style = second.style ∙ first.style; writer = leaves_again first.writer second.writer }
 
 -- what is written of the sections, where the style stays
@@ -161,50 +163,50 @@ pub reaches_then : {told : Bool} {style other : Style} {low middle high : Part} 
     → Reaches (sizes_wanted style) told one two low middle old mid None
     → Reaches (sizes_wanted other) told two three middle high mid new fault
     → Reaches (sizes_wanted style) told one three low high old new fault
-reaches_then {told} {low = low} {middle} {high} {mid = mid} {new} {fault} {two = two} {three} same begins first second = reaches_again begins first (rw same at second)
+reaches_then same begins first second = reaches_again begins first (rw same at second)
 
 -- what style and operands decide stays
-pub same_by : {A : Type 0} {cutter next : CutterState} {old new : List Slot} {fault : Option Fault}
-    (f : Style → List Operand → A) → Keeps cutter next old new fault
-    → f next.style next.operands ≡ f cutter.style cutter.operands
-same_by {cutter = cutter} {next} f keeps = grind (arith, common_steps)
+pub same_by : {A : Type 0} {given : List Operand} {made : Style} {writer : WriterState} {next : CutterState}
+    {old new : List Slot} {fault : Option Fault} (f : Style → List Operand → A)
+    → KeepsBy given made writer next old new fault → f next.style next.operands ≡ f made given
+same_by f keeps = grind (arith, common_steps)
 
-pub settled_same : {cutter next : CutterState} {old new : List Slot} {fault : Option Fault} (x : List ℕ)
-    → Keeps cutter next old new fault → settled_part next x ≡ settled_part cutter x
+pub settled_same : {given : List Operand} {made : Style} {writer : WriterState} {next : CutterState}
+    {old new : List Slot} {fault : Option Fault} (x : List ℕ) → KeepsBy given made writer next old new fault
+    → settled_part next x ≡ settled_of made given (all_lines x)
 settled_same x keeps = grind (arith, common_steps)
 
 -- the plan up to where the cutter stands
-pub runs_to : {cutter : CutterState} {x left : List ℕ} (at : IsAt cutter x left) (ends : EndsNow cutter x)
+pub runs_to : {cutter : CutterState} {x left : List ℕ} (at : IsAt cutter x left) {aim : Turn}
+    (ends : EndsNow (record cutter { aim = aim }) x)
     → Runs (suppress_in cutter) (all_lines x) (start cutter.operands) at.steps (state_in cutter) ends.ending
-runs_to {cutter} {x} at ends = grind (arith, common_steps)
+runs_to at ends = grind (arith, common_steps)
 
 -- more lines came in, and nothing was done with them yet
-unfoldable pub at_more : (cutter : CutterState) (lines : ℕ) (aim : Turn) (x t left : List ℕ) → Joins x t
-    → 1 ≤ cutter.progress.current → (at : IsAt cutter x left) → EndsNow cutter x → lines ≡ line_count newline (x ++ t)
-    → IsAt (record cutter { lines = lines; aim = aim }) (x ++ t) (left ++ t)
-at_more cutter lines aim x t left whole some at ends count =
+unfoldable pub at_more : {cutter : CutterState} {lines : ℕ} {x : List ℕ} (t : List ℕ) {left : List ℕ} → Joins x t
+    → 1 ≤ cutter.progress.current → (at : IsAt cutter x left) {aim : Turn}
+    → EndsNow (record cutter { aim = aim }) x → lines ≡ line_count newline (x ++ t)
+    → IsAt (bare (record cutter { lines = lines })) (x ++ t) (left ++ t)
+at_more {cutter} t whole some at ends count =
     let e = all_lines-append t whole in record {
       steps = at.steps;
-      leads = λ more last ending run. rw (← e) at (goes_on (all_lines t) more last (runs_to at ends) (subst (λ those. Runs (suppress_in cutter) those (state_in cutter) more last ending) e run));
+      leads = λ more last ending run. rw (← e) at (goes_on (all_lines t) more last (runs_to at ends) (rw e at run));
       counted = count;
       taken = at.taken;
       written = at.written;
-      few = (let f : cutter.progress.current + at.taken ≤ line_count newline x + 1 = at.few in let all = count-append t whole in omega (arith, f, all));
+      few = omega (arith, at.few, count-append t whole);
       written_is = at.written_is ∙ sym (first_still at.taken cutter.progress.current t whole some at.few);
       left_is = ap (λ those. those ++ t) at.left_is ∙ rest_more (cutter.progress.current + at.taken) t whole (omega (arith, some)) at.few;
       writes = subst (Writes (manner_of cutter.style) cutter.writer) (ended_still cutter.style cutter.operands t (kept_by (state_in cutter).operands) at.written whole (runs_to at ends)) at.writes;
     }
 
-pub part_more : {cutter : CutterState} {lines : ℕ} (aim : Turn) {x : List ℕ} (t : List ℕ) {left : List ℕ}
-    (whole : Joins x t) (some : 1 ≤ cutter.progress.current) (at : IsAt cutter x left) (ends : EndsNow cutter x)
-    (count : lines ≡ line_count newline (x ++ t))
-    → part_at cutter x left at ≡ part_at (record cutter { lines = lines; aim = aim }) (x ++ t) (left ++ t)
-    (at_more cutter lines aim x t left whole some at ends count)
+pub part_more : {cutter : CutterState} {lines : ℕ} {x : List ℕ} (t : List ℕ) {left : List ℕ} (whole : Joins x t)
+    (some : 1 ≤ cutter.progress.current) (at : IsAt cutter x left) {aim : Turn}
+    (ends : EndsNow (record cutter { aim = aim }) x)
+    (count : lines ≡ line_count newline (x ++ t)) → part_at at ≡ part_at (at_more t whole some at ends count)
 unfolding at_more
-part_more {cutter} aim t whole some at ends count =
+part_more {cutter} t whole some at ends count =
     ap (draft_part (manner_of cutter.style)) (ended_still cutter.style cutter.operands t (kept_by (state_in cutter).operands) at.written whole (runs_to at ends))
-
--- where the plan isn't final, all lines of the last section are settled but the last ones
 
 -- what is written of the open section, where all but the last lines that may wait are taken, is what is settled
 pub live_taken : {cutter : CutterState} {x : List ℕ} (live : IsLive cutter x)
@@ -212,7 +214,7 @@ pub live_taken : {cutter : CutterState} {x : List ℕ} (live : IsLive cutter x)
 live_taken live = grind (arith, common_steps)
 
 pub live_part : {cutter : CutterState} {x : List ℕ} (live : IsLive cutter x)
-    → part_at cutter x cutter.window.held live.at ≡ settled_part cutter x
+    → part_at live.at ≡ settled_part cutter x
 live_part {cutter} {x} live =
     ap (draft_part (manner_of cutter.style)) (draft_is settled_end cutter.style cutter.operands x live.at.taken (runs_to live.at live.ends) (live_taken live) live.at.written_is)
     ∙ settled_part_is cutter.style cutter.operands (all_lines x)
@@ -220,36 +222,23 @@ live_part {cutter} {x} live =
 -- how many lines are left
 pub left_count : {cutter : CutterState} {x left : List ℕ} (at : IsAt cutter x left)
     → line_count newline left ≡ cutter.lines - (cutter.progress.current + at.taken - 1)
-left_count {cutter} {x} at = grind (arith, common_steps, count_from)
+left_count at = grind (arith, common_steps, count_from)
 
 pub few_taken : {cutter : CutterState} {x left : List ℕ} (at : IsAt cutter x left)
     → cutter.progress.current + at.taken ≤ cutter.lines + 1
-few_taken {cutter} {x} at = grind (arith, common_steps)
+few_taken at = grind (arith, common_steps)
 
--- some lines of those that were left are written, and the others wait
-unfoldable pub at_held : (cutter : CutterState) (writer : WriterState) (x left bytes held : List ℕ) (n : ℕ)
-    → 1 ≤ cutter.progress.current → (at : IsAt cutter x left) → n ≤ line_count newline left
-    → bytes ≡ first_lines newline n left → held ≡ after_lines newline n left
-    → ((draft : Draft) → Writes (manner_of cutter.style) cutter.writer draft
-    → Writes (manner_of cutter.style) writer (with_bytes bytes draft))
-    → IsAt (record cutter { writer = writer; window = record cutter.window { held = held } }) x held
-at_held cutter writer x left bytes held n some at within bytes_is held_is writes =
-    let count : line_count newline left ≡ line_count newline x - (cutter.progress.current + at.taken - 1) = ap (line_count newline) at.left_is ∙ count_from (cutter.progress.current + at.taken) x in record {
-      steps = at.steps;
-      leads = at.leads;
-      counted = at.counted;
-      taken = at.taken + n;
-      written = at.written ++ bytes;
-      few = (let f : cutter.progress.current + at.taken ≤ line_count newline x + 1 = at.few in omega (arith, f, count, within, some));
-      written_is = ap (λ those. those ++ bytes) at.written_is
-          ∙ ap (λ those. first_lines newline at.taken (text_from cutter.progress.current x) ++ those) (bytes_is ∙ ap (first_lines newline n) at.left_is)
-          ∙ sym (first_further cutter.progress.current at.taken n x some);
-      left_is = held_is ∙ ap (after_lines newline n) at.left_is ∙ from_further (cutter.progress.current + at.taken) n x (omega (arith, some))
-          ∙ ap (λ k. text_from k x) (let e : cutter.progress.current + at.taken + n ≡ cutter.progress.current + (at.taken + n) = omega arith in e);
-      writes = writes (draft_by cutter.style (all_lines x) at.steps (kept_by (state_in cutter).operands) at.written) at.writes;
-    }
+-- with the first lines of those that were left more is written, and the lines after them are left
+module _ {cutter : CutterState} {x left : List ℕ} (n : ℕ) (some : 1 ≤ cutter.progress.current)
+    (at : IsAt cutter x left) where
+  pub written_on : {bytes : List ℕ} → bytes ≡ first_lines newline n left
+      → at.written ++ bytes ≡ first_lines newline (at.taken + n) (text_from cutter.progress.current x)
+  written_on {bytes} bytes_is = ap (λ those. those ++ bytes) at.written_is
+      ∙ ap (λ those. first_lines newline at.taken (text_from cutter.progress.current x) ++ those) (bytes_is ∙ ap (first_lines newline n) at.left_is)
+      ∙ sym (first_further cutter.progress.current at.taken n x some)
 
--- how many lines are taken once as many wait as may
+  left_on : after_lines newline n left ≡ text_from (cutter.progress.current + at.taken + n) x
+  left_on = ap (after_lines newline n) at.left_is ∙ from_further (cutter.progress.current + at.taken) n x (omega (arith, some))
 
 -- Writing lines that wait to the open section.
 
@@ -263,7 +252,7 @@ pub record Emptying (told : Bool) (writer now : WriterState) (window left_in : W
 
 pub all_held : {told : Bool} {writer : WriterState} {window : Window} {n : ℕ} {slots : List Slot} → IsReady writer slots
     → Emptying told writer writer window window n n slots slots
-all_held {told} {writer} {window} {n} {slots} ready =
+all_held {window = window} {n} ready =
     let none : n - n ≡ 0 = omega arith in record {
       few = omega arith;
       rest = ap (without_first window) (sym none);
@@ -271,48 +260,11 @@ all_held {told} {writer} {window} {n} {slots} ready =
       size = omega arith;
     }
 
--- the first bytes of what stands at the front are the first of all
-
 module _ {told : Bool} {writer now : WriterState} {window left_in : Window} {n left : ℕ} {old mid : List Slot}
     (so_far : Emptying told writer now window left_in n left old mid) where
   -- what is still to go is held
   pub left_within : n ≤ length window.held → left ≤ length left_in.held
   left_within enough = grind (arith, common_steps)
-
-  pub fits_front : (bytes most : ℕ) (front rest : List ℕ) → left_in.held ≡ front ++ rest → bytes ≤ length front
-      → size_of writer.current + length window.held < most → size_of now.current + length (take bytes front) < most
-  fits_front bytes most front rest is within fits = grind (arith, common_steps)
-
-  -- what went, with more bytes of what stands at the front
-  taken_more : (bytes : ℕ) (front rest : List ℕ) → left_in.held ≡ front ++ rest → bytes ≤ length front
-      → take (n - left) window.held ++ take bytes front ≡ take (n - left + bytes) window.held
-  taken_more bytes front rest is within = grind (arith, common_steps, take-add)
-
-  pub empties : (bytes : ℕ) (front rest : List ℕ) {next : WriterState} {after : Window} {new : List Slot}
-      → left_in.held ≡ front ++ rest → bytes ≤ length front → bytes ≤ left → after ≡ without_first left_in bytes
-      → Goes told now (with_bytes (take bytes front)) mid new next None
-      → size_of next.current ≤ size_of now.current + length (take bytes front)
-      → Emptying told writer next window after n (left - bytes) old new
-  empties bytes front rest {after = after} is within few dropped went more =
-      let long : length (take bytes front) ≡ bytes = length-take-le bytes front within in
-      let less : length front ≤ length left_in.held = (grind (arith, common_steps)) in
-      let after_long : length after.held ≡ length left_in.held - bytes = ap (λ (w : Window). length w.held) dropped ∙ length-drop bytes left_in.held in
-      let count : n - left + bytes ≡ n - (left - bytes) = (let all = so_far.few in omega (arith, all, few)) in record {
-        few = (let all = so_far.few in omega (arith, all));
-        rest = dropped ∙ ap (λ (w : Window). without_first w bytes) so_far.rest ∙ ap (λ held. record window { held = held }) (drop-drop bytes (n - left) window.held) ∙ ap (without_first window) count;
-        went = goes_as (taken_more bytes front rest is within ∙ ap (λ k. take k window.held) count) (goes_more (take (n - left) window.held) (take bytes front) so_far.went went);
-        size = (let size = so_far.size in omega (arith, size, more, long, less, after_long, within));
-      }
-
-  -- a write of it stopped
-  pub empties_short : (bytes : ℕ) (front rest : List ℕ) {next : WriterState} {new : List Slot} {fault : Fault}
-      → left_in.held ≡ front ++ rest → bytes ≤ length front → bytes ≤ left
-      → Goes told now (with_bytes (take bytes front)) mid new next (Some fault)
-      → Goes told writer (with_bytes (take n window.held)) old new next (Some fault)
-  empties_short bytes front rest is within few stopped =
-      let count : n - left + bytes + (left - bytes) ≡ n = (let all = so_far.few in omega (arith, all, few)) in
-      goes_as (ap (λ those. those ++ take (left - bytes) (drop (n - left + bytes) window.held)) (taken_more bytes front rest is within) ∙ sym (take-add (n - left + bytes) (left - bytes) window.held) ∙ ap (λ k. take k window.held) count)
-      (stops_among (take (n - left) window.held ++ take bytes front) (take (left - bytes) (drop (n - left + bytes) window.held)) (goes_more (take (n - left) window.held) (take bytes front) so_far.went stopped))
 
   -- all of it was written
   pub emptied_went : left ≤ 0 → Goes told writer (with_bytes (take n window.held)) old mid now None
@@ -321,32 +273,65 @@ module _ {told : Bool} {writer now : WriterState} {window left_in : Window} {n l
   pub emptied_window : left ≤ 0 → left_in ≡ without_first window n
   emptied_window none = so_far.rest ∙ ap (without_first window) (let e : n - left ≡ n = omega (arith, none) in e)
 
+-- more bytes of what stands at its front go
+module _ {told : Bool} {writer now : WriterState} {window left_in : Window} {n left : ℕ} {old mid : List Slot}
+    (so_far : Emptying told writer now window left_in n left old mid) (bytes : ℕ) (front rest : List ℕ)
+    (is : left_in.held ≡ front ++ rest) (within : bytes ≤ length front) where
+  pub fits_front : (most : ℕ) → size_of writer.current + length window.held < most
+      → size_of now.current + length (take bytes front) < most
+  fits_front most fits = grind (arith, common_steps)
+
+  taken_more : take (n - left) window.held ++ take bytes front ≡ take (n - left + bytes) window.held
+  taken_more = grind (arith, common_steps, take-add)
+
+  pub empties : bytes ≤ left → {next : WriterState} {after : Window} {new : List Slot}
+      → after ≡ without_first left_in bytes → Goes told now (with_bytes (take bytes front)) mid new next None
+      → size_of next.current ≤ size_of now.current + length (take bytes front)
+      → Emptying told writer next window after n (left - bytes) old new
+  empties few dropped went more =
+      let less : length front ≤ length left_in.held = (grind (arith, common_steps)) in
+      let count : n - left + bytes ≡ n - (left - bytes) = (let all = so_far.few in omega (arith, all, few)) in record {
+        few = omega (arith, so_far.few);
+        rest = dropped ∙ ap (λ (w : Window). without_first w bytes) so_far.rest ∙ ap (λ held. record window { held = held }) (drop-drop bytes (n - left) window.held) ∙ ap (without_first window) count;
+        went = goes_as (taken_more ∙ ap (λ k. take k window.held) count) (goes_more (take (n - left) window.held) (take bytes front) so_far.went went);
+        size = omega (arith, so_far.size, more, length-take-le bytes front within, less, ap (λ (w : Window). length w.held) dropped ∙ length-drop bytes left_in.held, within);
+      }
+
+  -- a write of it stopped
+  pub empties_short : bytes ≤ left → {next : WriterState} {new : List Slot} {fault : Fault}
+      → Goes told now (with_bytes (take bytes front)) mid new next (Some fault)
+      → Goes told writer (with_bytes (take n window.held)) old new next (Some fault)
+  empties_short few stopped =
+      let count : n - left + bytes + (left - bytes) ≡ n = (let all = so_far.few in omega (arith, all, few)) in
+      goes_as (ap (λ those. those ++ take (left - bytes) (drop (n - left + bytes) window.held)) taken_more ∙ sym (take-add (n - left + bytes) (left - bytes) window.held) ∙ ap (λ k. take k window.held) count)
+      (stops_among (take (n - left) window.held ++ take bytes front) (take (left - bytes) (drop (n - left + bytes) window.held)) (goes_more (take (n - left) window.held) (take bytes front) so_far.went stopped))
+
 -- What leaves of the lines that wait and of a text after them, and what stays: of the text only where all that waited leaves.
 pub record Parted (delim most over front : ℕ) (held text : List ℕ) : Type 0 where
   pub goes : take front held ++ take (over - front) text ≡ but_last_lines delim most (held ++ text)
   pub stays : drop front held ++ drop (over - front) text ≡ last_lines delim most (held ++ text)
   pub within : over - front ≤ length text
 
-pub parted : {delim most over front : ℕ} {held text : List ℕ} → over ≡ length (but_last_lines delim most (held ++ text))
-    → front ≡ min over (length held) → Parted delim most over front held text
-parted {delim} {most} {over} {front} {held} {text} is at = elim (cases_lt over (length held)) [
-  | inl less ↦
-      let low : over ≤ length held = omega (arith, less) in
-      let none : over - front ≡ 0 = (let same : front ≡ over = at ∙ min-eq_left low in omega (arith, same)) in record {
-        goes = ap (λ n. take front held ++ take n text) none ∙ append-nil (take front held) ∙ ap (λ n. take n held) (at ∙ min-eq_left low) ∙ sym (take-append-le over held text low) ∙ taken;
-        stays = ap (λ n. drop front held ++ drop n text) none ∙ ap (λ n. drop n held ++ text) (at ∙ min-eq_left low) ∙ left_after delim most held text over is low;
-        within = omega (arith, none);
-      }
-  | inr more ↦
-      let same : front ≡ length held = at ∙ min-eq_right more in record {
-        goes = ap (λ bytes. bytes ++ take (over - front) text) (ap (λ n. take n held) same ∙ take_all (length held) held (omega arith)) ∙ sym (take-append-add held text (over - front))
-            ∙ ap (λ n. take n (held ++ text)) (let e : length held + (over - front) ≡ over = omega (arith, more, same) in e) ∙ taken;
-        stays = ap (λ bytes. bytes ++ drop (over - front) text) (ap (λ n. drop n held) same ∙ drop_all (length held) held (omega arith)) ∙ left_alone delim most held text over (over - front) is (omega (arith, more, same));
-        within = (let all = over-le-length delim most held text in omega (arith, all, is, same));
-      }
-] where
-  taken : take over (held ++ text) ≡ but_last_lines delim most (held ++ text)
-  taken = ap (λ n. take n (held ++ text)) is ∙ sym (first_lines-is_take delim (line_count delim (held ++ text) - most) (held ++ text))
+both_parts : (n : ℕ) (xs ys : List ℕ) {k : ℕ} → k ≡ min n (length xs) → (n < length xs) ⊎ (length xs ≤ n)
+    → (take k xs ++ take (n - k) ys ≡ take n (xs ++ ys)) × (drop k xs ++ drop (n - k) ys ≡ drop n (xs ++ ys))
+both_parts n xs ys {k} is (inl less) =
+    let e : k ≡ n = omega (arith, is, less) in
+    let none : n - k ≡ 0 = omega (arith, e) in
+    (grind (arith, common_steps, e, none, append-nil, take-append-le, drop-append-le))
+both_parts n xs ys {k} is (inr more) =
+    let e : k ≡ length xs = omega (arith, is, more) in
+    let all : length xs + (n - k) ≡ n = omega (arith, e, more) in
+    (grind (arith, common_steps, e, all, take-append-add xs ys (n - k), drop-append-add xs ys (n - k), take_all, drop_all))
+
+pub parted : {delim most over long front : ℕ} {held text : List ℕ}
+    → over ≡ length (but_last_lines delim most (held ++ text)) → long ≡ length held → front ≡ min over long
+    → Parted delim most over front held text
+parted {delim} {most} {over} {held = held} {text} is all least =
+    let parts = both_parts over held text (least ∙ ap (min over) all) (cases_lt over (length held)) in record {
+      goes = parts.0 ∙ ap (λ n. take n (held ++ text)) is ∙ sym (first_lines-is_take delim (line_count delim (held ++ text) - most) (held ++ text));
+      stays = parts.1 ∙ ap (λ n. drop n (held ++ text)) is ∙ last_lines-is_drop delim most (held ++ text);
+      within = omega (arith, over-le-length delim most held text, is, all, least);
+    }
 
 -- what `hold_last` owes at each of its ends
 module _ {delim most over front : ℕ} {held text : List ℕ} (parts : Parted delim most over front held text) where
@@ -368,11 +353,8 @@ module _ {delim most over front : ℕ} {held text : List ℕ} (parts : Parted de
 pub kept_window : {window mid : Window} (new : Window) {over front : ℕ} {text : List ℕ}
     (result : Result (Unit {0}) Fault) → Parted window.delim window.most over front window.held text
     → mid ≡ without_first window front
-    → OnOk result (new ≡ record { most = mid.most; delim = mid.delim; held = mid.held ++ drop (over - front) text })
-    → OnOk result
-    (new
-    ≡ record
-    { most = window.most; delim = window.delim; held = last_lines window.delim window.most (window.held ++ text) })
+    → OnOk result (new ≡ record mid { held = mid.held ++ drop (over - front) text })
+    → OnOk result (new ≡ record window { held = last_lines window.delim window.most (window.held ++ text) })
 kept_window new result parts dropped put = grind (arith, common_steps)
 
 -- What `hold` leaves: all that is settled of the lines that came in is written, and the others wait.
@@ -386,67 +368,61 @@ abbrev pub over_of : CutterState → List ℕ → ℕ
 over_of cutter left = line_count newline left - cutter.window.most
 
 -- then all lines but those that may wait are taken
-taken_is : {cutter : CutterState} {x left : List ℕ} {at : IsAt cutter x left} (arrives : Arrives cutter x left at)
+taken_is : {cutter : CutterState} {x left : List ℕ} {at : IsAt (bare cutter) x left} (arrives : Arrives cutter at)
     → IsFit cutter → is_final arrives.ends.ending ≡ false
     → at.taken + over_of cutter left ≡ cutter.lines + 1 - cutter.progress.current - most_waiting arrives.ends.ending
 taken_is {cutter} {x} {at} arrives fit live =
-    let most : cutter.window.most ≡ most_waiting arrives.ends.ending = fit.most ∙ most_is (suppress_in cutter) (all_lines x) (state_in cutter) arrives.ends.ending (ends_as _ _ _ _ _ _ arrives.ends.runs) live in
+    let most : cutter.window.most ≡ most_waiting arrives.ends.ending = fit.most ∙ most_is (suppress_in cutter) (all_lines x) (state_in cutter) arrives.ends.ending (ends_as arrives.ends.runs) live in
     (grind (arith, common_steps, fit.fits.some, (few_taken at), (left_count at), arrives.enough))
     ∙ ap (λ n. cutter.lines + 1 - cutter.progress.current - n) most
 
--- and what is written is what is settled
-held_part : {cutter : CutterState} {x left bytes : List ℕ} {at : IsAt cutter x left}
-    (arrives : Arrives cutter x left at) → IsFit cutter → is_final arrives.ends.ending ≡ false
-    → bytes ≡ first_lines newline (over_of cutter left) left
-    → draft_part (manner_of cutter.style)
-    (with_bytes bytes (draft_by cutter.style (all_lines x) at.steps (kept_by (state_in cutter).operands) at.written))
-    ≡ settled_part cutter x
-held_part {cutter} {x} {left} {bytes} {at} arrives fit live bytes_is =
-    let written : at.written ++ bytes ≡ first_lines newline (at.taken + over_of cutter left) (text_from cutter.progress.current x) =
-    ap (λ those. those ++ bytes) at.written_is
-    ∙ ap (λ those. first_lines newline at.taken (text_from cutter.progress.current x) ++ those) (bytes_is ∙ ap (first_lines newline (over_of cutter left)) at.left_is)
-    ∙ sym (first_further cutter.progress.current at.taken (over_of cutter left) x fit.fits.some) in
-    ap (draft_part (manner_of cutter.style)) (draft_is settled_end cutter.style cutter.operands x (at.taken + over_of cutter left) (runs_to at arrives.ends)
-    (taken_is arrives fit live ∙ (grind (arith, common_steps))) written)
-    ∙ settled_part_is cutter.style cutter.operands (all_lines x)
+module _ {cutter : CutterState} {x left bytes : List ℕ} {at : IsAt (bare cutter) x left} (arrives : Arrives cutter at)
+    (fit : IsFit cutter) (live : is_final arrives.ends.ending ≡ false)
+    (bytes_is : bytes ≡ first_lines newline (over_of cutter left) left) where
+  -- and what is written is what is settled
+  held_part : draft_part (manner_of cutter.style) (with_bytes bytes (draft_at at)) ≡ settled_part cutter x
+  held_part =
+      ap (draft_part (manner_of cutter.style)) (draft_is settled_end cutter.style cutter.operands x (at.taken + over_of cutter left) (runs_to at arrives.ends)
+      (taken_is arrives fit live ∙ (grind (arith, common_steps))) (written_on (over_of cutter left) fit.fits.some at bytes_is))
+      ∙ settled_part_is cutter.style cutter.operands (all_lines x)
 
-held_live : {cutter : CutterState} {writer : WriterState} {x left bytes held : List ℕ} {at : IsAt cutter x left}
-    (arrives : Arrives cutter x left at) → IsFit cutter → is_final arrives.ends.ending ≡ false
-    → bytes ≡ first_lines newline (over_of cutter left) left → held ≡ after_lines newline (over_of cutter left) left
-    → ((draft : Draft) → Writes (manner_of cutter.style) cutter.writer draft
-    → Writes (manner_of cutter.style) writer (with_bytes bytes draft)) → IsLive (holding cutter writer held) x
-unfolding at_held
-held_live {cutter} {writer} {x} {left} {bytes} {held} {at} arrives fit live bytes_is held_is writes = record {
-  at = at_held cutter writer x left bytes held (over_of cutter left) fit.fits.some at (omega arith) bytes_is held_is writes;
-  ends = (grind (arith, common_steps));
-  live = live;
-  settled = taken_is arrives fit live;
-}
+  held_live : {writer : WriterState} {held : List ℕ} → held ≡ after_lines newline (over_of cutter left) left
+      → ((draft : Draft) → Writes (manner_of cutter.style) cutter.writer draft
+      → Writes (manner_of cutter.style) writer (with_bytes bytes draft)) → IsLive (holding cutter writer held) x
+  held_live held_is writes = let over = over_of cutter left in let some = fit.fits.some in record {
+    at = record {
+      steps = at.steps;
+      leads = at.leads;
+      counted = at.counted;
+      taken = at.taken + over;
+      written = at.written ++ bytes;
+      few = omega (arith, few_taken at, left_count at, at.counted, some);
+      written_is = written_on over some at bytes_is;
+      left_is = held_is ∙ left_on over some at ∙ ap (λ k. text_from k x) (let e : cutter.progress.current + at.taken + over ≡ cutter.progress.current + (at.taken + over) = omega arith in e);
+      writes = writes (draft_at at) at.writes;
+    };
+    ends = grind (arith, common_steps);
+    live = live;
+    settled = taken_is arrives fit live;
+  }
 
 pub hold_goes : {told : Bool} {cutter : CutterState} {writer : WriterState} {window : Window} {left : List ℕ}
     {old new : List Slot} {fault : Option Fault} → IsFit cutter → (cutter.aim ≡ Below → ⊥)
     → Goes told cutter.writer
     (with_bytes (but_last_lines cutter.window.delim cutter.window.most left)) old new writer fault
     → IfNone fault
-    (window
-    ≡ record {
-      most = cutter.window.most;
-      delim = cutter.window.delim;
-      held = last_lines cutter.window.delim
-          cutter.window.most left;
-    })
+    (window ≡ record cutter.window { held = last_lines cutter.window.delim cutter.window.most left })
     → IfNone fault (size_of writer.current + length window.held ≤ size_of cutter.writer.current + length left)
     → Holds told cutter left old new (record cutter { writer = writer; window = window }) fault
 hold_goes {cutter = cutter} {writer} {window} {left} {fault = fault} fit differs goes waits fewer = record {
   keeps = record { operands = refl; style = refl; writer = goes.leaves };
   reaches = λ x at arrives. reaches_as refl (sym (held_part arrives fit (aims_live cutter.aim arrives.ends.ending arrives.ends.aims differs) bytes_is))
-      (goes.reaches (manner_of cutter.style) (draft_by cutter.style (all_lines x) at.steps (kept_by (state_in cutter).operands) at.written) at.writes);
+      (goes.reaches (manner_of cutter.style) (draft_at at) at.writes);
   went = where_three fault goes.writes waits fewer (λ writes kept size.
-      let held_is : window.held ≡ after_lines newline (over_of cutter left) left = ap (λ (w : Window). w.held) kept ∙ ap (λ d. last_lines d cutter.window.most left) fit.delim in
       let window_is : window ≡ record cutter.window { held = window.held } = kept ∙ ap (λ held. record cutter.window { held = held }) (sym (ap (λ (w : Window). w.held) kept)) in record {
         same = refl;
         window = window_is;
-        stands = λ x at arrives. rw window_is (inl (held_live arrives fit (aims_live cutter.aim arrives.ends.ending arrives.ends.aims differs) bytes_is held_is (writes (manner_of cutter.style))));
+        stands = λ x at arrives. rw window_is (inl (held_live arrives fit (aims_live cutter.aim arrives.ends.ending arrives.ends.aims differs) bytes_is (ap (λ (w : Window). w.held) kept ∙ ap (λ d. last_lines d cutter.window.most left) fit.delim) (writes (manner_of cutter.style))));
         size = size;
       });
 } where
@@ -455,9 +431,8 @@ hold_goes {cutter = cutter} {writer} {window} {left} {fault = fault} fit differs
 
 -- where the cut is below the current line, none waits
 
-past_draft : {cutter : CutterState} {x left : List ℕ} {at : IsAt cutter x left} (arrives : Arrives cutter x left at)
-    → is_final arrives.ends.ending ≡ true
-    → draft_by cutter.style (all_lines x) at.steps (kept_by (state_in cutter).operands) at.written
+past_draft : {cutter : CutterState} {x left : List ℕ} {at : IsAt (bare cutter) x left} (arrives : Arrives cutter at)
+    → is_final arrives.ends.ending ≡ true → draft_at at
     ≡ settled_draft cutter.style cutter.operands (all_lines x)
 past_draft {cutter} {x} {at} arrives past =
     draft_is settled_end cutter.style cutter.operands x at.taken (runs_to at arrives.ends)
@@ -468,26 +443,26 @@ pub hold_past : {told : Bool} {cutter : CutterState} {window : Window} {left : L
     → length cutter.window.held ≤ length left
     → window ≡ without_first cutter.window n
     → Holds told cutter left slots slots (record cutter { window = window }) None
-hold_past {cutter = cutter} {window} {left} {slots} {n} aim ready all less dropped = record {
+hold_past {cutter = cutter} {window} {left} {n = n} aim ready all less dropped = record {
   keeps = record { operands = refl; style = refl; writer = leaves_still ready };
   reaches = λ x at arrives. reaches_still keeps_files (ap (draft_part (manner_of cutter.style)) (past_draft arrives (past x at arrives)) ∙ settled_part_is cutter.style cutter.operands (all_lines x));
   went = record {
     same = refl;
     window = dropped ∙ ap (λ held. record cutter.window { held = held }) (sym (ap (λ (w : Window). w.held) dropped));
-    stands = λ x at arrives. let is = plan_once (suppress_in cutter) cutter.operands (all_lines x) at.steps (state_in cutter) arrives.ends.ending (runs_to at arrives.ends) in inr (record {
+    stands = λ x at arrives. let is = plan_once (runs_to at arrives.ends) in inr (record {
       aim = aim;
       past = ap (λ (p : Plan). is_final p.ending) is ∙ past x at arrives;
       last = sym (ap (λ (p : Plan). p.last) is);
       none = none;
       writes = subst (Writes (manner_of cutter.style) cutter.writer) (past_draft arrives (past x at arrives)) at.writes;
     });
-    size = (let e : length window.held ≡ 0 = ap length none in omega (arith, e));
+    size = omega (arith, ap length none);
   };
 } where
   none : window.held ≡ []
   none = ap (λ (w : Window). w.held) dropped ∙ drop_all n cutter.window.held (omega (arith, all))
 
-  past : (x : List ℕ) (at : IsAt cutter x left) (arrives : Arrives cutter x left at)
+  past : (x : List ℕ) (at : IsAt (bare cutter) x left) (arrives : Arrives cutter at)
       → is_final arrives.ends.ending ≡ true
   past x at arrives = (grind (arith, common_steps))
 
@@ -506,33 +481,36 @@ begins_with : (style : Style) (lines : List Line) (steps : List Step) (one : Sec
 begins_with style lines steps one more kept same =
     rw (← draft_shares style lines steps kept []) at (section_grows style (map (section_of lines) steps) (section kept false []) one more refl same (bytes_of one.lines) refl)
 
+-- the open section, where the plan ends there
+abbrev open_at : List Line → State → Ending → Section
+open_at lines last ending = section (is_last_kept ending) false
+    (lines_between last.current (settled_end (length lines) ending) lines)
+
 settled_by_plan : (style : Style) (operands : List Operand) {lines : List Line} {steps : List Step} {last : State}
     {ending : Ending} → Runs style.suppress lines (start operands) steps last ending
-    → settled_of style operands lines ≡ part_of style
-    (map (section_of lines) steps ++ section (is_last_kept ending) false
-    (lines_between last.current (settled_end (length lines) ending) lines) ∷ [])
-settled_by_plan style operands {lines} {steps} {last} {ending} runs = grind (arith, common_steps, plan_once, runs)
+    → settled_of style operands lines ≡ part_of style (map (section_of lines) steps ++ open_at lines last ending ∷ [])
+settled_by_plan style operands runs = grind (arith, common_steps, plan_once, runs)
 
 begun_by : (style : Style) (operands : List Operand) {lines : List Line} (steps : List Step) {state : State}
     (more : List Step) {last : State} {ending : Ending} → Runs style.suppress lines state more last ending
     → Runs style.suppress lines (start operands) (steps ++ more) last ending
     → Begins (draft_part (manner_of style) (draft_by style lines steps (kept_by state.operands) []))
     (settled_of style operands lines)
-begun_by style operands {lines} steps {state} [] {last} {ending} rest all =
-    subst (Begins (draft_part (manner_of style) (draft_by style lines steps (kept_by state.operands) []))) (sym (settled_by_plan style operands all))
-    (rw (append-nil steps) (begins_with style lines steps (section (is_last_kept ending) false (lines_between last.current (settled_end (length lines) ending) lines)) [] (kept_by state.operands) (at_end state last ending rest))) where
-      at_end : (state last : State) (ending : Ending) → Runs style.suppress lines state [] last ending
-          → kept_by state.operands ≡ is_last_kept ending
-      at_end state last ending (is_used_up state' none) = last_kept style.suppress lines state' ending (ends_as style.suppress lines state' [] state' ending (is_used_up state' none))
-      at_end state last ending (misses state' operand those is none) = ap kept_by is
-      at_end state last ending (is_above state' operand those matched cut is at far) = ap kept_by is
-      at_end state last ending (is_below state' operand those matched cut is at within low) = ap kept_by is
-begun_by style operands {lines} steps {state} (step ∷ more) {last} {ending} rest all =
-    let tail = map (section_of lines) more ++ section (is_last_kept ending) false (lines_between last.current (settled_end (length lines) ending) lines) ∷ [] in
-    subst (Begins (draft_part (manner_of style) (draft_by style lines steps (kept_by state.operands) []))) (sym (settled_by_plan style operands all
-    ∙ ap (λ those. part_of style (those ++ section (is_last_kept ending) false (lines_between last.current (settled_end (length lines) ending) lines) ∷ [])) (map-append (section_of lines) steps (step ∷ more))
-    ∙ ap (part_of style) (append_assoc (map (section_of lines) steps) (section_of lines step ∷ map (section_of lines) more) _)))
-    (begins_with style lines steps (section_of lines step) tail (kept_by state.operands) (first_kept rest))
+begun_by style operands {lines} steps {state} more {last} {ending} rest all =
+    rw (settled_by_plan style operands all, map-append (section_of lines) steps more, append_assoc (map (section_of lines) steps) (map (section_of lines) more) (open_at lines last ending ∷ [])) (by state more last ending rest) where
+  at_end : (state last : State) (ending : Ending) → Runs style.suppress lines state [] last ending
+      → kept_by state.operands ≡ is_last_kept ending
+  at_end state last ending (is_used_up state' none) = ap kept_by none
+  at_end state last ending (misses state' operand those is none) = ap kept_by is
+  at_end state last ending (is_above state' operand those matched cut is at far) = ap kept_by is
+  at_end state last ending (is_below state' operand those matched cut is at within low) = ap kept_by is
+
+  by : (state : State) (more : List Step) (last : State) (ending : Ending)
+      → Runs style.suppress lines state more last ending
+      → Begins (draft_part (manner_of style) (draft_by style lines steps (kept_by state.operands) []))
+      (part_of style (map (section_of lines) steps ++ (map (section_of lines) more ++ open_at lines last ending ∷ [])))
+  by state [] last ending rest = begins_with style lines steps (open_at lines last ending) [] (kept_by state.operands) (at_end state last ending rest)
+  by state (step ∷ more) last ending rest = begins_with style lines steps (section_of lines step) _ (kept_by state.operands) (first_kept rest)
 
 -- The sections once one more ended
 
@@ -545,14 +523,11 @@ cut_draft : {cutter : CutterState} {x left before : List ℕ} (at : IsAt cutter 
     → 1 ≤ cutter.progress.current
     → cutter.progress.current + at.taken ≤ cut.line
     → before ≡ first_lines newline (cut.line - (cutter.progress.current + at.taken)) left
-    → with_next (opening_of cutter.style kept)
-    (with_bytes before (draft_by cutter.style (all_lines x) at.steps (kept_by (state_in cutter).operands) at.written))
+    → with_next (opening_of cutter.style kept) (with_bytes before (draft_at at))
     ≡ draft_by cutter.style (all_lines x) (at.steps ++ step_at cutter operand cut ∷ []) kept []
 cut_draft {cutter} {x} {before} at cut {operand} kept are some on before_is =
     let bytes : at.written ++ before ≡ bytes_of (lines_between cutter.progress.current cut.line (all_lines x)) =
-    ap (λ those. those ++ before) at.written_is
-    ∙ ap (λ those. first_lines newline at.taken (text_from cutter.progress.current x) ++ those) (before_is ∙ ap (first_lines newline (cut.line - (cutter.progress.current + at.taken))) at.left_is)
-    ∙ sym (first_further cutter.progress.current at.taken (cut.line - (cutter.progress.current + at.taken)) x some)
+    written_on (cut.line - (cutter.progress.current + at.taken)) some at before_is
     ∙ ap (λ n. first_lines newline n (text_from cutter.progress.current x)) (let e : at.taken + (cut.line - (cutter.progress.current + at.taken)) ≡ cut.line - cutter.progress.current = omega (arith, on) in e)
     ∙ sym (bytes_between cutter.progress.current cut.line x) in
     let ended = flat_map (file_in cutter.style) (map (section_of (all_lines x)) at.steps) in
@@ -562,16 +537,16 @@ cut_draft {cutter} {x} {before} at cut {operand} kept are some on before_is =
     (sym (ap (flat_map (file_in cutter.style)) (map-append (section_of (all_lines x)) at.steps (step_at cutter operand cut ∷ [])) ∙ flat_map-append (file_in cutter.style) (map (section_of (all_lines x)) at.steps) (next ∷ []) ∙ ap (λ one. ended ++ one) (append-nil (file_in cutter.style next))))
 
 leads_on : {cutter : CutterState} {x left : List ℕ} (at : IsAt cutter x left) (cut : Cut)
-    (goes : GoesPast (suppress_in cutter) (all_lines x) (state_in cutter) cut.matched cut.line)
+    (goes : CutsIn cutter x cut)
     → Leads (suppress_in cutter) (all_lines x) cutter.operands (at.steps ++ step_at cutter goes.operand cut ∷ [])
     (state_after (suppress_in cutter) goes.operand goes.operands cutter.progress.repetition cut.matched cut.line)
-leads_on {cutter} {x} at cut goes more last ending run =
+leads_on {cutter} at cut goes more last ending run =
     rw (← append_assoc at.steps (step_at cutter goes.operand cut ∷ []) more) at (at.leads (step_at cutter goes.operand cut ∷ more) last ending (cuts (state_in cutter) goes.operand goes.operands cut.matched cut.line more last ending goes.are goes.cuts goes.from goes.within run))
 
 -- what is settled begins with the sections after the cut
-pub cut_begins : {cutter : CutterState} {x left : List ℕ} (line : List ℕ) {before : List ℕ} {at : IsAt cutter x left}
-    (cut : Cut) {place : ℕ} (now : CutsNow cutter x left line cut place at) → IsFit cutter → WillCut cutter cut
-    → before ≡ first_lines newline (cut.line - place) left
+pub cut_begins : {cutter : CutterState} {x left : List ℕ} (line : List ℕ) {before : List ℕ}
+    {at : IsAt (bare cutter) x left} (cut : Cut) {place : ℕ} (now : CutsNow line cut place at) → IsFit cutter
+    → WillCut cutter cut → before ≡ first_lines newline (cut.line - place) left
     → Begins
     (draft_part (manner_of cutter.style)
     (with_next
@@ -580,30 +555,25 @@ pub cut_begins : {cutter : CutterState} {x left : List ℕ} (line : List ℕ) {b
     (state_after
     (suppress_in cutter) now.goes.operand now.goes.operands cutter.progress.repetition cut.matched
     cut.line).operands))
-    (with_bytes before (draft_by cutter.style (all_lines x) at.steps (kept_by (state_in cutter).operands) at.written))))
+    (with_bytes before (draft_at at))))
     (settled_part cutter x)
 cut_begins {cutter} {x} {left} line {at} cut now fit will before_is =
     let state = state_after (suppress_in cutter) now.goes.operand now.goes.operands cutter.progress.repetition cut.matched cut.line in
-    let on : cutter.progress.current + at.taken ≤ cut.line = (let p = now.place_is in let b = now.before in omega (arith, p, b)) in
-    let some : 1 ≤ state.current = (let least = Rattle.csplit_core.specs.laws.PlanLaws.line_some (suppress_in cutter) cut.line in let s = fit.fits.some in let f = will.from in omega (arith, least, s, f)) in
+    let on : cutter.progress.current + at.taken ≤ cut.line = (let p = now.place_is in omega (arith, p, now.before)) in
+    let some : 1 ≤ state.current = (let least = line_some (suppress_in cutter) cut.line in omega (arith, least, fit.fits.some, will.from)) in
     subst (λ draft. Begins (draft_part (manner_of cutter.style) draft) (settled_part cutter x))
     (sym (cut_draft at cut (kept_by state.operands) now.goes.are fit.fits.some on (before_is ∙ ap (λ n. first_lines newline (cut.line - n) left) now.place_is)))
-    (let p = plan_within (needed (length (all_lines x)) state) cutter.style.suppress (all_lines x) state in let rest = runs (needed (length (all_lines x)) state) cutter.style.suppress (all_lines x) state (omega arith) some in begun_by cutter.style cutter.operands {lines = (all_lines x)} (at.steps ++ step_at cutter now.goes.operand cut ∷ []) {state = state} p.steps {last = p.last} {ending = p.ending} rest ((leads_on at cut now.goes) p.steps p.last p.ending rest))
+    (let rest = runs_on cutter.style.suppress (all_lines x) state some in begun_by cutter.style cutter.operands (at.steps ++ step_at cutter now.goes.operand cut ∷ []) _ rest (leads_on at cut now.goes _ _ _ rest))
 
 -- What `cut_at` owes, by how far it came. First the lines before the cut are written; then the run goes on; then the next section begins.
-
--- the sections, where a cut is due
-abbrev draft_at : (cutter : CutterState) (x left : List ℕ) → IsAt cutter x left → Draft
-draft_at cutter x left at = draft_by cutter.style (all_lines x) at.steps (kept_by (state_in cutter).operands) at.written
 
 pub cut_stopped : {told : Bool} {cutter next : CutterState} {cut : Cut} {place : ℕ} {left line : List ℕ}
     {old new : List Slot} {fault : Fault} → next.operands ≡ cutter.operands → next.style ≡ cutter.style
     → Leaves cutter.writer next.writer old new (Some fault)
-    → ((x : List ℕ) (at : IsAt cutter x left) → CutsNow cutter x left line cut place at
-    → Reaches (sizes_wanted cutter.style) told cutter.writer next.writer (part_at cutter x left at)
-    (settled_part cutter x) old new (Some fault))
+    → ((x : List ℕ) (at : IsAt (bare cutter) x left) → CutsNow line cut place at
+    → Puts told cutter next (part_at at) (settled_part cutter x) old new (Some fault))
     → CutsAll told cutter cut place left line [] old new next (Some fault)
-cut_stopped {cutter = cutter} operands style leaves reaches = grind (arith, common_steps)
+cut_stopped operands style leaves reaches = grind (arith, common_steps)
 
 -- where the run stands after the cut
 passed_state : {told : Bool} {cutter mid : CutterState} {writer : WriterState} {cut : Cut} {before : List ℕ}
@@ -611,7 +581,7 @@ passed_state : {told : Bool} {cutter mid : CutterState} {writer : WriterState} {
     → WentOn (record cutter { writer = writer }) cut mid
     → {operand : Operand} {operands : List Operand} → (state_in cutter).operands ≡ operand ∷ operands
     → state_in mid ≡ state_after (suppress_in cutter) operand operands cutter.progress.repetition cut.matched cut.line
-passed_state {cutter = cutter} {cut = cut} goes passed {operand} {operands} are = grind (arith, common_steps)
+passed_state goes passed are = grind (arith, common_steps)
 
 -- the writer is as it was before
 began_there : {told : Bool} (cutter : CutterState) {mid : CutterState} {writer next : WriterState} {cut : Cut}
@@ -620,25 +590,24 @@ began_there : {told : Bool} (cutter : CutterState) {mid : CutterState} {writer n
     → opening ≡ opening_of mid.style (kept_by (state_in mid).operands)
     → Goes told mid.writer (with_next opening) old new next fault
     → Goes told writer (with_next (opening_of cutter.style (kept_by (state_in mid).operands))) old new next fault
-began_there {told} cutter {mid} {writer} {next} {old = old} {new} {fault} passed opening_is began =
-    let style : mid.style ≡ cutter.style = ap (λ (c : CutterState). c.style) passed.same in
-    rw (ap (λ (c : CutterState). c.writer) passed.same) at (subst (λ those. Goes told mid.writer (with_next those) old new next fault) (opening_is ∙ ap (λ (s : Style). opening_of s (kept_by (state_in mid).operands)) style) began)
+began_there cutter {writer = writer} passed opening_is began =
+    rw (opening_is, ap (λ (c : CutterState). c.style) passed.same, ap (λ (c : CutterState). c.writer) passed.same) at began
 
 -- a cut of this cutter is due, and stands after these bytes of the lines that are left
-module _ {cutter : CutterState} {cut : Cut} {place : ℕ} {left before : List ℕ} (fit : IsFit cutter)
-    (will : WillCut cutter cut) (before_is : before ≡ first_lines newline (cut.line - place) left) where
+module _ {cutter : CutterState} {cut : Cut} {place n : ℕ} {left before : List ℕ} (fit : IsFit cutter)
+    (will : WillCut cutter cut) (n_is : n ≡ cut.line - place) (first : before ≡ first_lines newline n left) where
   pub cut_put_stopped : {told : Bool} {next : CutterState} {old new : List Slot} {fault : Fault} (line : List ℕ)
       → next.operands ≡ cutter.operands → next.style ≡ cutter.style
       → Goes told cutter.writer (with_bytes before) old new next.writer (Some fault)
       → CutsAll told cutter cut place left line [] old new next (Some fault)
-  cut_put_stopped line operands style goes = cut_stopped operands style goes.leaves (λ x at now. stops_wider (goes.reaches (manner_of cutter.style) (draft_at cutter x left at) at.writes)
-      (part_trans _ _ _ (next_begins (manner_of cutter.style) _ (with_bytes before (draft_at cutter x left at))) (cut_begins line cut now fit will before_is)))
+  cut_put_stopped line operands style goes = cut_stopped operands style goes.leaves (λ x at now. stops_wider (goes.reaches (manner_of cutter.style) (draft_at at) at.writes)
+      (part_trans _ _ _ (next_begins (manner_of cutter.style) _ (with_bytes before (draft_at at))) (cut_begins line cut now fit will (first ∙ ap (λ n. first_lines newline n left) n_is))))
 
   pub cut_pass_stopped : {told : Bool} {mid : CutterState} {writer : WriterState} {old new : List Slot} {fault : Fault}
       (line : List ℕ) → Goes told cutter.writer (with_bytes before) old new writer None
       → PassesCut (record cutter { writer = writer }) cut mid (Some fault)
       → CutsAll told cutter cut place left line [] old new mid (Some fault)
-  cut_pass_stopped {told} {old = old} {new} {fault} line goes (is_memory, same_writer, same_operands, same_style) =
+  cut_pass_stopped {fault = fault} line goes (is_memory, same_writer, same_operands, same_style) =
       cut_put_stopped line same_operands same_style (rw (← same_writer) at (goes_or_lacks (Err fault) goes is_memory))
 
   pub cut_next_stopped : {told : Bool} {mid : CutterState} {writer next : WriterState} {opening : Opening}
@@ -648,15 +617,15 @@ module _ {cutter : CutterState} {cut : Cut} {place : ℕ} {left before : List �
       → opening ≡ opening_of mid.style (kept_by (state_in mid).operands)
       → Goes told mid.writer (with_next opening) between new next (Some fault)
       → CutsAll told cutter cut place left line [] old new (record mid { writer = next }) (Some fault)
-  cut_next_stopped {told} {mid} {writer} {next} line went passed opening_is stops =
+  cut_next_stopped line went passed opening_is stops =
       let stopped = began_there cutter passed opening_is stops in
       cut_stopped (ap (λ (c : CutterState). c.operands) passed.same) (ap (λ (c : CutterState). c.style) passed.same) (leaves_again went.leaves stopped.leaves)
       (λ x at due.
       let manner = manner_of cutter.style in
-      let draft = draft_at cutter x left at in
+      let draft = draft_at at in
       reaches_again (bytes_begin manner before draft) (went.reaches manner draft at.writes)
       (stops_wider (stopped.reaches manner (with_bytes before draft) (went.writes manner draft at.writes))
-      (rw (← (ap (λ (s : State). kept_by s.operands) (passed_state went passed due.goes.are))) at (cut_begins line cut due fit will before_is))))
+      (rw (← (ap (λ (s : State). kept_by s.operands) (passed_state went passed due.goes.are))) at (cut_begins line cut due fit will (first ∙ ap (λ n. first_lines newline n left) n_is)))))
 
 -- the next section began
 
@@ -677,19 +646,18 @@ end_of true left {rest} all n all_is skipped whole = (
 )
 end_of false left all n all_is skipped whole = (first_lines newline n left, sym (first_lines_then_rest newline n left) ∙ ap (λ those. first_lines newline n left ++ those) (sym all_is ∙ sym (whole refl)))
 
-module _ {told : Bool} {cutter mid : CutterState} {writer next : WriterState} {cut : Cut} {place : ℕ}
+module _ {told : Bool} {cutter mid : CutterState} {writer next : WriterState} {cut : Cut} {place n : ℕ}
     {left before rest : List ℕ} (all : List ℕ) {opening : Opening} {old between new : List Slot} (fit : IsFit cutter)
-    (will : WillCut cutter cut)
-    (before_is : before ≡ first_lines newline (cut.line - place) left)
-    (all_is : all ≡ after_lines newline (cut.line - place) left)
+    (will : WillCut cutter cut) (n_is : n ≡ cut.line - place) (first_is : before ≡ first_lines newline n left)
+    (all_is : all ≡ after_lines newline n left)
     (skipped : mid.style.suppress ≡ true → rest ≡ after_lines newline 1 all)
     (whole : mid.style.suppress ≡ false → rest ≡ all)
     (went : Goes told cutter.writer (with_bytes before) old between writer None)
     (passed : WentOn (record cutter { writer = writer }) cut mid)
     (opening_is : opening ≡ opening_of mid.style (kept_by (state_in mid).operands))
     (began : Goes told mid.writer (with_next opening) between new next None) where
-  after_at : {x : List ℕ} (line : List ℕ) {at : IsAt cutter x left} (now : CutsNow cutter x left line cut place at)
-      → IsAfter told cutter x line (record mid { writer = next }) rest (part_at cutter x left at) old new
+  after_at : {x : List ℕ} (line : List ℕ) {at : IsAt (bare cutter) x left} (now : CutsNow line cut place at)
+      → IsAfter told cutter x line (record mid { writer = next }) rest (part_at at) old new
   after_at {x} line {at} now =
       let second = began_there cutter passed opening_is began in
       let manner = manner_of cutter.style in
@@ -700,26 +668,25 @@ module _ {told : Bool} {cutter mid : CutterState} {writer next : WriterState} {c
       let current : mid.progress.current ≡ line_after (suppress_in cutter) cut.line = ap (λ (s : State). s.current) state in
       let lines_is : mid.lines ≡ cutter.lines = ap (λ (c : CutterState). c.lines) passed.same in
       let on : cutter.progress.current + at.taken ≤ cut.line = (let p = now.place_is in let b = now.before in omega (arith, p, b)) in
-      let first : 1 ≤ cut.line = (let s = fit.fits.some in let f = will.from in omega (arith, s, f)) in
-      let same_count : cut.line - place ≡ cut.line - (cutter.progress.current + at.taken) = ap (λ n. cut.line - n) now.place_is in
-      let left_after : all ≡ text_from cut.line x = all_is ∙ ap (λ n. after_lines newline n left) same_count ∙ ap (after_lines newline (cut.line - (cutter.progress.current + at.taken))) at.left_is
-      ∙ from_further (cutter.progress.current + at.taken) (cut.line - (cutter.progress.current + at.taken)) x (let s = fit.fits.some in omega (arith, s))
-      ∙ ap (λ n. text_from n x) (let e : cutter.progress.current + at.taken + (cut.line - (cutter.progress.current + at.taken)) ≡ cut.line = omega (arith, on) in e) in
-      let draft = draft_at cutter x left at in
+      let first : 1 ≤ cut.line = (let s = fit.fits.some in omega (arith, s, will.from)) in
+      let same_count : n ≡ cut.line - (cutter.progress.current + at.taken) = n_is ∙ ap (λ n. cut.line - n) now.place_is in
+      let left_after : all ≡ text_from cut.line x = all_is ∙ left_on n fit.fits.some at
+      ∙ ap (λ n. text_from n x) (let e : cutter.progress.current + at.taken + n ≡ cut.line = omega (arith, on, same_count) in e) in
+      let draft = draft_at at in
       let steps = at.steps ++ step_at cutter now.goes.operand cut ∷ [] in
       let draft_is : with_next (opening_of cutter.style kept) (with_bytes before draft) ≡ draft_by cutter.style (all_lines x) steps kept [] =
-      cut_draft at cut kept now.goes.are fit.fits.some on (before_is ∙ ap (λ n. first_lines newline n left) same_count) in
+      cut_draft at cut kept now.goes.are fit.fits.some on (first_is ∙ ap (λ n. first_lines newline n left) same_count) in
       let now_part : draft_part manner (draft_by cutter.style (all_lines x) steps kept []) ≡ draft_part (manner_of mid.style) (draft_by mid.style (all_lines x) steps kept []) = ap (λ (s : Style). draft_part (manner_of s) (draft_by s (all_lines x) steps kept [])) (sym style_is) in
       let near : mid.lines ≤ search_line mid.style.suppress (state_in mid) =
       (let e : search_line mid.style.suppress (state_in mid) ≡ search_after (suppress_in cutter) cut = ap (λ b. search_line b (state_in mid)) suppress_is
       ∙ (grind (arith, common_steps)) in let n = now.near in omega (arith, e, n, lines_is)) in record {
         now = record {
           steps = steps;
-          leads = (grind (arith, common_steps, suppress_is, (ap (λ (c : CutterState). c.operands) passed.same), state, (leads_on at cut now.goes)));
+          leads = grind (arith, common_steps, suppress_is, (ap (λ (c : CutterState). c.operands) passed.same), state, (leads_on at cut now.goes));
           counted = lines_is ∙ at.counted;
           taken = 0;
           written = [];
-          few = (let w : line_after (suppress_in cutter) cut.line ≤ suc cutter.lines = after_within (suppress_in cutter) cut.line cutter.lines will.within in let c = at.counted in omega (arith, current, w, c));
+          few = omega (arith, current, after_within (suppress_in cutter) cut.line cutter.lines will.within, at.counted);
           written_is = sym (first_lines-zero newline (text_from mid.progress.current x));
           left_is = rest_from mid.style.suppress all cut.line x first left_after skipped whole
               ∙ ap (λ n. text_from n x) (ap (λ b. line_after b cut.line) suppress_is ∙ sym current ∙ (let e : mid.progress.current ≡ mid.progress.current + 0 = omega arith in e));
@@ -732,23 +699,23 @@ module _ {told : Bool} {cutter mid : CutterState} {writer next : WriterState} {c
         };
         near = near;
         none = refl;
-        grows = subst (Begins (part_at cutter x left at)) (ap (draft_part manner) draft_is ∙ now_part)
-            (part_trans (part_at cutter x left at) (draft_part manner (with_bytes before draft)) _ (bytes_begin manner before draft) (next_begins manner (opening_of cutter.style kept) (with_bytes before draft)));
+        grows = subst (Begins (part_at at)) (ap (draft_part manner) draft_is ∙ now_part)
+            (part_trans (part_at at) (draft_part manner (with_bytes before draft)) _ (bytes_begin manner before draft) (next_begins manner (opening_of cutter.style kept) (with_bytes before draft)));
         reaches = reaches_again (bytes_begin manner before draft) (went.reaches manner draft at.writes)
             (reaches_as refl (sym (ap (draft_part manner) draft_is ∙ now_part)) (second.reaches manner (with_bytes before draft) (went.writes manner draft at.writes)));
       }
 
   pub cut_done : size_of next.current ≡ 0 → length rest ≤ length left
       → CutAt told cutter cut place left old new (record mid { writer = next }) rest
-  cut_done empty shorter = let second = began_there cutter passed opening_is began in record {
+  cut_done empty shorter = record {
     fewer = passed.fewer;
     spreading = λ line. record {
-      keeps = record { operands = ap (λ (c : CutterState). c.operands) passed.same; style = ap (λ (c : CutterState). c.style) passed.same; writer = leaves_again went.leaves second.leaves };
+      keeps = record { operands = ap (λ (c : CutterState). c.operands) passed.same; style = ap (λ (c : CutterState). c.style) passed.same; writer = leaves_again went.leaves (began_there cutter passed opening_is began).leaves };
       lines = ap (λ (c : CutterState). c.lines) passed.same;
       fit = record { fits = passed.fit.fits; most = passed.fit.most; delim = passed.fit.delim; sought = passed.fit.sought };
       held = passed.held;
       after = λ x at now. after_at line now;
       size = omega (arith, empty, shorter);
-      end = end_of mid.style.suppress left all (cut.line - place) all_is skipped whole;
+      end = end_of mid.style.suppress left all n all_is skipped whole;
     };
   }

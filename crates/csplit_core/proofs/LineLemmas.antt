@@ -1,7 +1,7 @@
 -- Lines of a text as operands see them, their bytes, and what follows the last newline, where more bytes come.
 use Rattle.std.proofs.{
-  Common.{◌≡◌, ◌⊎◌, inl, inr, ℕ, ◌+◌, ◌-◌, ◌<◌, ◌≤◌, List, [], ◌∷◌, ◌++◌, length, map, take, drop, refl, sym, ◌∙◌, ap},
-  Common.{arith, length-append, Bool, true, false, cond, append_assoc, take-add, rules},
+  Common.{◌≡◌, inl, inr, ℕ, ◌+◌, ◌-◌, ◌<◌, ◌≤◌, List, [], ◌∷◌, ◌++◌, length, map, take, drop, refl, sym, ◌∙◌, ap},
+  Common.{arith, length-append, Bool, true, false, cond, append_assoc, take-add, rules, subst},
   lemmas.Bool.{cases_lt, cases_eq, eq-eqb, ne_eqb},
   lemmas.List.{take-append-drop, map-append, take-map, drop-map, length-map, length-drop, drop_all, drop-append-le},
   lemmas.List.{take-append-le, drop-drop, append-nil, append_cancel_left, length-take-le},
@@ -13,7 +13,7 @@ use Rattle.seg_core.specs.{
 }
 use Rattle.seg_core.proofs.{
   LinesOf.{lines_of-append, joined-lines_of, AreLines-lines_of, lines_of-joined},
-  LineCounts.{line_count-closed, ends_with-append, line_count-le-length, line_count-open, ends_with-some},
+  LineCounts.{line_count-closed, ends_with-append, line_count-open, ends_with-some},
   FirstLines.{after_lines-is_drop, first_lines_then_rest, joined-append, lines_of-after_lines, first_lines-zero},
   FirstLines.{delimiters-first_lines, lines_of-first_lines},
   EndLines.after_lines-append,
@@ -34,7 +34,7 @@ pub lines-append : {x : List ℕ} (t : List ℕ) → Joins x t
 lines-append t fact = grind (arith, common_steps, lines_of-append)
 
 pub all_lines-append : {x : List ℕ} (t : List ℕ) → Joins x t → all_lines (x ++ t) ≡ all_lines x ++ all_lines t
-all_lines-append {x} t whole = grind (arith, common_steps, lines-append, map-append)
+all_lines-append t whole = grind (arith, common_steps, lines-append, map-append)
 
 pub all_lines-line : {x : List ℕ} (line : List ℕ) → IsWhole x → IsLine line
     → all_lines (x ++ line) ≡ all_lines x ++ marked line ∷ []
@@ -61,7 +61,7 @@ whole-append t whole other = grind (arith, common_steps, ends_with-append)
 pub whole_drop : (n : ℕ) {text : List ℕ} → IsWhole text → IsWhole (drop n text)
 whole_drop n (inl none) = inl (ap (drop n) none ∙ drop_all n [] (omega arith))
 whole_drop n {text} (inr ends) = elim (cases_lt n (length text)) [
-  | inl within ↦ inr (sym (ends_with-append newline (take n text) (drop n text) (let e : length (drop n text) ≡ length text - n = length-drop n text in omega (arith, e, within))) ∙ ap (ends_with newline) (take-append-drop n text) ∙ ends)
+  | inl within ↦ inr (sym (ends_with-append newline (take n text) (drop n text) (omega (arith, length-drop n text, within))) ∙ ap (ends_with newline) (take-append-drop n text) ∙ ends)
   | inr past ↦ inl (drop_all n text past)
 ]
 
@@ -93,7 +93,7 @@ first_from n first x = ap (λ those. joined (take n those)) (lines_of-after_line
 -- what follows complete lines changes nothing among them
 pub first_still : (n first : ℕ) {x : List ℕ} (t : List ℕ) → Joins x t → 1 ≤ first → first + n ≤ line_count newline x + 1
     → first_lines newline n (text_from first (x ++ t)) ≡ first_lines newline n (text_from first x)
-first_still n first {x} t whole some within = search (rules, length-drop, first_from, lines-append, drop-append-le, take-append-le)
+first_still n first t whole some within = search (rules, length-drop, first_from, lines-append, drop-append-le, take-append-le)
 
 pub rest_more : (first : ℕ) {x : List ℕ} (t : List ℕ) → Joins x t → 1 ≤ first → first ≤ line_count newline x + 1
     → text_from first x ++ t ≡ text_from first (x ++ t)
@@ -114,16 +114,7 @@ first_further first a b x some =
 
 -- all that is left is from a line on
 pub whole_from : (first : ℕ) {x : List ℕ} → IsWhole x → IsWhole (text_from first x)
-whole_from first {x} whole = by (cases_lt (first - 1) (line_count newline x)) where
-  by : (first - 1 < line_count newline x) ⊎ (line_count newline x ≤ first - 1) → IsWhole (text_from first x)
-  by (inr beyond) = inl (ap joined (drop_all (first - 1) (lines_of newline x) beyond))
-  by (inl on) = split whole where
-    split : IsWhole x → IsWhole (text_from first x)
-    split (inl none) = inl (ap (λ those. text_from first those) none ∙ ap joined (drop_all (first - 1) [] (omega arith)))
-    split (inr ends) =
-        let both : first_lines newline (first - 1) x ++ text_from first x ≡ x = first_lines_then_rest newline (first - 1) x in
-        let some : 0 < line_count newline (text_from first x) = (let e = count_from first x in omega (arith, e, on)) in
-        inr (sym (ends_with-append newline (first_lines newline (first - 1) x) (text_from first x) (let less = line_count-le-length newline (text_from first x) in omega (arith, less, some))) ∙ ap (ends_with newline) both ∙ ends)
+whole_from first {x} whole = subst IsWhole (sym (after_lines-is_drop newline (first - 1) x)) (whole_drop (length (first_lines newline (first - 1) x)) whole)
 
 -- what follows the first line
 pub after_first : (text line : List ℕ) {rest : List ℕ} → text ≡ line ++ rest
@@ -148,9 +139,7 @@ lines_then_open {x} = first_lines_then_rest newline (delimiters newline x) x
 
 pub open_unbroken : (x : List ℕ) → delimiters newline (open_line x) ≡ 0
 open_unbroken x =
-    let sum : delimiters newline (whole_lines x ++ open_line x) ≡ delimiters newline (whole_lines x) + delimiters newline (open_line x) = delimiters-append newline (whole_lines x) (open_line x) in
-    let same : delimiters newline (whole_lines x ++ open_line x) ≡ delimiters newline x = ap (delimiters newline) (lines_then_open {x = x}) in
-    let all : delimiters newline (whole_lines x) ≡ delimiters newline x = delimiters-first_lines newline (delimiters newline x) x (omega arith) in omega (arith, sum, same, all)
+    let all : delimiters newline (whole_lines x) ≡ delimiters newline x = delimiters-first_lines newline (delimiters newline x) x (omega arith) in omega (arith, delimiters-append newline (whole_lines x) (open_line x), ap (delimiters newline) (lines_then_open {x = x}), all)
 
 pub all_complete : (x : List ℕ) → all_lines (whole_lines x) ≡ complete_lines x
 all_complete x = ap (map marked) (lines_of-first_lines newline (delimiters newline x) x)
@@ -194,7 +183,7 @@ pub ends_by : (x : List ℕ) → IsWhole x → 0 < length x → ends_with newlin
 ends_by x fact some = grind (arith, common_steps)
 
 pub piece_ends : {piece : List ℕ} (end : ℕ) → LastEndsAt newline piece end → ends_with newline (take end piece) ≡ true
-piece_ends {piece} end last = grind (arith, common_steps, ends_by, lines_whole)
+piece_ends end last = grind (arith, common_steps, ends_by, lines_whole)
 
 some_ends : (rest text : List ℕ) → ends_with newline text ≡ true → ends_with newline (rest ++ text) ≡ true
 some_ends rest text ends = ends_with-append newline rest text (ends_with-some newline text ends) ∙ ends
@@ -215,7 +204,7 @@ piece_open rest {piece} end last = ap open_line (split_piece rest piece end) ∙
 none_in : (x : List ℕ) → delimiters newline x ≡ 0 → HasNone newline x
 none_in [] is = tt
 none_in (byte ∷ x) is = elim (cases_eq byte newline) [
-  | inl same ↦ absurd (let more : delimiters newline (byte ∷ x) ≡ delimiters newline x + 1 = ap (λ (c : Bool). cond c (delimiters newline x + 1) (delimiters newline x)) (eq-eqb byte newline same) in omega (arith, more, is))
+  | inl same ↦ absurd (omega (arith, ap (λ (c : Bool). cond c (delimiters newline x + 1) (delimiters newline x)) (eq-eqb byte newline same), is))
   | inr other ↦ (other, none_in x (sym (ap (λ (c : Bool). cond c (delimiters newline x + 1) (delimiters newline x)) (ne_eqb byte newline other)) ∙ is))
 ]
 

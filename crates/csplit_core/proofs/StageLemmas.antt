@@ -1,15 +1,14 @@
 -- What opening the cutter leaves, what ending it does, and what the stage that takes in bytes owes.
 use Rattle.std.proofs.{
   Common.{◌≡◌, inl, ◌+◌, ◌-◌, ◌≤◌, length, max, Bool, true, false, List, [], ◌∷◌, None, Option, Some, refl, sym, ◌∙◌},
-  Common.{ap, subst, arith, ℕ, suc, ◌++◌, take, ◌<◌, nat_lt, get_or, rules, cond, drop, inr, ◌^◌, min, length-append},
-  Common.{◌⊎◌, Result, Ok, Err, IfErr, eqb, OnOk, IsTrue},
-  lemmas.{List.{drop_all, drop-map, append-nil, take-append-drop}, Bool.Decides.nat_tests, Grind.common_steps},
-  Math.Nat.min-eq_left,
+  Common.{ap, subst, arith, ℕ, ◌++◌, take, ◌<◌, nat_lt, get_or, rules, cond, drop, inr, ◌^◌, min, length-append, ◌⊎◌},
+  Common.{Result, Ok, Err, IfErr, eqb, OnOk, IsTrue},
+  lemmas.{List.{drop_all, length-drop, drop-map, append-nil}, Bool.Decides.nat_tests, Grind.common_steps},
 }
 use Rattle.bre_core.specs.Pattern.{Pattern}
 use Rattle.seg_core.{
-  specs.{Window.Window, Line.{line_count, first_lines, after_lines, delimiters, ends_with, LastEndsAt}},
-  proofs.FirstLines.{first_lines-all, first_lines_then_rest, lines_of-after_lines},
+  specs.{Window.Window, Line.{line_count, first_lines, delimiters, ends_with, LastEndsAt}},
+  proofs.FirstLines.{first_lines-all, after_lines-is_drop, lines_of-after_lines},
 }
 use Rattle.ports_core.specs.{
   Slot.{Slot, is_writable},
@@ -37,10 +36,10 @@ use Rattle.ports_core.proofs.{
   SweepLemmas.all_cleared,
 }
 use Rattle.csplit_core.proofs.{
-  CutterLemmas.{draft_is, settled_part_is, whole_part_is, runs_to, live_part, live_taken, keeps_on, reaches_then},
-  CutterLemmas.{same_by, settled_same},
+  CutterLemmas.{draft_is, few_taken, left_count, written_on, settled_part_is, whole_part_is, runs_to, live_part},
+  CutterLemmas.{live_taken, keeps_on, reaches_then, same_by, settled_same},
   TryLemmas.{turn_ends, left_is},
-  LineLemmas.{count_from, from_further, bytes_marked, length-all_lines, all_complete, lines_then_open},
+  LineLemmas.{from_further, bytes_marked, open_unbroken, length-all_lines, all_complete, lines_then_open},
   LineLemmas.{all_lines-append, joined_line, open_is_line, open_complete, first_complete, front_is, no_newline},
   LineLemmas.{tail_is, piece_lines, piece_open, lines_whole, lines_more, open_more},
   WholeLemmas.ends_after_all,
@@ -48,7 +47,7 @@ use Rattle.csplit_core.proofs.{
   TakeLemmas.none_there,
 }
 use Rattle.csplit_core.specs.{
-  Csplit.{settled_of, whole_of, verdict_of, waiting, waiting_of, csplit_work, settled_by, verdict_by},
+  Csplit.{settled_of, whole_of, verdict_of, waiting, waiting_of, csplit_means, csplit_work, settled_by, verdict_by},
   Input.{newline, all_lines, open_line},
   Operand.{Operand, Line},
   Output.{Style, manner_of, opening_of, part_of, sizes_wanted},
@@ -56,22 +55,20 @@ use Rattle.csplit_core.specs.{
   Planned.{plan, Plan},
   laws.{PlanLaws.{plan_runs, plan_once}, SectionLaws.{ends_as, are_within, closed_still, ends_with as whole_grows}},
   Progress.{state_of, AimsAt, EndsHere},
-  inner.Cutter.{BegunNot, new_for, writer_for, AreSeen, Turns, MovesOn, Opened, settled_part, whole_part, IsJudged},
-  inner.Cutter.{EndsAll, IsWhole, Takes, IsLine, Clears, Keeps, Closed, Closes, ended_so, Judges, Passes, ended_well},
-  inner.Cutter.ended_short,
+  inner.Cutter.{BegunNot, draft_at, plan_in, new_for, writer_for, AreSeen, Turns, MovesOn, Opened, settled_part},
+  inner.Cutter.{whole_part, IsJudged, EndsAll, IsWhole, Takes, IsLine, Clears, Keeps, Closed, Closes, ended_so, Judges},
+  inner.Cutter.{Passes, ended_well, ended_short},
   inner.PlanLaws.{EndsAs, AreWithin},
   Section.{is_final, whole_end, bytes_of, waiting_lines, whole_sections},
   declared.progress.{Progress.Progress, Turn.{Turn, TheVariants.{Below, Missed, Above}}},
   Cutter.{CutterState, most_next, pattern_next, kept_next, next_of, most_by, pattern_by, kept_by, settled_draft, IsFit},
-  Cutter.{Stands, suppress_in, state_in, text_from, draft_by, IsLive, IsPast, IsSound, load},
+  Cutter.{Stands, suppress_in, state_in, IsLive, IsPast, IsSound, load},
   CsplitState.{CsplitState, Holds, whole_lines, IsReady, Owns, terms, files, work},
 }
 use Rattle.ports_core.specs.declared.fault.Fault.TheVariants as fault_is
 use Rattle.ports_core.specs.Engine as engine
 
 -- What opening the cutter leaves: the first section, with no line yet.
-
--- Over no line a plan has no step.
 
 -- the first section, without a byte, is what is settled
 
@@ -102,7 +99,7 @@ first_writes style = record { same = first_manner style; made = refl; kept = λ 
 
 pub first_ready : (style : Style) {writer : WriterState} {slots : List Slot} → writer ≡ new_for style → 2 ≤ length slots
     → IsTrue (is_writable slots 0) → CanWrite writer slots
-first_ready style {slots = slots} is two can = grind (arith, common_steps)
+first_ready style is two can = grind (arith, common_steps)
 
 -- The first turn, before any line came in.
 
@@ -114,7 +111,7 @@ SaysFirst suppress operands turn = (lines : List Line) → AreSeen suppress line
 
 first_ends : {suppress : Bool} (operands : List Operand) {turn : Turn} → SaysFirst suppress operands turn
     → MovesOn operands 0 first_progress turn → EndsHere suppress [] (start operands) turn
-first_ends {suppress} operands {turn} says moves =
+first_ends operands {turn} says moves =
     turn_ends turn (grind (arith, common_steps)) (says [] (grind (arith, common_steps)))
 
 -- The cutter that was opened
@@ -148,7 +145,7 @@ first_stands operands style writes ends false live = inl (record {
   live = live;
   settled = omega arith;
 })
-first_stands operands style {writer} {aim} writes ends true past = grind (arith, common_steps, plan_once, first_settled)
+first_stands operands style writes ends true past = grind (arith, common_steps, plan_once, first_settled)
 
 first_opened : (told : Bool) {style : Style} {operands : List Operand} {old new : List Slot} {writer : WriterState}
     (aim : Turn) → 2 ≤ length old
@@ -165,9 +162,9 @@ first_opened told {style} {operands} {old} {new} {writer} aim two begun none say
       owns = begun.leaves.owns.owns (length old) (first_owns style two);
       ready = begun.leaves.ready;
       output = begun.leaves.output;
-      manner = subst (IsManner (manner_of style)) (sym (same_manner begun.leaves)) (first_manner style);
+      manner = rw (same_manner begun.leaves) (first_manner style);
       all = begun.leaves.keeps;
-      sound = record { fit = (grind (arith, common_steps)); aim = (grind (arith, common_steps)) };
+      sound = record { fit = grind (arith, common_steps); aim = grind (arith, common_steps) };
       size = ap (max 0) none';
     }
 
@@ -185,16 +182,8 @@ pub opened_at : (told : Bool) {style : Style} {suppress : Bool} {operands : List
     → Turns suppress lines (state_of operands progress) aim)
     → (progress.matched ≤ 0 → MovesOn operands 0 progress aim)
     → Opened told style operands old new (opened operands style writer progress aim window sought)
-opened_at told {style} {suppress} {operands} {opening = opening} {old} {new} {writer = writer} {aim = aim} {window} {sought} next_is window_is sought_is opening_is suppress_is made two begun none start_is says moves =
-    let window_first : first_window operands ≡ window = sym (window_is ∙ ap (λ (o : Option Operand). record { most = most_next o; delim = newline; held = [] }) next_is) in
-    let sought_first : pattern_by operands ≡ sought = sym (sought_is ∙ ap pattern_next next_is) in
-    let opening_first : opening ≡ opening_of style (kept_by operands) = opening_is ∙ ap (λ o. opening_of style (kept_next o)) next_is in
-    let says_first : SaysFirst style.suppress operands aim = subst (λ s. SaysFirst s operands aim) suppress_is
-    (rw start_is at says) in
-    let moves_first : MovesOn operands 0 first_progress aim = subst (λ (p : Progress). p.matched ≤ 0 → MovesOn operands 0 p aim) start_is moves (omega arith) in
-    rw (← start_is) at (subst (λ w. Opened told style operands old new (opened operands style writer first_progress aim w sought)) window_first
-    (subst (λ s. Opened told style operands old new (opened operands style writer first_progress aim (first_window operands) s)) sought_first
-    (first_opened told aim two (subst (λ those. Goes told (writer_for style) (with_next those) old new writer None) opening_first (subst (λ w. Goes told (paused w) (with_next opening) old new writer None) made begun)) none says_first moves_first)))
+opened_at told next_is window_is sought_is opening_is suppress_is made two begun none start_is says moves =
+    rw (start_is, window_is, sought_is, next_is) (first_opened told _ two (rw (opening_is, next_is, made) at begun) none (rw (suppress_is, start_is) at says) ((rw start_is at moves) (omega arith)))
 
 begun_not : {told : Bool} {style : Style} {opening : Opening} {old new : List Slot} {next : WriterState} {f : Fault}
     → 2 ≤ length old → Goes told (writer_for style) (with_next opening) old new next (Some f) → next.files ≡ []
@@ -211,8 +200,8 @@ pub opened_not : (told : Bool) {style : Style} (operands : List Operand) {next :
     → first ≡ new_for style → 2 ≤ length old
     → Goes told (paused first) (with_next opening) old new writer (Some fault) → writer.files ≡ first.files
     → BegunNot told style (settled_of style operands []) old new fault
-opened_not told {style} operands {opening = opening} {old} {new} {writer = writer} {fault} next_is opening_is made two begun same =
-    rw (← (ap (λ those. draft_part (manner_of style) (with_next those nothing_yet)) (opening_is ∙ ap (λ o. opening_of style (kept_next o)) next_is) ∙ first_part style operands)) (begun_not two (subst (λ w. Goes told (paused w) (with_next opening) old new writer (Some fault)) made begun) (same ∙ ap (λ (w : WriterState). w.files) made))
+opened_not told {style} operands next_is opening_is made two begun same =
+    rw (← first_part style operands) (begun_not two (rw (opening_is, next_is, made) at begun) (same ∙ ap (λ (w : WriterState). w.files) made))
 
 none_told : (style : Style) → LinesTo (sizes_wanted style) nothing nothing 0 Memory
 none_told style = grind (arith, common_steps)
@@ -220,23 +209,9 @@ none_told style = grind (arith, common_steps)
 -- where there is no memory, nothing was done
 pub opened_lacks : (told : Bool) {style : Style} (operands : List Operand) {slots : List Slot} {fault : Fault}
     → fault ≡ Memory → BegunNot told style (settled_of style operands []) slots slots fault
-opened_lacks told {style} operands {slots} lacks = search (rules, stops_wider, in_turn, none_told, nothing_begins_part, none_past)
+opened_lacks told operands lacks = search (rules, stops_wider, in_turn, none_told, nothing_begins_part, none_past)
 
 -- What ending the cutter leaves: all lines that waited belong to the last section, which ends; and the fault with which the work ends.
-
--- The last section has all lines that are left, and none where the cut is below the current line.
-
-all_written : (x : List ℕ) {written held : List ℕ} (current taken : ℕ) (ending : Ending) → 1 ≤ current
-    → is_final ending ≡ false → written ≡ first_lines newline taken (text_from current x)
-    → held ≡ text_from (current + taken) x
-    → written ++ held ≡ first_lines newline (whole_end (line_count newline x) ending - current) (text_from current x)
-all_written x {held} current taken ending some live written_is held_is =
-    let all : first_lines newline taken (text_from current x) ++ after_lines newline taken (text_from current x) ≡ text_from current x = first_lines_then_rest newline taken (text_from current x) in
-    let end : whole_end (line_count newline x) ending ≡ suc (line_count newline x) = ends_after_all (line_count newline x) ending live in
-    let count : line_count newline (text_from current x) ≡ line_count newline x - (current - 1) = count_from current x in
-    ap (λ those. those ++ held) written_is
-    ∙ ap (λ those. first_lines newline taken (text_from current x) ++ those) (held_is ∙ sym (from_further current taken x some))
-    ∙ all ∙ sym (first_lines-all newline (whole_end (line_count newline x) ending - current) (omega (arith, end, count, some)))
 
 -- What is written before the end, and with the lines that wait, is what is settled and the whole.
 record LastDraft (cutter : CutterState) (x : List ℕ) : Type 0 where
@@ -247,17 +222,20 @@ record LastDraft (cutter : CutterState) (x : List ℕ) : Type 0 where
       ≡ whole_part cutter x
 
 live_draft : {cutter : CutterState} {x : List ℕ} → IsFit cutter → IsLive cutter x → LastDraft cutter x
-live_draft {cutter} {x} fit live = record {
-  draft = draft_by cutter.style (all_lines x) live.at.steps (kept_by (state_in cutter).operands) live.at.written;
-  writes = live.at.writes;
-  settled = live_part live;
-  whole = ap (λ draft. draft_part (manner_of cutter.style) (with_next Never draft)) (draft_is whole_end cutter.style cutter.operands x _ (runs_to live.at live.ends) refl
-      (all_written x cutter.progress.current live.at.taken live.ends.ending fit.fits.some live.live live.at.written_is live.at.left_is))
-      ∙ whole_part_is cutter.style cutter.operands (all_lines x);
-}
+live_draft {cutter} {x} fit live =
+    let n = line_count newline cutter.window.held in
+    let some = fit.fits.some in record {
+      draft = draft_at live.at;
+      writes = live.at.writes;
+      settled = live_part live;
+      whole = ap (λ draft. draft_part (manner_of cutter.style) (with_next Never draft)) (draft_is whole_end cutter.style cutter.operands x (live.at.taken + n) (runs_to live.at live.ends)
+          (omega (arith, left_count live.at, few_taken live.at, live.at.counted, ends_after_all (line_count newline x) live.ends.ending live.live, some))
+          (written_on n some live.at (sym (first_lines-all newline n (omega arith)))))
+          ∙ whole_part_is cutter.style cutter.operands (all_lines x);
+    }
 
 past_draft : {cutter : CutterState} {x : List ℕ} → IsPast cutter x → LastDraft cutter x
-past_draft {cutter} {x} past = grind (arith, common_steps, settled_part_is, whole_part_is)
+past_draft past = grind (arith, common_steps, settled_part_is, whole_part_is)
 
 last_draft : {cutter : CutterState} {x : List ℕ} → IsFit cutter → Stands cutter x → LastDraft cutter x
 last_draft fit fact = grind (arith, common_steps, live_draft, past_draft)
@@ -271,14 +249,14 @@ judged_now fact = grind (arith, common_steps, plan_once, runs_to)
 
 all_held : (cutter : CutterState) {n : ℕ} → n ≡ length cutter.window.held
     → take n cutter.window.held ≡ cutter.window.held
-all_held cutter {n} all = grind (arith, common_steps)
+all_held cutter all = grind (arith, common_steps)
 
 pub end_goes : {told : Bool} {cutter : CutterState} {between next : WriterState} (window : Window) {n : ℕ}
     {old mid new : List Slot} {fault : Option Fault} → IsFit cutter → n ≡ length cutter.window.held
     → Goes told cutter.writer (with_bytes (take n cutter.window.held)) old mid between None
     → Goes told between (with_next Never) mid new next fault
     → EndsAll told cutter old new (record cutter { writer = next; window = window }) fault
-end_goes {told} {cutter} {between = between} {next} window {mid = mid} {new} {fault} fit all goes ends =
+end_goes {cutter = cutter} window {fault = fault} fit all goes ends =
     let went = goes_as (all_held cutter all) goes in record {
       keeps = record { operands = refl; style = refl; writer = leaves_again went.leaves ends.leaves };
       reaches = λ x stands. let last = last_draft fit stands in let manner = manner_of cutter.style in
@@ -300,16 +278,10 @@ end_short {cutter = cutter} fit all goes =
 
 -- The verdict with which the work ends, from where the cutter stands.
 
--- how the plan ends, where its ending is known from the cutter
-abbrev ending_in : CutterState → List ℕ → Ending
-ending_in cutter x = (plan (suppress_in cutter) cutter.operands (all_lines x)).ending
-
 of_it : {cutter : CutterState} {x : List ℕ} → IsJudged cutter x
-    → EndsAs (suppress_in cutter) (all_lines x) (state_in cutter) (ending_in cutter x)
+    → EndsAs (suppress_in cutter) (all_lines x) (state_in cutter) (plan_in cutter x).ending
 of_it {cutter} {x} judged =
-    rw (← judged.last) at (ends_as _ _ _ _ _ _ (plan_runs (suppress_in cutter) cutter.operands (all_lines x)))
-
--- where no operand is left
+    rw (← judged.last) at (ends_as (plan_runs (suppress_in cutter) cutter.operands (all_lines x)))
 
 -- the verdict on the next operand, by what it did
 abbrev pub verdict_at : Turn → Operand → ℕ → Option Verdict
@@ -328,28 +300,23 @@ verdict_is suppress lines state aim ending ends are aims = search rules
 
 pub judged_none : {cutter : CutterState} {result : Option Verdict} {x : List ℕ}
     → false ≡ nat_lt cutter.progress.done (length cutter.operands) → result ≡ None → IsJudged cutter x
-    → result ≡ verdict_of (ending_in cutter x)
-judged_none {cutter} {x = x} over none judged = grind (arith, common_steps, nat_tests, of_it, drop_all)
+    → result ≡ verdict_of (plan_in cutter x).ending
+judged_none over none judged = grind (arith, common_steps, nat_tests, of_it, drop_all)
 
 -- the operand that was looked up is the next
 pub judged_next : {cutter : CutterState} {operand : Operand} {aim : Turn} {result : Option Verdict} {x : List ℕ}
     → cutter.progress.done < length cutter.operands → operand ≡ get_or cutter.operands cutter.progress.done operand
     → cutter.aim ≡ aim → result ≡ verdict_at aim operand cutter.progress.repetition → IsJudged cutter x
-    → result ≡ verdict_of (ending_in cutter x)
-judged_next {cutter} {aim = aim} {x = x} within here aimed made judged = grind (arith, common_steps, verdict_is, of_it, left_is)
-
--- How many bytes wait.
-
--- the lines after the first ones, as bytes
+    → result ≡ verdict_of (plan_in cutter x).ending
+judged_next within here aimed made judged = grind (arith, common_steps, verdict_is, of_it, left_is)
 
 -- How many bytes wait.
 
 -- what the cutter holds is the end of the complete lines
 held_within : {cutter : CutterState} {x : List ℕ} → IsLive cutter x → length cutter.window.held ≤ length x
 held_within {cutter} {x} live =
-    let both : first_lines newline (cutter.progress.current + live.at.taken - 1) x ++ after_lines newline (cutter.progress.current + live.at.taken - 1) x ≡ x = first_lines_then_rest newline (cutter.progress.current + live.at.taken - 1) x in
-    let long : length x ≡ length (first_lines newline (cutter.progress.current + live.at.taken - 1) x) + length (text_from (cutter.progress.current + live.at.taken) x) = ap length (sym both) ∙ length-append (first_lines newline (cutter.progress.current + live.at.taken - 1) x) (text_from (cutter.progress.current + live.at.taken) x) in
-    let same : length cutter.window.held ≡ length (text_from (cutter.progress.current + live.at.taken) x) = ap length live.at.left_is in omega (arith, long, same)
+    let n = cutter.progress.current + live.at.taken - 1 in
+    omega (arith, ap length (live.at.left_is ∙ after_lines-is_drop newline n x) ∙ length-drop (length (first_lines newline n x)) x)
 
 live_waiting : (stage : CsplitState) (x : List ℕ) (live : IsLive stage.cutter (whole_lines x))
     → stage.rest ≡ open_line x
@@ -363,16 +330,13 @@ held_is {stage} {x} {result} holds few is = by holds.stands where
   by : Stands stage.cutter (whole_lines x) → result ≡ length (waiting stage.cutter.style stage.cutter.operands x)
   by (inl live) =
       let rest_is = holds.live (λ below. (grind (arith, common_steps))) in
-      let within = held_within live in
       let all : length (whole_lines x) + length (open_line x) ≡ length x = sym (length-append (whole_lines x) (open_line x)) ∙ ap length (lines_then_open) in
       let rest_long : length stage.rest ≡ length (open_line x) = ap length rest_is in
-      is ∙ min-eq_left (omega (arith, within, all, rest_long, few)) ∙ sym (length-append stage.cutter.window.held stage.rest)
-      ∙ sym (ap length (live_waiting stage x live rest_is))
+      let long : length (waiting stage.cutter.style stage.cutter.operands x) ≡ length stage.cutter.window.held + length stage.rest = ap length (live_waiting stage x live rest_is) ∙ length-append stage.cutter.window.held stage.rest in
+      omega (arith, is, held_within live, all, rest_long, few, long)
   by (inr past) =
-      let none : length stage.cutter.window.held ≡ 0 = ap length past.none in
-      let rest_none : length stage.rest ≡ 0 = ap length (holds.past past.aim) in
-      is ∙ min-eq_left (omega (arith, none, rest_none))
-      ∙ (let e : length stage.cutter.window.held + length stage.rest ≡ 0 = omega (arith, none, rest_none) in e) ∙ sym (ap length (ap (λ lines. waiting_of lines (plan (suppress_in stage.cutter) stage.cutter.operands lines) (open_line x)) (sym (all_complete x)) ∙ ap (λ final. cond final [] (bytes_of (waiting_lines (all_lines (whole_lines x)) (plan (suppress_in stage.cutter) stage.cutter.operands (all_lines (whole_lines x)))) ++ open_line x)) past.past))
+      let long : length (waiting stage.cutter.style stage.cutter.operands x) ≡ 0 = ap length (ap (λ lines. waiting_of lines (plan (suppress_in stage.cutter) stage.cutter.operands lines) (open_line x)) (sym (all_complete x)) ∙ ap (λ final. cond final [] (bytes_of (waiting_lines (all_lines (whole_lines x)) (plan_in stage.cutter (whole_lines x))) ++ open_line x)) past.past) in
+      omega (arith, is, ap length past.none, ap length (holds.past past.aim), long)
 
 -- What the stage that takes in bytes does with the cutter of lines.
 
@@ -391,7 +355,7 @@ pub takes_or_lacks : {told : Bool} {cutter next : CutterState} {t : List ℕ} {o
     (result : Result (Unit {0}) Fault) → Takes told cutter t old new next None → IfErr result (λ fault. fault ≡ Memory)
     → Takes told cutter t old new next (fault_in result)
 takes_or_lacks (Ok done) took lacks = took
-takes_or_lacks {told} {cutter} {next} {t} {old} {new} (Err fault) took lacks = rw (← lacks) at (takes_lacking took)
+takes_or_lacks (Err fault) took lacks = rw (← lacks) at (takes_lacking took)
 
 -- The end
 
@@ -399,7 +363,7 @@ pub closed_on : {told : Bool} {stage : CsplitState} (last : CsplitState) {next :
     {old mid new : List Slot} {fault : Option Fault} → two ≡ last.cutter
     → Takes told stage.cutter stage.rest old mid last.cutter None → EndsAll told two mid new next.cutter fault
     → Closed told stage old new next fault
-closed_on {told} {stage} last {old = old} {mid} {fault = fault} is took second = let first = rw (← is) at took in record {
+closed_on {stage = stage} last {fault = fault} is took second = let first = rw (← is) at took in record {
   keeps = keeps_on first.keeps second.keeps;
   reaches = λ x front stands. reaches_then first.keeps.style (more_settled stage.cutter stage.rest front) (first.reaches x front stands)
       (reaches_as (sym (settled_same (x ++ stage.rest) first.keeps)) (sym (same_by (λ style operands. whole_of style operands (all_lines (x ++ stage.rest))) first.keeps)) (second.reaches (x ++ stage.rest) (first.went.stands x front stands)));
@@ -420,16 +384,15 @@ final_sections a b p within final = grind (arith, common_steps, closed_still)
 pub past_end : {cutter : CutterState} {x : List ℕ} (t : List ℕ) → IsWhole x → IsPast cutter x
     → whole_part cutter (x ++ t) ≡ whole_part cutter x
 past_end {cutter} {x} t whole past =
-    let same = past_plan (suppress_in cutter) cutter.operands t whole past.past in
-    ap (λ (p : Plan). part_of cutter.style (whole_sections (all_lines (x ++ t)) p)) same
-    ∙ ap (λ lines. part_of cutter.style (whole_sections lines (plan (suppress_in cutter) cutter.operands (all_lines x)))) (all_lines-append t (inl whole))
-    ∙ ap (part_of cutter.style) (final_sections (all_lines x) (all_lines t) (plan (suppress_in cutter) cutter.operands (all_lines x))
-    (are_within (suppress_in cutter) (all_lines x) (start cutter.operands) _ _ _ (plan_runs (suppress_in cutter) cutter.operands (all_lines x)) (omega arith)).0 past.past)
+    ap (λ (p : Plan). part_of cutter.style (whole_sections (all_lines (x ++ t)) p)) (past_plan (suppress_in cutter) cutter.operands t whole past.past)
+    ∙ ap (λ lines. part_of cutter.style (whole_sections lines (plan_in cutter x))) (all_lines-append t (inl whole))
+    ∙ ap (part_of cutter.style) (final_sections (all_lines x) (all_lines t) (plan_in cutter x)
+    (are_within (plan_runs (suppress_in cutter) cutter.operands (all_lines x)) (omega arith)).0 past.past)
 
 pub past_verdict : {cutter : CutterState} {x : List ℕ} (t : List ℕ) → IsWhole x → IsPast cutter x
-    → verdict_of (plan (suppress_in cutter) cutter.operands (all_lines (x ++ t))).ending
-    ≡ verdict_of (plan (suppress_in cutter) cutter.operands (all_lines x)).ending
-past_verdict {cutter} t whole past = grind (arith, common_steps, past_plan)
+    → verdict_of (plan_in cutter (x ++ t)).ending
+    ≡ verdict_of (plan_in cutter x).ending
+past_verdict t whole past = grind (arith, common_steps, past_plan)
 
 -- The steps of the stage that takes in bytes. A stage is known by its fields and by its value.
 
@@ -437,12 +400,12 @@ past_verdict {cutter} t whole past = grind (arith, common_steps, past_plan)
 
 pub line_at : {before stage : CsplitState} {text : List ℕ} (end : List ℕ) → before ≡ stage → text ≡ before.rest ++ end
     → delimiters newline stage.rest ≡ 0 → IsLine end → IsLine text
-line_at {before} end is text_is none line = grind (arith, common_steps, joined_line)
+line_at end is text_is none line = grind (arith, common_steps, joined_line)
 
 pub lacks_at : {told : Bool} {before stage : CsplitState} (t : List ℕ) {slots : List Slot} → before ≡ stage
     → IsSound stage.cutter → CanWrite stage.cutter.writer slots
     → Takes told stage.cutter t slots slots before.cutter (Some Memory)
-lacks_at {told} {stage = stage} t {slots} is sound ready = rw is (takes_wider t (inl refl) (takes_lacking (takes_none sound ready)))
+lacks_at t is sound ready = rw is (takes_wider t (inl refl) (takes_lacking (takes_none sound ready)))
 
 -- the first of the lines was taken in, and then the others
 
@@ -451,32 +414,29 @@ lines_from : {told : Bool} {before stage : CsplitState} {next : CutterState} {li
     → before ≡ stage → lines ≡ end ++ others
     → Takes told before.cutter ((before.rest ++ end) ++ others) old new next fault
     → Takes told stage.cutter (stage.rest ++ lines) old new next fault
-lines_from {told} {before} {next = next} {lines} end others {old} {new} {fault} same is takes = grind (arith, common_steps)
+lines_from end others same is takes = grind (arith, common_steps)
 
 -- no line was open
 pub lines_alone : {told : Bool} {before stage : CsplitState} {next : CutterState} {lines : List ℕ} {n : ℕ}
     {old new : List Slot} {fault : Option Fault} → before ≡ stage → n ≡ length before.rest → eqb n 0 ≡ true
     → Takes told before.cutter lines old new next fault
     → Takes told stage.cutter (stage.rest ++ lines) old new next fault
-lines_alone {told} {before} {next = next} {lines} {old = old} {new} {fault} is size empty takes = grind (arith, common_steps)
+lines_alone is size empty takes = grind (arith, common_steps)
 
-pub lines_stop : {told : Bool} {before stage : CsplitState} {next : CutterState} {lines text : List ℕ} (end : List ℕ)
-    {others : List ℕ} {old new : List Slot}
-    {fault : Fault} → before ≡ stage → text ≡ before.rest ++ end
-    → lines ≡ end ++ others → (ends_with newline end ≡ false → others ≡ []) → ends_with newline lines ≡ true
-    → Takes told before.cutter text old new next (Some fault)
-    → Takes told stage.cutter (stage.rest ++ lines) old new next (Some fault)
-lines_stop {told} {before} {next = next} end {others} {old} {new} {fault} same text_is is last whole stopped =
-    lines_from end others same is (takes_wider others (open_complete before.rest end (first_complete end last is whole)) (rw text_is at stopped))
+module _ {told : Bool} {before stage : CsplitState} {lines text : List ℕ} (end : List ℕ) {others : List ℕ}
+    (same : before ≡ stage) (text_is : text ≡ before.rest ++ end) (is : lines ≡ end ++ others)
+    (last : ends_with newline end ≡ false → others ≡ []) (whole : ends_with newline lines ≡ true) where
+  pub lines_stop : {next : CutterState} {old new : List Slot} {fault : Fault}
+      → Takes told before.cutter text old new next (Some fault)
+      → Takes told stage.cutter (stage.rest ++ lines) old new next (Some fault)
+  lines_stop stopped =
+      lines_from end others same is (takes_wider others (open_complete before.rest end (first_complete end last is whole)) (rw text_is at stopped))
 
-pub lines_after : {told : Bool} {before stage : CsplitState} {mid next : CutterState} {lines text : List ℕ}
-    (end : List ℕ) {others : List ℕ}
-    {old between new : List Slot} {fault : Option Fault} → before ≡ stage → text ≡ before.rest ++ end
-    → lines ≡ end ++ others → (ends_with newline end ≡ false → others ≡ []) → ends_with newline lines ≡ true
-    → Takes told before.cutter text old between mid None → Takes told mid others between new next fault
-    → Takes told stage.cutter (stage.rest ++ lines) old new next fault
-lines_after {told} {before} {mid = mid} end {others} {old} {between} same text_is is last whole first second =
-    lines_from end others same is (takes_again (open_complete before.rest end (first_complete end last is whole)) (rw text_is at first) second)
+  pub lines_after : {mid next : CutterState} {old between new : List Slot} {fault : Option Fault}
+      → Takes told before.cutter text old between mid None → Takes told mid others between new next fault
+      → Takes told stage.cutter (stage.rest ++ lines) old new next fault
+  lines_after first second =
+      lines_from end others same is (takes_again (open_complete before.rest end (first_complete end last is whole)) (rw text_is at first) second)
 
 -- A piece
 
@@ -484,7 +444,7 @@ pub past_passes : {told : Bool} {view stage : CsplitState} {piece : List ℕ} {s
     → view.cutter.aim ≡ Below → CanWrite stage.cutter.writer slots → IsSound stage.cutter
     → delimiters newline stage.rest ≡ 0
     → Passes told stage piece slots slots view (Ok tt)
-past_passes {told} {stage = stage} {piece} {slots} is aim ready sound unbroken =
+past_passes {stage = stage} is aim ready sound unbroken =
     let aimed : stage.cutter.aim ≡ Below = ap (λ (s : CsplitState). s.cutter.aim) (sym is) ∙ aim in
     rw is (record {
       took = took_past aimed sound ready;
@@ -498,6 +458,33 @@ on_both : {A B C : Type 0} (result : Result (Unit {0}) Fault) → OnOk result A 
     → OnOk result C
 on_both result one other follows = search rules
 
+-- what is kept of the open line
+kept_open : {A : Type 0} (tail after : List ℕ) → delimiters newline tail ≡ 0 → A ⊎ (A → ⊥) → (A → after ≡ [])
+    → ((A → ⊥) → after ≡ tail) → (delimiters newline after ≡ 0) × (length after ≤ length tail)
+kept_open tail after none (inl is) past live = rw (past is) (refl, omega arith)
+kept_open tail after none (inr differs) past live = rw (live differs) (none, omega arith)
+
+-- complete lines were taken in, and what follows them waits
+passes_on : {told : Bool} {view stage : CsplitState} (next : CsplitState) {mid : CutterState} {piece : List ℕ}
+    {old new : List Slot} (result : Result (Unit {0}) Fault) → view ≡ stage → (view.cutter.aim ≡ Below → ⊥)
+    → Takes told view.cutter (whole_lines (view.rest ++ piece)) old new mid None → next.cutter ≡ mid
+    → OnOk result (mid.aim ≡ Below → next.rest ≡ [])
+    → OnOk result ((mid.aim ≡ Below → ⊥) → next.rest ≡ open_line (view.rest ++ piece))
+    → IfErr result (λ fault. fault ≡ Memory) → Passes told stage piece old new next result
+passes_on {view = view} next {mid} {piece} result is differs took cutter past live lacks = rw (← is) (record {
+  took = takes_or_lacks result (rw cutter took) lacks;
+  passed = on_both result past live (λ past live.
+      let text = view.rest ++ piece in
+      let aim_is : next.cutter.aim ≡ mid.aim = ap (λ (c : CutterState). c.aim) cutter in
+      let rest = kept_open (open_line text) next.rest (open_unbroken text) (below_or_not mid.aim) past live in record {
+        live = λ other. live (λ is_below. other (aim_is ∙ is_below));
+        past = λ is_below was. past (sym aim_is ∙ is_below);
+        still = λ is_below. absurd (differs is_below);
+        unbroken = rest.0;
+        size = omega (arith, took.went.size, sym (length-append view.rest piece) ∙ ap length (sym lines_then_open) ∙ length-append (whole_lines text) (open_line text), ap load cutter, rest.1);
+      });
+})
+
 -- no newline came: the piece is more of the open line
 pub none_passes : {told : Bool} {view stage : CsplitState} (next : CsplitState) {piece : List ℕ} {slots : List Slot}
     (result : Result (Unit {0}) Fault) → view ≡ stage → (view.cutter.aim ≡ Below → ⊥) → delimiters newline piece ≡ 0
@@ -505,30 +492,13 @@ pub none_passes : {told : Bool} {view stage : CsplitState} (next : CsplitState) 
     → delimiters newline stage.rest ≡ 0 → next.cutter ≡ view.cutter
     → OnOk result ((view.cutter.aim ≡ Below → ⊥) → next.rest ≡ view.rest ++ piece)
     → IfErr result (λ fault. fault ≡ Memory) → Passes told stage piece slots slots next result
-none_passes {told} {view} {stage} next {piece} {slots} result is differs none ready sound unbroken cutter rest lacks = subst (λ (s : CsplitState). Passes told s piece slots slots next result) is (record {
-  took = takes_or_lacks result (rw cutter (subst (λ text. Takes told view.cutter text slots slots view.cutter None) (sym (front_is [] (view.rest ++ piece) (inl refl) (no_newline view.rest piece here none)))
-      (takes_none (subst (λ (s : CsplitState). IsSound s.cutter) (sym is) sound) (subst (λ (s : CsplitState). CanWrite s.cutter.writer slots) (sym is) ready)))) lacks;
-  passed = on_both result rest rest (λ rest same. record {
-    live = λ also. rest differs ∙ sym (tail_is [] (inl refl) (no_newline view.rest piece here none));
-    past = λ is_below was. absurd (differs (ap (λ (c : CutterState). c.aim) (sym cutter) ∙ is_below));
-    still = λ is_below. absurd (differs is_below);
-    unbroken = ap (delimiters newline) (rest differs) ∙ no_newline view.rest piece here none;
-    size = (let all : length next.rest ≡ length view.rest + length piece = ap length (rest differs) ∙ length-append view.rest piece in let same : load next.cutter ≡ load view.cutter = ap load cutter in omega (arith, all, same));
-  });
-}) where
-  here : delimiters newline view.rest ≡ 0
-  here = ap (λ (s : CsplitState). delimiters newline s.rest) is ∙ unbroken
+none_passes {view = view} next {piece} result is differs none ready sound unbroken cutter rest =
+    let here : delimiters newline (view.rest ++ piece) ≡ 0 = no_newline view.rest piece (ap (λ (s : CsplitState). delimiters newline s.rest) is ∙ unbroken) none in
+    passes_on next result is differs (rw (front_is [] (view.rest ++ piece) (inl refl) here) (takes_none (rw (← is) at sound) (rw (← is) at ready))) cutter
+    (on_both result rest rest (λ rest same is_below. absurd (differs is_below)))
+    (on_both result rest rest (λ rest same also. rest also ∙ sym (tail_is [] (inl refl) here)))
 
 -- the lines of the piece were taken in, and what follows them is the open line
-
-some_unbroken : (aim : Turn) (mid next : CsplitState) (text : List ℕ) → mid.rest ≡ [] → delimiters newline text ≡ 0
-    → (mid.cutter.aim ≡ Below) ⊎ (mid.cutter.aim ≡ Below → ⊥) → (mid.cutter.aim ≡ Below → next.rest ≡ mid.rest)
-    → ((mid.cutter.aim ≡ Below → ⊥) → next.rest ≡ mid.rest ++ text)
-    → (delimiters newline next.rest ≡ 0) × (length next.rest ≤ length text)
-some_unbroken aim mid next text empty none (inl is_below) past live = (ap (delimiters newline) (past is_below ∙ empty), (let e : length next.rest ≡ 0 = ap length (past is_below ∙ empty) in omega (arith, e)))
-some_unbroken aim mid next text empty none (inr differs) past live =
-    let is : next.rest ≡ text = live differs ∙ ap (λ those. those ++ text) empty in (ap (delimiters newline) is ∙ none, (let e : length next.rest ≡ length text = ap length is in omega (arith, e)))
-
 pub some_passes : {told : Bool} {view stage : CsplitState} (mid next : CsplitState) {piece lines : List ℕ}
     (text : List ℕ) (end : ℕ) {old new : List Slot} (result : Result (Unit {0}) Fault) → view ≡ stage
     → (view.cutter.aim ≡ Below → ⊥) → LastEndsAt newline piece end → lines ≡ take end piece → text ≡ drop end piece
@@ -536,43 +506,28 @@ pub some_passes : {told : Bool} {view stage : CsplitState} (mid next : CsplitSta
     → OnOk result (mid.cutter.aim ≡ Below → next.rest ≡ mid.rest)
     → OnOk result ((mid.cutter.aim ≡ Below → ⊥) → next.rest ≡ mid.rest ++ text)
     → IfErr result (λ fault. fault ≡ Memory) → Passes told stage piece old new next result
-some_passes {told} {view} {stage} mid next {piece} {lines} text end {old} {new} result is differs last lines_is text_is took empty cutter past live lacks = rw (← is) (record {
-  took = takes_or_lacks result (subst (λ (c : CutterState). Takes told view.cutter (whole_lines (view.rest ++ piece)) old new c None) (sym cutter)
-      (subst (λ those. Takes told view.cutter those old new mid.cutter None) (ap (λ those. view.rest ++ those) lines_is ∙ sym (piece_lines view.rest end last)) took)) lacks;
-  passed = on_both result past live (λ past live.
-      let none : delimiters newline text ≡ 0 = ap (delimiters newline) text_is ∙ last.none_after in
-      let rest = some_unbroken mid.cutter.aim mid next text empty none (below_or_not mid.cutter.aim) past live in record {
-        live = λ other. live (λ is_below. other (ap (λ (c : CutterState). c.aim) cutter ∙ is_below)) ∙ ap (λ those. those ++ text) empty ∙ text_is ∙ sym (piece_open view.rest end last);
-        past = λ is_below was. past (ap (λ (c : CutterState). c.aim) (sym cutter) ∙ is_below) ∙ empty;
-        still = λ is_below. absurd (differs is_below);
-        unbroken = rest.0;
-        size = (let fewer : load mid.cutter ≤ load view.cutter + length (view.rest ++ lines) = took.went.size in
-            let all : length (view.rest ++ lines) ≡ length view.rest + length lines = length-append view.rest lines in
-            let parts : length (take end piece) + length (drop end piece) ≡ length piece = sym (length-append (take end piece) (drop end piece)) ∙ ap length (take-append-drop end piece) in
-            let first : length lines ≡ length (take end piece) = ap length lines_is in
-            let last_part : length text ≡ length (drop end piece) = ap length text_is in
-            let same : load next.cutter ≡ load mid.cutter = ap load cutter in
-            let few : length next.rest ≤ length text = rest.1 in omega (arith, fewer, all, parts, first, last_part, same, few));
-      });
-})
+some_passes {view = view} mid next text end result is differs last lines_is text_is took empty cutter past live =
+    passes_on next result is differs (rw (piece_lines view.rest end last, ← lines_is) took) cutter
+    (on_both result past past (λ past same is_below. past is_below ∙ empty))
+    (on_both result live live (λ live same also. live also ∙ ap (λ those. those ++ text) empty ∙ text_is ∙ sym (piece_open view.rest end last)))
 
 pub some_stopped : {told : Bool} {view stage : CsplitState} (next : CsplitState) {piece lines : List ℕ} (end : ℕ)
     {old new : List Slot} {fault : Fault} → view ≡ stage → LastEndsAt newline piece end → lines ≡ take end piece
     → Takes told view.cutter (view.rest ++ lines) old new next.cutter (Some fault)
     → Passes told stage piece old new next (Err fault)
-some_stopped {told} {view} next {piece} end {old} {new} {fault} is last lines_is stopped = rw (← is) (record { took = subst (λ those. Takes told view.cutter those old new next.cutter (Some fault)) (ap (λ those. view.rest ++ those) lines_is ∙ sym (piece_lines view.rest end last)) stopped; passed = tt })
+some_stopped {view = view} next end is last lines_is stopped = rw (← is) (record { took = rw (piece_lines view.rest end last, ← lines_is) stopped; passed = tt })
 
 -- The last line
 
 pub last_none : {told : Bool} {before stage : CsplitState} {n : ℕ} {slots : List Slot} → before ≡ stage
     → n ≡ length before.rest → eqb n 0 ≡ true → CanWrite stage.cutter.writer slots → IsSound stage.cutter
     → Takes told stage.cutter stage.rest slots slots stage.cutter None
-last_none {told} {stage = stage} {slots = slots} is size empty ready sound =
+last_none is size empty ready sound =
     rw (ap (λ (s : CsplitState). s.rest) (sym is) ∙ none_there (ap (λ k. eqb k 0) size) empty) (takes_none sound ready)
 
 pub last_line : {before stage : CsplitState} {n : ℕ} {text : List ℕ} → before ≡ stage → text ≡ before.rest
     → n ≡ length before.rest → eqb n 0 ≡ false → delimiters newline stage.rest ≡ 0 → IsLine text
-last_line {before} is text_is size some unbroken = grind (arith, common_steps, open_is_line)
+last_line is text_is size some unbroken = grind (arith, common_steps, open_is_line)
 
 -- the work ends with a verdict, and the files are removed then
 pub judged_by : {told : Bool} {stage mid next : CsplitState} {reached new old : List Slot} {result : Option Verdict}
@@ -592,18 +547,14 @@ lines_in : (rest x piece : List ℕ) → rest ≡ open_line x
     → whole_lines x ++ whole_lines (rest ++ piece) ≡ whole_lines (x ++ piece)
 lines_in rest x piece is = ap (λ those. whole_lines x ++ whole_lines (those ++ piece)) is ∙ sym (lines_more x piece)
 
-settled_by_cases : {stage : CsplitState} {x : List ℕ} (piece : List ℕ) → Holds stage x
-    → (stage.cutter.aim ≡ Below) ⊎ (stage.cutter.aim ≡ Below → ⊥)
-    → settled_part stage.cutter (whole_lines x ++ whole_lines (stage.rest ++ piece)) ≡ (work stage).settled (x ++ piece)
-settled_by_cases {stage} {x} piece holds (inl is_below) =
-    sym (past_part (whole_lines (stage.rest ++ piece)) (lines_whole x) (is_past is_below holds.stands))
-    ∙ past_part (whole_lines (open_line x ++ piece)) (lines_whole x) (is_past is_below holds.stands)
-    ∙ ap (settled_part stage.cutter) (sym (lines_more x piece)) ∙ settled_is stage (x ++ piece)
-settled_by_cases {stage} {x} piece holds (inr differs) = grind (arith, common_steps, lines_in, settled_is)
-
 settled_then : {stage : CsplitState} {x : List ℕ} (piece : List ℕ) → Holds stage x
     → settled_part stage.cutter (whole_lines x ++ whole_lines (stage.rest ++ piece)) ≡ (work stage).settled (x ++ piece)
-settled_then {stage} piece holds = settled_by_cases piece holds (below_or_not stage.cutter.aim)
+settled_then {stage} {x} piece holds = elim (below_or_not stage.cutter.aim) [
+  | inl is_below ↦ sym (past_part (whole_lines (stage.rest ++ piece)) (lines_whole x) (is_past is_below holds.stands))
+      ∙ past_part (whole_lines (open_line x ++ piece)) (lines_whole x) (is_past is_below holds.stands)
+      ∙ ap (settled_part stage.cutter) (sym (lines_more x piece)) ∙ settled_is stage (x ++ piece)
+  | inr differs ↦ ap (settled_part stage.cutter) (lines_in stage.rest x piece (holds.live differs)) ∙ settled_is stage (x ++ piece)
+]
 
 -- the outputs stay its own
 pub owns_on : {stage next : CsplitState} {old new : List Slot} {fault : Option Fault}
@@ -615,7 +566,7 @@ owns_on leaves first own = grind (arith, common_steps)
 stands_so : (told : Bool) {before : List Slot} {stage : CsplitState} {x : List ℕ} {now : List Slot}
     → StandsAt terms stage told before x now
     → At told stage.cutter.writer before (settled_part stage.cutter (whole_lines x)) now
-stands_so told {before} {stage} {x} {now} at = grind (arith, common_steps, settled_is)
+stands_so told at = grind (arith, common_steps, settled_is)
 
 -- faults
 
@@ -625,28 +576,21 @@ not_verdict style old new fault same breaks = grind (arith, common_steps)
 
 met_by : {Lacks : Type 0} → Lacks → (Ends : Verdict → Type 0) (style : Style) (old new : List Slot) (fault : Fault)
     {own : Manner} → IsManner (manner_of style) own → Breaks own old new fault
-    → IsMet
-    (record {
-      output = sizes_wanted style;
-      files = true;
-      feeding = record { memory = true; files = true };
-      closing = record
-          { memory = true; files = true };
-    }) (record { memory = true; files = true }) Lacks Ends old new fault
-met_by {Lacks} lacks Ends style old new fault same breaks = grind (arith, common_steps)
+    → IsMet (csplit_means style) (record { memory = true; files = true }) Lacks Ends old new fault
+met_by lacks Ends style old new fault same breaks = grind (arith, common_steps)
 
 -- a piece
 
 holds_by : {told : Bool} {stage next : CsplitState} {piece : List ℕ} {old new : List Slot} {x : List ℕ}
     → Passes told stage piece old new next (Ok tt) → Holds stage x
     → (stage.cutter.aim ≡ Below) ⊎ (stage.cutter.aim ≡ Below → ⊥) → Holds next (x ++ piece)
-holds_by {stage = stage} {next} {piece} {x} passed holds (inl is_below) = record {
-  stands = inr (rw (passed.passed.still is_below) (subst (IsPast stage.cutter) (sym (lines_more x piece)) (still_past (whole_lines (open_line x ++ piece)) (lines_whole x) (is_past is_below holds.stands))));
+holds_by {piece = piece} {x} passed holds (inl is_below) = record {
+  stands = inr (rw (passed.passed.still is_below, lines_more x piece) (still_past (whole_lines (open_line x ++ piece)) (lines_whole x) (is_past is_below holds.stands)));
   live = λ differs. absurd (differs (ap (λ (c : CutterState). c.aim) (passed.passed.still is_below) ∙ is_below));
   past = λ still. passed.passed.past still holds.past;
 }
 holds_by {stage = stage} {next} {piece} {x} passed holds (inr differs) = record {
-  stands = subst (Stands next.cutter) (lines_in stage.rest x piece (holds.live differs)) (passed.took.went.stands (whole_lines x) (lines_whole x) holds.stands);
+  stands = rw (lines_in stage.rest x piece (holds.live differs)) at (passed.took.went.stands (whole_lines x) (lines_whole x) holds.stands);
   live = λ other. passed.passed.live other ∙ ap (λ those. open_line (those ++ piece)) (holds.live differs) ∙ sym (open_more x piece);
   past = λ is_below. passed.passed.past is_below holds.past;
 }
@@ -673,7 +617,7 @@ passes_by told stage next piece old new (Ok done) passes is_ready taken fits = r
     manner = rw (passes.took.keeps.style, same_manner passes.took.keeps.writer) is_ready.manner;
     sound = passes.took.went.sound;
     unbroken = passes.passed.unbroken;
-    room = (let size = passes.passed.size in let room = is_ready.room in omega (arith, size, room, taken));
+    room = let size = passes.passed.size in omega (arith, size, is_ready.room, taken);
     few = omega (arith, taken, fits);
   };
   owns = owns_on passes.took.keeps.writer;
@@ -690,8 +634,8 @@ passes_by told stage next piece old new (Err fault) stopped is_ready taken fits 
   owns = owns_on stopped.took.keeps.writer;
   there = stopped.took.keeps.writer.owns.there;
   cut = λ before x at. engine.cut (not_verdict stage.cutter.style old new fault is_ready.manner stopped.took.keeps.writer.slots)
-      (rw (settled_is stage x) at (subst (λ high. StoppedBetween (work stage).means.output told before (settled_part stage.cutter (whole_lines x)) high fault new) (settled_then piece at.holds)
-      (stopped_in_turn (work stage).means.output told before _ _ fault new (has_settled stage (whole_lines x)) ((stopped.took.reaches (whole_lines x) (lines_whole x) at.holds.stands).there before (stands_so told at)))));
+      (rw (settled_then piece at.holds, settled_is stage x) at
+      (stopped_in_turn (work stage).means.output told before _ _ fault new (has_settled stage (whole_lines x)) ((stopped.took.reaches (whole_lines x) (lines_whole x) at.holds.stands).there before (stands_so told at))));
   met = met_by refl (EndsWith terms piece stage) stage.cutter.style old new fault is_ready.manner stopped.took.keeps.writer.slots;
 }
 
@@ -712,7 +656,7 @@ module _ (stage : CsplitState) (x : List ℕ) (holds : Holds stage x) where
       → Keeps stage.cutter next old new fault
       → verdict_of (plan (suppress_in next) next.operands (all_lines (whole_lines x ++ stage.rest))).ending
       ≡ (work stage).verdict x
-  verdict_then {next} keeps =
+  verdict_then keeps =
       same_by (λ style operands. verdict_by style.suppress operands (whole_lines x ++ stage.rest)) keeps
       ∙ all_then (verdict_by (suppress_in stage.cutter) stage.cutter.operands) (λ t. past_verdict t (lines_whole x)) (below_or_not stage.cutter.aim)
 
@@ -733,8 +677,8 @@ module _ (told : Bool) (stage next : CsplitState) (old new : List Slot) where
   pub ends_short : {fault : Fault} → Closed told stage old new next (Some fault) → IsReady stage old
       → CutsOff terms stage (work stage).whole told old new fault
   ends_short {fault} stopped ready before x at = engine.cut (not_verdict stage.cutter.style old new fault ready.manner stopped.keeps.writer.slots)
-      (rw (settled_is stage x) at (subst (λ high. StoppedBetween (work stage).means.output told before (settled_part stage.cutter (whole_lines x)) high fault new) (whole_then stage x at.holds)
-      (stopped_in_turn (work stage).means.output told before _ _ fault new (has_settled stage (whole_lines x)) ((stopped.reaches (whole_lines x) (lines_whole x) at.holds.stands).there before (stands_so told at)))))
+      (rw (whole_then stage x at.holds, settled_is stage x) at
+      (stopped_in_turn (work stage).means.output told before _ _ fault new (has_settled stage (whole_lines x)) ((stopped.reaches (whole_lines x) (lines_whole x) at.holds.stands).there before (stands_so told at))))
 
   -- the work ends with a verdict, and the files were cleared away after it
   pub ends_judged : Closed told stage old new next None → {verdict : Verdict} → (cleared : List Slot)
@@ -786,8 +730,7 @@ finishes_by told stage next old new (ended_so verdict mid reached closed judges 
 none_stands : (told : Bool) (style : Style) {before slots : List Slot} → 2 ≤ length slots
     → OutputsAt told before nothing slots → At told (writer_for style) before nothing slots
 none_stands told style {before} {slots} two at =
-    let size : length slots ≡ length before + 0 = outputs_count told before nothing slots at in
-    record { owns = rw (let e : length slots ≡ length before = omega (arith, size) in e) at (first_owns style two); outputs = at }
+    record { owns = rw (let e : length slots ≡ length before = omega (arith, outputs_count told before nothing slots at) in e) at (first_owns style two); outputs = at }
 
 -- the first section began, or could not; the operands are as they are handed over
 pub begins_at : (told : Bool) (style : Style) {given operands : List Operand} {writer : WriterState}
@@ -795,7 +738,7 @@ pub begins_at : (told : Bool) (style : Style) {given operands : List Operand} {w
     → Reaches (sizes_wanted style) told (writer_for style) writer nothing (settled_of style given []) old new None
     → (before : List Slot) → OutputsAt told before nothing old
     → OutputsAt told before (settled_by style operands []) new
-begins_at told style {new} same two reaches before at =
+begins_at told style same two reaches before at =
     rw same at (reaches.there before (none_stands told style two at)).outputs
 
 pub cannot_begin : (told : Bool) {style : Style} {given operands : List Operand} {old new : List Slot} {fault : Fault}
@@ -811,7 +754,7 @@ pub sweeps : {view : CutterState} (stage next : CsplitState) {old new : List Slo
     → next.taken ≡ stage.taken → Clears view old new next.cutter → stage.cutter.style.keep ≡ false
     → AreThere (files stage) old → Sweeps terms stage next old new
 sweeps stage next {old} {new} is taken clears_view none are =
-    let clears = subst (λ (cutter : CutterState). Clears cutter old new next.cutter) is clears_view in
+    let clears = rw is at clears_view in
     let kept = files_left (ap (λ (c : CutterState). c.writer.keeps) clears.same) (ap (λ (c : CutterState). c.writer.current) clears.same) clears.removes in record {
       same = ap (λ (c : CutterState). csplit_work c.style c.operands) clears.same;
       size = omega (arith, taken);

@@ -3,9 +3,10 @@ use Rattle.std.proofs.{
   lemmas.{Grind.common_steps, Bool.{false≢true, cases_lt}},
   Common.{◌≡◌, ◌⊎◌, inl, inr, ℕ, ◌+◌, ◌-◌, ◌<◌, ◌≤◌, max, Bool, true, Option, Some, None, List, [], ◌∷◌, ◌++◌, length},
   Common.{refl, sym, ◌∙◌, ap, subst, arith, append_assoc, length-append, IfSome, Ok, Err, take, drop, eqb, Result},
-  Common.{take_all, append-nil, take-append-drop, length-drop, length-take-le, drop_at, drop-drop, is_some, take-add},
+  Common.{take_all, append-nil, take-append-drop, length-drop, length-take-le, drop_at, take_at, drop-drop, is_some},
   Common.{IfOk, rules},
 }
+use Rattle.std.proofs.{lemmas.List.drop-append-le, Math.Seq.take-append-add}
 use Rattle.seg_core.{specs.{Line.{line_count, delimiters, ends_with}, Window.Window}, proofs.EndLines.line_count-grows}
 use Rattle.ports_core.{
   specs.{
@@ -28,9 +29,9 @@ use Rattle.csplit_core.specs.{
   Output.{Style, manner_of},
   Planned.{Plan, plan},
   laws.{PlanLaws.plan_runs, SectionLaws.{ends_as, cuts_from, grows}},
-  inner.Cutter.{GoesPast, IsFound, settled_part, part_at, IsWhole, IsLine, Joins, Arrives, Held, Holds, CutsNow},
+  inner.Cutter.{CutsIn, bare, IsFound, settled_part, part_at, IsWhole, IsLine, Joins, Arrives, Held, Holds, CutsNow},
   inner.Cutter.{CutsAll, WillCut, TriesNext, search_after, Takes, IsNextFound, Stretches, IsEnd, Tries, IsAfter, CutAt},
-  inner.Cutter.{Spreading, Spread, PassesOver, StopsAt, CutsOn, GoesOn},
+  inner.Cutter.{Spreading, Spread, PassesOver, Starts, StopsAt, CutsOn, GoesOn},
   inner.PlanLaws.needed,
   Section.{is_final, most_waiting, settled_end},
   declared.{line_cutter.{Cut.Cut, Passed.Passed}, progress.Turn.{Turn, TheVariants.Below}},
@@ -52,16 +53,19 @@ live_before : {cutter : CutterState} {x : List ℕ} (t : List ℕ) (live : IsLiv
     → CutsAt (suppress_in cutter) (all_lines x ++ all_lines t) (state_in cutter) operand operand.target matched cut
     → settled_end (line_count newline x) live.ends.ending ≤ cut
 live_before {cutter} {x} t live matched cut are at =
-    let so = cuts_from (suppress_in cutter) (all_lines x) (all_lines t) (state_in cutter) live.ends.ending (ends_as _ _ _ _ _ _ live.ends.runs) are in
+    let so = cuts_from (suppress_in cutter) (all_lines x) (all_lines t) (state_in cutter) live.ends.ending (ends_as live.ends.runs) are in
     rw (length-all_lines x) at (so.1 matched cut at)
 
-pub place_before : {cutter : CutterState} {x : List ℕ} (t : List ℕ) {matched : ℕ} (cut : ℕ) (live : IsLive cutter x)
-    → IsWhole x → (goes : GoesPast (suppress_in cutter) (all_lines (x ++ t)) (state_in cutter) matched cut)
-    → IsFit cutter → cutter.progress.current ≤ cut → cutter.progress.current + live.at.taken ≤ cut
-place_before {cutter} {x} t {matched} cut live whole goes fit from =
-    let at = rw (all_lines-append t (inl whole)) at goes.cuts in omega (arith, live_taken live, live_before t live matched cut goes.are at, from)
+place_before : {cutter : CutterState} {x : List ℕ} (t : List ℕ) (cut : Cut) (live : IsLive cutter x) → IsWhole x
+    → CutsIn cutter (x ++ t) cut → cutter.progress.current ≤ cut.line
+    → cutter.progress.current + live.at.taken ≤ cut.line
+place_before t cut live whole goes from =
+    let at = rw (all_lines-append t (inl whole)) at goes.cuts in omega (arith, live_taken live, live_before t live cut.matched cut.line goes.are at, from)
 
 -- What arrives where more lines came.
+
+abbrev pub more_lines : CutterState → ℕ → Turn → CutterState
+more_lines cutter lines aim = record cutter { lines = lines; aim = aim }
 
 enough_left : (lines current taken most : ℕ) {left : ℕ} → 1 ≤ current → current + taken ≤ lines + 1
     → taken ≡ lines + 1 - current - most → left ≡ lines - (current + taken - 1) → (taken ≡ 0) ⊎ (most ≤ left)
@@ -72,13 +76,12 @@ enough_left lines current taken most some few is left_is = elim (cases_lt most (
 
 pub arrives_more : {cutter : CutterState} {lines : ℕ} {aim : Turn} {x : List ℕ} (t : List ℕ) (live : IsLive cutter x)
     (whole : IsWhole x) (fit : IsFit cutter) (count : lines ≡ line_count newline (x ++ t))
-    → EndsNow (record cutter { lines = lines; aim = aim }) (x ++ t)
-    → Arrives (record cutter { lines = lines; aim = aim }) (x ++ t) (cutter.window.held ++ t)
-    (at_more cutter lines aim x t cutter.window.held (inl whole) fit.fits.some live.at live.ends count)
+    → EndsNow (more_lines cutter lines aim) (x ++ t)
+    → Arrives (more_lines cutter lines aim) (at_more t (inl whole) fit.fits.some live.at live.ends count)
 unfolding at_more
 arrives_more {cutter} {x} t live whole fit count ends =
     let few = few_taken live.at in
-    let most : cutter.window.most ≡ most_waiting live.ends.ending = fit.most ∙ most_is (suppress_in cutter) (all_lines x) (state_in cutter) live.ends.ending (ends_as _ _ _ _ _ _ live.ends.runs) live.live in
+    let most : cutter.window.most ≡ most_waiting live.ends.ending = fit.most ∙ most_is (suppress_in cutter) (all_lines x) (state_in cutter) live.ends.ending (ends_as live.ends.runs) live.live in
     let either = enough_left cutter.lines cutter.progress.current live.at.taken (most_waiting live.ends.ending) fit.fits.some few live.settled (left_count live.at) in record {
       ends = ends;
       low = λ past. (grind (arith, common_steps, ends_as, live_before, all_lines-append, live_taken, false≢true, whole, ends.runs, past));
@@ -87,12 +90,9 @@ arrives_more {cutter} {x} t live whole fit count ends =
       more : {taken most other : ℕ} → (taken ≡ 0) ⊎ (other ≤ line_count newline cutter.window.held) → most ≡ other
           → (taken ≡ 0) ⊎ (most ≤ line_count newline (cutter.window.held ++ t))
       more (inl none) is = inl none
-      more {most = most} {other = other} (inr enough) is = inr (let grows = line_count-grows newline cutter.window.held t in omega (arith, grows, enough, is))
+      more {most = most} {other = other} (inr enough) is = inr (omega (arith, line_count-grows newline cutter.window.held t, enough, is))
 
 -- Once more lines came, and what is settled of them is written and the others held.
-
-abbrev pub more_lines : CutterState → ℕ → Turn → CutterState
-more_lines cutter lines aim = record cutter { lines = lines; aim = aim }
 
 -- it is live, where its aim isn't below the current line
 live_of : {cutter : CutterState} {x : List ℕ} → (cutter.aim ≡ Below → ⊥) → Stands cutter x → IsLive cutter x
@@ -108,9 +108,9 @@ sound_held held sound = grind (arith, common_steps)
 
 -- these lines are left where outputs have this part
 pub record Reached (low : Part) (cutter : CutterState) (x left : List ℕ) : Type 0 where
-  pub at : IsAt cutter x left
-  pub arrives : Arrives cutter x left at
-  pub same : low ≡ part_at cutter x left at
+  pub at : IsAt (bare cutter) x left
+  pub arrives : Arrives cutter at
+  pub same : low ≡ part_at at
 
 pub took_held : {told : Bool} {cutter next : CutterState} {lines : ℕ} {aim : Turn} {t : List ℕ} {old new : List Slot}
     {fault : Option Fault} → IsSound (more_lines cutter lines aim) → IsFit cutter → (cutter.aim ≡ Below → ⊥)
@@ -120,105 +120,84 @@ pub took_held : {told : Bool} {cutter next : CutterState} {lines : ℕ} {aim : T
     → Holds told (more_lines cutter lines aim) (cutter.window.held ++ t) old new next fault
     → Takes told cutter t old new next fault
 took_held {cutter = cutter} {next} {lines} {aim} {t} {fault = fault} sound fit differs few ends held = record {
-  keeps = record { operands = held.keeps.operands; style = held.keeps.style; writer = held.keeps.writer };
+  keeps = held.keeps;
   reaches = λ x whole stands. let there = reached x whole stands in reaches_as there.same refl (held.reaches (x ++ t) there.at there.arrives);
   went = where_well fault held.went (λ went. record {
     stands = λ x whole stands. let there = reached x whole stands in went.stands (x ++ t) there.at there.arrives;
     sound = sound_held went sound;
-    size = (let lines_is : next.lines ≡ lines = ap (λ (c : CutterState). c.lines) went.same in
-        let joined : length (cutter.window.held ++ t) ≡ length cutter.window.held + length t = length-append cutter.window.held t in
-        let s = went.size in
-        most_load cutter.lines (size_of next.writer.current + length next.window.held) (size_of cutter.writer.current + length cutter.window.held) next.lines (length t) 0 (omega (arith, lines_is, few)) (omega (arith, joined, s)));
+    size = (most_load cutter.lines (size_of next.writer.current + length next.window.held) (size_of cutter.writer.current + length cutter.window.held) next.lines (length t) 0 (omega (arith, ap (λ (c : CutterState). c.lines) went.same, few)) (omega (arith, length-append cutter.window.held t, went.size)));
   });
 } where
   reached : (x : List ℕ) → IsWhole x → Stands cutter x
       → Reached (settled_part cutter x) (more_lines cutter lines aim) (x ++ t) (cutter.window.held ++ t)
   reached x whole stands = let live = live_of differs stands in let there = ends x whole live in record {
-    at = at_more cutter lines aim x t cutter.window.held (inl whole) fit.fits.some live.at live.ends there.0;
+    at = at_more t (inl whole) fit.fits.some live.at live.ends there.0;
     arrives = arrives_more t live whole fit there.0 there.1;
-    same = sym (live_part live) ∙ part_more aim t (inl whole) fit.fits.some live.at live.ends there.0;
+    same = sym (live_part live) ∙ part_more t (inl whole) fit.fits.some live.at live.ends there.0;
   }
 
 -- Once a line came that is cut.
 
-cuts_there : {cutter : CutterState} {lines : ℕ} (aim : Turn) {x : List ℕ} (line : List ℕ) (cut : Cut)
+cuts_there : {cutter : CutterState} {lines : ℕ} {x : List ℕ} (line : List ℕ) (cut : Cut)
     (live : IsLive cutter x) (whole : IsWhole x) (fit : IsFit cutter) (one : IsLine line)
     (count : lines ≡ line_count newline (x ++ line)) → cutter.progress.current ≤ cut.line
-    → GoesPast (suppress_in cutter) (all_lines (x ++ line)) (state_in cutter) cut.matched cut.line
-    → lines ≤ search_after (suppress_in cutter) cut
-    → CutsNow (more_lines cutter lines aim) (x ++ line) (cutter.window.held ++ line) line cut
-    (lines - delimiters newline cutter.window.held)
-    (at_more cutter lines aim x line cutter.window.held (inl whole) fit.fits.some live.at live.ends count)
+    → CutsIn cutter (x ++ line) cut → lines ≤ search_after (suppress_in cutter) cut
+    → CutsNow line cut (lines - delimiters newline cutter.window.held)
+    (at_more line (inl whole) fit.fits.some live.at live.ends count)
 unfolding at_more
-cuts_there {cutter} {lines} aim {x} line cut live whole fit one count from goes near =
-    let held = left_count live.at in
-    let held_whole : IsWhole cutter.window.held = subst IsWhole (sym live.at.left_is) (whole_from (cutter.progress.current + live.at.taken) whole) in
-    let same : line_count newline cutter.window.held ≡ delimiters newline cutter.window.held = whole_count held_whole in
-    let more : lines ≡ cutter.lines + 1 = (let l = count-line line whole one in let c = live.at.counted in omega (arith, count, l, c)) in
-    let few = few_taken live.at in
-    let place : lines - delimiters newline cutter.window.held ≡ cutter.progress.current + live.at.taken = (let s = fit.fits.some in omega (arith, held, same, more, few, s)) in record {
+cuts_there {cutter} {lines} {x} line cut live whole fit one count from goes near =
+    let more : lines ≡ cutter.lines + 1 = (let l = count-line line whole one in omega (arith, count, l, live.at.counted)) in
+    let place : lines - delimiters newline cutter.window.held ≡ cutter.progress.current + live.at.taken = (let s = fit.fits.some in omega (arith, left_count live.at, whole_count (subst IsWhole (sym live.at.left_is) (whole_from (cutter.progress.current + live.at.taken) whole)), more, few_taken live.at, s)) in record {
       last = (all_lines x, all_lines-line line whole one, λ ends. whole-append line whole (inr ends));
       near = near;
       place_is = place;
-      before = (let b = place_before line cut.line live whole goes fit from in omega (arith, b, place));
+      before = omega (arith, place_before line cut live whole goes from, place);
       goes = goes;
     }
-
-record CutThere (low : Part) (cutter : CutterState) (x left line : List ℕ) (cut : Cut) (place : ℕ) : Type 0 where
-  at : IsAt cutter x left
-  now : CutsNow cutter x left line cut place at
-  same : low ≡ part_at cutter x left at
 
 line_has : (line : List ℕ) → IsLine line → 1 ≤ length line
 line_has line one = grind (arith, common_steps)
 
-took_cut : {told : Bool} {cutter next : CutterState} {lines : ℕ} {aim : Turn} (line more : List ℕ) {cut : Cut}
-    {old new : List Slot} {fault : Option Fault} → IsFit cutter → (cutter.aim ≡ Below → ⊥) → IsLine line
-    → lines ≡ cutter.lines + 1 → WillCut (more_lines cutter lines aim) cut
-    → TriesNext cutter line (more_lines cutter lines aim) (Some cut)
-    → CutsAll told (more_lines cutter lines aim) cut (lines - delimiters newline cutter.window.held)
-    (cutter.window.held ++ line) line more old new next fault
-    → Takes told cutter (line ++ more) old new next fault
-took_cut {cutter = cutter} {next} {lines} {aim} line more {cut} {fault = fault} fit differs one counted will tries all = record {
-  keeps = record { operands = all.keeps.operands; style = all.keeps.style; writer = all.keeps.writer };
-  reaches = λ x whole stands. let there = reached x whole stands in reaches_as there.same (ap (settled_part cutter) (sym (append_assoc x line more))) (all.reaches (x ++ line) there.at there.now);
+-- more lines came after it
+take_cut : {told : Bool} {cutter mid next : CutterState} (line more : List ℕ) {cut : Cut} {old new : List Slot}
+    {fault : Option Fault} → IsFit cutter → (cutter.aim ≡ Below → ⊥) → IsLine line
+    → mid ≡ more_lines cutter (cutter.lines + 1) mid.aim → WillCut mid cut → TriesNext cutter line mid (Some cut)
+    → CutsAll told mid cut (mid.lines - delimiters newline mid.window.held) (mid.window.held ++ line) line more old new
+    next fault → Takes told cutter (line ++ more) old new next fault
+take_cut {told} {cutter} {mid} {next} line more {cut} {old} {new} {fault} fit differs one is will tries cuts = record {
+  keeps = all.keeps;
+  reaches = λ x whole stands. let there = reached x whole stands in reaches_as there.2 (ap (settled_part cutter) (sym (append_assoc x line more))) (all.reaches (x ++ line) there.0 there.1);
   went = where_well fault all.went (λ went. record {
-    stands = λ x whole stands. let there = reached x whole stands in subst (Stands next) (append_assoc x line more) (went.stands (x ++ line) there.at there.now);
+    stands = λ x whole stands. let there = reached x whole stands in subst (Stands next) (append_assoc x line more) (went.stands (x ++ line) there.0 there.1);
     sound = went.sound;
-    size = (let some = line_has line one in
-        let joined : length (cutter.window.held ++ line) ≡ length cutter.window.held + length line = length-append cutter.window.held line in
-        let both : length (line ++ more) ≡ length line + length more = length-append line more in
-        let n = went.lines in let s = went.size in
-        most_load cutter.lines (size_of next.writer.current + length next.window.held) (size_of cutter.writer.current + length cutter.window.held) next.lines (length (line ++ more)) 0 (omega (arith, n, counted, some, both)) (omega (arith, joined, both, s)));
+    size = let both : length (line ++ more) ≡ length line + length more = length-append line more in
+        most_load cutter.lines (size_of next.writer.current + length next.window.held) (size_of cutter.writer.current + length cutter.window.held) next.lines (length (line ++ more)) 0 (omega (arith, went.lines, line_has line one, both)) (omega (arith, length-append cutter.window.held line, both, went.size));
   });
 } where
-  reached : (x : List ℕ) → IsWhole x → Stands cutter x
-      → CutThere (settled_part cutter x) (more_lines cutter lines aim) (x ++ line) (cutter.window.held ++ line) line cut
-      (lines - delimiters newline cutter.window.held)
-  reached x whole stands = let live = live_of differs stands in
-      let count : lines ≡ line_count newline (x ++ line) = counted ∙ ap (λ n. n + 1) live.at.counted ∙ sym (count-line line whole one) in record {
-        at = at_more cutter lines aim x line cutter.window.held (inl whole) fit.fits.some live.at live.ends count;
-        now = cuts_there aim line cut live whole fit one count will.from (tries x whole live).0 (tries x whole live).1;
-        same = sym (live_part live) ∙ part_more aim line (inl whole) fit.fits.some live.at live.ends count;
-      }
+  all : CutsAll told (more_lines cutter (cutter.lines + 1) mid.aim) cut
+      (cutter.lines + 1 - delimiters newline cutter.window.held) (cutter.window.held ++ line) line more old new next
+      fault
+  all = rw is at cuts
 
--- more lines came after it
-pub take_cut : {told : Bool} {cutter mid next : CutterState} (line more : List ℕ) {cut : Cut} {old new : List Slot}
-    {fault : Option Fault} → IsFit cutter → (cutter.aim ≡ Below → ⊥) → IsLine line
-    → mid ≡ record cutter { lines = cutter.lines + 1; aim = mid.aim }
-    → WillCut mid cut → TriesNext cutter line mid (Some cut)
-    → CutsAll told mid cut (mid.lines - delimiters newline mid.window.held)
-    (mid.window.held ++ line) line more old new next fault → Takes told cutter (line ++ more) old new next fault
-take_cut {told} {cutter} {next = next} line more {cut} {old} {new} {fault} fit differs one is will tries all =
-    took_cut line more fit differs one refl (rw is at will) (rw is at tries)
-    (rw is at all)
+  reached : (x : List ℕ) → IsWhole x → Stands cutter x
+      → (at : IsAt (bare (more_lines cutter (cutter.lines + 1) mid.aim)) (x ++ line) (cutter.window.held ++ line))
+      × CutsNow line cut (cutter.lines + 1 - delimiters newline cutter.window.held) at
+      × (settled_part cutter x ≡ part_at at)
+  reached x whole stands =
+      let live = live_of differs stands in
+      let cuts = tries x whole live in
+      let count : cutter.lines + 1 ≡ line_count newline (x ++ line) = ap (λ n. n + 1) live.at.counted ∙ sym (count-line line whole one) in (
+        at_more line (inl whole) fit.fits.some live.at live.ends count,
+        cuts_there line cut live whole fit one count (rw is at will).from cuts.0 (rw (ap (λ (c : CutterState). c.lines) is) at cuts.1),
+        sym (live_part live) ∙ part_more line (inl whole) fit.fits.some live.at live.ends count,
+      )
 
 -- Where the cut is below the current line, later lines go nowhere.
 
 pub past_plan : (suppress : Bool) (operands : List Operand) {x : List ℕ} (t : List ℕ) → IsWhole x
     → is_final (plan suppress operands (all_lines x)).ending ≡ true
     → plan suppress operands (all_lines (x ++ t)) ≡ plan suppress operands (all_lines x)
-past_plan suppress operands {x} t whole final = grind (arith, common_steps, all_lines-append, stays)
+past_plan suppress operands t whole final = grind (arith, common_steps, all_lines-append, stays)
 
 final_draft : (style : Style) (operands : List Operand) (x : List ℕ)
     → is_final (plan style.suppress operands (all_lines x)).ending ≡ true
@@ -245,11 +224,11 @@ pub is_past : {cutter : CutterState} {x : List ℕ} → cutter.aim ≡ Below →
 is_past aim fact = grind (arith, common_steps)
 
 pub still_past : {cutter : CutterState} {x : List ℕ} (t : List ℕ) → IsWhole x → IsPast cutter x → IsPast cutter (x ++ t)
-still_past {cutter} t whole past = search (rules, past_plan, past_draft)
+still_past t whole past = search (rules, past_plan, past_draft)
 
 pub took_past : {told : Bool} {cutter : CutterState} {t : List ℕ} {slots : List Slot} → cutter.aim ≡ Below
     → IsSound cutter → IsReady cutter.writer slots → Takes told cutter t slots slots cutter None
-took_past {t = t} aim sound ready = search (rules, keeps_files, leaves_still, reaches_still, past_part, is_past, still_past)
+took_past aim sound ready = search (rules, keeps_files, leaves_still, reaches_still, past_part, is_past, still_past)
 
 -- Taking a text of complete lines in, stretch by stretch.
 
@@ -276,7 +255,7 @@ takes_again {one = one} {three = three} {a} {b} {fault = fault} whole first seco
   went = where_well fault second.went (λ went. record {
     stands = λ x before stands. subst (Stands three) (append_assoc x a b) (went.stands (x ++ a) (whole-append a before whole) (first.went.stands x before stands));
     sound = went.sound;
-    size = (let all : length (a ++ b) ≡ length a + length b = length-append a b in let s = first.went.size in let t = went.size in omega (arith, all, s, t));
+    size = omega (arith, length-append a b, first.went.size, went.size);
   });
 }
 
@@ -300,26 +279,28 @@ pub record Taking (told : Bool) (cutter now : CutterState) (text left : List ℕ
 
 pub takes_none : {told : Bool} {cutter : CutterState} {slots : List Slot} → IsSound cutter → IsReady cutter.writer slots
     → Takes told cutter [] slots slots cutter None
-takes_none {cutter = cutter} sound ready = grind (arith, common_steps)
+takes_none sound ready = grind (arith, common_steps)
 
 module _ {told : Bool} {cutter now : CutterState} {text left : List ℕ} {old mid : List Slot}
     (so_far : Taking told cutter now text left old mid) where
-  pub takes_more : {next : CutterState} {size : ℕ} (passed : Passed) {new : List Slot}
+  pub takes_more : {next : CutterState} {size : ℕ} (passed : Passed) {new : List Slot} → IsWhole (take size left)
       → Stretches told now left size mid new next (Ok passed)
       → Taking told cutter next text (take (length left - passed.size) (drop passed.size left)) old new
-  takes_more {next} passed {new} more = record {
-    front = so_far.front ++ take n left;
-    whole = so_far.whole ∙ ap (λ those. so_far.front ++ those) (sym (take-append-drop n left) ∙ ap (λ those. take n left ++ those) (sym (rest_all n left))) ∙ sym (append_assoc so_far.front (take n left) (take (length left - n) (drop n left)));
-    complete = whole-append (take n left) so_far.complete (rw (← more.size_is) at (more.whole so_far.rest));
-    rest = subst IsWhole (sym (rest_all n left)) (whole_drop n so_far.rest);
-    took = takes_again so_far.complete so_far.took (rw (← more.size_is) at more.took);
-  } where
-    n : ℕ
-    n = passed.size
+  takes_more {size = size} passed first more =
+      let front = take size left ++ take more.on.n (drop size left) in
+      let rest : take (length left - passed.size) (drop passed.size left) ≡ drop more.on.n (drop size left) = rest_all passed.size left ∙ ap (λ n. drop n left) more.on.size_is ∙ sym (drop-drop more.on.n size left) in record {
+        front = so_far.front ++ front;
+        whole = grind (arith, common_steps, so_far.whole, rest);
+        complete = whole-append front so_far.complete (whole-append _ first more.on.whole);
+        rest = rw rest (whole_drop more.on.n (whole_drop size so_far.rest));
+        took = takes_again so_far.complete so_far.took more.took;
+      }
 
-  pub takes_stopped : {next : CutterState} {size : ℕ} {new : List Slot} {fault : Fault}
+  pub takes_stopped : {next : CutterState} {size : ℕ} {new : List Slot} {fault : Fault} → IsWhole (take size left)
       → Stretches told now left size mid new next (Err fault) → Takes told cutter text old new next (Some fault)
-  takes_stopped {next} {new = new} {fault} more = rw (← so_far.whole) at (takes_again so_far.complete so_far.took (subst (λ those. Takes told now those mid new next (Some fault)) (take-append-drop more.n left) (takes_wider (drop more.n left) (more.whole so_far.rest) more.took)))
+  takes_stopped {size = size} first more =
+      let all : (take size left ++ take more.on.n (drop size left)) ++ drop more.on.n (drop size left) ≡ left = (grind (arith, common_steps)) in
+      rw (← so_far.whole) at (takes_again so_far.complete so_far.took (rw all at (takes_wider (drop more.on.n (drop size left)) (whole-append _ first more.on.whole) more.took)))
 
   pub takes_end : left ≡ [] → Takes told cutter text old mid now None
   takes_end none = grind (arith, common_steps)
@@ -330,23 +311,14 @@ module _ {told : Bool} {cutter now : CutterState} {text left : List ℕ} {old mi
 pub found_next : {told : Bool} {now next : CutterState} {left : List ℕ} {size : ℕ} (passed : Passed)
     {mid new : List Slot} → Stretches told now left size mid new next (Ok passed)
     → IfSome passed.found (IsNextFound next (take (length left - passed.size) (drop passed.size left)))
-found_next {next = next} {left} passed more = grind (arith, common_steps)
+found_next passed more = grind (arith, common_steps)
 
 pub takes_fewer : {told : Bool} {now next : CutterState} {left : List ℕ} {size : ℕ} (passed : Passed)
-    {mid new : List Slot} → 0 < size → Stretches told now left size mid new next (Ok passed)
+    {mid new : List Slot} → 0 < size → size ≤ length left → Stretches told now left size mid new next (Ok passed)
     → length (take (length left - passed.size) (drop passed.size left)) < length left
-takes_fewer {left = left} passed some more = grind (arith, common_steps)
+takes_fewer passed some within more = grind (arith, common_steps)
 
 -- Cutting as often as operands cut the lines that are left.
-
--- What is said of the sections and of where the run stands doesn't depend on the aim or the lines that wait.
-
-abbrev pub alike : CutterState → Turn → Window → CutterState
-alike cutter aim window = record cutter { aim = aim; window = window }
-
-unfoldable pub at_alike : (cutter : CutterState) (aim : Turn) (window : Window) (x left : List ℕ) → IsAt cutter x left
-    → IsAt (alike cutter aim window) x left
-at_alike cutter aim window x left at = record { steps = at.steps; leads = at.leads; counted = at.counted; taken = at.taken; written = at.written; few = at.few; written_is = at.written_is; left_is = at.left_is; writes = at.writes }
 
 -- Trying the next operand changes the aim alone.
 
@@ -355,117 +327,63 @@ spread_fit is fit = grind (arith, common_steps)
 
 pub spread_ready : (now : CutterState) {mid : CutterState} {slots : List Slot} → mid ≡ record now { aim = mid.aim }
     → IsReady now.writer slots → IsReady mid.writer slots
-spread_ready now {slots} is ready = grind (arith, common_steps)
+spread_ready now is ready = grind (arith, common_steps)
 
 pub spread_fewer : (now : CutterState) {mid : CutterState} {less : ℕ} → mid ≡ record now { aim = mid.aim }
     → less < needed mid.lines (state_in mid) → less < needed now.lines (state_in now)
-spread_fewer now {less} is fewer = grind (arith, common_steps)
+spread_fewer now is fewer = grind (arith, common_steps)
 
 -- the next operand cuts as well
 
-cuts_again : {told : Bool} {cutter now : CutterState} {aim : Turn} (cut : Cut) {x : List ℕ} (line : List ℕ)
+cuts_again : {told : Bool} {cutter now : CutterState} (cut : Cut) {x : List ℕ} (line : List ℕ)
     {left : List ℕ} {low : Part} {old new : List Slot} (after : IsAfter told cutter x line now left low old new)
-    → Tries now line (record now { aim = aim }) (Some cut) → WillCut now cut
-    → CutsNow (record now { aim = aim }) x left line cut now.progress.current
-    (at_alike now aim now.window x left after.now)
-unfolding at_alike
-cuts_again cut {x} line after tries will = grind (arith, common_steps)
+    → Tries now line now (Some cut) → WillCut now cut
+    → CutsNow line cut now.progress.current after.now
+cuts_again cut line after tries will = grind (arith, common_steps)
 
-pub spread_more : {told : Bool} {cutter now mid next : CutterState} {cut cut' : Cut} {place : ℕ}
-    {waiting line left rest : List ℕ} {old between new : List Slot}
-    → Spreading told cutter cut place waiting line old between now left
-    → mid ≡ record now { aim = mid.aim } → Tries now line mid (Some cut') → WillCut now cut'
-    → CutAt told mid cut' mid.progress.current left between new next rest
-    → Spreading told cutter cut place waiting line old new next rest
-unfolding at_alike
-spread_more {told} {cutter} {now} {mid} {next} {cut} {cut'} {waiting = waiting} {line} {left} {rest} {between = between} {new} so_far is tries will at_cut =
-    let tried = subst (λ (m : CutterState). Tries now line m (Some cut')) is tries in
-    let once = (rw is at at_cut).spreading line in record {
-      keeps = keeps_on so_far.keeps (record { operands = once.keeps.operands; style = once.keeps.style; writer = once.keeps.writer });
-      lines = once.lines ∙ so_far.lines;
-      fit = once.fit;
-      held = once.held;
-      after = λ x at here.
-          let after = so_far.after x at here in
-          let again = once.after x (at_alike now mid.aim now.window x left after.now) (cuts_again cut' line after tried will) in record {
-            now = again.now;
-            looked = again.looked;
-            near = again.near;
-            none = again.none;
-            grows = part_trans (part_at cutter x waiting at) (part_at now x left after.now) (part_at next x rest again.now) after.grows again.grows;
-            reaches = reaches_then so_far.keeps.style after.grows after.reaches again.reaches;
-          };
-      size = (let one = once.size in let two = so_far.size in omega (arith, one, two));
-      end = (so_far.end.0 ++ once.end.0, so_far.end.1 ∙ ap (λ those. so_far.end.0 ++ those) once.end.1 ∙ sym (append_assoc so_far.end.0 once.end.0 rest));
-    }
+module _ {told : Bool} {cutter now mid : CutterState} {cut cut' : Cut} {place : ℕ} {waiting line left : List ℕ}
+    {old between : List Slot} (so_far : Spreading told cutter cut place waiting line old between now left)
+    (is : mid ≡ record now { aim = mid.aim }) (tries : Tries now line mid (Some cut')) (will : WillCut now cut') where
+  pub spread_more : {next : CutterState} {rest : List ℕ} {new : List Slot}
+      → CutAt told mid cut' mid.progress.current left between new next rest
+      → Spreading told cutter cut place waiting line old new next rest
+  spread_more {next} {rest} at_cut =
+      let once = (rw is at at_cut).spreading line in record {
+        keeps = keeps_on so_far.keeps once.keeps;
+        lines = once.lines ∙ so_far.lines;
+        fit = once.fit;
+        held = once.held;
+        after = λ x at here.
+            let after = so_far.after x at here in
+            let again = once.after x after.now (cuts_again cut' line after tries will) in record {
+              now = again.now;
+              looked = again.looked;
+              near = again.near;
+              none = again.none;
+              grows = part_trans (part_at at) (part_at after.now) (part_at again.now) after.grows again.grows;
+              reaches = reaches_then so_far.keeps.style after.grows after.reaches again.reaches;
+            };
+        size = omega (arith, once.size, so_far.size);
+        end = (so_far.end.0 ++ once.end.0, so_far.end.1 ∙ ap (λ those. so_far.end.0 ++ those) once.end.1 ∙ sym (append_assoc so_far.end.0 once.end.0 rest));
+      }
 
-pub spread_stopped : {told : Bool} {cutter now mid next : CutterState} {cut cut' : Cut} {place : ℕ}
-    {waiting line left : List ℕ} {old between new : List Slot} {fault : Fault}
-    → Spreading told cutter cut place waiting line old between now left
-    → mid ≡ record now { aim = mid.aim } → Tries now line mid (Some cut') → WillCut now cut'
-    → CutsAll told mid cut' mid.progress.current left line [] between new next (Some fault)
-    → CutsAll told cutter cut place waiting line [] old new next (Some fault)
-unfolding at_alike
-spread_stopped {told} {now = now} {mid} {next} {cut' = cut'} {line = line} {left} {between = between} {new} {fault} so_far is tries will stops =
-    let tried = subst (λ (m : CutterState). Tries now line m (Some cut')) is tries in
-    let stopped = rw is at stops in record {
-      keeps = keeps_on so_far.keeps (record { operands = stopped.keeps.operands; style = stopped.keeps.style; writer = stopped.keeps.writer });
-      reaches = λ x at here. let after = so_far.after x at here in reaches_then so_far.keeps.style after.grows after.reaches
-          (reaches_as refl (sym (settled_same (x ++ []) so_far.keeps)) (stopped.reaches x (at_alike now mid.aim now.window x left after.now) (cuts_again cut' line after tried will)));
-      went = tt;
-    }
-
--- Then no operand cuts any more, and the lines that are left are held, perhaps with more.
-
-pub spread_on : {told : Bool} {cutter now next : CutterState} {lines : ℕ} {aim : Turn} {cut : Cut} {place : ℕ}
-    {waiting line left more : List ℕ} {old between new : List Slot} {fault : Option Fault}
-    (so_far : Spreading told cutter cut place waiting line old between now left)
-    → IsSound (more_lines now lines aim) → lines ≤ cutter.lines + length more
-    → ((x : List ℕ) (at : IsAt cutter x waiting) (here : CutsNow cutter x waiting line cut place at)
-    → Reached (part_at now x left (so_far.after x at here).now) (more_lines now lines aim) (x ++ more)
-    (left ++ more))
-    → Holds told (more_lines now lines aim) (left ++ more) between new next fault
-    → CutsAll told cutter cut place waiting line more old new next fault
-spread_on {cutter = cutter} {next = next} {lines} {left = left} {more} {fault = fault} so_far sound few reached held = record {
-  keeps = keeps_on so_far.keeps (record { operands = held.keeps.operands; style = held.keeps.style; writer = held.keeps.writer });
-  reaches = λ x at here. let after = so_far.after x at here in let there = reached x at here in
-      reaches_then so_far.keeps.style after.grows after.reaches (reaches_as there.same (sym (settled_same (x ++ more) so_far.keeps)) (held.reaches (x ++ more) there.at there.arrives));
-  went = where_well fault held.went (λ went. record {
-    lines = (let l : next.lines ≡ lines = ap (λ (c : CutterState). c.lines) went.same in omega (arith, l, few));
-    sound = sound_held went sound;
-    stands = λ x at here. let there = reached x at here in went.stands (x ++ more) there.at there.arrives;
-    size = (let one = went.size in let two = so_far.size in let joined : length (left ++ more) ≡ length left + length more = length-append left more in omega (arith, one, two, joined));
-  });
-}
-
-pub spread_held : {told : Bool} {cutter mid next : CutterState} {cut : Cut} {place : ℕ} {waiting line left : List ℕ}
-    {old between new : List Slot} {fault : Option Fault}
-    → Spread told cutter cut place waiting line old between mid left
-    → Holds told mid (mid.window.held ++ left) between new next fault
-    → CutsAll told cutter cut place waiting line [] old new next fault
-unfolding at_alike
-spread_held {told} {cutter} {mid} {next} {left = left} {between = between} {new} {fault} spread held =
-    let now = spread.now in
-    let is : mid ≡ more_lines now now.lines mid.aim = spread.is in
-    let none : mid.window.held ≡ [] = ap (λ (c : CutterState). c.window.held) is ∙ spread.so_far.held in
-    spread_on spread.so_far (subst IsSound is (record { fit = spread_fit spread.is spread.so_far.fit; aim = spread.aim })) (let l = spread.so_far.lines in omega (arith, l))
-    (λ x at here.
-    let after = spread.so_far.after x at here in
-    let low = part_at now x left after.now in
-    let there : Reached low (more_lines now now.lines mid.aim) x left = record {
-      at = at_alike now mid.aim now.window x left after.now;
-      arrives = record { ends = rw is at (spread.tries x after.looked); low = λ past. after.none; enough = inl after.none };
-      same = refl;
-    } in
-    rw (append-nil x) (subst (Reached low (more_lines now now.lines mid.aim) x) (sym (append-nil left)) there))
-    (rw (← append-nil left) at (subst (λ (m : CutterState). Holds told m left between new next fault) is (subst (λ those. Holds told mid those between new next fault) (ap (λ those. those ++ left) none) held)))
+  pub spread_stopped : {next : CutterState} {new : List Slot} {fault : Fault}
+      → CutsAll told mid cut' mid.progress.current left line [] between new next (Some fault)
+      → CutsAll told cutter cut place waiting line [] old new next (Some fault)
+  spread_stopped stops =
+      let stopped = rw is at stops in record {
+        keeps = keeps_on so_far.keeps stopped.keeps;
+        reaches = λ x at here. let after = so_far.after x at here in reaches_then so_far.keeps.style after.grows after.reaches
+            (reaches_as refl (sym (settled_same (x ++ []) so_far.keeps)) (stopped.reaches x after.now (cuts_again cut' line after tries will)));
+        went = tt;
+      }
 
 -- Cutting the lines that wait and one more.
 
 -- where none waits
 
 pub none_there : {held : List ℕ} {empty : Bool} → empty ≡ eqb (length held) 0 → empty ≡ true → held ≡ []
-none_there {held} is true_is = grind (arith, common_steps)
+none_there is true_is = grind (arith, common_steps)
 
 pub alone : (P : ℕ → List ℕ → Type 0) (cutter : CutterState) (line : List ℕ) → cutter.window.held ≡ []
     → P cutter.lines line
@@ -474,41 +392,26 @@ alone P cutter line none holds = grind (arith, common_steps)
 
 -- and where some do
 
-cuts_alike : {cutter : CutterState} (window : Window) {x left : List ℕ} (line : List ℕ) (cut : Cut) {place : ℕ}
-    {at : IsAt cutter x left} → CutsNow cutter x left line cut place at
-    → CutsNow (alike cutter cutter.aim window) x left line cut place (at_alike cutter cutter.aim window x left at)
-unfolding at_alike
-cuts_alike window line cut now = grind (arith, common_steps)
+drained_place : (lines : ℕ) (held line : List ℕ) {items : List ℕ} {n count place : ℕ} → items ≡ held ++ line
+    → n ≡ length items → count ≡ delimiters newline (take (n - length line) items) → place ≡ lines - count
+    → place ≡ lines - delimiters newline held
+drained_place lines held line {n = n} items_is long count_is place_is =
+    let size : n - length line ≡ length held = omega (arith, long, ap length items_is ∙ length-append held line) in
+    (grind (arith, common_steps, size, items_is, count_is, place_is, take_at))
 
-all_alike : {told : Bool} (cutter : CutterState) {next : CutterState} (window : Window) {cut : Cut} {place : ℕ}
-    {left line : List ℕ} {old new : List Slot} {fault : Option Fault}
-    → CutsAll told (alike cutter cutter.aim window) cut place left line [] old new next fault
-    → CutsAll told cutter cut place left line [] old new next fault
-unfolding at_alike
-all_alike cutter window {cut} {left = left} {line} {fault = fault} all = record {
-  keeps = record { operands = all.keeps.operands; style = all.keeps.style; writer = all.keeps.writer };
-  reaches = λ x at now. all.reaches x (at_alike cutter cutter.aim window x left at) (cuts_alike window line cut now);
-  went = where_well fault all.went (λ went. record { lines = went.lines; sound = went.sound; stands = λ x at now. went.stands x (at_alike cutter cutter.aim window x left at) (cuts_alike window line cut now); size = went.size });
-}
-
-pub cut_drained : {told : Bool} {cutter next : CutterState} {window : Window} {cut : Cut} {place : ℕ}
-    {waiting line : List ℕ} {old new : List Slot} {fault : Option Fault} → waiting ≡ cutter.window.held ++ line
-    → place ≡ cutter.lines - delimiters newline cutter.window.held
+pub cut_drained : {told : Bool} {cutter next : CutterState} {window : Window} {cut : Cut} {n count place : ℕ}
+    {items waiting line : List ℕ} {old new : List Slot} {fault : Option Fault} → waiting ≡ cutter.window.held ++ line
+    → items ≡ cutter.window.held ++ line → n ≡ length items → count ≡ delimiters newline (take (n - length line) items)
+    → place ≡ cutter.lines - count
     → CutsAll told (record cutter { window = window }) cut place waiting line [] old new next fault
     → CutsAll told cutter cut (cutter.lines - delimiters newline cutter.window.held)
     (cutter.window.held ++ line) line [] old new next fault
-cut_drained {told} {cutter} {next} {window} {cut} {waiting = waiting} {line} {old} {new} {fault} waiting_is place_is cuts =
-    all_alike cutter window (rw waiting_is at (subst (λ n. CutsAll told (record cutter { window = window }) cut n waiting line [] old new next fault) place_is cuts))
-
--- how many lines wait
-pub waiting_count : (lines : ℕ) (held : List ℕ) {waiting : List ℕ} (line front : List ℕ) {size count place : ℕ}
-    → waiting ≡ held ++ line → size ≡ length held → front ≡ take size waiting → count ≡ delimiters newline front
-    → place ≡ lines - count → place ≡ lines - delimiters newline held
-waiting_count lines held line front {size} waiting_is size_is front_is count_is place_is = grind (arith, common_steps)
-
-pub waiting_size : (held line : List ℕ) {items : List ℕ} {n : ℕ} → items ≡ held ++ line → n ≡ length items
-    → n - length line ≡ length held
-waiting_size held line {items} is long = grind (arith, common_steps)
+cut_drained {cutter = cutter} {window = window} {line = line} {fault = fault} waiting_is items_is long count_is place_is cuts =
+    let all = rw (waiting_is, drained_place cutter.lines cutter.window.held line items_is long count_is place_is) at cuts in record {
+      keeps = all.keeps;
+      reaches = all.reaches;
+      went = where_well fault all.went (λ went. record { lines = went.lines; sound = went.sound; stands = went.stands; size = went.size });
+    }
 
 -- A line is cut, or isn't, and what is left of it is held together with the lines after it that aren't cut.
 
@@ -520,32 +423,44 @@ found_by : {told : Bool} {mid next : CutterState} {left : List ℕ} {old new : L
 found_by rest (Some size) held is = grind (arith, common_steps)
 found_by rest None held is = is
 
-found_held : {told : Bool} {mid next : CutterState} {left : List ℕ} {old new : List Slot} (rest : List ℕ)
-    (result : Result Passed Fault) → Holds told mid left old new next (fault_in result)
-    → IfOk result (λ passed. IfSome passed.found (IsNextFound mid rest))
-    → IfOk result (λ passed. IfSome passed.found (IsNextFound next rest))
-found_held rest (Ok passed) held found = found_by rest passed.found held found
-found_held rest (Err fault) held found = tt
-
 ok_as : {P Q : Passed → Type 0} (result : Result Passed Fault) → ((passed : Passed) → P passed → Q passed)
     → IfOk result P → IfOk result Q
 ok_as result follows holds = grind (arith, common_steps)
 
 -- What `go_on` owes.
-pub gone_on : {told : Bool} {cutter mid next : CutterState} (text : List ℕ) {rest : List ℕ} (kept : ℕ) {passed : Passed}
-    {old new : List Slot} (result : Result Passed Fault) → kept ≤ length text → rest ≡ drop kept text
-    → StopsAt cutter rest mid passed
-    → Holds told mid (mid.window.held ++ take (kept + passed.size) text) old new next (fault_in result)
-    → IfOk result (λ all. (all.size ≡ kept + passed.size) × (all.found ≡ passed.found))
-    → GoesOn told cutter (take kept text) (drop kept text) old new next result
-gone_on {told} {cutter} {mid} {next} text kept {passed} {old} {new} result within rest_is stops held are =
+
+found_held : {told : Bool} {mid next : CutterState} {left : List ℕ} {old new : List Slot} (rest : List ℕ) (size : ℕ)
+    (found : Option ℕ) (result : Result Passed Fault) → Holds told mid left old new next (fault_in result)
+    → IfSome found (IsNextFound mid rest) → IfOk result (λ all. (all.size ≡ size) × (all.found ≡ found))
+    → IfOk result (λ all. IfSome all.found (IsNextFound next rest))
+found_held rest size found (Ok all) held is are = rw are.1 (found_by rest found held is)
+found_held rest size found (Err fault) held is are = tt
+
+piece_from : (text : List ℕ) (first size n : ℕ) → first ≤ size → size ≤ length text
+    → take (size + n - first) (drop first text) ≡ drop first (take size text) ++ take n (drop size text)
+piece_from text first size n low within =
+    let parts : drop first text ≡ drop first (take size text) ++ drop size text = ap (drop first) (sym (take-append-drop size text)) ∙ drop-append-le first (take size text) (drop size text) (let e = length-take-le size text within in omega (arith, low, e)) in
+    ap (take (size + n - first)) parts ∙ ap (λ k. take k (drop first (take size text) ++ drop size text)) (let e : size + n - first ≡ length (drop first (take size text)) + n = omega (arith, length-drop first (take size text) ∙ ap (λ k. k - first) (length-take-le size text within), low) in e)
+    ∙ take-append-add (drop first (take size text)) (drop size text) n
+
+pub gone_on : {told : Bool} {cutter mid next : CutterState} (text : List ℕ) {rest : List ℕ} (first size : ℕ)
+    {passed : Passed} {old new : List Slot} (result : Result Passed Fault) → first ≤ size → size ≤ length text
+    → rest ≡ drop size text → StopsAt cutter rest mid passed
+    → Holds told mid (mid.window.held ++ take (size + passed.size - first) (drop first text)) old new next
+    (fault_in result) → IfOk result (λ all. (all.size ≡ size + passed.size) × (all.found ≡ passed.found))
+    → GoesOn told cutter (drop first (take size text)) text size old new next result
+gone_on text first size {passed} result low within rest_is stops held are =
     let stops_there = rw rest_is at stops in record {
-      mid = mid;
-      n = passed.size;
+      on = record {
+        n = passed.size;
+        within = stops_there.over.within;
+        whole = stops_there.over.whole;
+        size_is = ok_as result (λ all both. both.0) are;
+        found = found_held (drop passed.size (drop size text)) _ passed.found result held stops_there.found are;
+      };
+      mid = _;
       over = stops_there.over;
-      held = rw (take-add kept passed.size text) at held;
-      size = ok_as result (λ all both. both.0 ∙ ap (λ k. k + passed.size) (sym (length-take-le kept text within))) are;
-      found = ok_as result (λ all both. rw (← both.1) at stops_there.found) are;
+      held = rw (piece_from text first size passed.size low within) at held;
     }
 
 -- The lines after a cut, up to where the next operand cuts: none of the open section is written before them.
@@ -554,88 +469,82 @@ there_of : {told : Bool} {now mid : CutterState} {aim : Turn} {x : List ℕ} (li
     {low : Part} {cutter : CutterState} {old new : List Slot} → IsFit now → Joins x (take n rest)
     → Tries now line (record now { aim = aim }) None → PassesOver (record now { aim = aim }) rest mid n
     → (after : IsAfter told cutter x line now left low old new)
-    → Reached (part_at now x left after.now) (more_lines now mid.lines aim) (x ++ take n rest) (left ++ take n rest)
-unfolding at_more at_alike
+    → Reached (part_at after.now) (more_lines now mid.lines aim) (x ++ take n rest) (left ++ take n rest)
+unfolding at_more
 there_of {now = now} {mid} {aim} {x} line {left} {rest} {n} fit whole tries over after =
-    let here = alike now aim now.window in
-    let at = at_alike now aim now.window x left after.now in
-    let ends : EndsNow here x = tries x after.looked in
+    let ends : EndsNow (record now { aim = aim }) x = tries x after.looked in
     let both = over.ends x whole after.now.counted ends in record {
-      at = at_more here mid.lines aim x (take n rest) left whole fit.fits.some at ends both.0;
+      at = at_more (take n rest) whole fit.fits.some after.now ends both.0;
       arrives = record { ends = rw over.same at both.1; low = λ past. after.none; enough = inl after.none };
-      same = part_more aim (take n rest) whole fit.fits.some at ends both.0;
+      same = part_more (take n rest) whole fit.fits.some after.now ends both.0;
     }
 
 -- where the first line is all, or complete
 joins_by : {E : Type 0} {x rest : List ℕ} (n : ℕ) → (rest ≡ []) ⊎ E → (E → IsWhole x) → Joins x (take n rest)
 joins_by n fact ends = grind (arith, common_steps)
 
-spread_passes : {told : Bool} {cutter mid end next : CutterState} {cut : Cut} {place : ℕ} {line left rest : List ℕ}
-    {n : ℕ} {old between new : List Slot} {fault : Option Fault}
-    → Spread told cutter cut place line line old between mid left → (rest ≡ []) ⊎ (ends_with newline line ≡ true)
-    → PassesOver mid rest end n
+-- Then no operand cuts any more, and the lines that are left are held, perhaps with more.
+
+pub spread_passes : {told : Bool} {cutter mid end next : CutterState} {cut : Cut} {place : ℕ}
+    {waiting line left rest : List ℕ} {n : ℕ} {old between new : List Slot} {fault : Option Fault}
+    → Spread told cutter cut place waiting line old between mid left
+    → (rest ≡ []) ⊎ (ends_with newline line ≡ true) → PassesOver mid rest end n
     → Holds told end (end.window.held ++ (left ++ take n rest)) between new next fault
-    → CutsAll told cutter cut place line line (take n rest) old new next fault
-spread_passes {told} {mid = mid} {end} {next} {line = line} {left} {rest} {n} {between = between} {new} {fault} spread complete over held =
-    let now = spread.now in
-    let over_now = subst (λ (m : CutterState). PassesOver m rest end n) spread.is over in
-    let long : length (take n rest) ≡ n = length-take-le n rest over.within in
-    spread_on spread.so_far (subst IsSound over_now.same over.sound) (let few = over_now.few in let s = spread.so_far.lines in omega (arith, few, s, long))
-    (λ x at here. there_of line spread.so_far.fit (joins_by n complete here.last.2) (rw spread.is at spread.tries) over_now (spread.so_far.after x at here))
-    (subst (λ those. Holds told (more_lines now end.lines mid.aim) (those ++ (left ++ take n rest)) between new next fault) spread.so_far.held
-    (rw over_now.same at held))
+    → CutsAll told cutter cut place waiting line (take n rest) old new next fault
+spread_passes {told} {cutter} {mid} {end} {next} {cut} {place} {waiting} {line} {left} {rest} {n} {between = between} {new} {fault} spread complete over held = record {
+  keeps = keeps_on spread.so_far.keeps held_now.keeps;
+  reaches = λ x at here. let after = spread.so_far.after x at here in let there = reached x at here in
+      reaches_then spread.so_far.keeps.style after.grows after.reaches (reaches_as there.same (sym (settled_same (x ++ take n rest) spread.so_far.keeps)) (held_now.reaches (x ++ take n rest) there.at there.arrives));
+  went = where_well fault held_now.went (λ went. record {
+    lines = omega (arith, ap (λ (c : CutterState). c.lines) went.same, over_now.few, spread.so_far.lines, length-take-le n rest over.within);
+    sound = sound_held went (subst IsSound over_now.same over.sound);
+    stands = λ x at here. let there = reached x at here in went.stands (x ++ take n rest) there.at there.arrives;
+    size = omega (arith, went.size, spread.so_far.size, length-append left (take n rest));
+  });
+} where
+  over_now : PassesOver (record spread.now { aim = mid.aim }) rest end n
+  over_now = rw spread.is at over
 
--- The text from what is left of its first line on.
+  held_now : Holds told (more_lines spread.now end.lines mid.aim) (left ++ take n rest) between new next fault
+  held_now = subst (λ those. Holds told (more_lines spread.now end.lines mid.aim) (those ++ (left ++ take n rest)) between new next fault) spread.so_far.held (rw over_now.same at held)
 
-pub from_left : (text left : List ℕ) (size : ℕ) → size ≤ length text → IsEnd left (take size text)
-    → take (length text - (size - length left)) (drop (size - length left) text) ≡ left ++ drop size text
-from_left text left size within (front, is) =
-    let long : length (take size text) ≡ length front + length left = ap length is ∙ length-append front left in
-    let all : length (take size text) ≡ size = length-take-le size text within in
-    let parts : text ≡ front ++ (left ++ drop size text) = sym (take-append-drop size text) ∙ ap (λ those. those ++ drop size text) is ∙ append_assoc front left (drop size text) in
-    rest_all (size - length left) text ∙ ap (drop (size - length left)) parts
-    ∙ drop_at front (left ++ drop size text) (size - length left) (omega (arith, long, all))
+  reached : (x : List ℕ) (at : IsAt (bare cutter) x waiting) (here : CutsNow line cut place at)
+      → Reached (part_at (spread.so_far.after x at here).now) (more_lines spread.now end.lines mid.aim)
+      (x ++ take n rest) (left ++ take n rest)
+  reached x at here = there_of line spread.so_far.fit (joins_by n complete here.last.2) (rw spread.is at spread.tries) over_now (spread.so_far.after x at here)
 
-left_within : (text left : List ℕ) (size : ℕ) → size ≤ length text → IsEnd left (take size text) → length left ≤ size
-left_within text left size within (front, is) =
-    let long : length (take size text) ≡ length front + length left = ap length is ∙ length-append front left in
-    let all : length (take size text) ≡ size = length-take-le size text within in omega (arith, long, all)
+-- they are held alone
+pub spread_held : {told : Bool} {cutter mid next : CutterState} {cut : Cut} {place : ℕ} {waiting line left : List ℕ}
+    {old between new : List Slot} {fault : Option Fault}
+    → Spread told cutter cut place waiting line old between mid left
+    → Holds told mid (mid.window.held ++ left) between new next fault
+    → CutsAll told cutter cut place waiting line [] old new next fault
+spread_held {left = left} spread held = spread_passes {rest = []} {n = 0} spread (inl refl) (record {
+  same = refl;
+  within = omega arith;
+  whole = inl refl;
+  few = omega arith;
+  sound = record { fit = spread_fit spread.is spread.so_far.fit; aim = spread.aim };
+  ends = λ x before counted ends. rw (append-nil x) (counted, ends);
+}) (rw (append-nil left) held)
 
 -- What `cut_on` owes.
 
-gone_left : {told : Bool} {mid next : CutterState} {left rest tail : List ℕ} {kept : ℕ} {old new : List Slot}
-    {result : Result Passed Fault} → kept ≡ length left → tail ≡ left ++ rest
-    → GoesOn told mid (take kept tail) (drop kept tail) old new next result
-    → GoesOn told mid left rest old new next result
-gone_left {told} {mid} {next} {left} {rest} {tail} {kept} {old} {new} {result} kept_is is gone = grind (arith, common_steps)
+-- what is left of its first line stands at the end of it
+from_left : (text left : List ℕ) (size : ℕ) → size ≤ length text → IsEnd left (take size text)
+    → drop (size - length left) (take size text) ≡ left
+from_left text left size within (front, is) =
+    ap (drop (size - length left)) is ∙ drop_at front left (size - length left) (omega (arith, ap length is ∙ length-append front left, length-take-le size text within))
 
-pub cut_on : {told : Bool} {cutter mid next : CutterState} {cut : Cut} (text : List ℕ) {tail left : List ℕ} (size : ℕ)
-    {kept : ℕ} {passed all : Passed} {old between new : List Slot} → size ≤ length text
-    → (drop size text ≡ []) ⊎ (ends_with newline (take size text) ≡ true)
-    → Spread told cutter cut cutter.lines (take size text) (take size text) old between mid left → kept ≡ length left
-    → tail ≡ left ++ drop size text → GoesOn told mid (take kept tail) (drop kept tail) between new next (Ok passed)
-    → all.size ≡ size - kept + passed.size → all.found ≡ passed.found
-    → CutsOn told cutter cut (take size text) (drop size text) old new next (Ok all)
-cut_on {next = next} text {left = left} size {passed = passed} within complete spread kept_is tail_is goes size_is found_is =
-    let gone = gone_left kept_is tail_is goes in
-    let few : length left ≤ size = left_within text left size within spread.so_far.end in
-    let long : length (take size text) ≡ size = length-take-le size text within in record {
-      n = gone.n;
-      within = gone.over.within;
-      whole = gone.over.whole;
-      all = spread_passes spread complete gone.over gone.held;
-      size = (let g = gone.size in omega (arith, size_is, g, few, kept_is, long));
-      found = rw found_is (found_by (drop gone.n (drop size text)) passed.found gone.held gone.found);
-    }
-
-pub cut_not_on : {told : Bool} {cutter mid next : CutterState} {cut : Cut} {line tail left rest : List ℕ} {kept : ℕ}
-    {old between new : List Slot} {fault : Fault} → (rest ≡ []) ⊎ (ends_with newline line ≡ true)
-    → Spread told cutter cut cutter.lines line line old between mid left
-    → kept ≡ length left → tail ≡ left ++ rest
-    → GoesOn told mid (take kept tail) (drop kept tail) between new next (Err fault)
-    → CutsOn told cutter cut line rest old new next (Err fault)
-cut_not_on complete spread kept_is tail_is goes =
-    let gone = gone_left kept_is tail_is goes in record { n = gone.n; within = gone.over.within; whole = gone.over.whole; all = spread_passes spread complete gone.over gone.held; size = tt; found = tt }
+pub cut_on : {told : Bool} {cutter mid next : CutterState} {cut : Cut} {text left : List ℕ} {size : ℕ}
+    {old between new : List Slot} {result : Result Passed Fault} → Starts text size
+    → Spread told cutter cut cutter.lines (take size text) (take size text) old between mid left
+    → GoesOn told mid (drop (size - length left) (take size text)) text size between new next result
+    → CutsOn told cutter cut text size old new next result
+cut_on {text = text} {left} {size} start spread gone = record {
+  on = gone.on;
+  all = spread_passes spread start.complete gone.over (rw (from_left text left size start.within spread.so_far.end) at gone.held);
+}
 
 -- What `stretch` owes. The first line isn't cut.
 
@@ -653,80 +562,66 @@ ends_on {cutter} {mid} {end} line {rest} {n} one complete mid_is tries over end_
       subst (EndsNow (more_lines cutter end.lines mid.aim)) is (rw end_is at both.1),
     )
 
-stretched : {told : Bool} {cutter next : CutterState} {text : List ℕ} {size n : ℕ} {old new : List Slot}
-    (result : Result Passed Fault) → size ≤ length text → n ≤ length (drop size text)
-    → (drop size text ≡ []) ⊎ (ends_with newline (take size text) ≡ true) → IsWhole (take n (drop size text))
-    → Takes told cutter (take size text ++ take n (drop size text)) old new next (fault_in result)
-    → IfOk result (λ passed. passed.size ≡ length (take size text) + n)
-    → IfOk result (λ passed. IfSome passed.found (IsNextFound next (drop n (drop size text))))
-    → Stretches told cutter text size old new next result
-stretched {told} {cutter} {next} {text} {size} {n} {old} {new} result within more complete whole took size_is found = record {
-  n = size + n;
-  least = omega arith;
-  within = (let long = length-drop size text in omega (arith, long, within, more));
-  whole = λ all. subst IsWhole (sym (take-add size n text)) (by complete all);
-  took = rw (← take-add size n text) at took;
-  size_is = ok_as result (λ passed is. is ∙ ap (λ k. k + n) (length-take-le size text within)) size_is;
-  found = ok_as result (λ passed found. rw (drop-drop n size text) at found) found;
-} where
-  by : (drop size text ≡ []) ⊎ (ends_with newline (take size text) ≡ true) → IsWhole text
-      → IsWhole (take size text ++ take n (drop size text))
-  by (inl none) all = subst IsWhole (sym (ap (λ those. take size text ++ take n those) none ∙ ap (λ those. take size text ++ those) (take_all n [] (omega arith) ∙ sym none) ∙ take-append-drop size text)) all
-  by (inr ends) all = whole-append (take n (drop size text)) (inr ends) whole
+module _ {told : Bool} {cutter mid next : CutterState} {text : List ℕ} {size : ℕ} {old new : List Slot}
+    (result : Result Passed Fault) (fit : IsFit cutter) (differs : cutter.aim ≡ Below → ⊥) (start : Starts text size)
+    (mid_is : mid ≡ record cutter { lines = cutter.lines + 1; aim = mid.aim }) where
+  pub stretch_on : TriesNext cutter (take size text) mid None
+      → GoesOn told mid (take size text) text size old new next result
+      → Stretches told cutter text size old new next result
+  stretch_on tries gone =
+      let end = gone.mid in
+      let line = take size text in
+      let end_is : end ≡ more_lines cutter end.lines mid.aim = gone.over.same ∙ ap (λ (c : CutterState). record c { lines = end.lines }) mid_is in
+      record {
+        on = gone.on;
+        took = took_held (subst IsSound end_is gone.over.sound) fit differs (omega (arith, gone.over.few, length-append line (take gone.on.n (drop size text)), length-take-le gone.on.n (drop size text) gone.over.within, ap (λ (c : CutterState). c.lines) mid_is, line_has line start.line))
+            (ends_on line start.line start.complete mid_is tries gone.over end_is) (rw end_is at gone.held);
+      }
 
-pub stretch_on : {told : Bool} {cutter mid next : CutterState} {text : List ℕ} {size : ℕ} {old new : List Slot}
-    (result : Result Passed Fault) → IsFit cutter → (cutter.aim ≡ Below → ⊥) → size ≤ length text
-    → IsLine (take size text) → (drop size text ≡ []) ⊎ (ends_with newline (take size text) ≡ true)
-    → mid ≡ record cutter { lines = cutter.lines + 1; aim = mid.aim } → TriesNext cutter (take size text) mid None
-    → GoesOn told mid (take size text) (drop size text) old new next result
-    → Stretches told cutter text size old new next result
-stretch_on {told} {cutter} {mid} {next} {text} {size} {old} {new} result fit differs within one complete mid_is tries gone =
-    let end = gone.mid in
-    let line = take size text in
-    let more = take gone.n (drop size text) in
-    let end_is : end ≡ more_lines cutter end.lines mid.aim = gone.over.same ∙ ap (λ (c : CutterState). record c { lines = end.lines }) mid_is in
-    let some : 1 ≤ length line = line_has line one in
-    let longer : length (line ++ more) ≡ length line + length more = length-append line more in
-    let rest : length more ≡ gone.n = length-take-le gone.n (drop size text) gone.over.within in
-    let first : mid.lines ≡ cutter.lines + 1 = ap (λ (c : CutterState). c.lines) mid_is in
-    stretched result within gone.over.within complete gone.over.whole (took_held (subst IsSound end_is gone.over.sound) fit differs (let few = gone.over.few in omega (arith, few, longer, rest, first, some))
-    (ends_on line one complete mid_is tries gone.over end_is) (rw end_is at gone.held)) gone.size (found_held (drop gone.n (drop size text)) result gone.held gone.found)
+  -- It is cut, and none waits.
+  pub stretch_cut : {cut : Cut} → mid.window.held ≡ [] → WillCut mid cut
+      → TriesNext cutter (take size text) mid (Some cut) → CutsOn told mid cut text size old new next result
+      → Stretches told cutter text size old new next result
+  stretch_cut {cut} none will tries on = let line = take size text in let more = take on.on.n (drop size text) in record {
+    on = on.on;
+    took = take_cut line more fit differs start.line mid_is will tries (alone (λ place those. CutsAll told mid cut place those line more old new next (fault_in result)) mid line none on.all);
+  }
 
--- It is cut, and none waits.
-pub stretch_cut : {told : Bool} {cutter mid next : CutterState} {text : List ℕ} {size : ℕ} {cut : Cut}
-    {old new : List Slot} (result : Result Passed Fault) → IsFit cutter → (cutter.aim ≡ Below → ⊥) → size ≤ length text
-    → IsLine (take size text) → (drop size text ≡ []) ⊎ (ends_with newline (take size text) ≡ true)
-    → mid ≡ record cutter { lines = cutter.lines + 1; aim = mid.aim } → mid.window.held ≡ [] → WillCut mid cut
-    → TriesNext cutter (take size text) mid (Some cut)
-    → CutsOn told mid cut (take size text) (drop size text) old new next result
-    → Stretches told cutter text size old new next result
-stretch_cut {told} {cutter} {mid} {next} {text} {size} {cut} {old} {new} result fit differs within one complete mid_is none will tries on =
-    let line = take size text in
-    let more = take on.n (drop size text) in
-    stretched result within on.within complete on.whole (take_cut line more fit differs one mid_is will tries (alone (λ place those. CutsAll told mid cut place those line more old new next (fault_in result)) mid line none on.all)) on.size on.found
-
--- It is cut, and some wait.
-pub stretch_first : {told : Bool} {cutter mid next : CutterState} {text : List ℕ} {size : ℕ} {cut : Cut}
-    {old new : List Slot} (result : Result Passed Fault) → IsFit cutter → (cutter.aim ≡ Below → ⊥) → size ≤ length text
-    → IsLine (take size text) → (drop size text ≡ []) ⊎ (ends_with newline (take size text) ≡ true)
-    → mid ≡ record cutter { lines = cutter.lines + 1; aim = mid.aim } → WillCut mid cut
-    → TriesNext cutter (take size text) mid (Some cut)
-    → CutsAll told mid cut (mid.lines - delimiters newline mid.window.held) (mid.window.held ++ take size text)
-    (take size text) [] old new next (fault_in result)
-    → IfOk result (λ passed. (passed.size ≡ size) × (passed.found ≡ None))
-    → Stretches told cutter text size old new next result
-stretch_first {told} {cutter} {next = next} {text} {size} {old = old} {new} result fit differs within one complete mid_is will tries all are =
-    stretched {n = 0} result within (omega arith) complete (inl refl) (take_cut (take size text) [] fit differs one mid_is will tries all)
-    (ok_as result (λ passed both. both.0 ∙ (let long = length-take-le size text within in omega (arith, long))) are) (ok_as result (λ passed both. rw both.1 tt) are)
+  -- It is cut, and some wait.
+  pub stretch_first : {cut : Cut} → WillCut mid cut → TriesNext cutter (take size text) mid (Some cut)
+      → CutsAll told mid cut (mid.lines - delimiters newline mid.window.held) (mid.window.held ++ take size text)
+      (take size text) [] old new next (fault_in result)
+      → IfOk result (λ passed. (passed.size ≡ size) × (passed.found ≡ None))
+      → Stretches told cutter text size old new next result
+  stretch_first will tries all are = record {
+    on = record {
+      n = 0;
+      within = omega arith;
+      whole = inl refl;
+      size_is = ok_as result (λ passed both. omega (arith, both.0)) are;
+      found = ok_as result (λ passed both. rw both.1 tt) are;
+    };
+    took = take_cut (take size text) [] fit differs start.line mid_is will tries all;
+  }
 
 -- All of it goes nowhere.
 pub stretch_past : {told : Bool} {cutter next : CutterState} {text : List ℕ} {size : ℕ} {old new : List Slot}
-    (passed : Passed) → size ≤ length text → Takes told cutter text old new next None → passed.size ≡ length text
+    (passed : Passed) → Starts text size → Takes told cutter text old new next None → passed.size ≡ length text
     → passed.found ≡ None → Stretches told cutter text size old new next (Ok passed)
-stretch_past {told} {cutter} {next} {text} {old = old} {new} passed within took size_is none = grind (arith, common_steps)
+stretch_past {text = text} {size} passed start took size_is none =
+    let rest : take (length (drop size text)) (drop size text) ≡ drop size text = take_all _ (drop size text) (omega arith) in record {
+      on = record {
+        n = length (drop size text);
+        within = omega arith;
+        whole = rw rest start.rest;
+        size_is = omega (arith, size_is, length-drop size text, start.within);
+        found = rw none tt;
+      };
+      took = rw rest (rw take-append-drop took);
+    }
 
 -- The text is one line.
 pub stretched_line : {told : Bool} {cutter next : CutterState} {line : List ℕ} {old new : List Slot}
     {result : Result Passed Fault} → Stretches told cutter line (length line) old new next result
     → Takes told cutter line old new next (fault_in result)
-stretched_line {told} {cutter} {next} {line} {old} {new} {result} stretch = grind (arith, common_steps)
+stretched_line stretch = grind (arith, common_steps)

@@ -2,7 +2,7 @@
 use Rattle.std.proofs.{
   Common.{◌≡◌, inl, inr, ℕ, suc, ◌+◌, ◌-◌, ◌<◌, ◌≤◌, Bool, true, false, List, [], ◌∷◌, ◌++◌, length, get_or, refl, ◌∙◌},
   Common.{ap, arith, length-append, zero, ◌*◌, ◌^◌, drop, sym, subst, None, Result, Ok, Err, OnOk, IfErr, Option, Some},
-  Common.{rules, append-nil, min, cond, take, append_assoc},
+  Common.{rules, append-nil, min, cond, take, append_assoc, map},
   lemmas.{
     Grind.common_steps,
     Bool.{cases_lt, eq-eqb, eqb-true, ne_eqb, false≢true},
@@ -15,10 +15,10 @@ use Rattle.csplit_core.specs.{
   Plan.{is_above, is_below, cuts, below, CutsAt, operands_after, repetition_after, state_after},
   Planned.plan,
   laws.{PlanLaws.{cuts_still, goes_on, plan_runs, plan_once, line_some, fewer_left, fewer_moves}, SectionLaws.ends_as},
-  Progress.{state_of, EndsHere, AimsAt, WillMove},
+  Progress.{state_of, EndsHere, AimsAt},
   inner.Cutter.{AreSeen, Turns, FallsAt, GoesPast, WillCut, PassesOn, PassesCut, IsWhole, IsLine, Joins, Looked},
-  inner.Cutter.{IsFound, IsNoCut, search_after, StaysNear, Tries, TriesNext, AreClear, IsNextFound, PassesClear},
-  inner.Cutter.{PassesOver, StopsAt},
+  inner.Cutter.{IsFound, IsNoCut, search_after, StaysNear, Tries, TriesNext, AreClear, IsNextFound, Lacks, equipped},
+  inner.Cutter.{PassesClear, PassesOver, StopsAt},
   inner.PlanLaws.{needed, EndsAs},
   declared.{
     progress.{Turn.{Turn, TheVariants.{Missed, Above, Below, Cuts, UsedUp}}, Progress.Progress},
@@ -26,16 +26,15 @@ use Rattle.csplit_core.specs.{
   },
   Measure.{Moves, IsRepeatedBy, IsRepeated, Fits},
   Input.{newline, without_newline, marked, all_lines, is_match_of},
-  Cutter.{CutterState, state_in, most_by, pattern_by, suppress_in, IsFit, pattern_in, AimHolds, IsLive, EndsNow},
-  Cutter.IsSound,
+  Cutter.{CutterState, state_in, suppress_in, IsFit, pattern_in, AimHolds, IsLive, EndsNow, IsSound},
 }
 use Rattle.csplit_core.proofs.{
   WholeLemmas.after_within,
   LineLemmas.{all_lines-append, all_lines-line, length-all_lines, count-append, count-line, whole-append, whole_drop},
-  LineLemmas.{whole_count, whole_by, line_by},
+  LineLemmas.{whole_count, whole_by, line_by, rest_all},
 }
 use Rattle.bre_core.specs.{Pattern.Pattern, Search.contains}
-use Rattle.ports_core.specs.{declared.fault.Fault.{Fault, TheVariants.Memory}, Turn.fault_in}
+use Rattle.ports_core.specs.{declared.fault.Fault.Fault, Turn.fault_in}
 use Rattle.seg_core.specs.{
   Line.{line_count, lines_of, delimiters, ends_with, EndsAt, FallsShort, joined, HasNone, IsComplete, AreLines},
 }
@@ -45,14 +44,12 @@ use Rattle.seg_core.proofs.{
   LineCounts.{line_count-le-length, line_count_near, ends_with-append},
   LinesOf.{AreLines-lines_of, joined-lines_of},
 }
-use Rattle.memchr.specs.Find.{Nowhere, Passes, is_byte}
+use Rattle.memchr.specs.Find.{Nowhere, NoneBefore, Passes, is_byte}
 use Rattle.scan_core.specs.Clear.{IsClear}
 
 -- `count` lines come before these, and none of these has the operand's pattern, from the line on of number `from`
 abbrev pub NoneFrom : Operand → (count : ℕ) → List Line → (from : ℕ) → Type 0
 NoneFrom operand count lines from = (k : ℕ) → k < length lines → from ≤ count + suc k → (get_or lines k unmarked).marks operand ≡ false
-
--- After a cut, no line before the last one has to be looked at again
 
 -- where no line before the last one is matched, that line alone decides
 
@@ -74,11 +71,11 @@ pub ends_still : {suppress : Bool} {a : List Line} (b : List Line) {first : Stat
     → EndsStill suppress (length a) b (length (a ++ b)) last ending
     → Runs suppress (a ++ b) last [] last ending
 ends_still b (is_used_up state none) still = is_used_up state none
-ends_still {suppress} {a} b (misses state operand operands is none) still =
+ends_still b (misses state operand operands is none) still =
     misses state operand operands is ((grind (arith, common_steps, none, (still operand operands is))))
 ends_still {suppress} {a} b (is_above state operand operands matched cut is at far) still = is_above state operand operands matched cut is (cuts_still suppress a b state operand operand.target matched cut at) still
 ends_still {suppress} {a} b (is_below state operand operands matched cut is at within low) still =
-    is_below state operand operands matched cut is (cuts_still suppress a b state operand operand.target matched cut at) (let e : length (a ++ b) ≡ length a + length b = length-append a b in omega (arith, e, within)) low
+    is_below state operand operands matched cut is (cuts_still suppress a b state operand operand.target matched cut at) (omega (arith, length-append a b, within)) low
 ends_still b (cuts state operand operands matched cut steps' last' ending' is at from within rest) still = ends_still b rest still
 
 pub stays : (suppress : Bool) (operands : List Operand) (a b : List Line)
@@ -86,7 +83,7 @@ pub stays : (suppress : Bool) (operands : List Operand) (a b : List Line)
     (plan suppress operands a).ending → plan suppress operands (a ++ b) ≡ plan suppress operands a
 stays suppress operands a b so =
     let here = plan_runs suppress operands a in
-    plan_once suppress operands (a ++ b) _ _ _ (goes_on b _ _ here (ends_still b here so))
+    plan_once (goes_on b _ _ here (ends_still b here so))
     ∙ ap (λ (steps : List Step). record (plan suppress operands a) { steps = steps }) (append-nil (plan suppress operands a).steps)
 
 -- What a turn says of the plan.
@@ -95,61 +92,52 @@ stays suppress operands a b so =
 pub capped : (real cap most total : ℕ) → most ≡ min real cap → most ≤ total → total < cap → most ≡ real
 capped real cap most total is within low = grind (arith, common_steps)
 
-pub falls : (suppress : Bool) (all : List Line) {total : ℕ} (state : State) {operand : Operand}
-    {operands : List Operand} (matched real : ℕ) {most : ℕ} → length all ≡ total → state.operands ≡ operand ∷ operands
-    → CutsAt suppress all state operand operand.target matched real → most ≡ min real (2 ^ 64 - 1) → total < 2 ^ 64 - 1
-    → (turn : Turn) → FallsAt total state.current matched most turn → Turns suppress all state turn
-falls suppress all state {operand} {operands} matched real {most} count are at_cut is few (Above line cap) at = record {
-  ending = above operand state.repetition matched real;
-  runs = is_above state operand operands matched real are at_cut (let less : most ≤ real = (grind (arith, common_steps)) in omega (arith, less, at.2, count));
-  aims = (at.0, at.1 ∙ is);
-}
-falls suppress all {total} state {operand} {operands} matched real {most} count are at_cut is few Below at =
-    let same : most ≡ real = capped real (2 ^ 64 - 1) most total is at.0 few in
-    record { ending = below operand state.repetition; runs = is_below state operand operands matched real are at_cut (omega (arith, same, at.0, count)) (omega (arith, same, at.1)); aims = tt }
-falls suppress all {total} state {operand} {operands} matched real {most} count are at_cut is few (Cuts line cut) at = grind (arith, common_steps)
-falls suppress all state matched real count are at_cut is few turn at = absurd at
+module _ {suppress : Bool} (all : List Line) {total : ℕ} {state : State} {found : Bool} {operand : Operand}
+    {operands : List Operand} (are : state.operands ≡ operand ∷ operands)
+    (seen : AreSeen suppress all total state found) where
+  falls : (matched real : ℕ) {most : ℕ} → CutsAt suppress all state operand operand.target matched real
+      → most ≡ min real (2 ^ 64 - 1) → total < 2 ^ 64 - 1 → (turn : Turn)
+      → FallsAt total state.current matched most turn → Turns suppress all state turn
+  falls matched real {most} at_cut is few (Above line cap) at = record {
+    ending = above operand state.repetition matched real;
+    runs = is_above state operand operands matched real are at_cut (let less : most ≤ real = (grind (arith, common_steps)) in omega (arith, less, at.2, seen.count));
+    aims = (at.0, at.1 ∙ is);
+  }
+  falls matched real {most} at_cut is few Below at =
+      let same : most ≡ real = capped real (2 ^ 64 - 1) most total is at.0 few in
+      record { ending = below operand state.repetition; runs = is_below state operand operands matched real are at_cut (omega (arith, same, at.0, seen.count)) (omega (arith, same, at.1)); aims = tt }
+  falls matched real at_cut is few (Cuts line cut) at = (grind (arith, common_steps, seen.count))
+  falls matched real at_cut is few turn at = absurd at
 
-pub falls_number : (suppress : Bool) (all : List Line) {total : ℕ} (state : State) {found : Bool} {operand : Operand}
-    {operands : List Operand} (number : ℕ) {most : ℕ} → state.operands ≡ operand ∷ operands
-    → operand.target ≡ Number number → AreSeen suppress all total state found
-    → most ≡ min (number * (state.repetition + 1)) (2 ^ 64 - 1) → total < 2 ^ 64 - 1 → (turn : Turn)
-    → FallsAt total state.current state.matched most turn → Turns suppress all state turn
-falls_number suppress all state {operand = operand} number are target seen is few turn at = falls suppress all state state.matched (number * (state.repetition + 1)) seen.count are
-    (rw target (refl, refl)) is few turn at
+  pub falls_number : (number : ℕ) {most : ℕ} → operand.target ≡ Number number
+      → most ≡ min (number * (state.repetition + 1)) (2 ^ 64 - 1) → total < 2 ^ 64 - 1 → (turn : Turn)
+      → FallsAt total state.current state.matched most turn → Turns suppress all state turn
+  falls_number number target = falls state.matched (number * (state.repetition + 1)) (rw target (refl, refl))
 
--- where the last line has the operand's pattern, its search ends there
-pub falls_search : (suppress : Bool) (all : List Line) {total : ℕ} (state : State) {found : Bool} {operand : Operand}
-    {operands : List Operand} {pattern : Pattern} {kept : Bool} (offset : Offset) {most : ℕ}
-    → state.operands ≡ operand ∷ operands → operand.target ≡ Search pattern kept offset
-    → AreSeen suppress all total state found → search_line suppress state ≤ total → found ≡ true
-    → most ≡ min (moved offset total) (2 ^ 64 - 1) → total < 2 ^ 64 - 1 → (turn : Turn)
-    → FallsAt total state.current total most turn → Turns suppress all state turn
-falls_search suppress all {total} state {operand = operand} {operands} {pattern} {kept} offset are target seen near is_found is few turn at = falls suppress all state total (moved offset total) seen.count are
-    (subst (λ t. CutsAt suppress all state operand t total (moved offset total)) (sym target)
-    (rw (← seen.count) (
-      (grind (arith, common_steps)),
-      refl,
-    ))) is few turn at
+  -- where the last line has the operand's pattern, its search ends there
+  pub falls_search : {pattern : Pattern} {kept : Bool} (offset : Offset) {most : ℕ}
+      → operand.target ≡ Search pattern kept offset → search_line suppress state ≤ total → found ≡ true
+      → most ≡ min (moved offset total) (2 ^ 64 - 1) → total < 2 ^ 64 - 1 → (turn : Turn)
+      → FallsAt total state.current total most turn → Turns suppress all state turn
+  falls_search offset target near is_found = falls total (moved offset total)
+      (subst (λ t. CutsAt suppress all state operand t total (moved offset total)) (sym target)
+      (record { not_before = near; within = omega (arith, seen.count); match = seen.last operand operands are near ∙ is_found; first = seen.others operand operands are }, refl))
 
--- and where it has not, or the search begins after it, no line matches
-pub misses_search : {suppress : Bool} (all : List Line) {total : ℕ} {state : State} {found : Bool} {operand : Operand}
-    {operands : List Operand} {pattern : Pattern} {kept : Bool} {offset : Offset}
-    → state.operands ≡ operand ∷ operands → operand.target ≡ Search pattern kept offset
-    → AreSeen suppress all total state found → (search_line suppress state ≤ total → found ≡ false)
-    → EndsHere suppress all state Missed
-misses_search {suppress} all {total} {state} {operand = operand} {operands} are target seen none = record {
-  ending = missed operand state.repetition;
-  runs = misses state operand operands are (subst (Misses suppress all state operand) (sym target)
-      (looks_past operand all (search_line suppress state) (λ other from less. seen.others operand operands are other from (omega (arith, less, seen.count)))
-      (λ near. let at : search_line suppress state ≤ total = omega (arith, seen.count, near) in ap
-      (is_match operand all) seen.count ∙ seen.last operand operands are at ∙ none at)));
-  aims = tt;
-}
+  -- and where it has not, or the search begins after it, no line matches
+  pub misses_search : {pattern : Pattern} {kept : Bool} {offset : Offset} → operand.target ≡ Search pattern kept offset
+      → (search_line suppress state ≤ total → found ≡ false) → EndsHere suppress all state Missed
+  misses_search target none = record {
+    ending = missed operand state.repetition;
+    runs = misses state operand operands are (subst (Misses suppress all state operand) (sym target)
+        (looks_past operand all (search_line suppress state) (λ other from less. seen.others operand operands are other from (omega (arith, less, seen.count)))
+        (λ near. let at : search_line suppress state ≤ total = omega (arith, seen.count, near) in ap
+        (is_match operand all) seen.count ∙ seen.last operand operands are at ∙ none at)));
+    aims = tt;
+  }
 
 pub left_is : (operands : List Operand) (at : ℕ) {operand : Operand} → at < length operands
     → operand ≡ get_or operands at operand → drop at operands ≡ operand ∷ drop (at + 1) operands
-left_is operands at {operand} within is = grind (arith, common_steps)
+left_is operands at within is = grind (arith, common_steps)
 
 drop_next : (operands : List Operand) {rest : List Operand} {operand : Operand} (at : ℕ)
     → drop at operands ≡ operand ∷ rest → drop (suc at) operands ≡ rest
@@ -163,7 +151,7 @@ pub passes_on : (suppress : Bool) (operands : List Operand) {rest : List Operand
     → has_more operand.times repetition ≡ false → current ≡ line_after suppress cut → next ≡ at + 1
     → state_of operands (record { done = next; repetition = 0; current = current; matched = matched })
     ≡ state_after suppress operand rest repetition matched cut
-passes_on suppress operands {rest} {operand} at repetition matched cut {current} {next} are none is on = search (rules, drop_next, at, are)
+passes_on suppress operands at repetition matched cut are none is on = search (rules, drop_next, at, are)
 
 -- A cut moves on, and the numbers stay small.
 
@@ -172,7 +160,7 @@ repeated_again : (total : ℕ) (state next : State) (target : Target) {matched :
     → next.matched ≡ matched
     → IsRepeatedBy total state target → IsRepeatedBy total next target
 repeated_again total state next (Number n) cut at some within again same few =
-    let less : total - next.repetition < total - state.repetition = fewer_left total state next (Number n) cut at some within again same in omega (arith, less, again)
+    omega (arith, fewer_left total state next (Number n) cut at some within again same, again)
 repeated_again total state next (Search pattern kept offset) cut at some within again same few = omega (arith, at.0, few, again, same)
 
 repeated_by : (total : ℕ) (state : State) (operand : Operand) (operands : List Operand) {matched : ℕ} (cut : ℕ)
@@ -187,8 +175,8 @@ fits_after : (suppress : Bool) {total : ℕ} {state : State} {operand : Operand}
     → Moves total state operand.target matched cut → matched ≤ total → state.current ≤ cut → cut ≤ total
     → Fits total (state_after suppress operand operands state.repetition matched cut)
 fits_after suppress {total} {state} {operand} {operands} matched cut fits are at few least within = record {
-  some = let more : cut ≤ line_after suppress cut = line_some suppress cut in omega (arith, more, fits.some, least);
-  current = let less : line_after suppress cut ≤ suc total = after_within suppress cut total within in omega (arith, less);
+  some = omega (arith, line_some suppress cut, fits.some, least);
+  current = omega (arith, after_within suppress cut total within);
   matched = few;
   repeated = repeated_by total state operand operands cut at (omega (arith, fits.some, least)) within (subst (IsRepeated total state) are fits.repeated)
       (has_more operand.times state.repetition) (state_after suppress operand operands state.repetition matched cut) refl refl;
@@ -225,17 +213,8 @@ module _ {cutter : CutterState} {cut : Cut} {operand : Operand} (progress : Prog
 
   -- the next operand has got what it needs
   pub passes_next : (new : CutterState) (result : Result (Unit {0}) Fault)
-      → OnOk result
-      (new
-      ≡ record cutter {
-        progress = progress;
-        window = record
-            { most = most_by (drop progress.done cutter.operands); delim = newline; held = [] };
-        sought = pattern_by
-            (drop progress.done cutter.operands);
-      })
-      → IfErr result (λ fault. (fault ≡ Memory) × (new.writer ≡ cutter.writer) × (new.operands ≡ cutter.operands)
-      × (new.style ≡ cutter.style)) → PassesCut cutter cut new (fault_in result)
+      → OnOk result (new ≡ equipped (record cutter { progress = progress }))
+      → IfErr result (Lacks cutter new) → PassesCut cutter cut new (fault_in result)
   passes_next new (Ok done) is lacks = grind (arith, common_steps, fits, fewer, state)
   passes_next new (Err fault) is lacks = lacks
 
@@ -255,7 +234,7 @@ turn_ends turn no_cut ends = grind (arith, common_steps)
 pub cut_near : {cutter : CutterState} {x : List ℕ} (line : List ℕ) (cut : Cut) {turn : Turn}
     → turn ≡ Cuts cut.matched cut.line → IsFit cutter → Looked cutter x line
     → Turns (suppress_in cutter) (all_lines x) (state_in cutter) turn → StaysNear cutter cut
-cut_near {cutter} {x} line cut is fit looked turns = search rules
+cut_near line cut is fit looked turns = search rules
 
 -- what `try_last` owes
 
@@ -281,19 +260,16 @@ StaysOver cutter text lines Missed = (operand : Operand) → cutter.sought ≡ p
 StaysOver cutter text lines (Above matched line) = lines < line
 StaysOver cutter text lines turn = Unit {0}
 
--- that is so where the next operand stands as it did
-
 -- what passing over a text leaves of the plan
 pub ends_over : {cutter : CutterState} {lines : ℕ} (text : List ℕ) → IsFit cutter
     → lines ≡ cutter.lines + line_count newline text → StaysOver cutter text lines cutter.aim → (x : List ℕ)
     → Joins x text → cutter.lines ≡ line_count newline x → EndsNow cutter x
     → (lines ≡ line_count newline (x ++ text)) × EndsNow (record cutter { lines = lines }) (x ++ text)
-ends_over {cutter} {lines} text fit count stays x before counted ends =
-    let sum : line_count newline (x ++ text) ≡ line_count newline x + line_count newline text = count-append text before in
+ends_over text fit count stays x before counted ends =
     let here : length (all_lines x) ≡ line_count newline x = length-all_lines x in
     let there : length (all_lines text) ≡ line_count newline text = length-all_lines text in
     let both : length (all_lines x ++ all_lines text) ≡ length (all_lines x) + length (all_lines text) = length-append (all_lines x) (all_lines text) in (
-      omega (arith, count, counted, sum),
+      omega (arith, count, counted, count-append text before),
       record {
         ending = ends.ending;
         runs = rw (← all_lines-append text before) at (ends_still (all_lines text) ends.runs (grind (arith, common_steps)));
@@ -305,12 +281,11 @@ pub next_stays : {cutter : CutterState} {x : List ℕ} (line : List ℕ) {turn :
     → IsWhole x → IsLine line → cutter.aim ≡ turn → StaysOver cutter line (cutter.lines + 1) turn
     → EndsNow (record cutter { lines = cutter.lines + 1 }) (x ++ line)
 next_stays {cutter} {x} line fit live whole one aim stays =
-    let count : line_count newline line ≡ 1 = ap length one in
-    (ends_over line fit (omega (arith, count)) (subst (StaysOver cutter line (cutter.lines + 1)) (sym aim) stays) x (inl whole) live.at.counted live.ends).1
+    (ends_over line fit (omega (arith, ap length one)) (subst (StaysOver cutter line (cutter.lines + 1)) (sym aim) stays) x (inl whole) live.at.counted live.ends).1
 
 -- the lines as they are counted
 lines_are : {cutter : CutterState} {x : List ℕ} (live : IsLive cutter x) → length (all_lines x) ≡ cutter.lines
-lines_are {x} live = grind (arith, common_steps)
+lines_are live = grind (arith, common_steps)
 
 -- the line of a cut that was above the last one came in
 above_cuts : {suppress : Bool} (lines : List Line) (line : Line) {state : State} {total matched at : ℕ}
@@ -323,14 +298,14 @@ pub next_cut : {cutter : CutterState} {x : List ℕ} (line : List ℕ) {matched 
     → IsWhole x → IsLine line → cutter.aim ≡ Above matched at → at ≤ cutter.lines + 1 → cutter.lines < 2 ^ 63
     → GoesPast (suppress_in cutter) (all_lines (x ++ line)) (state_in cutter) matched at
     × (cutter.lines + 1 ≤ search_after (suppress_in cutter) (record { matched = matched; line = at }))
-next_cut {cutter} {x} line {matched} {at} fit live whole one aim near few = grind (arith, common_steps, above_cuts, lines_are, ends_as, all_lines-line)
+next_cut line fit live whole one aim near few = grind (arith, common_steps, above_cuts, lines_are, ends_as, all_lines-line)
 
 -- where a pattern matched no line so far
 
 pub next_looked : {cutter : CutterState} {x : List ℕ} (line : List ℕ) (live : IsLive cutter x) → IsWhole x → IsLine line
     → cutter.aim ≡ Missed → Looked (record cutter { lines = cutter.lines + 1 }) (x ++ line) line
-next_looked {cutter} {x} line live whole one aim =
-    let ends = ends_as _ _ _ _ _ _ live.ends.runs in
+next_looked {x = x} line live whole one aim =
+    let ends = ends_as live.ends.runs in
     let count = lines_are live in
     let aims = rw aim at live.ends.aims in record {
       counted = ap (λ n. n + 1) live.at.counted ∙ sym (count-line line whole one);
@@ -341,14 +316,14 @@ next_looked {cutter} {x} line live whole one aim =
 
 pub next_sought : {cutter : CutterState} {x : List ℕ} (live : IsLive cutter x) → IsFit cutter → cutter.aim ≡ Missed
     → cutter.sought ≡ None → ⊥
-next_sought {cutter} {x} live fit aim none = search rules
+next_sought live fit aim none = search rules
 
 pub next_tries : {cutter : CutterState} (next : CutterState) (line : List ℕ) (result : Option Cut) → IsFit cutter
     → IsLine line → cutter.aim ≡ Missed → next.lines ≡ cutter.lines + 1
     → Tries (record cutter { lines = cutter.lines + 1 }) line next result → TriesNext cutter line next result
 next_tries next line None fit one aim counted tries = λ x whole live. tries (x ++ line) (next_looked line live whole one aim)
 next_tries next line (Some cut) fit one aim counted tries = λ x whole live.
-    let both = tries (x ++ line) (next_looked line live whole one aim) in let near = both.1 (inr (next_sought live fit aim)) in (both.0, omega (arith, near, counted))
+    let both = tries (x ++ line) (next_looked line live whole one aim) in (both.0, omega (arith, both.1 (inr (next_sought live fit aim)), counted))
 
 -- What stays so of a state when more lines come
 
@@ -356,12 +331,12 @@ pub passes : {cutter : CutterState} {text : List ℕ} {lines n : ℕ} → IsSoun
     → IsWhole (take n text) → lines ≡ cutter.lines + line_count newline (take n text)
     → StaysOver cutter (take n text) lines cutter.aim
     → PassesOver cutter text (record cutter { lines = lines }) n
-passes {cutter} {text} {lines} {n} sound within whole count stays = record {
+passes {text = text} {n = n} sound within whole count stays = record {
   same = refl;
   within = within;
   whole = whole;
-  few = let few : line_count newline (take n text) ≤ length (take n text) = line_count-le-length newline (take n text) in let long = length-take-le n text within in omega (arith, count, few, long);
-  sound = (grind (arith, common_steps));
+  few = omega (arith, count, line_count-le-length newline (take n text), length-take-le n text within);
+  sound = grind (arith, common_steps);
   ends = ends_over (take n text) sound.fit count stays;
 }
 
@@ -370,11 +345,9 @@ passes {cutter} {text} {lines} {n} sound within whole count stays = record {
 passes_all : {cutter : CutterState} {text : List ℕ} {n : ℕ} → IsSound cutter → IsWhole text
     → n ≡ delimiters newline text → StaysOver cutter text (cutter.lines + n) cutter.aim
     → PassesOver cutter text (record cutter { lines = cutter.lines + n }) (length text)
-passes_all {cutter} {text} {n} sound whole count stays =
+passes_all {text = text} sound whole count stays =
     let all : text ≡ take (length text) text = sym (take_all (length text) text (omega arith)) in
-    let same : line_count newline text ≡ delimiters newline text = whole_count whole in
-    let taken : line_count newline text ≡ line_count newline (take (length text) text) = ap (line_count newline) all in
-    passes sound (omega arith) (subst IsWhole all whole) (omega (arith, count, same, taken)) (rw all at stays)
+    passes sound (omega arith) (subst IsWhole all whole) (omega (arith, count, whole_count whole, ap (line_count newline) all)) (rw all at stays)
 
 pub passes_used_up : {cutter : CutterState} {text : List ℕ} {n : ℕ} → IsSound cutter → IsWhole text
     → n ≡ delimiters newline text → cutter.aim ≡ UsedUp
@@ -383,22 +356,19 @@ passes_used_up {cutter} {text} {n} sound whole counted aim = passes_all sound wh
 
 -- Lines before the line of a cut
 
--- the lines that end there
-
 pub passes_below : {cutter : CutterState} {text : List ℕ} (line end : ℕ) → IsSound cutter
     → (matched : ℕ) × (cutter.aim ≡ Above matched line) → EndsAt newline (line - 1 - cutter.lines) text end
     → PassesOver cutter text (record cutter { lines = line - 1 }) end
 passes_below {cutter} {text} line end sound (matched, aim) ends =
-    let will : WillMove cutter.operands cutter.lines cutter.progress matched line = subst (AimHolds cutter.operands cutter.lines cutter.progress) aim sound.aim in
-    let less : cutter.lines < line = will.above in
+    let less : cutter.lines < line = (subst (AimHolds cutter.operands cutter.lines cutter.progress) aim sound.aim).above in
     let count : line_count newline (take end text) ≡ line - 1 - cutter.lines = (grind (arith, common_steps, EndsAt-enough, line_count_near, lines_of-first_lines, length-take-le, ends)) in
-    passes sound ends.within (whole_by (take end text) _ refl (let all = ends.complete in omega (arith, count, all))) (omega (arith, less, count))
+    passes sound ends.within (whole_by (take end text) _ refl (omega (arith, count, ends.complete))) (omega (arith, less, count))
     (subst (StaysOver cutter (take end text) (line - 1)) (sym aim) (let e : line - 1 < line = omega (arith, less) in e))
 
 pub passes_short : {cutter : CutterState} {text : List ℕ} (line : ℕ) {count : ℕ} → IsSound cutter → IsWhole text
     → (matched : ℕ) × (cutter.aim ≡ Above matched line) → FallsShort newline (line - 1 - cutter.lines) text count
     → PassesOver cutter text (record cutter { lines = cutter.lines + count }) (length text)
-passes_short {cutter} {text} line {count} sound whole (matched, aim) short = search (rules, passes_all, StaysOver)
+passes_short line sound whole (matched, aim) short = search (rules, passes_all, StaysOver)
 
 -- Lines without the pattern that is searched for
 
@@ -445,62 +415,75 @@ none_one : (operand : Operand) (count : ℕ) (line : Line) (from : ℕ) → (fro
     → NoneFrom operand count (line ∷ []) from
 none_one operand count line from here k less near = grind (arith, common_steps)
 
-one_more : {cutter : CutterState} {text left rest : List ℕ} {next : CutterState} (number end : ℕ)
-    → Unmatched cutter text left next → number ≡ next.lines + 1 → end < length left → Passes (is_byte newline) left end
-    → Nowhere (Passes (is_byte newline) left) 0 end → IsFound next (take end left) number false
-    → rest ≡ drop (suc end) left → Unmatched cutter text rest (record next { lines = number })
-one_more {cutter} {left} {rest} {next} number end so is within here none found rest_is =
+-- the first line of a text, which is complete, ends at this place
+pub record EndsFirst (text : List ℕ) (end : ℕ) : Type 0 where
+  pub within : end < length text
+  pub line : IsLine (take (suc end) text)
+  pub ends : ends_with newline (take (suc end) text) ≡ true
+  pub without : take end text ≡ without_newline (take (suc end) text)
+
+pub first_at : {text : List ℕ} (end : ℕ)
+    → NoneBefore (Passes (is_byte newline) text) 0 (length text) end × Passes (is_byte newline) text end
+    → EndsFirst text end
+first_at {text} end (place, here) = let parts = first_parts text end place.high here place.before in record {
+  within = place.high;
+  line = line_by (take (suc end) text) (inl (take end text, parts.0, parts.1));
+  ends = first_ends text end place.high here;
+  without = sym (ap without_newline parts.0 ∙ without_last (take end text) parts.1);
+}
+
+-- more lines are passed over
+unmatched_on : {cutter : CutterState} {text left : List ℕ} {next after : CutterState} (more rest : List ℕ)
+    → Unmatched cutter text left next → left ≡ more ++ rest → IsWhole more
+    → after ≡ record next { lines = after.lines } → after.lines ≡ next.lines + line_count newline more
+    → ((operand : Operand) → cutter.sought ≡ pattern_in operand.target
+    → NoneFrom operand next.lines (all_lines more) (search_line (suppress_in cutter) (state_in cutter)))
+    → Unmatched cutter text rest after
+unmatched_on {cutter} {after = after} more rest so parts whole same count others = record {
+  front = so.front ++ more;
+  all = so.all ∙ ap (λ those. so.front ++ those) parts ∙ sym (append_assoc so.front more rest);
+  whole = whole-append more so.whole whole;
+  same = same ∙ ap (λ (those : CutterState). record those { lines = after.lines }) so.same;
+  count = omega (arith, count, so.count, count-append more (inl so.whole));
+  none = λ operand is. rw (← all_lines-append more (inl so.whole)) at (none_more operand cutter.lines (all_lines so.front) (all_lines more) (search_line (suppress_in cutter) (state_in cutter)) (so.none operand is)
+      (subst (λ n. NoneFrom operand n (all_lines more) (search_line (suppress_in cutter) (state_in cutter))) (so.count ∙ ap (λ n. cutter.lines + n) (sym (length-all_lines so.front))) (others operand is)));
+}
+
+-- one more line, at which the cutter looked
+pub one_more : {cutter : CutterState} {text left : List ℕ} {next now : CutterState} (end : ℕ) {found : Bool}
+    → Unmatched cutter text left next → now ≡ next → EndsFirst left end
+    → IsFound next (take end left) (next.lines + 1) found → found ≡ false
+    → Unmatched cutter text (take (length left - (end + 1)) (drop (end + 1) left))
+    (record now { lines = now.lines + 1 })
+one_more {cutter} {left = left} {next} {now} end so is first finds not =
     let line = take (suc end) left in
-    let parts = first_parts left end within here none in
-    let one : IsLine line = line_by line (inl (take end left, parts.0, parts.1)) in
-    let found_at : IsFound (record cutter { lines = next.lines }) (take end left) number false = subst (λ (those : CutterState). IsFound those (take end left) number false) so.same found in
-    let before : length (all_lines so.front) ≡ line_count newline so.front = length-all_lines so.front in record {
-      front = so.front ++ line;
-      all = so.all ∙ ap (λ those. so.front ++ those) (sym (take-append-drop (suc end) left) ∙ ap (λ those. line ++ those) (sym rest_is)) ∙ sym (append_assoc so.front line rest);
-      whole = whole-append line so.whole (inr (first_ends left end within here));
-      same = ap (λ (those : CutterState). record those { lines = number }) so.same;
-      count = is ∙ (let more : line_count newline (so.front ++ line) ≡ line_count newline so.front + 1 = count-line line so.whole one in let c : next.lines ≡ cutter.lines + line_count newline so.front = so.count in omega (arith, more, c));
-      none = λ operand same. rw (← all_lines-line line so.whole one) at (none_more operand cutter.lines (all_lines so.front) (marked line ∷ []) (search_line (suppress_in cutter) (state_in cutter)) (so.none operand same)
-          (none_one operand _ (marked line) _ (λ near. found_is line number operand.target (sym (ap without_newline parts.0 ∙ without_last (take end left) parts.1)) same found_at
-          (let c : next.lines ≡ cutter.lines + line_count newline so.front = so.count in omega (arith, near, is, c, before)))));
-    }
+    let found_at : IsFound (record cutter { lines = next.lines }) (take end left) (next.lines + 1) false = rw (so.same, not) at finds in
+    unmatched_on line _ so (sym (take-append-drop (suc end) left) ∙ ap (λ those. line ++ those) ((let e : suc end ≡ end + 1 = omega arith in ap (λ n. drop n left) e) ∙ sym (rest_all (end + 1) left)))
+    (inr first.ends) (ap (λ (those : CutterState). record those { lines = now.lines + 1 }) is) (omega (arith, ap (λ (those : CutterState). those.lines) is, ap length first.line))
+    (λ operand same. rw (ap (map marked) first.line) (none_one operand next.lines (marked line) _ (λ near. found_is line (next.lines + 1) operand.target first.without same found_at near)))
 
 -- the numbers are small
 
 pub few_counted : {cutter : CutterState} {text left : List ℕ} {next : CutterState} → Unmatched cutter text left next
     → next.lines + length left ≤ cutter.lines + length text
-few_counted {cutter} {text} {left} {next} so = grind (arith, common_steps, line_count-le-length)
-
--- what is left of a slice
-pub all_left : (left : List ℕ) {n : ℕ} (end : ℕ) → n ≡ length left
-    → take (n - (end + 1)) (drop (end + 1) left) ≡ drop (suc end) left
-all_left left {n} end is = grind (arith, common_steps)
-
--- the same of a cutter that looked at the line
-pub one_more_at : {cutter : CutterState} {text left rest : List ℕ} {next now : CutterState} (end : ℕ) {found : Bool}
-    → Unmatched cutter text left next → now ≡ next → end < length left → Passes (is_byte newline) left end
-    → Nowhere (Passes (is_byte newline) left) 0 end
-    → IsFound next (take end left) (next.lines + 1) found → found ≡ false → rest ≡ drop (suc end) left
-    → Unmatched cutter text rest (record now { lines = now.lines + 1 })
-one_more_at {cutter} {text} {left} {rest} {next} end so is within here none finds not rest_is = search (rules, one_more)
+few_counted so = grind (arith, common_steps, line_count-le-length)
 
 -- all that were looked at are passed over
 pub all_passed_at : {cutter : CutterState} {text left : List ℕ} {next now : CutterState} → IsSound cutter
     → cutter.aim ≡ Missed → Unmatched cutter text left next → now ≡ next
     → PassesOver cutter text now (length text - length left)
-all_passed_at {cutter} {text} {left} {next} sound aim so is =
-    let long : length text ≡ length so.front + length left = ap length so.all ∙ length-append so.front left in
-    let count : length so.front ≡ length text - length left = omega (arith, long) in
+all_passed_at {cutter} {text} {left} sound aim so is =
+    let count : length so.front ≡ length text - length left = omega (arith, ap length so.all ∙ length-append so.front left) in
     let front_is : so.front ≡ take (length text - length left) text = sym (ap (take (length text - length left)) so.all ∙ take_at so.front left (length text - length left) count) in
     rw (← (is ∙ so.same)) at (passes sound (omega arith) (subst IsWhole front_is so.whole) (so.count ∙ ap (λ those. cutter.lines + line_count newline those) front_is)
-    (subst (StaysOver cutter (take (length text - length left) text) next.lines) (sym aim) (subst (λ those. StaysOver cutter those next.lines Missed) front_is so.none)))
+    (rw (aim, ← front_is) so.none))
 
 -- Lines that are seen to have no match
 
-marks_clear : (operand : Operand) (x : List ℕ)
-    → ((pattern : Pattern) → pattern_in operand.target ≡ Some pattern → AreClear pattern x) → (k : ℕ)
-    → k < length (all_lines x) → (get_or (all_lines x) k unmarked).marks operand ≡ false
-marks_clear operand x clear k less =
+marks_clear : (operand : Operand) (x : List ℕ) (count start : ℕ)
+    → ((pattern : Pattern) → pattern_in operand.target ≡ Some pattern → AreClear pattern x)
+    → NoneFrom operand count (all_lines x) start
+marks_clear operand x count start clear k less near =
     let few : k < line_count newline x = (let e : length (all_lines x) ≡ line_count newline x = length-all_lines x in omega (arith, e, less)) in
     ap (λ (l : Line). l.marks operand) (get_or-map marked (lines_of newline x) k [] unmarked few)
     ∙ (grind (arith, common_steps))
@@ -508,22 +491,16 @@ marks_clear operand x clear k less =
 pub more_clear : {cutter : CutterState} {text left rest : List ℕ} {next after : CutterState} {n : ℕ}
     → Unmatched cutter text left next → PassesClear next left after n → rest ≡ drop n left
     → Unmatched cutter text rest after
-more_clear {cutter} {left} {rest} {next} {after} {n} so clear rest_is =
-    let t = take n left in record {
-      front = so.front ++ t;
-      all = so.all ∙ ap (λ those. so.front ++ those) (sym (take-append-drop n left) ∙ ap (λ those. t ++ those) (sym rest_is)) ∙ sym (append_assoc so.front t rest);
-      whole = whole-append t so.whole clear.whole;
-      same = clear.same ∙ ap (λ (those : CutterState). record those { lines = after.lines }) so.same;
-      count = clear.count ∙ (let more : line_count newline (so.front ++ t) ≡ line_count newline so.front + line_count newline t = count-append t (inl so.whole) in let c : next.lines ≡ cutter.lines + line_count newline so.front = so.count in omega (arith, more, c));
-      none = λ operand same. rw (← all_lines-append t (inl so.whole)) at (none_more operand cutter.lines (all_lines so.front) (all_lines t) (search_line (suppress_in cutter) (state_in cutter)) (so.none operand same)
-          (λ k less near. marks_clear operand t (λ pattern is. clear.clear pattern (ap (λ (those : CutterState). those.sought) so.same ∙ same ∙ is)) k less));
-    }
+more_clear {left = left} {rest} {n = n} so clear rest_is =
+    let t = take n left in
+    unmatched_on t rest so (sym (take-append-drop n left) ∙ ap (λ those. t ++ those) (sym rest_is)) clear.whole clear.same clear.count
+    (λ operand same. marks_clear operand t _ _ (λ pattern is. clear.clear pattern (ap (λ (those : CutterState). those.sought) so.same ∙ same ∙ is)))
 
 pub counts_clear : {cutter now : CutterState} {text : List ℕ} {n count : ℕ} → cutter ≡ now → n ≤ length text
     → IsWhole (take n text) → count ≡ delimiters newline (take n text)
     → ((pattern : Pattern) → now.sought ≡ Some pattern → AreClear pattern (take n text))
     → PassesClear now text (record cutter { lines = cutter.lines + count }) n
-counts_clear {cutter} {text} {n} {count} is within whole counted clear = search (rules, whole_count)
+counts_clear is within whole counted clear = search (rules, whole_count)
 
 -- what is left is complete lines
 pub left_whole : {cutter : CutterState} {text left : List ℕ} {next : CutterState} → IsWhole text
@@ -534,33 +511,29 @@ left_whole {left} whole so = subst IsWhole (ap (drop (length so.front)) so.all �
 pub fits_clear : {cutter now : CutterState} (text : List ℕ) {n count : ℕ} → cutter ≡ now
     → now.lines + length text < 2 ^ 64 → n ≤ length text → count ≡ delimiters newline (take n text)
     → cutter.lines + count < 2 ^ 64
-fits_clear {cutter} {now} text {n} is fits within counted = search (rules, delimiters-le-length, length-take-le)
+fits_clear text is fits within counted = search (rules, delimiters-le-length, length-take-le)
 
 pub stops_unfound : {cutter : CutterState} {text : List ℕ} {next : CutterState} {n : ℕ} (passed : Passed)
     → PassesOver cutter text next n → passed.size ≡ n → passed.found ≡ None → StopsAt cutter text next passed
-stops_unfound {cutter} {text} {next} passed over size_is found_is = grind (arith, common_steps)
+stops_unfound passed over size_is found_is = grind (arith, common_steps)
 
 -- The line in which the pattern was found is the next one.
 
 pub next_found : {cutter : CutterState} {text left : List ℕ} {next now : CutterState} (end : ℕ) {found : Bool}
-    → cutter.aim ≡ Missed → Unmatched cutter text left next → now ≡ next → end < length left
-    → Passes (is_byte newline) left end → Nowhere (Passes (is_byte newline) left) 0 end
+    → cutter.aim ≡ Missed → Unmatched cutter text left next → now ≡ next → EndsFirst left end
     → IsFound next (take end left) (next.lines + 1) found → found ≡ true
     → IsNextFound now (drop (length text - length left) text) (end + 1)
-next_found {text} {left} {next} end {found} aim so now_is within here none finds sure =
-    let long : length text ≡ length so.front + length left = ap length so.all ∙ length-append so.front left in
-    let left_is : drop (length text - length left) text ≡ left = ap (drop (length text - length left)) so.all ∙ drop_at so.front left (length text - length left) (omega (arith, long)) in
+next_found {text = text} {left} end aim so now_is first finds sure =
+    let left_is : drop (length text - length left) text ≡ left = ap (drop (length text - length left)) so.all ∙ drop_at so.front left (length text - length left) (omega (arith, ap length so.all ∙ length-append so.front left)) in
     let one : suc end ≡ end + 1 = omega arith in
-    let parts = first_parts left end within here none in
-    rw (← now_is) at (subst (λ those. IsNextFound next those (end + 1)) (sym left_is) (subst (IsNextFound next left) one (record {
+    rw (now_is, left_is, ← one) (record {
       some = omega arith;
-      within = omega (arith, within);
-      line = line_by (take (suc end) left) (inl (take end left, parts.0, parts.1));
-      ends = first_ends left end within here;
+      within = omega (arith, first.within);
+      line = first.line;
+      ends = first.ends;
       aim = ap (λ (those : CutterState). those.aim) so.same ∙ aim;
-      found = subst (λ those. IsFound next those (next.lines + 1) true) (sym (ap without_newline parts.0 ∙ without_last (take end left) parts.1))
-          (subst (IsFound next (take end left) (next.lines + 1)) sure finds);
-    })))
+      found = rw (first.without, sure) at finds;
+    })
 
 -- Lines of a text that is seen to have no match up to a place, and lines without their newlines.
 
@@ -581,12 +554,10 @@ line_clear : (pattern : Pattern) {text : List ℕ} (place : ℕ) (front line mor
     → contains pattern (without_newline line) ≡ false
 line_clear pattern {text} place front line more rest clear all within (bytes, is, none) =
     let after = newline ∷ (more ++ rest) in
-    let long : length line ≡ length bytes + 1 = ap length is ∙ length-append bytes (newline ∷ []) in
-    let longer : length (line ++ more) ≡ length line + length more = length-append line more in
     let parts : text ≡ front ++ bytes ++ after = all ∙ append_assoc front (line ++ more) rest
     ∙ ap (λ those. front ++ those) (append_assoc line more rest ∙ ap (λ those. those ++ (more ++ rest)) is ∙ append_assoc bytes (newline ∷ []) (more ++ rest))
     ∙ sym (append_assoc front bytes after) in
-    ap (contains pattern) (ap without_newline is ∙ without_last bytes none) ∙ clear front bytes after parts (omega (arith, long, longer, within))
+    ap (contains pattern) (ap without_newline is ∙ without_last bytes none) ∙ clear front bytes after parts (omega (arith, ap length is ∙ length-append bytes (newline ∷ []), length-append line more, within))
 
 each_clear : (pattern : Pattern) {text : List ℕ} (place : ℕ) (front : List ℕ) (lines : List (List ℕ)) (rest : List ℕ)
     → IsClear pattern text place → text ≡ front ++ joined lines ++ rest → length front + length (joined lines) ≤ place
@@ -599,10 +570,8 @@ each_clear pattern place front (line ∷ []) rest clear all within (inr unended)
 each_clear pattern place front (line ∷ []) rest clear all within are ends (suc k) less = absurd (omega (arith, less))
 each_clear pattern place front (line ∷ next ∷ lines) rest clear all within are ends zero less = line_clear pattern place front line (joined (next ∷ lines)) rest clear all within are.0
 each_clear pattern place front (line ∷ next ∷ lines) rest clear all within are ends (suc k) less =
-    let both : length (front ++ line) ≡ length front + length line = length-append front line in
-    let these : length (line ++ joined (next ∷ lines)) ≡ length line + length (joined (next ∷ lines)) = length-append line (joined (next ∷ lines)) in
     each_clear pattern place (front ++ line) (next ∷ lines) rest clear
-    (all ∙ ap (λ those. those ++ rest) (sym (append_assoc front line (joined (next ∷ lines))))) (omega (arith, both, these, within)) are.1
+    (all ∙ ap (λ those. those ++ rest) (sym (append_assoc front line (joined (next ∷ lines))))) (omega (arith, length-append front line, length-append line (joined (next ∷ lines)), within)) are.1
     (λ some. sym (ends_with-append newline line (joined (next ∷ lines)) (grind (arith, common_steps))) ∙ ends (omega arith)) k (omega (arith, less))
 
 whole_ends : {x : List ℕ} → IsWhole x → 0 < length (lines_of newline x)
@@ -614,9 +583,8 @@ pub clear_front : (pattern : Pattern) (text : List ℕ) (place n : ℕ) → IsCl
 clear_front pattern text place n clear low within whole =
     let x = take n text in
     let joined_is : joined (lines_of newline x) ≡ x = joined-lines_of newline x in
-    let long : length (joined (lines_of newline x)) ≡ n = ap length joined_is ∙ length-take-le n text within in
     each_clear pattern place [] (lines_of newline x) (drop n text) clear (sym (take-append-drop n text) ∙ ap (λ those. those ++ drop n text) (sym joined_is))
-    (omega (arith, long, low)) (AreLines-lines_of newline x) (whole_ends whole)
+    (omega (arith, ap length joined_is ∙ length-take-le n text within, low)) (AreLines-lines_of newline x) (whole_ends whole)
 
 -- A line has its newline at its end, if it has one.
 

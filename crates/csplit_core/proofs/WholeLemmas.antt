@@ -5,15 +5,13 @@ use Rattle.std.proofs.{
   lemmas.Grind.common_steps,
 }
 use Rattle.csplit_core.specs.{
-  Plan.{line_after, start, Ending, State, Step, Runs, cuts},
+  Plan.{line_after, Ending, State, Step, Runs, cuts},
   Operand.{Operand, Line},
   Planned.plan,
   Section.{waiting_lines, most_waiting, Section, section, section_of, lines_between, is_last_kept, whole_end},
   Section.{whole_sections, settled_sections, is_final, lines_in},
   laws.{PlanLaws.plan_runs, SectionLaws.are_within},
 }
-
--- The last section: all of its lines but the last ones are settled, as many as the offset goes back.
 
 -- the current line is at most one past the last
 pub after_within : (suppress : Bool) (cut total : ℕ) → cut ≤ total → line_after suppress cut ≤ suc total
@@ -73,7 +71,7 @@ pub none_lost_at_end : (operands : List Operand) (x : List Line) → is_final (p
     → lines_in (whole_sections x (plan false operands x)) ≡ x
 none_lost_at_end operands x live =
     let plan' = plan false operands x in
-    let some = (are_within false x (start operands) _ _ _ (plan_runs false operands x) (omega arith)).1 in
+    let some = (are_within (plan_runs false operands x) (omega arith)).1 in
     sym (append-nil (lines_in (whole_sections x plan'))) ∙ all_with true operands (lines_between plan'.last.current (whole_end (length x) plan'.ending) x) []
     (append-nil (lines_between plan'.last.current (whole_end (length x) plan'.ending) x)
     ∙ ap (λ end. lines_between plan'.last.current end x) (ends_after_all (length x) plan'.ending live) ∙ rest_is_all x plan'.last.current some)

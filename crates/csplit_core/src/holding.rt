@@ -24,12 +24,8 @@ pub(crate) fn hold_last<O: Outs>(
     ensures goes { Goes O.told (seen_writer writer.old)
         (with_bytes (but_last_lines window.old.delim window.old.most (window.old.held ++ text.now))) (O.slots outs.old)
         (O.slots outs.new) (seen_writer writer.new) (fault_in result) }
-    ensures window { OnOk result (window.new
-        ≡ record {
-          most = window.old.most;
-          delim = window.old.delim;
-          held = last_lines window.old.delim window.old.most (window.old.held ++ text.now);
-        }) }
+    ensures window { OnOk result (window.new ≡ record window.old
+        { held = last_lines window.old.delim window.old.most (window.old.held ++ text.now) }) }
     ensures size { OnOk result (size_of writer.new.current + length window.new.held
         ≤ size_of writer.old.current + length (window.old.held ++ text.now)) }
 {
@@ -71,8 +67,7 @@ pub(crate) fn write_front<O: Outs>(
 /// Puts lines after those that wait.
 fn keep(window: &mut LineWindow, text: &[u8]) -> Result<(), Fault>
     requires { but_last_lines window.old.delim window.old.most (window.old.held ++ text.now) ≡ [] }
-    ensures ok { OnOk result (window.new
-        ≡ record { most = window.old.most; delim = window.old.delim; held = window.old.held ++ text.now }) }
+    ensures ok { OnOk result (window.new ≡ record window.old { held = window.old.held ++ text.now }) }
     ensures err { IfErr result (λ fault. fault ≡ Fault.Memory) }
 {
     match window.put(text) {
@@ -88,7 +83,7 @@ fn keep(window: &mut LineWindow, text: &[u8]) -> Result<(), Fault>
 /// `Memory` where there is no room for them.
 pub(crate) fn drain(alloc: Global, window: &mut LineWindow, text: &[u8]) -> Result<Vec<u8>, Fault>
     ensures ok { IfOk result (λ all. all.items ≡ window.old.held ++ text.now) }
-    ensures window { OnOk result (window.new ≡ record { most = window.old.most; delim = window.old.delim; held = [] }) }
+    ensures window { OnOk result (window.new ≡ record window.old { held = [] }) }
     ensures err { IfErr result (λ fault. fault ≡ Fault.Memory) }
 {
     let mut waiting = vec![in alloc; 0u8; window.len() as usize]?;

@@ -1,20 +1,19 @@
 //! Cutting lines into sections as they come in: what is settled of them goes to the sections, and the others wait.
 ghost use Rattle.std.specs.{
-  Prelude.{◌≡◌, ◌≢◌, ◌⊎◌, ◌+◌, ◌-◌, ◌<◌, ◌≤◌, ◌^◌, ◌++◌, List, ℕ, [], length, drop, take, Some, None, IfOk, IfErr},
-  Prelude.{IfSome, IfNone, OnOk, IsTrue, true, false},
+  Prelude.{◌≡◌, ◌≢◌, ◌+◌, ◌-◌, ◌<◌, ◌≤◌, ◌^◌, ◌++◌, List, ℕ, [], length, drop, take, Some, None, IfOk, IfErr, IfSome},
+  Prelude.{IfNone, OnOk, IsTrue, true, false},
 };
 ghost use Rattle.bre_core.specs.Pattern.{Pattern};
-ghost use Rattle.seg_core.specs.Line.{delimiters, ends_with};
+ghost use Rattle.seg_core.specs.Line.{delimiters};
 ghost use Rattle.ports_core.specs.{Slot.is_writable, Swept.AreThere, Turn.fault_in, FileWriter.{IsReady, size_of}};
 ghost use Rattle.csplit_core.specs.{
   Csplit.verdict_of,
   Plan.{above, missed},
-  Planned.plan,
-  Cutter.{AimHolds, IsFit, IsSound, load, most_by, pattern_by, seen, state_in, suppress_in},
-  inner.Cutter.{AreClear, Clears, CutAt, CutsAll, CutsOn, EndsAll, GoesOn, IsJudged, Opens, Holds, IsFound, IsLine},
-  inner.Cutter.{IsNoCut, IsWhole, PassesClear, PassesCut, PassesOver, Spread, StopsAt, Stretches, Takes, Tries},
-  inner.Cutter.{TriesNext, WillCut},
-  Input.{all_lines, newline, without_newline},
+  Cutter.{IsFit, IsSound, load, seen},
+  inner.Cutter.{AreClear, Clears, CutAt, CutsAll, CutsOn, EndsAll, GoesOn, Judges, Opens, Holds, IsAimed, IsFound},
+  inner.Cutter.{IsLine, IsNoCut, IsWhole, Lacks, PassesClear, PassesCut, PassesOver, Spread, Starts, StopsAt},
+  inner.Cutter.{Stretches, Takes, Tries, TriesNext, WillCut, equipped},
+  Input.{newline, without_newline},
 };
 ghost use Rattle.csplit_core.specs.declared.progress.Turn.TheVariants as turn_is;
 
@@ -138,8 +137,7 @@ impl<'o> LineCutter<'o> {
 
     /// The verdict with which the work ends where the input ends here, if it ends with one.
     pub(crate) fn verdict(&self) -> Option<Verdict>
-        ensures { (x : List ℕ) → IsJudged (seen self.now) x
-            → result ≡ verdict_of (plan (suppress_in (seen self.now)) (seen self.now).operands (all_lines x)).ending }
+        ensures { Judges (seen self.now) result }
     {
         let operand = self.operands.get(self.progress.done)?;
         let repetition = self.progress.repetition;
@@ -204,10 +202,7 @@ impl<'o> LineCutter<'o> {
         is_found: bool,
         outs: &mut O,
     ) -> Result<Passed, Fault>
-        requires within { size ≤ length text.now }
-        requires line { IsLine (take size text.now) }
-        requires rest { IsWhole (drop size text.now) }
-        requires complete { (drop size text.now ≡ []) ⊎ (ends_with newline (take size text.now) ≡ true) }
+        requires start { Starts text.now size }
         requires found { is_found ≡ true
             → IsFound (seen self.old) (without_newline (take size text.now)) (self.old.lines + 1) true }
         requires fits { load (seen self.old) + length text.now < 2 ^ 63 }
@@ -221,7 +216,7 @@ impl<'o> LineCutter<'o> {
         }
         let line = &text[..size];
         let Some(cut) = self.try_line(line, is_found) else {
-            return self.go_on(text, size, outs);
+            return self.go_on(text, 0, size, outs);
         };
         if self.window.is_empty() {
             return self.cut_on(cut, text, size, outs);
@@ -240,47 +235,47 @@ impl<'o> LineCutter<'o> {
         size: usize,
         outs: &mut O,
     ) -> Result<Passed, Fault>
-        requires within { size ≤ length text.now }
-        requires line { IsLine (take size text.now) }
-        requires rest { IsWhole (drop size text.now) }
-        requires complete { (drop size text.now ≡ []) ⊎ (ends_with newline (take size text.now) ≡ true) }
+        requires start { Starts text.now size }
         requires lines { self.old.lines + (length text.now - size) < 2 ^ 63 }
         requires fits { size_of self.old.writer.current + length text.now < 2 ^ 63 }
         requires fit { IsFit (seen self.old) }
         requires none { self.old.window.held ≡ [] }
         requires cuts { WillCut (seen self.old) cut }
         requires ready { IsReady (seen self.old).writer (O.slots outs.old) }
-        ensures { CutsOn O.told (seen self.old) cut (take size text.now) (drop size text.now) (O.slots outs.old)
-            (O.slots outs.new) (seen self.new) result }
+        ensures { CutsOn O.told (seen self.old) cut text.now size (O.slots outs.old) (O.slots outs.new) (seen self.new)
+            result }
     {
         let line = &text[..size];
         let left = self.cut_often(cut, self.lines, line, line, outs)?;
-        let kept = left.len();
-        let passed = self.go_on(&text[size - kept..], kept, outs)?;
-        Ok(Passed {
-            size: size - kept + passed.size,
-            found: passed.found,
-        })
+        self.go_on(text, size - left.len(), size, outs)
     }
 
-    /// Passes over the lines of a text after its first bytes, as far as the next operand stands as it does now, and holds
-    /// those bytes and these lines together: one write serves both. Returns how far that is, and how long the next line is
-    /// where the pattern that is searched for was found in it.
-    fn go_on<O: Outs>(&mut self, text: &[u8], kept: usize, outs: &mut O) -> Result<Passed, Fault>
-        requires within { kept ≤ length text.now }
-        requires rest { IsWhole (drop kept text.now) }
-        requires lines { self.old.lines + (length text.now - kept) < 2 ^ 63 }
-        requires fits { size_of self.old.writer.current + length self.old.window.held + length text.now < 2 ^ 63 }
+    /// Passes over the lines of a text after its first `size` bytes, as far as the next operand stands as it does now,
+    /// and holds what stands from `from` on of those bytes together with these lines: one write serves both. Returns
+    /// how far that is, and how long the next line is where the pattern that is searched for was found in it.
+    fn go_on<O: Outs>(
+        &mut self,
+        text: &[u8],
+        from: usize,
+        size: usize,
+        outs: &mut O,
+    ) -> Result<Passed, Fault>
+        requires from { from ≤ size }
+        requires within { size ≤ length text.now }
+        requires rest { IsWhole (drop size text.now) }
+        requires lines { self.old.lines + (length text.now - size) < 2 ^ 63 }
+        requires fits { size_of self.old.writer.current + length self.old.window.held + (length text.now - from)
+            < 2 ^ 63 }
         requires sound { IsSound (seen self.old) }
         requires ready { IsReady (seen self.old).writer (O.slots outs.old) }
-        ensures { GoesOn O.told (seen self.old) (take kept text.now) (drop kept text.now) (O.slots outs.old)
+        ensures { GoesOn O.told (seen self.old) (drop from (take size text.now)) text.now size (O.slots outs.old)
             (O.slots outs.new) (seen self.new) result }
     {
-        let passed = self.pass_over(&text[kept..]);
-        let size = kept + passed.size;
-        self.hold(&text[..size], outs)?;
+        let passed = self.pass_over(&text[size..]);
+        let end = size + passed.size;
+        self.hold(&text[from..end], outs)?;
         Ok(Passed {
-            size,
+            size: end,
             found: passed.found,
         })
     }
@@ -399,7 +394,7 @@ impl<'o> LineCutter<'o> {
         requires live { self.old.aim ≢ turn_is.Below }
         ensures same { seen self.new ≡ record (seen self.old) { lines = self.old.lines + 1; aim = self.new.aim } }
         ensures fit { IsFit (seen self.new) }
-        ensures aim { IfNone result (AimHolds (seen self.new).operands self.new.lines self.new.progress self.new.aim) }
+        ensures aim { IfNone result (IsAimed (seen self.new)) }
         ensures cuts { IfSome result (WillCut (seen self.new)) }
         ensures tries { TriesNext (seen self.old) line.now (seen self.new) result }
     {
@@ -425,7 +420,7 @@ impl<'o> LineCutter<'o> {
         requires few { self.old.lines ≤ 2 ^ 63 }
         requires fit { IsFit (seen self.old) }
         ensures same { seen self.new ≡ record (seen self.old) { aim = self.new.aim } }
-        ensures aim { IfNone result (AimHolds (seen self.new).operands self.new.lines self.new.progress self.new.aim) }
+        ensures aim { IfNone result (IsAimed (seen self.new)) }
         ensures cuts { IfSome result (WillCut (seen self.old)) }
         ensures tries { Tries (seen self.old) line.now (seen self.new) result }
     {
@@ -442,7 +437,7 @@ impl<'o> LineCutter<'o> {
         requires few { self.old.lines ≤ 2 ^ 63 }
         requires fit { IsFit (seen self.old) }
         ensures same { seen self.new ≡ record (seen self.old) { aim = self.new.aim } }
-        ensures aim { IfNone result (AimHolds (seen self.new).operands self.new.lines self.new.progress self.new.aim) }
+        ensures aim { IfNone result (IsAimed (seen self.new)) }
         ensures cuts { IfSome result (WillCut (seen self.old)) }
         ensures tries { (line : List ℕ) → IsFound (seen self.old) (without_newline line) self.old.lines found
             → Tries (seen self.old) line (seen self.new) result }
@@ -579,18 +574,8 @@ impl<'o> LineCutter<'o> {
 
     /// Gets what the next operand needs.
     fn equip(&mut self) -> Result<(), Fault>
-        ensures same { OnOk result (seen self.new
-            ≡ record (seen self.old) {
-              window = record {
-                most = most_by (state_in (seen self.old)).operands;
-                delim = newline;
-                held = [];
-              };
-              sought = pattern_by (state_in (seen self.old)).operands;
-            }) }
-        ensures err { IfErr result
-            (λ fault. (fault ≡ Fault.Memory) × ((seen self.new).writer ≡ (seen self.old).writer)
-            × ((seen self.new).operands ≡ (seen self.old).operands) × ((seen self.new).style ≡ (seen self.old).style)) }
+        ensures same { OnOk result (seen self.new ≡ equipped (seen self.old)) }
+        ensures err { IfErr result (Lacks (seen self.old) (seen self.new)) }
     {
         let next = next_operand(self.operands, self.progress.done);
         self.matcher = find_matcher(self.alloc, next)?;

@@ -15,11 +15,11 @@ use Rattle.csplit_core.specs.{
   Csplit.{settled_of, whole_of, verdict_of},
   Input.{newline, without_newline, marked, all_lines, open_line},
   Output.{Style, manner_of, naming_of, sizes_wanted},
-  Planned.plan,
+  Planned.{Plan, plan},
   inner.PlanLaws.needed,
   Section.is_final,
-  Cutter.{CutterState, AimHolds, seen, suppress_in, state_in, kept_by, IsFit, IsSound, load, draft_by, IsAt, EndsNow},
-  Cutter.{IsLive, Stands},
+  Cutter.{CutterState, AimHolds, most_by, pattern_by, seen, suppress_in, state_in, kept_by, IsFit, IsSound, load},
+  Cutter.{draft_by, IsAt, EndsNow, IsLive, Stands},
   CsplitState.{CsplitState, terms, whole_lines},
 }
 use Rattle.bre_core.specs.{Pattern.Pattern, Search.contains}
@@ -33,7 +33,7 @@ use Rattle.ports_core.specs.{
     verdict.Verdict.Verdict,
     file_writer.{Keeps.TheVariants.All, Tells.{Tells, TheVariants.{Nothing, Sizes}}},
   },
-  Draft.draft_part,
+  Draft.{Draft, draft_part},
   FileWriter.{WriterState, OwnsFiles, IsManner, IsReady, Breaks, manner_in, size_of, Leaves, Reaches, new_writer},
   FileWriter.paused,
   Turn.fault_in,
@@ -98,20 +98,46 @@ IsLine line = lines_of newline line ≡ line ∷ []
 abbrev pub settled_part : CutterState → List ℕ → Part
 settled_part cutter x = settled_of cutter.style cutter.operands (all_lines x)
 
-abbrev pub part_at : (cutter : CutterState) (x left : List ℕ) → IsAt cutter x left → Part
-part_at cutter x left at = draft_part (manner_of cutter.style)
-    (draft_by cutter.style (all_lines x) at.steps (kept_by (state_in cutter).operands) at.written)
+-- a cutter by what the sections say of it: its aim and the lines that wait are left out
+abbrev pub bare : CutterState → CutterState
+bare cutter = record cutter { aim = UsedUp; window = record { most = 0; delim = newline; held = [] } }
+
+-- the sections that are written, and their part
+abbrev pub draft_at : {cutter : CutterState} {x left : List ℕ} → IsAt cutter x left → Draft
+draft_at {cutter} {x} at = draft_by cutter.style (all_lines x) at.steps (kept_by (state_in cutter).operands) at.written
+
+abbrev pub part_at : {cutter : CutterState} {x left : List ℕ} → IsAt cutter x left → Part
+part_at {cutter} at = draft_part (manner_of cutter.style) (draft_at at)
+
+abbrev pub plan_in : CutterState → List ℕ → Plan
+plan_in cutter x = plan (suppress_in cutter) cutter.operands (all_lines x)
+
+-- the next operand cuts there, where the lines x came in
+abbrev pub CutsIn : CutterState → List ℕ → Cut → Type 0
+CutsIn cutter x cut = GoesPast (suppress_in cutter) (all_lines x) (state_in cutter) cut.matched cut.line
 
 -- where the plan over x ends, as far as its fault is known from it
 pub record IsJudged (cutter : CutterState) (x : List ℕ) : Type 0 where
-  pub last : state_in cutter ≡ (plan (suppress_in cutter) cutter.operands (all_lines x)).last
-  pub aims : AimsAt cutter.aim (plan (suppress_in cutter) cutter.operands (all_lines x)).ending
+  pub last : state_in cutter ≡ (plan_in cutter x).last
+  pub aims : AimsAt cutter.aim (plan_in cutter x).ending
 
--- What any call leaves of a cutter and its outputs.
-pub record Keeps (cutter next : CutterState) (old new : List Slot) (fault : Option Fault) : Type 0 where
-  pub operands : next.operands ≡ cutter.operands
-  pub style : next.style ≡ cutter.style
-  pub writer : Leaves cutter.writer next.writer old new fault
+-- what was found of the next operand stays so
+abbrev pub IsAimed : CutterState → Type 0
+IsAimed cutter = AimHolds cutter.operands cutter.lines cutter.progress cutter.aim
+
+-- What any call leaves of a cutter that had these, and of its outputs.
+pub record KeepsBy (given : List Operand) (made : Style) (before : WriterState) (next : CutterState)
+    (old new : List Slot) (fault : Option Fault) : Type 0 where
+  pub operands : next.operands ≡ given
+  pub style : next.style ≡ made
+  pub writer : Leaves before next.writer old new fault
+
+abbrev pub Keeps : CutterState → CutterState → List Slot → List Slot → Option Fault → Type 0
+Keeps cutter = KeepsBy cutter.operands cutter.style cutter.writer
+
+-- outputs had one part, and get another
+abbrev pub Puts : Bool → CutterState → CutterState → Part → Part → List Slot → List Slot → Option Fault → Type 0
+Puts told cutter next = Reaches (sizes_wanted cutter.style) told cutter.writer next.writer
 
 -- these bytes came in
 pub record Took (cutter : CutterState) (text : List ℕ) (next : CutterState) : Type 0 where
@@ -124,12 +150,11 @@ pub record Takes (told : Bool) (cutter : CutterState) (text : List ℕ) (old new
     (fault : Option Fault) : Type 0 where
   pub keeps : Keeps cutter next old new fault
   pub reaches : (x : List ℕ) → IsWhole x → Stands cutter x
-      → Reaches (sizes_wanted cutter.style) told cutter.writer next.writer (settled_part cutter x)
-      (settled_part cutter (x ++ text)) old new fault
+      → Puts told cutter next (settled_part cutter x) (settled_part cutter (x ++ text)) old new fault
   pub went : IfNone fault (Took cutter text next)
 
 -- The plan over x ends where the cutter stands, and what is written of the open section is settled.
-pub record Arrives (cutter : CutterState) (x left : List ℕ) (at : IsAt cutter x left) : Type 0 where
+pub record Arrives (cutter : CutterState) {x left : List ℕ} (at : IsAt (bare cutter) x left) : Type 0 where
   pub ends : EndsNow cutter x
   pub low : is_final ends.ending ≡ true → at.taken ≡ 0
   pub enough : (at.taken ≡ 0) ⊎ (cutter.window.most ≤ line_count newline left)
@@ -138,16 +163,15 @@ pub record Arrives (cutter : CutterState) (x left : List ℕ) (at : IsAt cutter 
 pub record Held (cutter : CutterState) (left : List ℕ) (next : CutterState) : Type 0 where
   pub same : next ≡ record cutter { writer = next.writer; window = next.window }
   pub window : next.window ≡ record cutter.window { held = next.window.held }
-  pub stands : (x : List ℕ) (at : IsAt cutter x left) → Arrives cutter x left at → Stands next x
+  pub stands : (x : List ℕ) (at : IsAt (bare cutter) x left) → Arrives cutter at → Stands next x
   pub size : size_of next.writer.current + length next.window.held ≤ size_of cutter.writer.current + length left
 
 -- What `hold` does: the lines up to x came in, and these were left.
 pub record Holds (told : Bool) (cutter : CutterState) (left : List ℕ) (old new : List Slot) (next : CutterState)
     (fault : Option Fault) : Type 0 where
   pub keeps : Keeps cutter next old new fault
-  pub reaches : (x : List ℕ) (at : IsAt cutter x left) → Arrives cutter x left at
-      → Reaches (sizes_wanted cutter.style) told cutter.writer next.writer (part_at cutter x left at)
-      (settled_part cutter x) old new fault
+  pub reaches : (x : List ℕ) (at : IsAt (bare cutter) x left) → Arrives cutter at
+      → Puts told cutter next (part_at at) (settled_part cutter x) old new fault
   pub went : IfNone fault (Held cutter left next)
 
 -- a line stands last in x, which ends with its newline where it has one
@@ -197,24 +221,23 @@ StaysNear cutter cut = (cutter.lines ≤ search_line (suppress_in cutter) (state
 abbrev pub Tries : CutterState → List ℕ → CutterState → Option Cut → Type 0
 Tries cutter line next None = (x : List ℕ) → Looked cutter x line → EndsNow next x
 Tries cutter line next (Some cut) = (x : List ℕ) → Looked cutter x line
-    → GoesPast (suppress_in cutter) (all_lines x) (state_in cutter) cut.matched cut.line × StaysNear cutter cut
+    → CutsIn cutter x cut × StaysNear cutter cut
 
 -- The same of a line that is counted first, where the lines x came in before it.
 abbrev pub TriesNext : CutterState → List ℕ → CutterState → Option Cut → Type 0
 TriesNext cutter line next None = (x : List ℕ) → IsWhole x → IsLive cutter x → EndsNow next (x ++ line)
 TriesNext cutter line next (Some cut) = (x : List ℕ) → IsWhole x → IsLive cutter x
-    → GoesPast (suppress_in cutter) (all_lines (x ++ line)) (state_in cutter) cut.matched cut.line
-    × (next.lines ≤ search_after (suppress_in cutter) cut)
+    → CutsIn cutter (x ++ line) cut × (next.lines ≤ search_after (suppress_in cutter) cut)
 
 -- The plan over x cuts there, and no line of it before the last one is to be looked at again. The lines that are left
 -- begin with number `place`.
-pub record CutsNow (cutter : CutterState) (x left line : List ℕ) (cut : Cut) (place : ℕ)
+pub record CutsNow {cutter : CutterState} {x left : List ℕ} (line : List ℕ) (cut : Cut) (place : ℕ)
     (at : IsAt cutter x left) : Type 0 where
   pub last : IsLastLine x line
   pub near : cutter.lines ≤ search_after (suppress_in cutter) cut
   pub place_is : place ≡ cutter.progress.current + at.taken
   pub before : place ≤ cut.line
-  pub goes : GoesPast (suppress_in cutter) (all_lines x) (state_in cutter) cut.matched cut.line
+  pub goes : CutsIn cutter x cut
 
 -- the turn is no cut
 abbrev pub IsNoCut : Turn → Type 0
@@ -238,11 +261,21 @@ pub record WentOn (cutter : CutterState) (cut : Cut) (next : CutterState) : Type
   pub fewer : needed next.lines (state_in next) < needed cutter.lines (state_in cutter)
   pub state : PassesOn cutter cut next
 
+-- for want of memory little was done
+abbrev pub Lacks : CutterState → CutterState → Fault → Type 0
+Lacks cutter next fault = (fault ≡ Memory) × (next.writer ≡ cutter.writer) × (next.operands ≡ cutter.operands)
+    × (next.style ≡ cutter.style)
+
 abbrev pub PassesCut : CutterState → Cut → CutterState → Option Fault → Type 0
 PassesCut cutter cut next None = WentOn cutter cut next
-PassesCut cutter cut next (Some fault) = (fault ≡ Memory) × (next.writer ≡ cutter.writer)
-    × (next.operands ≡ cutter.operands)
-    × (next.style ≡ cutter.style)
+PassesCut cutter cut next (Some fault) = Lacks cutter next fault
+
+-- the cutter with what its next operand needs
+abbrev pub equipped : CutterState → CutterState
+equipped cutter = record cutter {
+  window = record { most = most_by (state_in cutter).operands; delim = newline; held = [] };
+  sought = pattern_by (state_in cutter).operands;
+}
 
 -- one text ends with another
 abbrev pub IsEnd : List ℕ → List ℕ → Type 0
@@ -251,13 +284,12 @@ IsEnd end text = (front : List ℕ) × (text ≡ front ++ end)
 -- What is so after a cut: the open section has no line yet, and none before the last line is to be looked at again.
 pub record IsAfter (told : Bool) (cutter : CutterState) (x line : List ℕ) (next : CutterState) (rest : List ℕ)
     (low : Part) (old new : List Slot) : Type 0 where
-  pub now : IsAt next x rest
+  pub now : IsAt (bare next) x rest
   pub looked : Looked next x line
   pub near : next.lines ≤ search_line (suppress_in next) (state_in next)
   pub none : now.taken ≡ 0
-  pub grows : Begins low (part_at next x rest now)
-  pub reaches : Reaches (sizes_wanted cutter.style) told cutter.writer next.writer low
-      (part_at next x rest now) old new None
+  pub grows : Begins low (part_at now)
+  pub reaches : Puts told cutter next low (part_at now) old new None
 
 -- Some cuts were made, and these lines are left.
 pub record Spreading (told : Bool) (cutter : CutterState) (cut : Cut) (place : ℕ) (waiting line : List ℕ)
@@ -266,8 +298,8 @@ pub record Spreading (told : Bool) (cutter : CutterState) (cut : Cut) (place : �
   pub lines : now.lines ≡ cutter.lines
   pub fit : IsFit now
   pub held : now.window.held ≡ []
-  pub after : (x : List ℕ) (at : IsAt cutter x waiting) → CutsNow cutter x waiting line cut place at
-      → IsAfter told cutter x line now left (part_at cutter x waiting at) old new
+  pub after : (x : List ℕ) (at : IsAt (bare cutter) x waiting) → CutsNow line cut place at
+      → IsAfter told cutter x line now left (part_at at) old new
   pub size : size_of now.writer.current + length left ≤ size_of cutter.writer.current + length waiting
   pub end : IsEnd left waiting
 
@@ -284,15 +316,14 @@ pub record Spread (told : Bool) (cutter : CutterState) (cut : Cut) (place : ℕ)
   pub so_far : Spreading told cutter cut place waiting line old new now left
   pub is : next ≡ record now { aim = next.aim }
   pub tries : Tries now line next None
-  pub aim : AimHolds next.operands next.lines next.progress next.aim
+  pub aim : IsAimed next
 
 -- the lines that were left were cut as often as operands cut, and more came in that aren't cut
 pub record CutAll (cutter : CutterState) (cut : Cut) (place : ℕ) (left line more : List ℕ)
     (next : CutterState) : Type 0 where
   pub lines : next.lines ≤ cutter.lines + length more
   pub sound : IsSound next
-  pub stands : (x : List ℕ) (at : IsAt cutter x left) → CutsNow cutter x left line cut place at
-      → Stands next (x ++ more)
+  pub stands : (x : List ℕ) (at : IsAt (bare cutter) x left) → CutsNow line cut place at → Stands next (x ++ more)
   pub size : size_of next.writer.current + length next.window.held
       ≤ size_of cutter.writer.current + length left + length more
 
@@ -301,9 +332,8 @@ pub record CutsAll (told : Bool) (cutter : CutterState) (cut : Cut) (place : ℕ
     (old new : List Slot)
     (next : CutterState) (fault : Option Fault) : Type 0 where
   pub keeps : Keeps cutter next old new fault
-  pub reaches : (x : List ℕ) (at : IsAt cutter x left) → CutsNow cutter x left line cut place at
-      → Reaches (sizes_wanted cutter.style) told cutter.writer next.writer (part_at cutter x left at)
-      (settled_part cutter (x ++ more)) old new fault
+  pub reaches : (x : List ℕ) (at : IsAt (bare cutter) x left) → CutsNow line cut place at
+      → Puts told cutter next (part_at at) (settled_part cutter (x ++ more)) old new fault
   pub went : IfNone fault (CutAll cutter cut place left line more next)
 
 -- What passing over lines says: the next operand stands as it did.
@@ -343,39 +373,42 @@ pub record PassesClear (cutter : CutterState) (text : List ℕ) (next : CutterSt
   pub count : next.lines ≡ cutter.lines + line_count newline (take n text)
   pub clear : (pattern : Pattern) → cutter.sought ≡ Some pattern → AreClear pattern (take n text)
 
--- A stretch of the text was taken in, of this many bytes, with its first line at least; or a fault came among them. Returned
--- are these, and how many bytes the next line is, where the pattern that is searched for was found in it.
+-- a text begins with one line of this many bytes, which may lack its newline if it is the only one, and others follow
+pub record Starts (text : List ℕ) (size : ℕ) : Type 0 where
+  pub within : size ≤ length text
+  pub line : IsLine (take size text)
+  pub rest : IsWhole (drop size text)
+  pub complete : (drop size text ≡ []) ⊎ (ends_with newline (take size text) ≡ true)
+
+-- After the first bytes of a text these many were taken in too, complete lines. Returned are both, and how many bytes
+-- the next line is, where the pattern that is searched for was found in it.
+pub record Extends (text : List ℕ) (size : ℕ) (next : CutterState) (result : Result Passed Fault) : Type 0 where
+  pub n : ℕ
+  pub within : n ≤ length (drop size text)
+  pub whole : IsWhole (take n (drop size text))
+  pub size_is : IfOk result (λ passed. passed.size ≡ size + n)
+  pub found : IfOk result (λ passed. IfSome passed.found (IsNextFound next (drop n (drop size text))))
+
+-- A stretch of the text was taken in, with its first line at least; or a fault came among them.
 pub record Stretches (told : Bool) (cutter : CutterState) (text : List ℕ) (size : ℕ) (old new : List Slot)
-    (next : CutterState)
-    (result : Result Passed Fault) : Type 0 where
-  pub n : ℕ
-  pub least : size ≤ n
-  pub within : n ≤ length text
-  pub whole : IsWhole text → IsWhole (take n text)
-  pub took : Takes told cutter (take n text) old new next (fault_in result)
-  pub size_is : IfOk result (λ passed. passed.size ≡ n)
-  pub found : IfOk result (λ passed. IfSome passed.found (IsNextFound next (drop n text)))
+    (next : CutterState) (result : Result Passed Fault) : Type 0 where
+  pub on : Extends text size next result
+  pub took : Takes told cutter (take size text ++ take on.n (drop size text)) old new next (fault_in result)
 
--- The lines of a text were passed over, and then held together with what is left before them.
-pub record GoesOn (told : Bool) (cutter : CutterState) (left rest : List ℕ) (old new : List Slot) (next : CutterState)
-    (result : Result Passed Fault) : Type 0 where
+-- The lines of a text after its first bytes were passed over, and then held together with what is left of those bytes.
+pub record GoesOn (told : Bool) (cutter : CutterState) (left text : List ℕ) (size : ℕ) (old new : List Slot)
+    (next : CutterState) (result : Result Passed Fault) : Type 0 where
+  pub on : Extends text size next result
   pub mid : CutterState
-  pub n : ℕ
-  pub over : PassesOver cutter rest mid n
-  pub held : Holds told mid (mid.window.held ++ (left ++ take n rest)) old new next (fault_in result)
-  pub size : IfOk result (λ passed. passed.size ≡ length left + n)
-  pub found : IfOk result (λ passed. IfSome passed.found (IsNextFound mid (drop n rest)))
+  pub over : PassesOver cutter (drop size text) mid on.n
+  pub held : Holds told mid (mid.window.held ++ (left ++ take on.n (drop size text))) old new next (fault_in result)
 
--- A line was cut, and of the text after it the lines that aren't cut were taken in too, which are this many bytes.
-pub record CutsOn (told : Bool) (cutter : CutterState) (cut : Cut) (line rest : List ℕ) (old new : List Slot)
-    (next : CutterState)
-    (result : Result Passed Fault) : Type 0 where
-  pub n : ℕ
-  pub within : n ≤ length rest
-  pub whole : IsWhole (take n rest)
-  pub all : CutsAll told cutter cut cutter.lines line line (take n rest) old new next (fault_in result)
-  pub size : IfOk result (λ passed. passed.size ≡ length line + n)
-  pub found : IfOk result (λ passed. IfSome passed.found (IsNextFound next (drop n rest)))
+-- The first line of a text was cut, and the lines after it that aren't cut were taken in too.
+pub record CutsOn (told : Bool) (cutter : CutterState) (cut : Cut) (text : List ℕ) (size : ℕ) (old new : List Slot)
+    (next : CutterState) (result : Result Passed Fault) : Type 0 where
+  pub on : Extends text size next result
+  pub all : CutsAll told cutter cut cutter.lines (take size text) (take size text) (take on.n (drop size text)) old new
+      next (fault_in result)
 
 -- what is written where the input ends after these lines
 abbrev pub whole_part : CutterState → List ℕ → Part
@@ -426,8 +459,7 @@ pub record EndsAll (told : Bool) (cutter : CutterState) (old new : List Slot) (n
     (fault : Option Fault) : Type 0 where
   pub keeps : Keeps cutter next old new fault
   pub reaches : (x : List ℕ) → Stands cutter x
-      → Reaches (sizes_wanted cutter.style) told cutter.writer next.writer (settled_part cutter x)
-      (whole_part cutter x) old new fault
+      → Puts told cutter next (settled_part cutter x) (whole_part cutter x) old new fault
   pub judged : IfNone fault ((x : List ℕ) → Stands cutter x → IsJudged next x)
 
 -- The files that were there are removed, and those are left whose removal failed.
@@ -459,14 +491,14 @@ pub record Closed (told : Bool) (stage : CsplitState) (old new : List Slot) (nex
     (fault : Option Fault) : Type 0 where
   pub keeps : Keeps stage.cutter next.cutter old new fault
   pub reaches : (x : List ℕ) → IsWhole x → Stands stage.cutter x
-      → Reaches (sizes_wanted stage.cutter.style) told stage.cutter.writer next.cutter.writer
-      (settled_part stage.cutter x) (whole_part stage.cutter (x ++ stage.rest)) old new fault
+      → Puts told stage.cutter next.cutter (settled_part stage.cutter x) (whole_part stage.cutter (x ++ stage.rest))
+      old new fault
   pub judged : IfNone fault ((x : List ℕ) → IsWhole x → Stands stage.cutter x → IsJudged next.cutter (x ++ stage.rest))
 
 -- the cutter's verdict, once the last section ended, is that with which the plan over all lines ends
 abbrev pub Judges : CutterState → Option Verdict → Type 0
 Judges cutter verdict = (x : List ℕ) → IsJudged cutter x
-    → verdict ≡ verdict_of (plan (suppress_in cutter) cutter.operands (all_lines x)).ending
+    → verdict ≡ verdict_of (plan_in cutter x).ending
 
 -- How the end went: well; or a fault came before it; or it came, and the work ends with a verdict.
 pub data Closes (told : Bool) (stage : CsplitState) (old new : List Slot) (next : CsplitState) : Result (Unit {0}) Fault

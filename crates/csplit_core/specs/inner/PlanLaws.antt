@@ -13,8 +13,6 @@ abbrev pub MatchesAs : Operand → List Line → ℕ → Option ℕ → Type 0
 MatchesAs operand lines from None = MatchesNone operand lines from
 MatchesAs operand lines from (Some line) = IsFirst operand lines from line
 
--- What private calls say: the plan that is computed is the one plan there is, and it goes on as the lines do.
-
 -- the steps after a turn
 abbrev pub after : ℕ → Bool → List Line → State → Turn → Plan
 after bound suppress lines state turn = elim turn [

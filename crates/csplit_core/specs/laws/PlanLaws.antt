@@ -30,9 +30,9 @@ among operand front (line ∷ rest) {from} is = matched_on operand (front ++ lin
     (ap (λ n. (get_or (front ++ line ∷ rest) n unmarked).marks operand)
     (let e : from - 1 ≡ length front = omega (arith, is) in e)
     ∙ ap (λ (l : Line). l.marks operand) (get_or-append_seam front line rest unmarked))
-    (let e = length-append front (line ∷ rest) in omega (arith, e, is)) (first_among operand (suc from) rest)
+    (omega (arith, length-append front (line ∷ rest), is)) (first_among operand (suc from) rest)
     (rw (← append_assoc front (line ∷ []) rest) (among operand (front ++ line ∷ []) rest
-    (let e = length-append front (line ∷ []) in omega (arith, e, is))))
+    (omega (arith, length-append front (line ∷ []), is))))
 
 pub first_match_as : (operand : Operand) (lines : List Line) (from : ℕ) → 1 ≤ from
     → MatchesAs operand lines from (first_match operand lines from)
@@ -42,7 +42,7 @@ first_match_as operand lines from some = elim (cases_lt (length lines) (from - 1
   | inr on ↦ subst (λ those. MatchesAs operand those from (first_match operand lines from))
       (take-append-drop (from - 1) lines)
       (among operand (take (from - 1) lines) (drop (from - 1) lines)
-      (let e = length-take-le (from - 1) lines on in omega (arith, e, some)))
+      (omega (arith, length-take-le (from - 1) lines on, some)))
 ]
 
 pub search_some : (suppress : Bool) (state : State) → 1 ≤ search_line suppress state
@@ -52,8 +52,6 @@ first_is : (suppress : Bool) (operand : Operand) (lines : List Line) (state : St
     → MatchesAs operand lines (search_line suppress state) matched
     → first_match operand lines (search_line suppress state) ≡ matched
 first_is suppress operand lines state matched is = grind (arith, common_steps, first_match_as, search_some)
-
--- Laws that traits cite: the plan that is computed is the one plan there is, and it goes on as the lines do.
 
 pub less_test : (a b : ℕ) → a < b → nat_lt a b ≡ true
 less_test a b less = grind (arith, nat_tests, less)
@@ -109,13 +107,11 @@ fewer_by : (total : ℕ) (state : State) (operand : Operand) (operands : List Op
 fewer_by total state operand operands cut at some within true next left again same =
     let fewer : left_of total next operand.target < left_of total state operand.target =
     fewer_left total state next operand.target cut at some within again same in
-    let is : needed total next ≡ needed_by total next (operand ∷ operands) = ap (needed_by total next) left in
-    omega (arith, fewer, is)
+    omega (arith, fewer, ap (needed_by total next) left)
 fewer_by total state operand operands cut at some within false next left again same =
     let fewer : needed_by total next operands < length operands * (total + 1) + 1 =
     fewer_operands total next operands in
-    let is : needed total next ≡ needed_by total next operands = ap (needed_by total next) left in
-    omega (arith, fewer, is)
+    omega (arith, fewer, ap (needed_by total next) left)
 
 pub fewer_moves : (suppress : Bool) (total : ℕ) (state : State) {operand : Operand} {operands : List Operand}
     (matched cut : ℕ) → state.operands ≡ operand ∷ operands → Moves total state operand.target matched cut → 1 ≤ cut
@@ -130,7 +126,7 @@ pub fewer : (suppress : Bool) (lines : List Line) (state : State) {operand : Ope
     → CutsAt suppress lines state operand operand.target matched cut → 1 ≤ cut → cut ≤ length lines
     → needed (length lines) (state_after suppress operand operands state.repetition matched cut)
     < needed (length lines) state
-fewer suppress lines state {operand} matched cut is at some within = grind (arith, common_steps, fewer_moves)
+fewer suppress lines state matched cut is at some within = grind (arith, common_steps, fewer_moves)
 
 pub line_some : (suppress : Bool) (cut : ℕ) → cut ≤ line_after suppress cut
 line_some suppress cut = grind (arith, common_steps)
@@ -146,7 +142,7 @@ tested : (suppress : Bool) (total : ℕ) (state : State) (operand : Operand) (op
     → turn_at suppress total state operand operands matched cut
     ≡ cond far (ends (above operand state.repetition matched cut)) (cond low (ends (below operand state.repetition))
     (goes (step_of state operand matched cut) (state_after suppress operand operands state.repetition matched cut)))
-tested suppress total state operand operands matched cut {far} is are = grind (arith, common_steps)
+tested suppress total state operand operands matched cut is are = grind (arith, common_steps)
 
 -- A plan is the one that is computed
 pub computed : {suppress : Bool} {lines : List Line} {first : State} (all : List Step) (end : State) {how : Ending}
@@ -154,7 +150,7 @@ pub computed : {suppress : Bool} {lines : List Line} {first : State} (all : List
     → (bound : ℕ) → needed (length lines) first ≤ bound → 1 ≤ first.current
     → plan_within bound suppress lines first ≡ so all end how
 computed all end (is_used_up state none) zero enough some = refl
-computed {suppress} {lines} all end (is_used_up state none) (suc bound) enough some = grind (arith, common_steps)
+computed all end (is_used_up state none) (suc bound) enough some = grind (arith, common_steps)
 computed {suppress} {lines} all end (misses state operand operands is none) bound enough some =
     ends_within bound suppress lines state is (turn_missed suppress lines state operands operand.target none) enough
 computed {suppress} {lines} all end (is_above state operand operands matched cut is at far) bound enough some =
@@ -183,7 +179,7 @@ computed {suppress} {lines} all end (cuts state operand operands matched cut ste
     (let less : needed (length lines) (state_after suppress operand operands state.repetition matched cut) < needed
     (length lines) state = fewer suppress lines state matched cut is at (omega (arith, some, from)) within in omega
     (arith, less, enough))
-    (let least : cut ≤ line_after suppress cut = line_some suppress cut in omega (arith, least, some, from)))
+    (omega (arith, line_some suppress cut, some, from)))
 
 -- an operand is left, and a plan goes on after its cuts
 module _ (bound : ℕ) (suppress : Bool) (lines : List Line)
@@ -239,28 +235,31 @@ none_by : (suppress : Bool) (lines : List Line) (state : State) (operands : List
 none_by suppress lines state [] is enough = is_used_up state is
 none_by suppress lines state (operand ∷ operands) is enough = grind (arith, common_steps)
 
-pub runs : (bound : ℕ) (suppress : Bool) (lines : List Line) (state : State) → needed (length lines) state ≤ bound
+runs : (bound : ℕ) (suppress : Bool) (lines : List Line) (state : State) → needed (length lines) state ≤ bound
     → 1 ≤ state.current → RunsAs suppress lines state (plan_within bound suppress lines state)
 runs zero suppress lines state enough some = none_by suppress lines state state.operands refl enough
 runs (suc bound) suppress lines state enough some =
     mutual_runs bound suppress lines state state.operands refl (λ operand operands is matched cut at from within.
     let less : needed (length lines) (state_after suppress operand operands state.repetition matched cut) < needed
     (length lines) state = fewer suppress lines state matched cut is at (omega (arith, some, from)) within in
-    let least : cut ≤ line_after suppress cut = line_some suppress cut in
     runs bound suppress lines (state_after suppress operand operands state.repetition matched cut)
-    (omega (arith, less, enough)) (omega (arith, least, some, from)))
+    (omega (arith, less, enough)) (omega (arith, line_some suppress cut, some, from)))
+
+pub runs_on : (suppress : Bool) (lines : List Line) (state : State) → 1 ≤ state.current
+    → RunsAs suppress lines state (plan_within (needed (length lines) state) suppress lines state)
+runs_on suppress lines state some = runs (needed (length lines) state) suppress lines state (omega arith) some
 
 enough_at_start : (total : ℕ) (operands : List Operand) → needed total (start operands) ≤ length operands * (total + 1)
-enough_at_start total operands = let less = fewer_operands total (start operands) operands in omega (arith, less)
+enough_at_start total operands = omega (arith, fewer_operands total (start operands) operands)
 
 pub plan_runs : (suppress : Bool) (operands : List Operand) (lines : List Line)
     → RunsAs suppress lines (start operands) (plan suppress operands lines)
 plan_runs suppress operands lines = search (rules, runs, enough_at_start)
 
-pub plan_once : (suppress : Bool) (operands : List Operand) (lines : List Line) (steps : List Step) (last : State)
-    (ending : Ending) → Runs suppress lines (start operands) steps last ending
+pub plan_once : {suppress : Bool} {operands : List Operand} {lines : List Line} {steps : List Step} {last : State}
+    {ending : Ending} → Runs suppress lines (start operands) steps last ending
     → plan suppress operands lines ≡ so steps last ending
-plan_once suppress operands lines steps last ending is = grind (arith, common_steps, computed, enough_at_start)
+plan_once is = grind (arith, common_steps, computed, enough_at_start)
 
 -- What was cut off stays so
 
@@ -278,6 +277,6 @@ goes_on {suppress} {a} b more end {how}
     (cuts state operand operands matched cut steps' last' ending' is at from within rest') rest =
     cuts state operand operands matched cut (steps' ++ more) end how is
     (cuts_still suppress a b state operand operand.target matched cut at) from
-    (let e : length (a ++ b) ≡ length a + length b = length-append a b in omega (arith, e, within))
+    (omega (arith, length-append a b, within))
     (goes_on b more end rest' rest)
 goes_on b more end run rest = rest

@@ -15,15 +15,14 @@ use Rattle.ports_core.{
 }
 use Rattle.csplit_core.specs.{
   Operand.{Operand, Line, is_kept},
-  Plan.{State, start, Step, Ending, above, below, line_after, state_after, Runs, is_used_up, misses, is_above},
-  Plan.{is_below, cuts},
-  Planned.{plan_within, plan},
+  Plan.{State, Step, Ending, above, below, Runs, is_used_up, misses, is_above, is_below, cuts},
+  Planned.plan,
   Section.{Section, section, section_of, lines_between, bytes_of, is_last_kept, whole_end, settled_end, sections_by},
   Section.settled_sections,
   Output.{Style, manner_of, opening_of, file_in, state_in, shares_in, part_of},
   Csplit.{settled_of, whole_of},
-  laws.PlanLaws.{line_some, goes_on, runs, plan_runs, plan_once},
-  inner.PlanLaws.{needed, EndsAs, AreWithin, Next, Covers, Grow, GoesOn, CutsFrom},
+  laws.PlanLaws.{line_some, goes_on, runs_on, plan_runs, plan_once},
+  inner.PlanLaws.{EndsAs, AreWithin, Next, Covers, Grow, GoesOn, CutsFrom},
 }
 
 -- Stretches of lines
@@ -52,29 +51,21 @@ between_grows first past more a b some within (inr less) =
       sym (ap (λ n. take n (drop (first - 1) a) ++ lines_between first more (a ++ b)) none),
     )
 
-pub ends_as : (suppress : Bool) (lines : List Line) (first : State) (steps : List Step) (last : State) (ending : Ending)
+pub ends_as : {suppress : Bool} {lines : List Line} {first : State} {steps : List Step} {last : State} {ending : Ending}
     → Runs suppress lines first steps last ending → EndsAs suppress lines last ending
-ends_as suppress lines first steps last ending (is_used_up state none) = none
-ends_as suppress lines first steps last ending (misses state operand operands is none) = (operands, is, none, refl)
-ends_as suppress lines first steps last ending (is_above state operand operands matched cut is at far) =
-    (operands, is, at, far, refl)
-ends_as suppress lines first steps last ending (is_below state operand operands matched cut is at within low) = grind
-    (arith, common_steps)
-ends_as suppress lines first steps last ending
-    (cuts state operand operands matched cut steps' last' ending' is at from within rest) =
-    ends_as suppress lines
-    (state_after suppress operand operands state.repetition matched cut) steps' last' ending' rest
+ends_as (is_used_up state none) = none
+ends_as (misses state operand operands is none) = (operands, is, none, refl)
+ends_as (is_above state operand operands matched cut is at far) = (operands, is, at, far, refl)
+ends_as (is_below state operand operands matched cut is at within low) = grind (arith, common_steps)
+ends_as (cuts state operand operands matched cut steps' last' ending' is at from within rest) = ends_as rest
 
-pub are_within : (suppress : Bool) (lines : List Line) (first : State) (steps : List Step) (last : State)
-    (ending : Ending) → Runs suppress lines first steps last ending → 1 ≤ first.current
+pub are_within : {suppress : Bool} {lines : List Line} {first : State} {steps : List Step} {last : State}
+    {ending : Ending} → Runs suppress lines first steps last ending → 1 ≤ first.current
     → AreWithin (length lines) steps × (1 ≤ last.current)
-are_within suppress lines first steps last ending
-    (cuts state operand operands matched cut steps' last' ending' is at from within rest) some =
-    let least : cut ≤ line_after suppress cut = line_some suppress cut in
-    let those = are_within suppress lines (state_after suppress operand operands state.repetition matched cut) steps'
-    last' ending' rest (omega (arith, least, some, from)) in
+are_within {suppress} (cuts state operand operands matched cut steps' last' ending' is at from within rest) some =
+    let those = are_within rest (omega (arith, line_some suppress cut, some, from)) in
     ((some, from, within, those.0), those.1)
-are_within suppress lines first steps last ending run some = (tt, some)
+are_within run some = (tt, some)
 
 pub closed_still : (a b : List Line) (steps : List Step) → AreWithin (length a) steps
     → map (section_of (a ++ b)) steps ≡ map (section_of a) steps
@@ -82,7 +73,7 @@ closed_still a b [] within = refl
 closed_still a b (step ∷ steps) within =
     ap (λ lines. section (is_kept step.operand.target) true lines ∷ map (section_of (a ++ b)) steps)
     (between_still step.current step.cut a b within.0
-    (let less : step.cut ≤ length a = within.2 in omega (arith, less))) ∙ ap (λ those. section_of a step ∷ those)
+    (omega (arith, within.2))) ∙ ap (λ those. section_of a step ∷ those)
     (closed_still a b steps within.3)
 
 next_by : (a b : List Line) (current past more : ℕ) {kept : Bool}
@@ -115,9 +106,9 @@ next_of : {suppress : Bool} (closed : Bool) (end_of : ℕ → Ending → ℕ) �
     → (more : List Step) (end : State) {how : Ending} → Runs suppress (a ++ b) last more end how
     → Next (section (is_last_kept ending) false (lines_between last.current (settled_end (length a) ending) a))
     (sections_by closed end_of (a ++ b) (record { steps = more; last = end; ending = how }))
-next_of {suppress} closed end_of covers a b ending some ends more end (is_used_up state none) = grind
+next_of closed end_of covers a b ending some ends more end (is_used_up state none) = grind
     (arith, common_steps, next_by, settled_most, cuts_from)
-next_of {suppress} closed end_of covers a b ending some ends more end (misses state operand operands are none) = grind
+next_of closed end_of covers a b ending some ends more end (misses state operand operands are none) = grind
     (arith, common_steps, cuts_from, next_by, settled_most)
 next_of {suppress} closed end_of covers a b ending some ends more end
     (is_above state operand operands matched cut are at far) =
@@ -132,7 +123,7 @@ next_of {suppress} closed end_of covers a b ending some ends more end
     let so = cuts_from suppress a b state ending ends are in
     next_by a b state.current (settled_end (length a) ending)
     (end_of (length (a ++ b)) (below operand state.repetition)) closed some
-    (settled_most (length a) ending) (inr (let past = so.1 matched cut at in omega (arith, past, low))) so.0
+    (settled_most (length a) ending) (inr (omega (arith, so.1 matched cut at, low))) so.0
 next_of {suppress} closed end_of covers a b ending some ends more end
     (cuts state operand operands matched cut steps' last' ending' are at from in_lines rest) =
     let so = cuts_from suppress a b state ending ends are in
@@ -146,36 +137,22 @@ sections_grow : {suppress : Bool} (closed : Bool) (end_of : ℕ → Ending → �
     → Runs suppress (a ++ b) last more end how
     → Grow (settled_sections a (record { steps = steps; last = last; ending = ending }))
     (sections_by closed end_of (a ++ b) (record { steps = steps ++ more; last = end; ending = how }))
-sections_grow {suppress} closed end_of covers {a} b {first} {steps} {last} {ending} more end {how} some runs_a rest =
+sections_grow closed end_of covers b more end some runs_a rest =
     grind (arith, common_steps, are_within, map-append, closed_still, next_of, ends_as)
 
 pub plan_goes_on : {suppress : Bool} (operands : List Operand) (a b : List Line) → GoesOn suppress operands a b
 plan_goes_on {suppress} operands a b =
     let here = plan_runs suppress operands a in
-    let within = are_within suppress a (start operands) (plan suppress operands a).steps (plan suppress operands a).last
-    (plan suppress operands a).ending here (omega arith) in
-    let rest = runs (needed (length (a ++ b)) (plan suppress operands a).last) suppress (a ++ b)
-    (plan suppress operands a).last (omega arith) within.1 in
-    record {
-      more = (plan_within (needed (length (a ++ b)) (plan suppress operands a).last) suppress (a ++ b)
-          (plan suppress operands a).last).steps;
-      end = (plan_within (needed (length (a ++ b)) (plan suppress operands a).last) suppress (a ++ b)
-          (plan suppress operands a).last).last;
-      how = (plan_within (needed (length (a ++ b)) (plan suppress operands a).last) suppress (a ++ b)
-          (plan suppress operands a).last).ending;
-      rest = rest;
-      is = plan_once suppress operands (a ++ b) _ _ _ (goes_on b _ _ here rest);
-    }
+    let rest = runs_on suppress (a ++ b) (plan suppress operands a).last (are_within here (omega arith)).1 in
+    record { more = _; end = _; how = _; rest = rest; is = plan_once (goes_on b _ _ here rest) }
 
 pub plan_grows : (suppress closed : Bool) (end_of : ℕ → Ending → ℕ) → Covers end_of
     → (operands : List Operand) (a b : List Line)
     → Grow (settled_sections a (plan suppress operands a))
     (sections_by closed end_of (a ++ b) (plan suppress operands (a ++ b)))
 plan_grows suppress closed end_of covers operands a b =
-    let goes = plan_goes_on operands a b in
-    subst (λ p. Grow (settled_sections a (plan suppress operands a)) (sections_by closed end_of (a ++ b) p))
-    (sym goes.is)
-    (sections_grow closed end_of covers b goes.more goes.end (omega arith) (plan_runs suppress operands a) goes.rest)
+    let goes = plan_goes_on {suppress = suppress} operands a b in
+    rw goes.is (sections_grow closed end_of covers b _ _ (omega arith) (plan_runs suppress operands a) goes.rest)
 
 -- What is put out grows with them
 
@@ -208,12 +185,10 @@ section_grows style front begun other more is_open kept rest bytes =
 
 pub parts_grow : (style : Style) {low high : List Section} → Grow low high
     → Begins (part_of style low) (part_of style high)
-parts_grow style {high} grow =
-    rw (← grow.low_is) at (subst (λ those. Begins (part_of style (grow.front ++ grow.begun ∷ [])) (part_of style those))
-    (sym (grow.high_is ∙ ap (λ those. grow.front ++ those) grow.next.are))
-    (section_grows style grow.front grow.begun grow.next.other grow.next.more grow.is_open grow.next.kept
-    (bytes_of grow.next.rest)
-    (ap bytes_of grow.next.lines ∙ bytes-append grow.begun.lines grow.next.rest)))
+parts_grow style grow =
+    rw (grow.low_is, grow.high_is, grow.next.are) (section_grows style grow.front grow.begun grow.next.other
+    grow.next.more grow.is_open grow.next.kept (bytes_of grow.next.rest)
+    (ap bytes_of grow.next.lines ∙ bytes-append grow.begun.lines grow.next.rest))
 
 pub settled_covers : Covers settled_end
 settled_covers total ending = omega arith

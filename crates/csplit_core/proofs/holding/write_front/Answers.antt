@@ -12,7 +12,7 @@ pub put-requires-clause-ready : goal.put-requires-clause-ready
 put-requires-clause-ready g c = c.loop-left.invariant.went.leaves.ready
 
 pub put-requires-clause-fits : goal.put-requires-clause-fits
-put-requires-clause-fits g c = can_count _ _ _ (fits_front c.loop-left.invariant c.min-bytes.result (2 ^ 64) c.front-front.result.now _ c.front-front.ensures.front.1 (omega (arith, c.min-bytes.ensures)) c.requires.fits)
+put-requires-clause-fits g c = can_count _ _ _ (fits_front c.loop-left.invariant c.min-bytes.result c.front-front.result.now _ c.front-front.ensures.front.1 (omega (arith, c.min-bytes.ensures)) (2 ^ 64) c.requires.fits)
 
 pub returns-in_err-put-clause-goes : goal.returns-in_err-put-clause-goes
 returns-in_err-put-clause-goes g c = rw (handed_on _ _ c.from_residual.ensures.1)

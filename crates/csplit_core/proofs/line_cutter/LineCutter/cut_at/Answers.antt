@@ -1,25 +1,23 @@
 use Rattle.std.proofs.Common.{◌∙◌, ap, arith, refl}
-use Rattle.seg_core.specs.Line.{first_lines, after_lines}
 use Rattle.ports_core.proofs.HandedOn.{fault_is}
 use Rattle.csplit_core.{
-  specs.{Cutter.kept_next, Input.newline, Output.{Style, opening_of}},
+  specs.{Cutter.kept_next, Output.{Style, opening_of}},
   proofs.CutterLemmas.{cut_put_stopped, cut_pass_stopped, cut_next_stopped, cut_done},
 }
 use Rattle.csplit_core.proofs.line_cutter.LineCutter.cut_at.Goals as goal
 
 pub returns-in_err-put-clause-err : goal.returns-in_err-put-clause-err
-returns-in_err-put-clause-err g c = fault_is _ _ _ c.from_residual.ensures.1 (λ line. cut_put_stopped c.requires.fit c.requires.cuts (c.split_lines.ensures.first ∙ ap (λ n. first_lines newline n c.args.waiting.now) c.saturating_sub.ensures) line refl refl c.in_err-put.ensures.goes)
+returns-in_err-put-clause-err g c = fault_is _ _ _ c.from_residual.ensures.1 (λ line. cut_put_stopped c.requires.fit c.requires.cuts c.saturating_sub.ensures c.split_lines.ensures.first line refl refl c.in_err-put.ensures.goes)
 
 pub returns-in_err-pass-clause-err : goal.returns-in_err-pass-clause-err
-returns-in_err-pass-clause-err g c = fault_is _ _ _ c.from_residual-in_err-pass.ensures.1 (λ line. cut_pass_stopped c.requires.fit c.requires.cuts (c.split_lines.ensures.first ∙ ap (λ n. first_lines newline n c.args.waiting.now) c.saturating_sub.ensures) line c.in_ok-put.ensures.goes c.in_err-pass.ensures)
+returns-in_err-pass-clause-err g c = fault_is _ _ _ c.from_residual-in_err-pass.ensures.1 (λ line. cut_pass_stopped c.requires.fit c.requires.cuts c.saturating_sub.ensures c.split_lines.ensures.first line c.in_ok-put.ensures.goes c.in_err-pass.ensures)
 
 pub returns-in_err-next-clause-err : goal.returns-in_err-next-clause-err
-returns-in_err-next-clause-err g c = fault_is _ _ _ c.from_residual-in_err-next.ensures.1 (λ line. cut_next_stopped c.requires.fit c.requires.cuts (c.split_lines.ensures.first ∙ ap (λ n. first_lines newline n c.args.waiting.now) c.saturating_sub.ensures) line
+returns-in_err-next-clause-err g c = fault_is _ _ _ c.from_residual-in_err-next.ensures.1 (λ line. cut_next_stopped c.requires.fit c.requires.cuts c.saturating_sub.ensures c.split_lines.ensures.first line
     c.in_ok-put.ensures.goes c.in_ok-pass.ensures (c.opening_of-opening.ensures ∙ ap (λ (s : Style). opening_of s c.is_kept-is_kept.result) c.style-style.ensures ∙ ap (opening_of c.pass.new.self.style) (c.is_kept-is_kept.ensures ∙ ap kept_next c.next_operand.ensures)) c.in_err-next.ensures.goes)
 
 pub returns-clause-ok : goal.returns-clause-ok
 returns-clause-ok g c =
-    cut_done c.split_lines.result.1.now c.requires.fit c.requires.cuts (c.split_lines.ensures.first ∙ ap (λ n. first_lines newline n c.args.waiting.now) c.saturating_sub.ensures)
-    (c.split_lines.ensures.rest ∙ ap (λ n. after_lines newline n c.args.waiting.now) c.saturating_sub.ensures)
+    cut_done c.split_lines.result.1.now c.requires.fit c.requires.cuts c.saturating_sub.ensures c.split_lines.ensures.first c.split_lines.ensures.rest
     (λ is. c.skip_line.ensures.first (ap (λ (s : Style). s.suppress) (c.style.view_is ∙ c.style-style.ensures) ∙ is)) (λ is. c.skip_line.ensures.none (ap (λ (s : Style). s.suppress) (c.style.view_is ∙ c.style-style.ensures) ∙ is))
     c.in_ok-put.ensures.goes c.in_ok-pass.ensures (c.opening_of-opening.ensures ∙ ap (λ (s : Style). opening_of s c.is_kept-is_kept.result) c.style-style.ensures ∙ ap (opening_of c.pass.new.self.style) (c.is_kept-is_kept.ensures ∙ ap kept_next c.next_operand.ensures)) c.in_ok-next.ensures.goes c.in_ok-next.ensures.size (omega (arith, c.skip_line.ensures.shorter, c.split_lines.ensures.shorter))

@@ -3,7 +3,7 @@ use Rattle.csplit_core.{
   specs.Cutter.CutterState,
   proofs.{
     LineLemmas.rest_all,
-    TryLemmas.{few_counted, all_left, one_more_at, more_clear, left_whole, all_passed_at, next_found, stops_unfound},
+    TryLemmas.{few_counted, first_at, one_more, more_clear, left_whole, all_passed_at, next_found, stops_unfound},
   },
 }
 use Rattle.csplit_core.proofs.line_cutter.LineCutter.pass_unmatched.Goals as goal
@@ -18,9 +18,9 @@ pub overflow_add-result : goal.overflow_add-result
 overflow_add-result c = grind (arith, common_steps)
 
 pub returns-then-is_match : goal.returns-then-is_match
-returns-then-is_match c = let place = c.in-Some.ensures in record {
+returns-then-is_match c = record {
   over = all_passed_at c.requires.sound c.requires.aim c.loop-end.invariant c.is_match.ensures.same;
-  found = next_found c.in-Some.end c.requires.aim c.loop-end.invariant c.is_match.ensures.same place.0.high place.1 place.0.before c.is_match.ensures.found c.if-is_match.true;
+  found = next_found c.in-Some.end c.requires.aim c.loop-end.invariant c.is_match.ensures.same (first_at c.in-Some.end c.in-Some.ensures) c.is_match.ensures.found c.if-is_match.true;
 }
 
 pub returns : goal.returns
@@ -34,13 +34,12 @@ overflow_add-self-in-Some c = omega (arith, few_counted c.loop-end.invariant, ap
 
 pub pass_clear-clear-requires-in-Some : goal.pass_clear-clear-requires-in-Some
 pass_clear-clear-requires-in-Some c =
-    let place = c.in-Some.ensures in
-    let so = one_more_at c.in-Some.end c.loop-end.invariant c.is_match.ensures.same place.0.high place.1 place.0.before c.is_match.ensures.found c.if-is_match.false (all_left c.loop-end.left.now c.in-Some.end refl) in
-    record { whole = left_whole c.requires.whole so; fits = (let less = few_counted so in omega (arith, less, c.requires.fits)) }
+    let so = one_more c.in-Some.end c.loop-end.invariant c.is_match.ensures.same (first_at c.in-Some.end c.in-Some.ensures) c.is_match.ensures.found c.if-is_match.false in
+    record { whole = left_whole c.requires.whole so; fits = (omega (arith, few_counted so, c.requires.fits)) }
 
 pub overflow_add-left : goal.overflow_add-left
 overflow_add-left c = grind (arith, common_steps)
 
 pub loop-end-preserved : goal.loop-end-preserved
 loop-end-preserved c =
-    let place = c.in-Some.ensures in more_clear (one_more_at c.in-Some.end c.loop-end.invariant c.is_match.ensures.same place.0.high place.1 place.0.before c.is_match.ensures.found c.if-is_match.false (all_left c.loop-end.left.now c.in-Some.end refl)) c.pass_clear-clear-in-Some.ensures (rest_all c.pass_clear-clear-in-Some.result _)
+    more_clear (one_more c.in-Some.end c.loop-end.invariant c.is_match.ensures.same (first_at c.in-Some.end c.in-Some.ensures) c.is_match.ensures.found c.if-is_match.false) c.pass_clear-clear-in-Some.ensures (rest_all c.pass_clear-clear-in-Some.result _)

@@ -5,10 +5,12 @@ use Rattle.csplit_core.proofs.line_cutter.LineCutter.take_line.Goals as goal
 
 pub stretch-requires : goal.stretch-requires
 stretch-requires g c = let none = drop_all (length c.args.line.now) c.args.line.now (omega arith) in record {
-  within = omega arith;
-  line = subst IsLine (sym (take_all (length c.args.line.now) c.args.line.now (omega arith))) c.requires.line;
-  rest = inl none;
-  complete = inl none;
+  start = record {
+    within = omega arith;
+    line = subst IsLine (sym (take_all (length c.args.line.now) c.args.line.now (omega arith))) c.requires.line;
+    rest = inl none;
+    complete = inl none;
+  };
   found = search rules;
   fits = c.requires.fits;
   sound = c.requires.sound;

@@ -1,29 +1,29 @@
 use Rattle.std.proofs.{Common.arith, lemmas.{Bool.Decides.nat_tests, List.drop_all}}
 use Rattle.csplit_core.{
-  specs.{Plan.{used_up, is_used_up}, Progress.state_of},
+  specs.Plan.{used_up, is_used_up},
   proofs.TryLemmas.{left_is, falls_number, falls_search, misses_search},
 }
 use Rattle.csplit_core.proofs.progress.Progress.turn.Goals as goal
 
 pub returns-in_default-clause-says : goal.returns-in_default-clause-says
 returns-in_default-clause-says c lines seen =
-    record { ending = used_up; runs = is_used_up _ (drop_all c.args.self.now.done c.args.operands.now (let beyond = c.in_default.ensures.lookup.0 in grind (arith, nat_tests, beyond))); aims = tt }
+    record { ending = used_up; runs = is_used_up _ (drop_all c.args.self.now.done c.args.operands.now (grind (arith, nat_tests, c.in_default.ensures.lookup.0))); aims = tt }
 
 pub returns-then-total-search_line-clause-says : goal.returns-then-total-search_line-clause-says
 returns-then-total-search_line-clause-says c lines seen =
-    misses_search lines (left_is c.args.operands.now c.args.self.now.done c.in-Some.ensures.lookup.3.0 c.in-Some.ensures.lookup.1) c.in-Search.is seen
-    (λ near. let s = c.search_line.ensures c.args.operands.now in absurd (omega (arith, near, s, c.if-total-search_line.true)))
+    misses_search lines (left_is c.args.operands.now c.args.self.now.done c.in-Some.ensures.lookup.3.0 c.in-Some.ensures.lookup.1) seen c.in-Search.is
+    (λ near. absurd (omega (arith, near, c.search_line.ensures c.args.operands.now, c.if-total-search_line.true)))
 
 pub returns-then-not-found-clause-says : goal.returns-then-not-found-clause-says
 returns-then-not-found-clause-says c lines seen =
-    misses_search lines (left_is c.args.operands.now c.args.self.now.done c.in-Some.ensures.lookup.3.0 c.in-Some.ensures.lookup.1) c.in-Search.is seen (λ near. c.if-not-found.true)
+    misses_search lines (left_is c.args.operands.now c.args.self.now.done c.in-Some.ensures.lookup.3.0 c.in-Some.ensures.lookup.1) seen c.in-Search.is (λ near. c.if-not-found.true)
 
 pub returns-in-Number-clause-says : goal.returns-in-Number-clause-says
-returns-in-Number-clause-says c lines seen = falls_number c.args.suppress lines (state_of c.args.operands.now c.args.self.now) c.in-Number.number
-    (left_is c.args.operands.now c.args.self.now.done c.in-Some.ensures.lookup.3.0 c.in-Some.ensures.lookup.1) c.in-Number.is seen c.saturating_mul-cut.ensures c.requires.few c.fall.result c.fall.ensures
+returns-in-Number-clause-says c lines seen = falls_number lines (left_is c.args.operands.now c.args.self.now.done c.in-Some.ensures.lookup.3.0 c.in-Some.ensures.lookup.1) seen
+    c.in-Number.number c.in-Number.is c.saturating_mul-cut.ensures c.requires.few c.fall.result c.fall.ensures
 
 pub returns-else-not-found-clause-says : goal.returns-else-not-found-clause-says
-returns-else-not-found-clause-says c lines seen = falls_search c.args.suppress lines (state_of c.args.operands.now c.args.self.now) c.in-Search.offset
-    (left_is c.args.operands.now c.args.self.now.done c.in-Some.ensures.lookup.3.0 c.in-Some.ensures.lookup.1) c.in-Search.is seen
-    (let s = c.search_line.ensures c.args.operands.now in omega (arith, s, c.if-total-search_line.false)) c.if-not-found.false
+returns-else-not-found-clause-says c lines seen = falls_search lines (left_is c.args.operands.now c.args.self.now.done c.in-Some.ensures.lookup.3.0 c.in-Some.ensures.lookup.1) seen
+    c.in-Search.offset c.in-Search.is
+    (omega (arith, c.search_line.ensures c.args.operands.now, c.if-total-search_line.false)) c.if-not-found.false
     c.line_at.ensures c.requires.few c.fall-in-Search.result c.fall-in-Search.ensures
