@@ -13,7 +13,7 @@ use Rattle.ports_core.specs.{Slot.{Slot, changed_at}, declared.fault.Fault.Fault
 use Rattle.follow_core.specs.{
   Printing.PrinterState,
   inner.Giving.{Adds, Copies, Ends, Follows, IfBroke, Keeps, Leads, FromEither, FromFront, HoldsMany, IsPast, Noted},
-  inner.Giving.{ReadsOf, ToldLed, ToldShort, WereFound, change_between, notes_past, stop_in},
+  inner.Giving.{ReadsOf, ToldLed, ToldShort, WereFound, change_between, found_all, notes_past, stop_in},
   declared.{
     visitor.Stop.{Stop, TheVariants.{Broke, Over}},
     notice.Notice.{Notice, TheVariants.{Appeared, Inaccessible, Replaced, Truncated}},
@@ -30,8 +30,7 @@ use Rattle.follow_core.specs.{
 use Rattle.follow_core.proofs.{
   RunLemmas.last_from-append,
   CallGivesLemmas.{broke_at, broke_first, contents_open, due_as, due_by, follows_from, follows_stop, found_as},
-  CallGivesLemmas.{found_both, found_from, goes_after, if_broke, is_held, noted_as, noted_found, nothing_due},
-  CallGivesLemmas.{opened_there, opens_same, stops_early, untold},
+  CallGivesLemmas.{goes_after, if_broke, is_held, noted_found, nothing_due, opened_there, opens_same, stops_early, untold},
 }
 use Rattle.watch_core.specs.{
   declared.watch.Broken.TheVariants.{Len, Look, Open},
@@ -91,10 +90,10 @@ begins_so : (test : Bool) {from start position : ℕ} → from ≡ (if test then
 begins_so true is at = inl (at ∙ is)
 begins_so false is at = inr (at ∙ is)
 
-told_short : (snapshot : Snapshot) (name : List ℕ) (opened : Option ℕ) (position len : ℕ) → is_some opened ≡ true
-    → Found snapshot name (holds_many opened len)
-    → (notice : Notice) → IsPast position len notice → ToldShort snapshot name opened position notice
-told_short snapshot name opened position len some found notice (is, short) = (is, (some, len, found, short))
+told_short : (snapshot : Snapshot) (known : Watched) {position len : ℕ} → is_some known.opened ≡ true
+    → Found snapshot known.name (holds_many known.opened len)
+    → (notice : Notice) → IsPast position len notice → ToldShort snapshot known position notice
+told_short snapshot known {len} some found notice (is, short) = (is, (some, len, found, short))
 
 module _ {told_in told : Bool} {snapshot : Snapshot} {place : ℕ} {name : List ℕ} {position : ℕ} {watched : List Watched}
     {printer : PrinterState} {slots : List Slot} where
@@ -104,8 +103,8 @@ module _ {told_in told : Bool} {snapshot : Snapshot} {place : ℕ} {name : List 
       → Adds told_in told snapshot place name position watched printer slots watched printer slots (Ok position)
   adds_none is = record {
     fate = sound;
-    ends = λ last stands. due_as (λ t. let none = ap (λ file. events_later last (entries_open snapshot file)) (sym is) in (none, none)) (nothing_due tt);
-    stands = λ t last stands. subst (λ file. StandsAt (last_from last (entries_open snapshot file)) (watched_at watched place).opened position) (sym is) stands;
+    ends = λ last stands. due_as {before = []} (λ t. rw is (refl, refl)) (nothing_due (found_all tt));
+    stands = rw is (λ t last stands. stands);
     long = rw is (λ no. absurd (false≢true no));
     keeps = refl;
     reads = tt;
@@ -117,7 +116,7 @@ module _ {told_in told : Bool} {snapshot : Snapshot} {place : ℕ} {name : List 
       → Adds told_in told snapshot place name position watched printer slots watched_new printer slots (Err (Broke why))
   adds_unmeasured is fault broken can = record {
     fate = unmeasured (watched_at watched place).opened;
-    ends = λ last stands. broke_first (can, tt);
+    ends = λ last stands. broke_first can;
     stands = tt;
     long = tt;
     keeps = (broke_at (λ file. Len file) refl refl fault broken, refl);
@@ -134,8 +133,8 @@ module _ {told_in told : Bool} {snapshot : Snapshot} {place : ℕ} {name : List 
       (Err (Over why))
   adds_untold {file} {len} {why} is long found line same = record {
     fate = sound;
-    ends = λ last stands. due_by (λ t. (caught_open snapshot last is (stands t) (long t), tt)) (stops_early (gives _ ∷ []) (found_as (λ events noted. noted_found _ (FromEither (watched_at watched place).opened position) snapshot (watched_at watched place).name sound (Some why) events
-        (noted_as events (told_short snapshot (watched_at watched place).name (watched_at watched place).opened position len (ap is_some is) found) noted)) line));
+    ends = λ last stands. due_by (λ t. (caught_open snapshot last is (stands t) (long t), tt))
+        (stops_early (gives _ ∷ []) (noted_found (Some why) (told_short snapshot (watched_at watched place) (ap is_some is) found) line));
     stands = tt;
     long = tt;
     keeps = same;
@@ -157,20 +156,17 @@ module _ {told_in told : Bool} {snapshot : Snapshot} {place : ℕ} {name : List 
       → Adds told_in told snapshot place name position watched printer slots watched_new after slots_new result
   adds_copied {file} {len} {from} {watched_new} {inside} {after} {mid} {slots_new} {result} viewed is long found saw unchanged begins line copied count = rw (← viewed) (record {
     fate = unread opened copies.at;
-    ends = λ last stands. due_as (λ t. due last (stands t) (long t)) (goes_after (WereFound (ToldShort snapshot known opened position) (FromEither opened position) snapshot known (unread opened copies.at) (stop_in result))
-        (λ events more noted gave. found_both (ToldShort snapshot known opened position) (FromEither opened position) snapshot known sound (unread opened copies.at) (stop_in result) events more
-        (noted_found (ToldShort snapshot known opened position) (FromEither opened position) snapshot known sound None events (noted_as events (told_short snapshot known opened position len (ap is_some is) found) noted))
-        (found_from snapshot known (unread opened copies.at) (stop_in result) (λ notice none. absurd none) (λ file start those. (those.0, ap is_some is, begins_so (nat_lt len position) begins those.1)) more gave)) (untold line) copies.ends);
+    ends = λ last stands. due_as (λ t. due last (stands t) (long t))
+        (goes_after (noted_found None (told_short snapshot (watched_at watched place) (ap is_some is) found) (untold line))
+        (found_as (λ notice none. absurd none)
+        (λ file start those. (those.0, ap is_some is, begins_so (nat_lt len position) begins those.1)) copies.ends));
     stands = IfOk-weaker result (λ n. n ≡ len) _ (λ n whole t last stands. rw is (record { file = refl; seen = whole ∙ long t ∙ ap (λ file. length (held_at snapshot file)) is })) count;
-    long = IfOk-weaker result (λ n. n ≡ len) _ (λ n whole. rw whole (is_held snapshot known len opened found)) count;
+    long = IfOk-weaker result (λ n. n ≡ len) _ (λ n whole. rw whole (is_held snapshot _ len opened found)) count;
     keeps = copies.keeps;
     reads = read (stop_in result);
   }) where
     opened : Option ℕ
     opened = (watched_at watched place).opened
-
-    known : List ℕ
-    known = (watched_at watched place).name
 
     copies : Copies told_in told snapshot from place name watched inside mid watched_new after slots_new
         (stop_in result)
@@ -334,7 +330,7 @@ module _ {told_in told by_name : Bool} {snapshot : Snapshot} {led : Option ℕ} 
       (Err (Broke why))
   leads_unled fault broken can = record {
     fate = unled;
-    ends = λ last stands. broke_first (can, tt);
+    ends = λ last stands. broke_first can;
     stands = tt;
     long = λ known. tt;
     follows = broke_at (λ file. Look) refl refl fault broken;
@@ -350,7 +346,7 @@ module _ {told_in told by_name : Bool} {snapshot : Snapshot} {led : Option ℕ} 
       (Ok position)
   leads_same none lost same = record {
     fate = sound;
-    ends = λ last stands. due_as (λ t. let due = (nothing_led snapshot last led (stands t).file (none t)).0 in (sym due, sym due)) (nothing_due tt);
+    ends = λ last stands. due_as (λ t. let due = (nothing_led snapshot last led (stands t).file (none t)).0 in (sym due, sym due)) (nothing_due (found_all tt));
     stands = λ t last stands. let (due, still, same) = nothing_led snapshot last led stands.file (none t) in rw (still, same) stands;
     long = λ long. rw same (long_by snapshot (watched_at watched place).name position by_name (watched_at watched place).opened lost long);
     follows = ((watched_at watched place).opened, same ∙ sym (opens_same watched place), λ t. sym (nothing_led snapshot (fresh _) led (fresh_stands _).file (none t)).2);
@@ -361,7 +357,7 @@ module _ {told_in told by_name : Bool} {snapshot : Snapshot} {led : Option ℕ} 
   pub leads_unsaid : {watched_new : List Watched} {after : PrinterState} {slots_new : List Slot} {before : List Event}
       {change : Notice} {why : Fault}
       → (told_in ≡ true → change_between (watched_at watched place).opened led ≡ Some change)
-      → ToldLed by_name snapshot (watched_at watched place).name (watched_at watched place).opened change
+      → ToldLed by_name snapshot (watched_at watched place) change
       → Ends told_in (Noted (λ notice. notice ≡ change)) told false printer name
       (notes change ∷ []) before slots after slots_new (Some (Over why)) → watched_new ≡ watched
       → Leads told_in told by_name snapshot led place name position watched printer slots watched_new after slots_new
@@ -369,7 +365,7 @@ module _ {told_in told by_name : Bool} {snapshot : Snapshot} {led : Option ℕ} 
   leads_unsaid {why} changed seen line same = record {
     fate = sound;
     ends = λ last stands. due_by (λ t. (sym (change_led snapshot last led (stands t).file (changed t)).0, tt))
-        (stops_early (all_held snapshot led) (found_as (λ events noted. noted_found (ToldLed by_name snapshot (watched_at watched place).name (watched_at watched place).opened) FromFront snapshot (watched_at watched place).name sound (Some why) events (noted_as events (λ notice is. rw is seen) noted)) line));
+        (stops_early (all_held snapshot led) (noted_found (Some why) (λ notice is. rw is seen) line));
     stands = tt;
     long = λ known. tt;
     follows = ((watched_at watched place).opened, same ∙ sym (opens_same watched place));
@@ -381,7 +377,7 @@ module _ {told_in told by_name : Bool} {snapshot : Snapshot} {led : Option ℕ} 
   pub leads_unopened : {now watched_new : List Watched} {mid : List Slot} {before : List Event} {change : Notice}
       {why : Fault}
       → (told_in ≡ true → change_between (watched_at watched place).opened led ≡ Some change)
-      → ToldLed by_name snapshot (watched_at watched place).name (watched_at watched place).opened change
+      → ToldLed by_name snapshot (watched_at watched place) change
       → Ends told_in (Noted (λ notice. notice ≡ change)) told false printer name
       (notes change ∷ []) before slots printer mid None → now ≡ watched → why ≡ fault.Open place
       → NameBreaks (λ file. Open) place now watched_new → snapshot.breaks ≡ true
@@ -391,16 +387,14 @@ module _ {told_in told by_name : Bool} {snapshot : Snapshot} {led : Option ℕ} 
     fate = unopened;
     ends = λ last stands. due_as (λ t. let due = (change_led snapshot last led (stands t).file (changed t)).0 in
         (sym due, sym (ap notes_in due ∙ held_notes snapshot led change)))
-        (goes_after (WereFound (ToldLed by_name snapshot known (watched_at watched place).opened) FromFront snapshot known unopened (Some (Broke why))) (λ events more noted gave. found_both (ToldLed by_name snapshot (watched_at watched place).name (watched_at watched place).opened) FromFront snapshot known sound unopened (Some (Broke why)) events more
-        (noted_found (ToldLed by_name snapshot (watched_at watched place).name (watched_at watched place).opened) FromFront snapshot known sound None events (noted_as events (λ notice is. rw is seen) noted)) gave) line (broke_first {due = all_held snapshot led} (can, tt)));
+        (goes_after (noted_found None (λ notice is. rw is seen) line)
+        (broke_first {due = all_held snapshot led} can));
     stands = tt;
     long = λ those. tt;
     follows = broke_at (λ file. Open) refl same fault broken;
     other = λ t. refl;
     met = λ seeks. refl;
-  } where
-    known : List ℕ
-    known = (watched_at watched place).name
+  }
 
   -- it was told, and all that the file holds was given, or a beginning
   pub leads_opened : {now : Snapshot} {mid slots_new : List Slot} {after : PrinterState}
@@ -408,7 +402,7 @@ module _ {told_in told by_name : Bool} {snapshot : Snapshot} {led : Option ℕ} 
       {result : Result ℕ Stop}
       → IsTrue (is_watchable watched place)
       → (told_in ≡ true → change_between (watched_at watched place).opened led ≡ Some change)
-      → ToldLed by_name snapshot (watched_at watched place).name (watched_at watched place).opened change
+      → ToldLed by_name snapshot (watched_at watched place) change
       → Found snapshot (watched_at watched place).name (opens_as file)
       → Ends told_in (Noted (λ notice. notice ≡ change)) told false printer name
       (notes change ∷ []) before slots printer mid None → now ≡ snapshot
@@ -419,10 +413,10 @@ module _ {told_in told by_name : Bool} {snapshot : Snapshot} {led : Option ℕ} 
       result
   leads_opened {mid} {slots_new} {after} {watched_mid} {watched_new} {file} {change} {result} can changed seen opening line same opened leads is adding = record {
     fate = adds.fate;
-    ends = λ last stands. due_by (λ t. dues last (stands t) t) (goes_after (WereFound (ToldLed by_name snapshot known (watched_at watched place).opened) FromFront snapshot known adds.fate (stop_in result))
-        (λ events more noted gave. found_both (ToldLed by_name snapshot (watched_at watched place).name (watched_at watched place).opened) FromFront snapshot known sound adds.fate (stop_in result) events more
-        (noted_found (ToldLed by_name snapshot (watched_at watched place).name (watched_at watched place).opened) FromFront snapshot known sound None events (noted_as events (λ notice is. rw is seen) noted))
-        (found_from snapshot known adds.fate (stop_in result) (λ notice those. absurd (none_short those.1)) (λ file start those. at_front those.2) more (rw named at gave))) line (adds.ends (fresh now_open) (λ t. fresh_stands now_open)));
+    ends = λ last stands. due_by (λ t. dues last (stands t) t)
+        (goes_after (noted_found None (λ notice is. rw is seen) line)
+        (found_as (λ notice those. absurd (none_short those.1)) (λ file start those. at_front those.2)
+        (rw named at (adds.ends (fresh now_open) (λ t. fresh_stands now_open)))));
     stands = IfOk-weaker result _ _ (λ len at t last stands. rw ((change_led snapshot last led stands.file (changed t)).1)
         (subst (λ o. StandsAt (last_from (fresh o) (entries_open snapshot o)) o len) (is t) (at t (fresh now_open) (fresh_stands now_open)))) adds.stands;
     long = λ those. still_long result adds.long adds.keeps;
@@ -436,21 +430,18 @@ module _ {told_in told by_name : Bool} {snapshot : Snapshot} {led : Option ℕ} 
     now_open : Option ℕ
     now_open = (watched_at watched_mid place).opened
 
-    known : List ℕ
-    known = (watched_at watched place).name
-
-    named : (watched_at watched_mid place).name ≡ known
+    named : (watched_at watched_mid place).name ≡ (watched_at watched place).name
     named = ap (λ those. (watched_at those place).name) opened ∙ ap (λ (w : Watched). w.name) (opened_there watched place can)
 
     at_front : {start : ℕ} → (start ≡ 0) ⊎ (start ≡ 0) → start ≡ 0
     at_front (inl at) = at
     at_front (inr at) = at
 
-    none_short : IsSeen snapshot known now_open 0 Truncated → ⊥
+    none_short : {known : List ℕ} → IsSeen snapshot known now_open 0 Truncated → ⊥
     none_short (some, len, found, short) = omega (arith, short)
 
     lost : (watched_at watched_mid place).opened ≡ None → LeftOpen snapshot (watched_at watched_mid place).name None 0
-    lost none = inr (rw (named, ← is_now none) opening) where
+    lost none = inr (rw named (rw (is_now none) at opening)) where
       is_now : (watched_at watched_mid place).opened ≡ None → file ≡ None
       is_now none = sym (ap (λ those. (watched_at those place).opened) opened ∙ ap (λ (w : Watched). w.opened) (opened_there watched place can)) ∙ none
 
@@ -520,12 +511,13 @@ from_either file from (same, some, inl at) = inl at
 from_either file from (same, some, inr at) = inr (same, some, at)
 
 -- what is told then; of a name without a file only where names are followed
-abbrev pub ToldAgain : (by_name : Bool) → Snapshot → List ℕ → Option ℕ → ℕ → Notice → Type 0
-ToldAgain by_name snapshot name opened position notice = (opened ≡ None → by_name ≡ true) × IsSeen snapshot name opened position notice
+abbrev pub ToldAgain : (by_name : Bool) → Snapshot → Watched → ℕ → Notice → Type 0
+ToldAgain by_name snapshot known position notice = (known.opened ≡ None → by_name ≡ true)
+    × IsSeen snapshot known.name known.opened position notice
 
-seen_short : (by_name : Bool) (snapshot : Snapshot) (name : List ℕ) (opened : Option ℕ) (position : ℕ) (notice : Notice)
-    → ToldShort snapshot name opened position notice → ToldAgain by_name snapshot name opened position notice
-seen_short by_name snapshot name opened position notice (is, seen) = (λ none. absurd (false≢true (sym (ap is_some none) ∙ seen.0)), rw is seen)
+seen_short : {by_name : Bool} (snapshot : Snapshot) (known : Watched) {position : ℕ} (notice : Notice)
+    → ToldShort snapshot known position notice → ToldAgain by_name snapshot known position notice
+seen_short snapshot known notice (is, seen) = (λ none. absurd (false≢true (sym (ap is_some none) ∙ seen.0)), rw is seen)
 
 -- before it is told what failed
 pub record LooksAgain (told_in told by_name : Bool) (snapshot : Snapshot) (place : ℕ) (name : List ℕ) (position : ℕ)
@@ -533,9 +525,13 @@ pub record LooksAgain (told_in told by_name : Bool) (snapshot : Snapshot) (place
     (printer : PrinterState) (slots : List Slot) (watched_new : List Watched) (after : PrinterState)
     (slots_new : List Slot) (result : Result ℕ Stop) : Type 0 where
   pub fate : Fate
-  pub ends : let opened = (watched_at watched place).opened in (last : Entry) → (told_in ≡ true → StandsAt last opened position)
-      → let due = due_later by_name name opened last snapshot in
-      Ends told_in (WereFound (ToldAgain by_name snapshot (watched_at watched place).name opened position) (FromFrontOr opened position) snapshot (watched_at watched place).name fate (stop_in result)) told false printer name (due.came ++ due.led) (given_by due snapshot opened fate) slots after slots_new (stop_in result)
+  pub ends : let known = watched_at watched place in (last : Entry)
+      → (told_in ≡ true → StandsAt last known.opened position)
+      → let due = due_later by_name name known.opened last snapshot in
+      Ends told_in
+      (WereFound (ToldAgain by_name snapshot known position) (FromFrontOr known.opened position) snapshot known.name fate
+      (stop_in result)) told false printer name (due.came ++ due.led) (given_by due snapshot known.opened fate) slots
+      after slots_new (stop_in result)
   pub long : IfOk result
       (IsLong by_name snapshot (watched_at watched_new place).name (watched_at watched_new place).opened)
   pub stands : let opened = (watched_at watched place).opened in IfOk result (λ len. told_in ≡ true → (last : Entry) → StandsAt last opened position
@@ -557,7 +553,7 @@ module _ {told_in told : Bool} {snapshot : Snapshot} {place : ℕ} {name : List 
     fate = adds.fate;
     ends = λ last stands. let due = due_later by_name name (watched_at watched place).opened last snapshot in
         due_by (λ t. (refl, if_broke (Some stop) (kept_given snapshot due (watched_at watched place).opened adds.fate) adds.reads))
-        (stops_early due.led (found_as (found_from snapshot (watched_at watched place).name adds.fate (Some stop) (seen_short by_name snapshot (watched_at watched place).name (watched_at watched place).opened position) from_either) (adds.ends last stands)));
+        (stops_early due.led (found_as (seen_short snapshot (watched_at watched place)) from_either (adds.ends last stands)));
     long = tt;
     stands = tt;
     follows = follows_stop told_in (open_after_look by_name name (watched_at watched place).opened snapshot) _ place watched watched_new adds.fate stop (sym (opens_same watched place)) adds.keeps;
@@ -575,15 +571,13 @@ module _ {told_in told : Bool} {snapshot : Snapshot} {place : ℕ} {name : List 
       → LooksAgain told_in told by_name snapshot place name position watched printer slots watched_new after slots_new
       result
   looks_both {by_name} {result} adds leads met =
-      let known = (watched_at watched place).name in let opened = (watched_at watched place).opened in record {
+      let opened = (watched_at watched place).opened in record {
         fate = leads.fate;
         ends = λ last stands. let due = due_later by_name name opened last snapshot in
             due_by (λ t. (refl, if_broke (stop_in result) (λ other. led_given snapshot due opened leads.fate (other t)) leads.other))
-            (goes_after (WereFound (ToldAgain by_name snapshot known opened position) (FromFrontOr opened position) snapshot known leads.fate (stop_in result))
-            (λ events more one two. found_both (ToldAgain by_name snapshot known opened position) (FromFrontOr opened position) snapshot known adds.fate leads.fate (stop_in result) events more
-            (found_from snapshot known adds.fate None (seen_short by_name snapshot known opened position) from_either events one)
-            (found_from snapshot known leads.fate (stop_in result) (λ notice those. (λ none. those.0, those.1 position)) (λ file from at. inl at) more two))
-            (adds.ends last stands) (leads.ends _ (λ t. adds.stands t last (stands t))));
+            (goes_after (found_as (seen_short snapshot (watched_at watched place)) from_either (adds.ends last stands))
+            (found_as (λ notice those. (λ none. those.0, those.1 position)) (λ file from at. inl at)
+            (leads.ends _ (λ t. adds.stands t last (stands t)))));
         long = leads.long adds.long;
         stands = IfOk-weaker result _ _ (λ len at t last stands. rw (← at_look by_name name opened snapshot, last_from-append last (entries_open snapshot opened) _)
             (at t _ (adds.stands t last stands))) leads.stands;

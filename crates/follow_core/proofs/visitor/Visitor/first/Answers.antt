@@ -8,7 +8,7 @@ use Rattle.follow_core.{
     declared.{name.Standing.TheVariants.{Followed, Left}, visitor.Stop.TheVariants.Over},
     Event.begins_none,
     Look.sound,
-    inner.Giving.{Noted, Nothing},
+    inner.Giving.{Noted, Nothing, found_begun},
   },
   proofs.CallGivesLemmas.{ends_can, follows_from, follows_stop, header_only, long_at, stops_early, opened_there},
   proofs.LookGivesLemmas.{first_gave, first_long, first_missing, first_started, first_unopened, gave_fails},
@@ -32,7 +32,7 @@ returns-in-Err-clause-visits g c first = first_unopened c.requires.name c.requir
 pub returns-in-Err-put-clause-visits : goal.returns-in-Err-put-clause-visits
 returns-in-Err-put-clause-visits g c first = gave_fails sound (Over c.in-Err-put.fault) c.requires.name c.requires.watchable
     (c.in-Ok-true.ensures.ok.file, c.in-Ok-true.ensures.ok.names)
-    (first_gave _ c.self.view_is c.in-Ok-true.ensures.ok c.in-Ok-true.field-0-test c.requires.name (λ t. refl) refl tt tt (stops_early _ (header_only {before = _} (Some c.in-Err-put.fault) ([], begins_none, tt) c.in-Err-put.ensures.puts)))
+    (first_gave _ c.self.view_is c.in-Ok-true.ensures.ok c.in-Ok-true.field-0-test c.requires.name (λ t. refl) refl tt tt (stops_early _ (header_only {before = _} (Some c.in-Err-put.fault) (found_begun [] begins_none tt) c.in-Err-put.ensures.puts)))
     (refl, refl)
 
 pub write_start-requires-clause-readable : goal.write_start-requires-clause-readable
