@@ -12,7 +12,7 @@ use Rattle.std.proofs.{
 use Rattle.ports_core.specs.{Slot.{Slot, changed_at}, declared.fault.Fault.Fault}
 use Rattle.follow_core.specs.{
   Printing.PrinterState,
-  inner.Giving.{Adds, Copies, Ends, Follows, IfBroke, Keeps, Leads, FromEither, FromFront, HoldsMany, IsPast, Noted},
+  inner.Giving.{Adds, Copies, Ends, Follows, IfBroke, Keeps, Leads, FromEither, HoldsMany, IsPast, Noted},
   inner.Giving.{ReadsOf, ToldLed, ToldShort, WereFound, change_between, found_all, notes_past, stop_in},
   declared.{
     visitor.Stop.{Stop, TheVariants.{Broke, Over}},
