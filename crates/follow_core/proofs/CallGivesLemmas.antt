@@ -52,41 +52,49 @@ given_as events before more None same also given = given ∙ same
 given_as events before more (Some (Broke why)) same also given = given ∙ also
 given_as events before more (Some (Over why)) same also given = subst (Begins events) same given
 
--- what is due may be said in another way
-pub due_by : {told_in told opened : Bool} {Is : List Event → Type 0} {printer after : PrinterState} {name : List ℕ}
-    {due other before more : List Event} {old new : List Slot}
-    {stop : Option Stop} → (told_in ≡ true → (due ≡ other) × IfBroke stop (before ≡ more))
-    → Ends told_in Is told opened printer name due before old after new stop
-    → Ends told_in Is told opened printer name other more old after new stop
-due_by {before} {more} {stop} same ends = record { events = ends.events; are = λ t. given_as ends.events before more stop (same t).0 (same t).1 (ends.are t); found = ends.found; came = ends.came }
-
 pub if_broke : {A B : Type 0} (stop : Option Stop) → (A → B) → IfBroke stop A → IfBroke stop B
 if_broke None so broke = tt
 if_broke (Some (Broke why)) so broke = so broke
 if_broke (Some (Over why)) so broke = tt
-
-pub due_as : {told_in told opened : Bool} {Is : List Event → Type 0} {printer after : PrinterState} {name : List ℕ}
-    {due other before more : List Event} {old new : List Slot}
-    {stop : Option Stop} → (told_in ≡ true → (due ≡ other) × (before ≡ more))
-    → Ends told_in Is told opened printer name due before old after new stop
-    → Ends told_in Is told opened printer name other more old after new stop
-due_as {before} {more} {stop} same = due_by (λ t. ((same t).0, broke stop (same t).1)) where
-  broke : (stop : Option Stop) → before ≡ more → IfBroke stop (before ≡ more)
-  broke None is = tt
-  broke (Some (Broke why)) is = is
-  broke (Some (Over why)) is = tt
 
 early : (events due before more : List Event) (stop : Stop) → AreGiven (Some stop) events due before
     → AreGiven (Some stop) events (due ++ more) before
 early events due before more (Broke why) given = given
 early events due before more (Over why) given = begins_more more given
 
--- what stops the first of two steps stops both
-pub stops_early : {told_in told opened : Bool} {Is : List Event → Type 0} {printer after : PrinterState} {name : List ℕ}
-    {due before : List Event} (more : List Event)
-    {old new : List Slot} {stop : Stop} → Ends told_in Is told opened printer name due before old after new (Some stop)
-    → Ends told_in Is told opened printer name (due ++ more) before old after new (Some stop)
-stops_early {due} {before} more {stop} ends = record { events = ends.events; are = λ t. early ends.events due before more stop (ends.are t); found = ends.found; came = ends.came }
+module _ {told_in told opened : Bool} {Is : List Event → Type 0} {printer after : PrinterState} {name : List ℕ}
+    {due before : List Event} {old new : List Slot} where
+  -- what is due may be said in another way
+  pub due_by : {other more : List Event} {stop : Option Stop}
+      → (told_in ≡ true → (due ≡ other) × IfBroke stop (before ≡ more))
+      → Ends told_in Is told opened printer name due before old after new stop
+      → Ends told_in Is told opened printer name other more old after new stop
+  due_by {more} {stop} same ends = record {
+    events = ends.events;
+    are = λ t. given_as ends.events before more stop (same t).0 (same t).1 (ends.are t);
+    found = ends.found;
+    came = ends.came;
+  }
+
+  pub due_as : {other more : List Event} {stop : Option Stop} → (told_in ≡ true → (due ≡ other) × (before ≡ more))
+      → Ends told_in Is told opened printer name due before old after new stop
+      → Ends told_in Is told opened printer name other more old after new stop
+  due_as {more} {stop} same = due_by (λ t. ((same t).0, broke stop (same t).1)) where
+    broke : (stop : Option Stop) → before ≡ more → IfBroke stop (before ≡ more)
+    broke None is = tt
+    broke (Some (Broke why)) is = is
+    broke (Some (Over why)) is = tt
+
+  -- what stops the first of two steps stops both
+  pub stops_early : (more : List Event) {stop : Stop}
+      → Ends told_in Is told opened printer name due before old after new (Some stop)
+      → Ends told_in Is told opened printer name (due ++ more) before old after new (Some stop)
+  stops_early more {stop} ends = record {
+    events = ends.events;
+    are = λ t. early ends.events due before more stop (ends.are t);
+    found = ends.found;
+    came = ends.came;
+  }
 
 given_both : {done first : List Event} (events due before : List Event) (stop : Option Stop) → done ≡ first
     → AreGiven stop events due before
@@ -412,8 +420,8 @@ pub opened_led : {told : Bool} {snapshot : Snapshot} {old new : List Watched} {p
     {is_there : Bool} → IsTrue (is_watchable old place)
     → Reopens told snapshot old new place is_there → (watched_at old place).name ≡ name → told ≡ true
     → (watched_at new place).opened ≡ snapshot.leads name
-opened_led {snapshot} {old} {place} can reopens is t = ap (λ those. (watched_at those place).opened) reopens.names
-    ∙ ap (λ (w : Watched). w.opened) (opened_there old place can) ∙ reopens.leads t ∙ ap snapshot.leads is
+opened_led {snapshot} {old} {place} can reopens is t =
+    rw (reopens.names, opened_there old place can) (reopens.leads t ∙ ap snapshot.leads is)
 
 -- a name that broke
 
@@ -425,53 +433,44 @@ broke_at {place} {old} {fate} how is same fault (reason, broken) = record {
   broke = ap is_some is;
   fault_is = fault;
   reason = reason;
-  names = broken ∙ ap (changed_at place (breaks reason how)) same ∙ sym (broke_so reason old place how refl)
-      ∙ ap (λ failed. changed_at place (λ watched. record watched { opened = None; failed = failed; reason = reason }) old) (sym is);
+  names = rw (broken, same, is) (sym (broke_so reason old place how refl));
 }
 
 -- a file of it was opened before
 pub broke_opened : {place : ℕ} (file : Option ℕ) {old mid new : List Watched} {fate : Fate} {why : Fault}
     → mid ≡ changed_at place (opens file) old
     → BrokeAt place mid new fate why → BrokeAt place old new fate why
-broke_opened {place} file {old} {fate} opened broke =
-    let change : Watched → Watched = λ watched. record watched { opened = None; failed = failed_by fate None; reason = broke.reason } in record {
-      broke = broke.broke;
-      fault_is = broke.fault_is;
-      reason = broke.reason;
-      names = broke.names ∙ ap (changed_at place change) opened ∙ changed_at-again place (opens file) change old;
-    }
+broke_opened {place} file {old} opened broke = record {
+  broke = broke.broke;
+  fault_is = broke.fault_is;
+  reason = broke.reason;
+  names = rw (broke.names, opened) (changed_at-again place (opens file) _ old);
+}
 
 -- calls that follow one another on the watch: a file was opened, and then a call on it kept the names, or broke this one
 pub follows_from : {told : Bool} {led file : Option ℕ} (place : ℕ) (old : List Watched) {mid : List Watched}
     (new : List Watched) (fate : Fate) (stop : Option Stop)
-    → mid ≡ changed_at place (opens file) old → (told ≡ true → file ≡ led) → Keeps place mid new fate stop
-    → Follows told led place old new fate stop
-follows_from {file} place old new fate None opened leads keeps = (file, keeps ∙ opened, leads)
+    → mid ≡ changed_at place (opens file) old → (stop ≡ None → told ≡ true → file ≡ led)
+    → Keeps place mid new fate stop → Follows told led place old new fate stop
+follows_from {file} place old new fate None opened leads keeps = (file, keeps ∙ opened, leads refl)
 follows_from {file} place old new fate (Some (Broke why)) opened leads keeps = broke_opened file opened keeps.0
 follows_from {file} place old new fate (Some (Over why)) opened leads keeps = (file, keeps ∙ opened)
-
-pub follows_stop : (told : Bool) (led file : Option ℕ) (place : ℕ) (old : List Watched) {mid : List Watched}
-    (new : List Watched) (fate : Fate) (stop : Stop)
-    → mid ≡ changed_at place (opens file) old → Keeps place mid new fate (Some stop)
-    → Follows told led place old new fate (Some stop)
-follows_stop told led file place old new fate (Broke why) opened keeps = broke_opened file opened keeps.0
-follows_stop told led file place old new fate (Over why) opened keeps = (file, keeps ∙ opened)
 
 -- a look at which a call can fail is the same while the call goes on
 pub breaks_at : {seen seen_old : List Snapshot} → seen ≡ seen_old → (latest seen).breaks ≡ true
     → (latest seen_old).breaks ≡ true
-breaks_at saw can = ap (λ those. (latest those).breaks) (sym saw) ∙ can
+breaks_at saw can = rw saw at can
 
 -- what was found is what the files were found to be when the call began
 pub found_at : {seen seen_old : List Snapshot} {now old : List Watched} (place from : ℕ) (bytes : List ℕ)
     → seen ≡ seen_old → now ≡ old
     → Found (latest seen) (watched_at now place).name (reads_as (watched_at now place).opened from bytes)
     → Found (latest seen_old) (watched_at old place).name (reads_as (watched_at old place).opened from bytes)
-found_at place from bytes saw same = subst₂ (λ (those : List Snapshot) (names : List Watched). Found (latest those) (watched_at names place).name (reads_as (watched_at names place).opened from bytes)) saw same
+found_at place from bytes saw same found = rw (saw, same) at found
 
 pub long_at : {seen seen_old : List Snapshot} {now old : List Watched} (place len : ℕ) → seen_old ≡ seen → old ≡ now
     → HoldsMany (latest seen_old) (watched_at old place) len → HoldsMany (latest seen) (watched_at now place) len
-long_at place len saw same = subst₂ (λ (those : List Snapshot) (names : List Watched). HoldsMany (latest those) (watched_at names place) len) saw same
+long_at place len saw same long = rw (saw, same) at long
 
 -- of an open file it says how much it was found to hold
 pub is_held : (snapshot : Snapshot) (name : List ℕ) (len : ℕ) (opened : Option ℕ)

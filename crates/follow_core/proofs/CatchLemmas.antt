@@ -13,14 +13,15 @@ use Rattle.ports_core.specs.{Slot.{Slot, changed_at}, declared.fault.Fault.Fault
 use Rattle.follow_core.specs.{
   Printing.PrinterState,
   inner.Giving.{Adds, Copies, Ends, Follows, IfBroke, Keeps, Leads, FromEither, HoldsMany, IsPast, Noted},
-  inner.Giving.{ReadsOf, ToldLed, ToldShort, WereFound, change_between, found_all, notes_past, stop_in},
+  inner.Giving.{ReadsOf, ToldLed, ToldShort, WereFound, change_between, found_all, measures, notes_past},
+  inner.Giving.{reads_on, stop_in},
   declared.{
     visitor.Stop.{Stop, TheVariants.{Broke, Over}},
     notice.Notice.{Notice, TheVariants.{Appeared, Inaccessible, Replaced, Truncated}},
   },
   Share.{Due, came_before, due_later, given_by, is_kept, led_before, left_from},
   Event.{Event, all_but, events_later, gives, notes, notes_in},
-  Look.{Fate, sound, unled, unopened, unmeasured, unsought, unread, can_meet},
+  Look.{Fate, sound, unled, unopened, unmeasured, unread, can_meet},
   Version.{Entry, version, gap, version_in, entries_at_look, entries_led, entries_open, held_at, is_same},
   Version.open_after_look,
   Gain.{file_of, last_from},
@@ -29,7 +30,7 @@ use Rattle.follow_core.specs.{
 }
 use Rattle.follow_core.proofs.{
   RunLemmas.last_from-append,
-  CallGivesLemmas.{broke_at, broke_first, contents_open, due_as, due_by, follows_from, follows_stop, found_as},
+  CallGivesLemmas.{broke_at, broke_first, contents_open, due_as, due_by, follows_from, found_as},
   CallGivesLemmas.{goes_after, if_broke, is_held, noted_found, nothing_due, opened_there, opens_same, stops_early, untold},
 }
 use Rattle.watch_core.specs.{
@@ -120,7 +121,7 @@ module _ {told_in told : Bool} {snapshot : Snapshot} {place : ℕ} {name : List 
     stands = tt;
     long = tt;
     keeps = (broke_at (λ file. Len file) refl refl fault broken, refl);
-    reads = (refl, ap is_some is);
+    reads = measures (ap is_some is);
   }
 
   pub adds_untold : {file len : ℕ} {after : PrinterState} {watched_new : List Watched} {slots_new : List Slot}
@@ -180,7 +181,7 @@ module _ {told_in told : Bool} {snapshot : Snapshot} {place : ℕ} {name : List 
 
     read : (stop : Option Stop) → IfBroke stop (ReadsOf opened (unread opened copies.at))
     read None = tt
-    read (Some (Broke why)) = (refl, ap is_some is)
+    read (Some (Broke why)) = reads_on (ap is_some is)
     read (Some (Over why)) = tt
 
     due : (last : Entry) → StandsAt last opened position → len ≡ length (held_at snapshot opened)
@@ -252,34 +253,22 @@ held_notes : (snapshot : Snapshot) (file : Option ℕ) (change : Notice)
 held_notes snapshot None change = refl
 held_notes snapshot (Some file) change = refl
 
-led_then : (snapshot : Snapshot) (file : Option ℕ) (change : Notice) (opened : Option ℕ) (fate : Fate)
+led_then : (snapshot : Snapshot) (file : Option ℕ) (change : Notice) {opened : Option ℕ} {fate : Fate}
     → ReadsOf opened fate
     → led_before snapshot fate (notes change ∷ all_held snapshot file)
     ≡ notes change ∷ came_before snapshot fate (all_held snapshot file)
-led_then snapshot file change opened (unmeasured those) reads = held_notes snapshot file change
-led_then snapshot file change opened (unread those from) reads = refl
-led_then snapshot file change opened sound reads = absurd reads
-led_then snapshot file change opened unled reads = absurd reads
-led_then snapshot file change opened unopened reads = absurd reads
-led_then snapshot file change opened (unsought those from) reads = absurd reads
+led_then snapshot file change (measures some) = held_notes snapshot file change
+led_then snapshot file change (reads_on some) = refl
 
-other_file : (opened file : Option ℕ) {led : Option ℕ} (fate : Fate) → ReadsOf file fate → file ≡ led
+other_file : (opened : Option ℕ) {file led : Option ℕ} {fate : Fate} → ReadsOf file fate → file ≡ led
     → is_same led opened ≡ false → is_kept opened fate ≡ false
-other_file opened file (unmeasured those) reads same other = ap (λ one. is_same one opened) (reads.0 ∙ same) ∙ other
-other_file opened file (unread those from) reads same other = ap (λ one. is_same one opened) (reads.0 ∙ same) ∙ other
-other_file opened file sound reads same other = absurd reads
-other_file opened file unled reads same other = absurd reads
-other_file opened file unopened reads same other = absurd reads
-other_file opened file (unsought those from) reads same other = absurd reads
+other_file opened (measures some) same other = rw same other
+other_file opened (reads_on some) same other = rw same other
 
-reads_meet : (by_name : Bool) (file : Option ℕ) (fate : Fate) → ReadsOf file fate → (seeks : Bool)
+reads_meet : (by_name : Bool) {file : Option ℕ} {fate : Fate} → ReadsOf file fate → (seeks : Bool)
     → can_meet false by_name seeks fate ≡ true
-reads_meet by_name file (unmeasured those) reads seeks = refl
-reads_meet by_name file (unread those from) reads seeks = refl
-reads_meet by_name file sound reads seeks = absurd reads
-reads_meet by_name file unled reads seeks = absurd reads
-reads_meet by_name file unopened reads seeks = absurd reads
-reads_meet by_name file (unsought those from) reads seeks = absurd reads
+reads_meet by_name (measures some) seeks = refl
+reads_meet by_name (reads_on some) seeks = refl
 
 -- what was found to have changed is told
 told_led : (snapshot : Snapshot) (name : List ℕ) (opened led : Option ℕ) {change : Notice}
@@ -420,9 +409,9 @@ module _ {told_in told by_name : Bool} {snapshot : Snapshot} {led : Option ℕ} 
     stands = IfOk-weaker result _ _ (λ len at t last stands. rw ((change_led snapshot last led stands.file (changed t)).1)
         (subst (λ o. StandsAt (last_from (fresh o) (entries_open snapshot o)) o len) (is t) (at t (fresh now_open) (fresh_stands now_open)))) adds.stands;
     long = λ those. still_long result adds.long adds.keeps;
-    follows = follows_from place watched watched_new adds.fate (stop_in result) opened leads adds.keeps;
-    other = if_broke (stop_in result) (λ reads t. other_file (watched_at watched place).opened now_open adds.fate reads (is t) (change_led snapshot (fresh _) led (fresh_stands _).file (changed t)).2) adds.reads;
-    met = if_broke (stop_in result) (reads_meet true now_open adds.fate) adds.reads;
+    follows = follows_from place watched watched_new adds.fate (stop_in result) opened (λ none. leads) adds.keeps;
+    other = if_broke (stop_in result) (λ reads t. other_file (watched_at watched place).opened reads (is t) (change_led snapshot (fresh _) led (fresh_stands _).file (changed t)).2) adds.reads;
+    met = if_broke (stop_in result) (reads_meet true) adds.reads;
   } where
     adds : Adds told_in told snapshot place name 0 watched_mid printer mid watched_new after slots_new result
     adds = rw same at adding
@@ -464,7 +453,7 @@ module _ {told_in told by_name : Bool} {snapshot : Snapshot} {led : Option ℕ} 
         let held = fresh_dues snapshot now_open ∙ ap (all_held snapshot) (is t) in
         let due = (change_led snapshot last led stands.file (changed t)).0 in (
           ap (λ those. notes change ∷ those) held ∙ sym due,
-          if_broke (stop_in result) (λ reads. ap (λ those. notes change ∷ came_before snapshot adds.fate those) held ∙ sym (led_then snapshot led change now_open adds.fate reads)
+          if_broke (stop_in result) (λ reads. ap (λ those. notes change ∷ came_before snapshot adds.fate those) held ∙ sym (led_then snapshot led change reads)
               ∙ ap (led_before snapshot adds.fate) (sym due)) adds.reads,
         )
 
@@ -487,14 +476,10 @@ same_file None some = absurd (false≢true some)
 same_file (Some id) some = eq-eqb id id refl
 
 -- where a call on the open file failed, what comes before it is given
-kept_given : (snapshot : Snapshot) (due : Due) (opened : Option ℕ) (fate : Fate) → ReadsOf opened fate
+kept_given : (snapshot : Snapshot) (due : Due) {opened : Option ℕ} {fate : Fate} → ReadsOf opened fate
     → came_before snapshot fate due.came ≡ given_by due snapshot opened fate
-kept_given snapshot due opened (unmeasured file) reads = rw (reads.0, same_file opened reads.1) refl
-kept_given snapshot due opened (unread file from) reads = rw (reads.0, same_file opened reads.1) refl
-kept_given snapshot due opened sound reads = absurd reads
-kept_given snapshot due opened unled reads = absurd reads
-kept_given snapshot due opened unopened reads = absurd reads
-kept_given snapshot due opened (unsought file from) reads = absurd reads
+kept_given snapshot due {opened} (measures some) = rw (same_file opened some) refl
+kept_given snapshot due {opened} (reads_on some) = rw (same_file opened some) refl
 
 -- and where another did, all that came to the open file
 led_given : (snapshot : Snapshot) (due : Due) (opened : Option ℕ) (fate : Fate) → is_kept opened fate ≡ false
@@ -552,12 +537,14 @@ module _ {told_in told : Bool} {snapshot : Snapshot} {place : ℕ} {name : List 
   stopped_looks by_name {watched_new} {stop} adds = record {
     fate = adds.fate;
     ends = λ last stands. let due = due_later by_name name (watched_at watched place).opened last snapshot in
-        due_by (λ t. (refl, if_broke (Some stop) (kept_given snapshot due (watched_at watched place).opened adds.fate) adds.reads))
+        due_by (λ t. (refl, if_broke (Some stop) (kept_given snapshot due) adds.reads))
         (stops_early due.led (found_as (seen_short snapshot (watched_at watched place)) from_either (adds.ends last stands)));
     long = tt;
     stands = tt;
-    follows = follows_stop told_in (open_after_look by_name name (watched_at watched place).opened snapshot) _ place watched watched_new adds.fate stop (sym (opens_same watched place)) adds.keeps;
-    met = if_broke (Some stop) (reads_meet by_name (watched_at watched place).opened adds.fate) adds.reads;
+    follows = follows_from {told = told_in}
+        {led = open_after_look by_name name (watched_at watched place).opened snapshot} place watched watched_new
+        adds.fate (Some stop) (sym (opens_same watched place)) (λ none. absurd (cc)) adds.keeps;
+    met = if_broke (Some stop) (reads_meet by_name) adds.reads;
   }
 
   -- one call after another

@@ -188,10 +188,9 @@ IfBroke (Some (Broke why)) so = so
 IfBroke (Some (Over why)) so = Unit {0}
 
 -- the call that failed asks how long this file is, or reads it to write it
-abbrev pub ReadsOf : Option ℕ → Fate → Type 0
-ReadsOf opened (unmeasured file) = (file ≡ opened) × (is_some opened ≡ true)
-ReadsOf opened (unread file from) = (file ≡ opened) × (is_some opened ≡ true)
-ReadsOf opened fate = ⊥
+pub data ReadsOf (opened : Option ℕ) : Fate → Type 0 where
+  measures : is_some opened ≡ true → ReadsOf opened (unmeasured opened)
+  reads_on : {from : ℕ} → is_some opened ≡ true → ReadsOf opened (unread opened from)
 
 -- Bytes of the open file were written from one place on; a read that fails is that of another.
 pub record Copies (told_in told : Bool) (snapshot : Snapshot) (from : ℕ) (place : ℕ) (name : List ℕ)
