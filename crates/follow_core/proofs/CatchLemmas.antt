@@ -70,9 +70,7 @@ caught_open : (snapshot : Snapshot) (last : Entry) {opened : Option ℕ} {file p
     → notes_past position len
     ++ gives (drop (if nat_lt len position then 0 else position) (held_at snapshot opened)) ∷ []
     ≡ events_later last (entries_open snapshot opened)
-caught_open snapshot last {opened} {position} {len} is = subst (λ o. StandsAt last o position → len ≡ length (held_at snapshot o)
-    → notes_past position len ++ gives (drop (if nat_lt len position then 0 else position) (held_at snapshot o)) ∷ []
-    ≡ events_later last (entries_open snapshot o)) (sym is) (caught snapshot last)
+caught_open snapshot last is = rw is (caught snapshot last)
 
 -- a beginning of it, where a read failed
 past_before : (position len left : ℕ) (bytes : List ℕ)
@@ -288,7 +286,7 @@ pub told_now : (snapshot : Snapshot) {old now : List Watched} (place : ℕ) {led
     → Found snapshot (watched_at old place).name (leads_to led) → result ≡ Some change → (held : ℕ)
     → IsSeen snapshot (watched_at old place).name (watched_at old place).opened held change
 told_now snapshot {old} place {led} is opened same found changed = told_led snapshot (watched_at old place).name (watched_at old place).opened led found
-    (ap (λ file. change_between file led) (sym (opened ∙ ap (λ those. (watched_at those place).opened) same)) ∙ sym is ∙ changed)
+    (rw (is, opened, same) at changed)
 
 -- where nothing changed of a name without a file, it leads nowhere
 pub none_seen : (snapshot : Snapshot) {old now : List Watched} (place : ℕ) {led id : Option ℕ} {result : Option Notice}
@@ -296,7 +294,7 @@ pub none_seen : (snapshot : Snapshot) {old now : List Watched} (place : ℕ) {le
     → Found snapshot (watched_at old place).name (leads_to led) → result ≡ None → (watched_at old place).opened ≡ None
     → LeftOpen snapshot (watched_at old place).name None 0
 none_seen snapshot {old} place {led} is opened same found unchanged none = inl (nowhere led found
-    (ap (λ file. change_between file led) (sym (opened ∙ ap (λ those. (watched_at those place).opened) same ∙ none)) ∙ sym is ∙ unchanged)) where
+    (rw (is, opened, same, none) at unchanged)) where
       nowhere : (led : Option ℕ) → Found snapshot (watched_at old place).name (leads_to led)
           → change_between None led ≡ None → Found snapshot (watched_at old place).name (leads_to None)
       nowhere None found unchanged = found

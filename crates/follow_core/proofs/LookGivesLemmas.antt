@@ -8,7 +8,7 @@ use Rattle.follow_core.specs.{
   },
   Reading.{AreAtLook, AreFound, IsFound, IsGiven, IsMissing, IsTold, LeftOpen, NoneBreaks, StartsIn, looks_more},
   Reading.{names_more, no_looks},
-  Event.{Event, bytes_in, gives, lines_in},
+  Event.{Event, gives, lines_in},
   Version.{Entry, gap, entries_at_look, entries_led, held_at, open_after_later, open_after_look, version},
   Gain.{file_of, last_from, last_of, gains_after},
   inner.{
@@ -19,7 +19,7 @@ use Rattle.follow_core.specs.{
   Look.{Fate, Look, Ways, can_meet, entries_in, failed_by, failed_in, fate_at, is_dropped, snapshots, sound, unled},
   Look.{unopened, unmeasured, unsought, unread, is_first},
   Notice.is_missing,
-  Share.{BeginsShare, Due, Share, due_at, due_later, failure_line, failure_of, given_by, is_kept, is_unopened},
+  Share.{Due, Share, due_later, failure_line, failure_of, given_by, is_kept, is_unopened},
   Share.{led_before, missing_share, no_share, share_by},
   Printing.PrinterState,
   Telling.{Tells, failure_text, tail_by},
@@ -33,7 +33,7 @@ use Rattle.follow_core.proofs.{
 }
 use Rattle.std.proofs.{
   Common.{◌⊎◌, ◌≡◌, ◌<◌, ◌+◌, arith, zero, suc, ℕ, Bool, true, false, not, List, [], ◌∷◌, ◌++◌, length, Option, Some},
-  Common.{None, refl, sym, ◌∙◌, ap, if◌then◌else◌, subst, inl, inr, ◌&&◌, Result, Ok, Err, IsTrue, IfOk, subst₂},
+  Common.{None, refl, sym, ◌∙◌, ap, if◌then◌else◌, subst, inl, inr, ◌&&◌, Result, Ok, Err, IsTrue, IfOk},
   Common.{is_none, is_some},
   lemmas.{List.{append-nil, map-append}, Bool.false≢true, Result.IfOk-weaker},
   Math.Bool.and-false,
@@ -83,7 +83,7 @@ all_came : {told : Bool} {printer after : PrinterState} {opened : Bool} {name by
     {old new : List Slot} {over : Option Fault}
     → Came told printer opened name bytes lines old after new over
     → Came told printer opened name bytes (lines ++ failure_line name None) old after new over
-all_came {told} {printer} {after} {opened} {name} {bytes} lines {old} {new} {over} came = subst (λ those. Came told printer opened name bytes those old after new over) (sym (append-nil lines)) came
+all_came lines came = rw (append-nil lines) came
 
 fault_line : (place : ℕ) (name : List ℕ) (fate : Fate) → is_some (failed_by fate None) ≡ true
     → (failure_text (fault_by place fate) name ∷ [] ≡ failure_line name (failure_of fate))
@@ -104,7 +104,7 @@ due_share : {told_in : Bool} {ways : Ways} {before : List Look} {snapshot : Snap
     → told_in ≡ true → (fates : List Fate)
     → shared_as (is_first before) name (due.came ++ due.led) None
     ≡ share_by ways name before (seeing snapshot fates) sound
-due_share {before} {name} dues t fates = let is = dues.is t fates in rw is.0 (ap (λ (those : Due). shared_as (is_first before) name (those.came ++ those.led) None) is.1)
+due_share {before} {name} dues t fates = let is = dues.is t fates in rw (is.0, is.1) refl
 
 module _ {told_in told : Bool} {ways : Ways} {before : List Look} {snapshot : Snapshot} {name : List ℕ} {due : Due}
     {opened : Option ℕ} {printer after : PrinterState} {old mid : List Slot}
@@ -118,7 +118,7 @@ module _ {told_in told : Bool} {ways : Ways} {before : List Look} {snapshot : Sn
   looked_whole ends there = record {
     share = shared_as (is_first before) name ends.events None;
     found = inl (record { named = refl; opened = refl; failed = refl; events = elim ends.found [ found_all all ↦ all ]; broke = inl refl; there = there });
-    is_share = λ t fates. ap (λ events. shared_as (is_first before) name events None) (ends.are t) ∙ due_share dues t fates;
+    is_share = λ t fates. rw (ends.are t) (due_share dues t fates);
     failed = refl;
     shared = all_came (lines_in name ends.events) ends.came;
   }
@@ -142,8 +142,7 @@ module _ {told_in told : Bool} {ways : Ways} {before : List Look} {snapshot : Sn
           | found_before can all ↦ record { named = refl; opened = sym openly; failed = refl; events = all; broke = inr can; there = there }
         ]);
         failed = line.1;
-        shared = subst (λ last. Came told printer (is_first before) name (bytes_in ends.events) (lines_in name ends.events ++ last) old after new None) line.0
-            (said_after ends.came (failure_said (is_read fate) place name (subst (λ those. SaysOn told (tail_by printer.calling) says.0 (message_of those name) mid new) fault says.1)));
+        shared = rw (← line.0) (said_after ends.came (failure_said (is_read fate) place name (rw fault at says.1)));
       } where
         share_is : told_in ≡ true → (fates : List Fate) → is_some (failure_of fate) ≡ true → (events : List Event)
             → events ≡ given_by due snapshot opened fate
@@ -151,8 +150,7 @@ module _ {told_in told : Bool} {ways : Ways} {before : List Look} {snapshot : Sn
             ≡ share_by ways name before (seeing snapshot fates) fate
         share_is t fates fails events are =
             let is = dues.is t fates in
-            rw (fails, openly) (ap (λ those. shared_as (is_first before) name those (failure_of fate)) (are
-            ∙ ap (λ (those : Due). given_by those snapshot opened fate) is.1 ∙ ap (λ file. given_by (due_at ways name before (seeing snapshot fates)) snapshot file fate) is.2))
+            rw (fails, openly, are, is.1, is.2) refl
 
 -- the first look
 
@@ -174,7 +172,7 @@ pub later_due : {told_in : Bool} {ways : Ways} {name : List ℕ} {before : Look}
     (due_later ways.by_name name opened (last_in ways name before looks) snapshot) opened
 later_due {ways} {name} {before} {looks} {snapshot} stands = record {
   is = λ t fates. let here = (stands t).file ∙ sym (last_file ways name before looks) in
-      (refl, ap (λ file. due_later ways.by_name name file (last_in ways name before looks) snapshot) here, here);
+      (refl, rw here refl, here);
 }
 
 -- Whatever looks were made before at a name that stood so: what is due at this one was given, call by call, before it is told what
@@ -313,7 +311,7 @@ module _ {told_in told : Bool} {ways : Ways} {snapshot : Snapshot} {place : ℕ}
       → TellsStop told after.calling name mid now slots_new stop result
       → Visits told_in told ways snapshot place name standing old printer slots now new after slots_new result
   gave_fails {mid} fate (Broke why) named can broke gave (tells, left, says) = rw (tells, left) (drops fate why named can broke (λ looks stands.
-      let made = gave looks stands in (made.kept, looked_broke made.is_due place fate broke.broke broke.fault_is made.openly made.ends made.there (says.0, subst (λ (p : PrinterState). SaysOn told (tail_by p.calling) says.0 (message_of why name) mid slots_new) (made.ends.came.printer_is refl) says.1), made.met)))
+      let made = gave looks stands in (made.kept, looked_broke made.is_due place fate broke.broke broke.fault_is made.openly made.ends made.there (says.0, rw (made.ends.came.printer_is refl) at says.1), made.met)))
   gave_fails fate (Over why) named can follows gave (tells, same) = rw (tells, same) (record {
     visited = tt;
     stopped = λ looks stands. let made = gave looks stands in (
@@ -321,7 +319,7 @@ module _ {told_in told : Bool} {ways : Ways} {snapshot : Snapshot} {place : ℕ}
       record {
         share = shared_as (is_first looks) name made.ends.events None;
         after = after;
-        begins = λ t fates. subst (BeginsShare (shared_as (is_first looks) name made.ends.events None)) (due_share made.is_due t fates)
+        begins = λ t fates. rw (← due_share made.is_due t fates)
             (record { name = refl; opened = refl; events = made.ends.are t; unfailed = refl });
         found = elim made.ends.found [
           | found_begun all begins found ↦ record { named = refl; opened = refl; unfailed = refl; all = all; begins = begins; events = found }
@@ -450,7 +448,7 @@ pub first_gave : {told_in told : Bool} {ways : Ways} {snapshot : Snapshot} {plac
     → (looks : List Look) → Stands told_in ways looks place name (watched_at old place) New
     → Gave told_in told ways looks snapshot place name (snapshot.leads name) printer slots after slots_new fate result
 first_gave {told_in} {told} {ways} {snapshot} {place} {name} {contents} {after} {slots} {slots_new} {mid} new {fate} {result} viewed reopens there named same keeps met long ends looks fresh =
-    subst₂ (λ (p : PrinterState) those. Gave told_in told ways those snapshot place name (snapshot.leads name) p slots after slots_new fate result) viewed (sym fresh.0) (record {
+    rw (← viewed, fresh.0) (record {
       kept = refl;
       due = record { came = []; led = gives (ways.start contents) ∷ [] };
       opened = None;
@@ -468,8 +466,7 @@ first_gave {told_in} {told} {ways} {snapshot} {place} {name} {contents} {after} 
       there = λ first. let (id, is) = some_of reopens.file (reopens.found ∙ there) in (id, rw (is, named) at reopens.opens);
       last = IfOk-weaker result (λ len. told_in ≡ true → len ≡ length contents) _ (λ len is t. (
         λ way. ap is_some (found t).1,
-        λ fates. subst (λ n. StandsAt (last_of (entries_in ways name (seeing snapshot fates ∷ []))) (snapshot.leads name) n)
-            (sym (is t ∙ ap length (same t))) (first_last ways (seeing snapshot fates)),
+        λ fates. rw (is t, same t) (first_last ways (seeing snapshot fates)),
       )) long;
       met = met;
       openly = opens_so result keeps;
@@ -489,7 +486,7 @@ pub first_long : {told_in : Bool} {snapshot : Snapshot} {place : ℕ} {old mid n
     → IsLong false seen (watched_at new place).name (watched_at new place).opened len
     → IsLong by_name seen (watched_at new place).name (watched_at new place).opened len
 first_long {place} {old} {new} seen len by_name reopens there can same long =
-    long_by seen (watched_at new place).name len by_name (watched_at new place).opened (λ none by. absurd (false≢true (sym (ap is_some none) ∙ (ap (λ those. is_some (watched_at those place).opened) same ∙ ap (λ (w : Watched). is_some w.opened) (opened_now place old reopens.names can) ∙ reopens.found ∙ there)))) long
+    long_by seen (watched_at new place).name len by_name (watched_at new place).opened (λ none by. absurd (false≢true (sym (ap is_some (rw (same, opened_now place old reopens.names can) at none)) ∙ reopens.found ∙ there))) long
 
 pub first_started : {told_in told : Bool} {ways : Ways} {snapshot now : Snapshot} {place : ℕ} {name : List ℕ}
     {printer inside middle after : PrinterState}
@@ -580,7 +577,7 @@ left_due [] first missed = absurd (false≢true (sym first))
 left_due {ways} (before ∷ looks) {snapshot} {name} first missed = record {
   is = λ t fates.
       let here = sym (missed.unopened t) ∙ last_file ways name before looks in
-      (refl, gap_gives ways.by_name (last_in ways name before looks) here missed.way ∙ ap (λ file. due_later ways.by_name name file (last_in ways name before looks) snapshot) (sym (missed.unopened t)), sym (missed.unopened t));
+      (refl, rw (missed.unopened t) (gap_gives ways.by_name (last_in ways name before looks) here missed.way), sym (missed.unopened t));
 } where
   gap_gives : (by_name : Bool) (last : Entry) → None ≡ file_of last → by_name ≡ false
       → record { came = []; led = [] } ≡ due_later by_name name None last snapshot
