@@ -28,7 +28,6 @@ use Rattle.follow_core.specs.{
   Event.{Begins, begins_none, Event, all_but, bytes_in, gives, notes},
   Look.{Fate, sound, unmeasured, unsought, unread, failed_by},
   Notice.notice_of,
-  Version.held_at,
 }
 use Rattle.follow_core.proofs.{
   EventLemmas.{begins_after, begins_all, begins_bytes, begins_more, bytes-append, lines-append},
@@ -411,10 +410,6 @@ pub none_of : {X : Type 0} (x : Option X) → is_some x ≡ false → x ≡ None
 none_of None is = refl
 none_of (Some x) is = cc
 
-pub contents_open : (snapshot : Snapshot) (watched : Watched)
-    → open_contents snapshot watched ≡ held_at snapshot watched.opened
-contents_open snapshot watched = cc
-
 -- the file that was opened is that to which the name leads
 pub opened_led : {told : Bool} {snapshot : Snapshot} {old new : List Watched} {place : ℕ} {name : List ℕ}
     {is_there : Bool} → IsTrue (is_watchable old place)
@@ -473,10 +468,13 @@ pub long_at : {seen seen_old : List Snapshot} {now old : List Watched} (place le
 long_at place len saw same long = rw (saw, same) at long
 
 -- of an open file it says how much it was found to hold
-pub is_held : (snapshot : Snapshot) (name : List ℕ) (len : ℕ) (opened : Option ℕ)
-    → Found snapshot name (holds_many opened len) → IsLong false snapshot name opened len
-is_held snapshot name len None found = λ no. absurd (false≢true no)
-is_held snapshot name len (Some file) found = found
+pub is_held : (snapshot : Snapshot) (watched : Watched) {len : ℕ}
+    → Found snapshot watched.name (holds_many watched.opened len) → HoldsMany snapshot watched len
+is_held snapshot watched {len} found = by watched.opened found where
+  by : (opened : Option ℕ) → Found snapshot watched.name (holds_many opened len)
+      → IsLong false snapshot watched.name opened len
+  by None found = λ no. absurd (false≢true no)
+  by (Some file) found = found
 
 pub held_many : (by_name : Bool) (snapshot : Snapshot) (name : List ℕ) (len : ℕ) (opened : Option ℕ)
     → is_some opened ≡ true → IsLong by_name snapshot name opened len → Found snapshot name (holds_many opened len)
@@ -613,18 +611,18 @@ module _ {told_in told seeks : Bool} {snapshot : Snapshot} {start : List ℕ →
       ≡ start (open_contents snapshot (watched_at watched place)))
       → Copies told_in told seen from place name now inside slots watched_new after slots_new stop
       → Starts told_in told seeks snapshot start place name watched printer slots watched_new after slots_new stop
-  starts_copied {from} stop viewed saw same part copied = let copies = rw (viewed, saw, same) at copied in let contents = open_contents snapshot (watched_at watched place) in
-      let holds = contents_open snapshot (watched_at watched place) in record {
-        fate = unread (watched_at watched place).opened copies.at;
-        ends = found_as (λ notice told. told) (λ file from begins. tt) (due_as (λ t. let due = ap (λ those. gives those ∷ []) (part t ∙ ap start holds) in
-            (due, ap (all_but (length contents - copies.at)) due ∙ ap (λ those. all_but (length those - copies.at) (gives (start (held_at snapshot (watched_at watched place).opened)) ∷ [])) holds)) copies.ends);
-        keeps = copies.keeps;
-        met = unread_meets stop;
-      } where
-        unread_meets : (stop : Option Stop) → IfBroke stop ((by_name : Bool) → true ≡ true)
-        unread_meets None = tt
-        unread_meets (Some (Broke why)) = λ by_name. refl
-        unread_meets (Some (Over why)) = tt
+  starts_copied stop viewed saw same part copied = let copies = rw (viewed, saw, same) at copied in record {
+    fate = unread (watched_at watched place).opened copies.at;
+    ends = found_as (λ notice told. told) (λ file from begins. tt) (due_as (λ t.
+        let due = ap (λ those. gives those ∷ []) (part t) in
+        (due, ap (all_but (length (open_contents snapshot (watched_at watched place)) - copies.at)) due)) copies.ends);
+    keeps = copies.keeps;
+    met = unread_meets stop;
+  } where
+    unread_meets : (stop : Option Stop) → IfBroke stop ((by_name : Bool) → true ≡ true)
+    unread_meets None = tt
+    unread_meets (Some (Broke why)) = λ by_name. refl
+    unread_meets (Some (Over why)) = tt
 
 -- what was found to have changed is what changed
 pub change_seen : {told : Bool} (snapshot : Snapshot) {old now : List Watched} (place : ℕ) {name : List ℕ}

@@ -30,7 +30,7 @@ use Rattle.follow_core.specs.{
 }
 use Rattle.follow_core.proofs.{
   RunLemmas.last_from-append,
-  CallGivesLemmas.{broke_at, broke_first, contents_open, due_as, due_by, follows_from, found_as},
+  CallGivesLemmas.{broke_at, broke_first, due_as, due_by, follows_from, found_as},
   CallGivesLemmas.{goes_after, if_broke, is_held, noted_found, nothing_due, opened_there, opens_same, stops_early, untold},
 }
 use Rattle.watch_core.specs.{
@@ -160,7 +160,7 @@ module _ {told_in told : Bool} {snapshot : Snapshot} {place : ℕ} {name : List 
         (found_as (λ notice none. absurd none)
         (λ file start those. (those.0, ap is_some is, begins_so (nat_lt len position) begins those.1)) copies.ends));
     stands = IfOk-weaker result (λ n. n ≡ len) _ (λ n whole t last stands. rw is (record { file = refl; seen = whole ∙ long t ∙ ap (λ file. length (held_at snapshot file)) is })) count;
-    long = IfOk-weaker result (λ n. n ≡ len) _ (λ n whole. rw whole (is_held snapshot _ len opened found)) count;
+    long = IfOk-weaker result (λ n. n ≡ len) _ (λ n whole. rw whole (is_held snapshot (watched_at watched place) found)) count;
     keeps = copies.keeps;
     reads = read (stop_in result);
   }) where
@@ -174,9 +174,6 @@ module _ {told_in told : Bool} {snapshot : Snapshot} {place : ℕ} {name : List 
     contents : List ℕ
     contents = open_contents snapshot (watched_at watched place)
 
-    holds : contents ≡ held_at snapshot opened
-    holds = contents_open snapshot (watched_at watched place)
-
     read : (stop : Option Stop) → IfBroke stop (ReadsOf opened (unread opened copies.at))
     read None = tt
     read (Some (Broke why)) = reads_on (ap is_some is)
@@ -188,12 +185,9 @@ module _ {told_in told : Bool} {snapshot : Snapshot} {place : ℕ} {name : List 
         × (notes_past position len ++ all_but (length contents - copies.at) (gives (drop from contents) ∷ [])
         ≡ all_but (left_from snapshot opened copies.at) (events_later last (entries_open snapshot opened)))
     due last stands size =
-        let all = ap (λ those. notes_past position len ++ gives (drop from those) ∷ []) holds
-        ∙ ap (λ n. notes_past position len ++ gives (drop n (held_at snapshot opened)) ∷ []) begins ∙ caught_open snapshot last is stands size in (
-          all,
-          past_before position len (length contents - copies.at) (drop from contents) ∙ ap (all_but (length contents - copies.at)) all
-              ∙ ap (λ those. all_but (length those - copies.at) (events_later last (entries_open snapshot opened))) holds,
-        )
+        let all = ap (λ n. notes_past position len ++ gives (drop n contents) ∷ []) begins
+        ∙ caught_open snapshot last is stands size in
+        (all, past_before position len _ (drop from contents) ∙ ap (all_but (length contents - copies.at)) all)
 
 -- where the name leads
 

@@ -26,7 +26,7 @@ use Rattle.follow_core.specs.{
 }
 use Rattle.follow_core.proofs.{
   CallLemmas.{came_none, failure_said, wrote_after, wrote_line},
-  CallGivesLemmas.{broke_at, contents_open, found_as, goes_after, held_many, if_broke},
+  CallGivesLemmas.{broke_at, found_as, goes_after, held_many, if_broke},
   CallGivesLemmas.{keeps_others, none_of, nothing_due, opened_led, opened_there, some_of},
   CatchLemmas.{FromFrontOr, LooksAgain, long_by, ToldAgain, at_look},
   LookLemmas.{first_last, last_file, looked_last, failed_more, failed_sound, broken_sound, broken_more, seeing, IsDue},
@@ -506,7 +506,7 @@ first_started {told_in} {told} {ways} {snapshot} {now} {place} {name} {inside} {
     first_gave new viewed reopens there named
     (λ t. ap (held_at now) (opened_led can reopens named t) ∙ ap (λ (s : Snapshot). held_at s (snapshot.leads name)) same) starts.keeps
     (if_broke (stop_in result) (λ met. met ways.by_name) starts.met)
-    (IfOk-weaker result (λ len. told_in ≡ true → len ≡ length (open_contents now (watched_at mid place))) (λ len. told_in ≡ true → len ≡ length contents) (λ len is t. is t ∙ ap length (contents_open now (watched_at mid place))) long)
+    long
     (rw (← same) (goes_after (header (WereFound Nothing Anywhere now name sound None) (found_all tt))
     (rw known at starts.ends))) where
       known : (watched_at mid place).name ≡ name
