@@ -18,7 +18,7 @@ use Rattle.follow_core.specs.{
     Visits.{StandFrom, VisitedTo, VisitsAll, any_goes_on, goes_on_as, AddsSome, Begins, MakesLook, LookedAll},
     Giving.{IsFront, HasStopped},
   },
-  Printing.{PrinterState, Short},
+  Printing.{PrinterState},
   Reading.{looks_more, no_looks},
   Sharing.CanPrint,
   Standing.{AllStand, CanVisit, NoneGoesOn, NameState, Stands, no_state, state_at, texts, AreWatched, IsFollowed},
@@ -347,58 +347,53 @@ module _ {told_in told : Bool} {snapshot : Snapshot} {old : FollowState} {names_
 
 -- A look from where following stands
 
--- there was no memory to begin one: some names were added, or all, and no call was made on one
-pub makes_none : {told_in told : Bool} {snapshot : Snapshot} {seen seen_new : List Snapshot} {old new : FollowState}
-    {watched watched_new : List Watched}
-    {slots : List Slot} {why : Fault} → Unbroken told_in told old watched slots watched_new
-    → ((number : ℕ) → IsOther old watched number → watched_at watched_new number ≡ watched_at watched number)
-    → (old.stage ≡ Over → ⊥) → CanLook old watched slots → why ≡ fault.Memory → seen_new ≡ seen
-    → MakesLook told_in told snapshot seen old watched slots seen_new new watched_new slots (Err why)
-makes_none {told} {old} {watched} {slots} unbroken others live can is same = record {
-  looked = tt;
-  stopped = λ calling ways headers names looks first holds. record {
-    shares = holds.shares;
-    are = holds.are;
-    found = holds.found;
-    whole = [];
-    part = [];
-    begun = nothing (unbroken calling ways headers names looks first holds);
-    printer = old.printer;
-    reached = slots;
-    shared = rw (append-nil holds.shares) holds.shared;
-    short = rw is (record { slots = λ output error others at. (error, refl, subst (λ those. Short told [] those slots fault.Memory) at no_memory) });
-  };
-  seen_is = tt;
-  saw = inl same;
-  stage = tt;
-  ready = tt;
-  can = tt;
-  cause = rw is lacks_memory;
-  error = (can_print old watched slots live can).1;
-  others = others;
-}
+module _ {told_in told : Bool} {snapshot : Snapshot} {seen seen_new : List Snapshot} {old new : FollowState}
+    {watched watched_new : List Watched} {slots : List Slot} {why : Fault} (live : old.stage ≡ Over → ⊥)
+    (can : CanLook old watched slots) (is : why ≡ fault.Memory) (same : seen_new ≡ seen) where
+  -- there was no memory to begin one: some names were added, or all, and no call was made on one
+  makes_none : Unbroken told_in told old watched slots watched_new
+      → ((number : ℕ) → IsOther old watched number → watched_at watched_new number ≡ watched_at watched number)
+      → MakesLook told_in told snapshot seen old watched slots seen_new new watched_new slots (Err why)
+  makes_none unbroken others = record {
+    looked = tt;
+    stopped = λ calling ways headers names looks first holds. record {
+      shares = holds.shares;
+      are = holds.are;
+      found = holds.found;
+      whole = [];
+      part = [];
+      begun = nothing (unbroken calling ways headers names looks first holds);
+      printer = old.printer;
+      reached = slots;
+      shared = rw (append-nil holds.shares) holds.shared;
+      short = rw is (record { slots = λ output error others at. (error, refl, rw (← at) no_memory) });
+    };
+    seen_is = tt;
+    saw = inl same;
+    stage = tt;
+    ready = tt;
+    can = tt;
+    cause = rw is lacks_memory;
+    error = (can_print old watched slots live can).1;
+    others = others;
+  }
 
-pub makes_few : {told_in told : Bool} {snapshot : Snapshot} {seen seen_new : List Snapshot} {old new : FollowState}
-    {watched watched_new : List Watched}
-    {slots : List Slot} {why : Fault} → old.stage ≡ Fresh → AddsSome (texts old.names) watched watched_new
-    → (old.stage ≡ Over → ⊥) → CanLook old watched slots → why ≡ fault.Memory → seen_new ≡ seen
-    → MakesLook told_in told snapshot seen old watched slots seen_new new watched_new slots (Err why)
-makes_few {told_in} {old} {watched} {watched_new} fresh adds = makes_none
-    (λ calling ways headers names looks first holds.
-    let stand = rw fresh at holds.stand in
-    none_broken names watched watched_new stand.0 stand.2 (rw holds.same at adds.front))
-    (λ number other. ap (λ those. watched_at those number) adds.kept.1
-    ∙ get_or_append_left watched adds.kept.0 no_name number (subst (λ stage. IsOther (record old { stage = stage }) watched number) fresh other))
+  pub makes_few : old.stage ≡ Fresh → AddsSome (texts old.names) watched watched_new
+      → MakesLook told_in told snapshot seen old watched slots seen_new new watched_new slots (Err why)
+  makes_few fresh adds = makes_none
+      (λ calling ways headers names looks first holds.
+      let stand = rw fresh at holds.stand in
+      none_broken names watched watched_new stand.0 stand.2 (rw holds.same at adds.front))
+      (λ number other. rw adds.kept.1 (get_or_append_left watched adds.kept.0 no_name number
+      (subst (λ stage. IsOther (record old { stage = stage }) watched number) fresh other)))
 
-pub makes_all : {told_in told : Bool} {snapshot : Snapshot} {seen seen_new : List Snapshot} {old mid new : FollowState}
-    {watched watched_mid watched_new : List Watched} {slots : List Slot} {why : Fault}
-    → Begins told_in old watched mid watched_mid → watched_new ≡ watched_mid
-    → (old.stage ≡ Over → ⊥) → CanLook old watched slots → why ≡ fault.Memory → seen_new ≡ seen
-    → MakesLook told_in told snapshot seen old watched slots seen_new new watched_new slots (Err why)
-makes_all {told} {slots} begins same = makes_none
-    (λ calling ways headers names looks first holds.
-    rw same (watched_are (begins.holds told calling ways headers names looks first slots holds)))
-    (λ number other. ap (λ those. watched_at those number) same ∙ (begins.others number other).1)
+  pub makes_all : {mid : FollowState} {watched_mid : List Watched} → Begins told_in old watched mid watched_mid
+      → watched_new ≡ watched_mid
+      → MakesLook told_in told snapshot seen old watched slots seen_new new watched_new slots (Err why)
+  makes_all begins added_now = makes_none
+      (λ calling ways headers names looks first holds.
+      rw added_now (watched_are (begins.holds told calling ways headers names looks first slots holds)))
+      (λ number other. rw added_now (begins.others number other).1)
 
 -- the names were looked at, once they were watched and the watch saw what the files hold
 pub makes_look : {told_in told : Bool} {shows shows_mid : ℕ → Snapshot}
