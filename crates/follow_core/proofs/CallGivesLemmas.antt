@@ -552,7 +552,19 @@ module _ {told_in told : Bool} {snapshot : Snapshot} {name : List ℕ} {from pla
     ends = record {
       events = gives copied.puts.bytes ∷ [];
       are = λ t. ap (λ bytes. gives bytes ∷ []) (copied.puts.are ∙ copied.are t) ∙ (let long = size t in taken_before _ past (omega (arith, below, long)));
-      found = found_before can (record { is = record { file = (watched_at watched place).opened; from = from; end = at; begins = (refl, refl); read = rw copied.puts.are copied.read }; ends = inr (inr refl) }, tt);
+      found = found_before can (
+        record {
+          is = record {
+            file = (watched_at watched place).opened;
+            from = from;
+            end = at;
+            begins = (refl, refl);
+            read = rw copied.puts.are copied.read;
+          };
+          ends = inr (inr refl);
+        },
+        tt,
+      );
       came = one_event copied.puts.came;
     };
     keeps = (broke_at (λ file. Read file at) refl same fault broken, refl);
@@ -569,7 +581,16 @@ module _ {told_in told : Bool} {snapshot : Snapshot} {name : List ℕ} {from pla
     ends = record {
       events = gives copied.puts.bytes ∷ [];
       are = λ t. begins_bytes (longer copied.puts.bytes (at - from) copied.puts.are (copied.are t));
-      found = found_begun (gives copied.bytes ∷ []) (begins_bytes copied.puts.are) (record { file = (watched_at watched place).opened; from = from; end = at; begins = (refl, refl); read = copied.read }, tt);
+      found = found_begun (gives copied.bytes ∷ []) (begins_bytes copied.puts.are) (
+        record {
+          file = (watched_at watched place).opened;
+          from = from;
+          end = at;
+          begins = (refl, refl);
+          read = copied.read;
+        },
+        tt,
+      );
       came = one_event copied.puts.came;
     };
     keeps = same;

@@ -80,7 +80,8 @@ short_more {told} {text} more {old} (short_broke n cut) =
       within = omega (arith, cut.within, length-append text more);
       slots = (why, rw (take-append-le n text more (omega (arith, cut.within))) is);
     })
-short_more {told} {text} more {old} (no_room n within is) = no_room n (let a : length (text ++ more) ≡ length text + length more = length-append text more in omega (arith, within))
+short_more {told} {text} more {old} (no_room n within is) = no_room n
+    (let a : length (text ++ more) ≡ length text + length more = length-append text more in omega (arith, within))
     (rw (take-append-le n text more within) is)
 
 pub short_later : {told : Bool} (first : List ℕ) {text : List ℕ} {old mid new : List Slot} {n : ℕ}

@@ -31,7 +31,8 @@ use Rattle.follow_core.specs.{
 use Rattle.follow_core.proofs.{
   RunLemmas.last_from-append,
   CallGivesLemmas.{broke_at, broke_first, due_as, due_by, follows_from, found_as},
-  CallGivesLemmas.{goes_after, if_broke, is_held, noted_found, nothing_due, opened_there, opens_same, stops_early, untold},
+  CallGivesLemmas.{goes_after, if_broke, is_held, noted_found, nothing_due, opened_there, opens_same, stops_early},
+  CallGivesLemmas.untold,
 }
 use Rattle.watch_core.specs.{
   declared.watch.Broken.TheVariants.{Len, Look, Open},
@@ -133,7 +134,8 @@ module _ {told_in told : Bool} {snapshot : Snapshot} {place : ℕ} {name : List 
   adds_untold {file} {len} {why} is long found line same = record {
     fate = sound;
     ends = λ last stands. due_by (λ t. (caught_open snapshot last is (stands t) (long t), tt))
-        (stops_early (gives _ ∷ []) (noted_found (Some why) (told_short snapshot (watched_at watched place) (ap is_some is) found) line));
+        (stops_early (gives _ ∷ []) (noted_found (Some why)
+        (told_short snapshot (watched_at watched place) (ap is_some is) found) line));
     stands = tt;
     long = tt;
     keeps = same;
@@ -156,11 +158,13 @@ module _ {told_in told : Bool} {snapshot : Snapshot} {place : ℕ} {name : List 
   adds_copied {file} {len} {from} {watched_new} {inside} {after} {mid} {slots_new} {result} viewed is long found saw unchanged begins line copied count = rw (← viewed) (record {
     fate = unread opened copies.at;
     ends = λ last stands. due_as (λ t. due last (stands t) (long t))
-        (goes_after (noted_found None (told_short snapshot (watched_at watched place) (ap is_some is) found) (untold line))
+        (goes_after (noted_found None (told_short snapshot (watched_at watched place) (ap is_some is) found)
+        (untold line))
         (found_as (λ notice none. absurd none)
         (λ file start those. (those.0, ap is_some is, begins_so (nat_lt len position) begins those.1)) copies.ends));
     stands = IfOk-weaker result (λ n. n ≡ len) _ (λ n whole t last stands. rw is (record { file = refl; seen = whole ∙ long t ∙ ap (λ file. length (held_at snapshot file)) is })) count;
-    long = IfOk-weaker result (λ n. n ≡ len) _ (λ n whole. rw whole (is_held snapshot (watched_at watched place) found)) count;
+    long = IfOk-weaker result (λ n. n ≡ len) _
+        (λ n whole. rw whole (is_held snapshot (watched_at watched place) found)) count;
     keeps = copies.keeps;
     reads = read (stop_in result);
   }) where
@@ -327,7 +331,8 @@ module _ {told_in told by_name : Bool} {snapshot : Snapshot} {led : Option ℕ} 
       (Ok position)
   leads_same none lost same = record {
     fate = sound;
-    ends = λ last stands. due_as (λ t. let due = (nothing_led snapshot last led (stands t).file (none t)).0 in (sym due, sym due)) (nothing_due (found_all tt));
+    ends = λ last stands. due_as (λ t. let due = (nothing_led snapshot last led (stands t).file (none t)).0 in
+        (sym due, sym due)) (nothing_due (found_all tt));
     stands = λ t last stands. let (due, still, same) = nothing_led snapshot last led stands.file (none t) in rw (still, same) stands;
     long = λ long. rw same (long_by snapshot (watched_at watched place).name position by_name (watched_at watched place).opened lost long);
     follows = ((watched_at watched place).opened, same ∙ sym (opens_same watched place), λ t. sym (nothing_led snapshot (fresh _) led (fresh_stands _).file (none t)).2);
@@ -402,7 +407,9 @@ module _ {told_in told by_name : Bool} {snapshot : Snapshot} {led : Option ℕ} 
         (subst (λ o. StandsAt (last_from (fresh o) (entries_open snapshot o)) o len) (is t) (at t (fresh now_open) (fresh_stands now_open)))) adds.stands;
     long = λ those. still_long result adds.long adds.keeps;
     follows = follows_from place watched watched_new adds.fate (stop_in result) opened (λ none. leads) adds.keeps;
-    other = if_broke (stop_in result) (λ reads t. other_file (watched_at watched place).opened reads (is t) (change_led snapshot (fresh _) led (fresh_stands _).file (changed t)).2) adds.reads;
+    other = if_broke (stop_in result)
+        (λ reads t. other_file (watched_at watched place).opened reads (is t)
+        (change_led snapshot (fresh _) led (fresh_stands _).file (changed t)).2) adds.reads;
     met = if_broke (stop_in result) (reads_meet true) adds.reads;
   } where
     adds : Adds told_in told snapshot place name 0 watched_mid printer mid watched_new after slots_new result
@@ -445,7 +452,8 @@ module _ {told_in told by_name : Bool} {snapshot : Snapshot} {led : Option ℕ} 
         let held = fresh_dues snapshot now_open ∙ ap (all_held snapshot) (is t) in
         let due = (change_led snapshot last led stands.file (changed t)).0 in (
           ap (λ those. notes change ∷ those) held ∙ sym due,
-          if_broke (stop_in result) (λ reads. ap (λ those. notes change ∷ came_before snapshot adds.fate those) held ∙ sym (led_then snapshot led change reads)
+          if_broke (stop_in result) (λ reads. ap (λ those. notes change ∷ came_before snapshot adds.fate those) held
+              ∙ sym (led_then snapshot led change reads)
               ∙ ap (led_before snapshot adds.fate) (sym due)) adds.reads,
         )
 
@@ -506,7 +514,8 @@ pub record LooksAgain (told_in told by_name : Bool) (snapshot : Snapshot) (place
       → (told_in ≡ true → StandsAt last known.opened position)
       → let due = due_later by_name name known.opened last snapshot in
       Ends told_in
-      (WereFound (ToldAgain by_name snapshot known position) (FromFrontOr known.opened position) snapshot known.name fate
+      (WereFound (ToldAgain by_name snapshot known position) (FromFrontOr known.opened position)
+      snapshot known.name fate
       (stop_in result)) told false printer name (due.came ++ due.led) (given_by due snapshot known.opened fate) slots
       after slots_new (stop_in result)
   pub long : IfOk result
@@ -530,7 +539,8 @@ module _ {told_in told : Bool} {snapshot : Snapshot} {place : ℕ} {name : List 
     fate = adds.fate;
     ends = λ last stands. let due = due_later by_name name (watched_at watched place).opened last snapshot in
         due_by (λ t. (refl, if_broke (Some stop) (kept_given snapshot due) adds.reads))
-        (stops_early due.led (found_as (seen_short snapshot (watched_at watched place)) from_either (adds.ends last stands)));
+        (stops_early due.led (found_as (seen_short snapshot (watched_at watched place)) from_either
+        (adds.ends last stands)));
     long = tt;
     stands = tt;
     follows = follows_from {told = told_in}

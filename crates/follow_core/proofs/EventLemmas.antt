@@ -29,7 +29,8 @@ pub events-append : (last : Entry) (entries more : List Entry)
     → events_later last (entries ++ more) ≡ events_later last entries ++ events_later (last_from last entries) more
 events-append last [] more = refl
 events-append last (entry ∷ entries) more =
-    rw (events-append entry entries more) (sym (append_assoc (events_between last entry) (events_later entry entries) _))
+    rw (events-append entry entries more)
+    (sym (append_assoc (events_between last entry) (events_later entry entries) _))
 
 -- the bytes that entries give are what they add
 

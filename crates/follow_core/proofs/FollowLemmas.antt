@@ -115,7 +115,11 @@ count_taken names now {place} same within =
 names_next : (names now : List NameState) {place : ℕ} → texts now ≡ texts names → place < length now
     → take place (texts names) ++ (state_at now place).text ∷ [] ≡ take (place + 1) (texts names)
 names_next names now {place} same within = let next : place + 1 ≡ suc place = omega arith in
-    rw (next, take-suc (texts names) place [] (rw (length_texts names now same) within), text_there names now same within)
+    rw (
+      next,
+      take-suc (texts names) place [] (rw (length_texts names now same) within),
+      text_there names now same within,
+    )
     refl
 
 -- and their shares
@@ -175,7 +179,8 @@ visited_more {told_in} {told} {ways} {looks} {snapshot} {names} {now} {one} {pla
   });
   same = texts_set now no_state one within same ∙ sofar.same;
   done = λ all front other below. there all front other below (cases_eq other place);
-  rest = λ other above inside. stays looks other (λ at. omega arith) (sofar.rest other (omega arith) (rw length-set at inside));
+  rest = λ other above inside. stays looks other (λ at. omega arith)
+      (sofar.rest other (omega arith) (rw length-set at inside));
 } where
   visited : Visited told_in told ways looks snapshot (ways.first + place) (state_at now place).text mid slots after new
       (watched_at watched_new (ways.first + place)) one.standing failed

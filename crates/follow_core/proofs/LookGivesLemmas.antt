@@ -117,7 +117,14 @@ module _ {told_in told : Bool} {ways : Ways} {before : List Look} {snapshot : Sn
       → Looked told_in told ways before snapshot name printer old after mid false sound
   looked_whole ends there = record {
     share = shared_as (is_first before) name ends.events None;
-    found = inl (record { named = refl; opened = refl; failed = refl; events = elim ends.found [ found_all all ↦ all ]; broke = inl refl; there = there });
+    found = inl (record {
+      named = refl;
+      opened = refl;
+      failed = refl;
+      events = elim ends.found [ found_all all ↦ all ];
+      broke = inl refl;
+      there = there;
+    });
     is_share = λ t fates. rw (ends.are t) (due_share dues t fates);
     failed = refl;
     shared = all_came (lines_in name ends.events) ends.came;
@@ -139,7 +146,14 @@ module _ {told_in told : Bool} {ways : Ways} {before : List Look} {snapshot : Sn
         share = shared_as (is_first before) name ends.events (failure_of fate);
         is_share = λ t fates. share_is t fates line.1 ends.events (ends.are t);
         found = inl (elim ends.found [
-          | found_before can all ↦ record { named = refl; opened = sym openly; failed = refl; events = all; broke = inr can; there = there }
+          | found_before can all ↦ record {
+            named = refl;
+            opened = sym openly;
+            failed = refl;
+            events = all;
+            broke = inr can;
+            there = there;
+          }
         ]);
         failed = line.1;
         shared = rw (← line.0) (said_after ends.came (failure_said (is_read fate) place name (rw fault at says.1)));
@@ -298,7 +312,8 @@ module _ {told_in told : Bool} {ways : Ways} {snapshot : Snapshot} {place : ℕ}
       → Visits told_in told ways snapshot place name standing old printer slots (Followed len) new after slots_new
       (Ok false)
   gave_through {len} fate named can (file, is, leads) gave long =
-      visits_by (Followed len) (opens file) is can (named, none_there (watched_at old place).failed can) (λ looks stands.
+      visits_by (Followed len) (opens file) is can (named, none_there (watched_at old place).failed can)
+      (λ looks stands.
       let made = gave looks stands in looked_visited sound made.kept (looked_whole made.is_due made.ends made.there)
       (λ fates at. through_stands looks (seeing snapshot fates) (watched_at old place) named can made.kept at leads
       (λ t. ((made.last t).0, (made.last t).1 fates)) (rw (opened_now place old is can, named) at long)))
@@ -311,7 +326,12 @@ module _ {told_in told : Bool} {ways : Ways} {snapshot : Snapshot} {place : ℕ}
       → TellsStop told after.calling name mid now slots_new stop result
       → Visits told_in told ways snapshot place name standing old printer slots now new after slots_new result
   gave_fails {mid} fate (Broke why) named can broke gave (tells, left, says) = rw (tells, left) (drops fate why named can broke (λ looks stands.
-      let made = gave looks stands in (made.kept, looked_broke made.is_due place fate broke.broke broke.fault_is made.openly made.ends made.there (says.0, rw (made.ends.came.printer_is refl) at says.1), made.met)))
+      let made = gave looks stands in (
+        made.kept,
+        looked_broke made.is_due place fate broke.broke broke.fault_is made.openly made.ends made.there
+            (says.0, rw (made.ends.came.printer_is refl) at says.1),
+        made.met,
+      )))
   gave_fails fate (Over why) named can follows gave (tells, same) = rw (tells, same) (record {
     visited = tt;
     stopped = λ looks stands. let made = gave looks stands in (
@@ -322,7 +342,14 @@ module _ {told_in told : Bool} {ways : Ways} {snapshot : Snapshot} {place : ℕ}
         begins = λ t fates. rw (← due_share made.is_due t fates)
             (record { name = refl; opened = refl; events = made.ends.are t; unfailed = refl });
         found = elim made.ends.found [
-          | found_begun all begins found ↦ record { named = refl; opened = refl; unfailed = refl; all = all; begins = begins; events = found }
+          | found_begun all begins found ↦ record {
+            named = refl;
+            opened = refl;
+            unfailed = refl;
+            all = all;
+            begins = begins;
+            events = found;
+          }
         ];
         short = all_came (lines_in name made.ends.events) made.ends.came;
       },
@@ -376,10 +403,11 @@ first_missing {told_in} {told} {ways} {snapshot} {place} {name} {printer} {slots
           → ways.by_name ≡ by_name
           → Stands told_in ways (seeing snapshot fates ∷ []) place name (opens None (watched_at old place))
           (if by_name then Followed 0 else Left)
-      stands fates at true way = through_stands [] (seeing snapshot fates) (watched_at old place) named can refl at (λ t. refl) (λ t. (
-        λ other. absurd (false≢true (sym other ∙ way)),
-        rw (nowhere t) (record { file = refl; seen = refl }),
-      )) (λ by. inr lost)
+      stands fates at true way = through_stands [] (seeing snapshot fates) (watched_at old place) named can refl at
+          (λ t. refl) (λ t. (
+            λ other. absurd (false≢true (sym other ∙ way)),
+            rw (nowhere t) (record { file = refl; seen = refl }),
+          )) (λ by. inr lost)
       stands fates at false way = record {
         begun = refl;
         named = named;
@@ -486,7 +514,9 @@ pub first_long : {told_in : Bool} {snapshot : Snapshot} {place : ℕ} {old mid n
     → IsLong false seen (watched_at new place).name (watched_at new place).opened len
     → IsLong by_name seen (watched_at new place).name (watched_at new place).opened len
 first_long {place} {old} {new} seen len by_name reopens there can same long =
-    long_by seen (watched_at new place).name len by_name (watched_at new place).opened (λ none by. absurd (false≢true (sym (ap is_some (rw (same, opened_now place old reopens.names can) at none)) ∙ reopens.found ∙ there))) long
+    long_by seen (watched_at new place).name len by_name (watched_at new place).opened
+    (λ none by. absurd (false≢true
+    (sym (ap is_some (rw (same, opened_now place old reopens.names can) at none)) ∙ reopens.found ∙ there))) long
 
 pub first_started : {told_in told : Bool} {ways : Ways} {snapshot now : Snapshot} {place : ℕ} {name : List ℕ}
     {printer inside middle after : PrinterState}
@@ -559,7 +589,13 @@ later_gave {told_in} {ways} {snapshot} {place} {name} {position} {old} {result} 
 
   tells : (notice : Notice) → ToldAgain ways.by_name snapshot (watched_at old place) position notice
       → IsTold (before ∷ looks) snapshot name notice
-  tells notice (can, seen) = (refl, opened, position, left_open opened ways.by_name can followed.long, rw followed.named at seen)
+  tells notice (can, seen) = (
+    refl,
+    opened,
+    position,
+    left_open opened ways.by_name can followed.long,
+    rw followed.named at seen,
+  )
 
   never_first : (stop : Option Stop) → IfBroke stop ((not (is_unopened again.fate) && false) ≡ false)
   never_first None = tt
@@ -576,8 +612,12 @@ left_due : {told_in : Bool} {ways : Ways} (looks : List Look) {snapshot : Snapsh
 left_due [] first missed = absurd (false≢true (sym first))
 left_due {ways} (before ∷ looks) {snapshot} {name} first missed = record {
   is = λ t fates.
-      let here = sym (missed.unopened t) ∙ last_file ways name before looks in
-      (refl, rw (missed.unopened t) (gap_gives ways.by_name (last_in ways name before looks) here missed.way), sym (missed.unopened t));
+      let here = sym (missed.unopened t) ∙ last_file ways name before looks in (
+        refl,
+        rw (missed.unopened t) (gap_gives ways.by_name (last_in ways name before looks) here missed.way),
+        sym
+            (missed.unopened t),
+      );
 } where
   gap_gives : (by_name : Bool) (last : Entry) → None ≡ file_of last → by_name ≡ false
       → record { came = []; led = [] } ≡ due_later by_name name None last snapshot
@@ -623,7 +663,10 @@ left_visited {snapshot} {place} {name} looks left = elim left.why [
     shared = came_none;
     stands = λ fates at. still_left looks (seeing snapshot fates) at left;
   }
-  | inr missed ↦ looked_visited sound missed.kept (looked_whole (left_due looks left.begun missed) {none = []} {fate = sound} (rw left.begun (nothing_due (found_all tt))) (λ first. absurd (false≢true (sym left.begun ∙ first)))) (λ fates at. still_left looks (seeing snapshot fates) at left)
+  | inr missed ↦ looked_visited sound missed.kept
+      (looked_whole (left_due looks left.begun missed) {none = []} {fate = sound}
+      (rw left.begun (nothing_due (found_all tt))) (λ first. absurd (false≢true (sym left.begun ∙ first))))
+      (λ fates at. still_left looks (seeing snapshot fates) at left)
 ]
 
 -- where no call can fail

@@ -214,7 +214,8 @@ can_print old watched slots live can = by old.stage live can where
 cause_is : {old : FollowState} {slots slots_new : List Slot} {why : Fault} (watched : List Watched)
     → (old.stage ≡ Over → ⊥) → CanLook old watched slots → HasStopped why slots_new → IsCause old slots slots_new why
 cause_is {old} {slots} {slots_new} watched live can (inl memory, error) = rw memory lacks_memory
-cause_is {old} {slots} {slots_new} watched live can (inr (is, broken), error) = rw is (output_broke (not-true _ (and_parts _ _ (can_print old watched slots live can).0).1, broken))
+cause_is {old} {slots} {slots_new} watched live can (inr (is, broken), error) = rw is
+    (output_broke (not-true _ (and_parts _ _ (can_print old watched slots live can).0).1, broken))
 
 -- by what the names broke
 
@@ -231,7 +232,8 @@ none_broken : {ways : Ways} {looks : List Look} (names : List (List ℕ)) (befor
 none_broken names before watched none first_is (rest, are) = rw none (
   (let size = sizes in omega (arith, size, first_is)),
   (λ above. absurd (omega (arith, above))),
-  rw (← first_is) (λ place within. let is = just_added before names watched rest are within (let size = sizes in omega (arith, size, within)) in
+  rw (← first_is) (λ place within. let is = just_added before names watched rest are within
+      (let size = sizes in omega (arith, size, within)) in
       unbroken_watched (ap (λ (w : Watched). w.name) is) (ap (λ (w : Watched). w.failed) is) refl),
 ) where
   sizes : length before + length names ≡ length watched + length rest
@@ -248,7 +250,8 @@ module _ {told_in told : Bool} {calling : Calling} {ways : Ways} {headers : Bool
         let inside : place < length follow.names = (let as_many = stand.1 in omega (arith, as_many, within)) in
         no_more_of told_in ways looks (ways.first + place) _ (watched_at watched (ways.first + place))
         (state_at follow.names place).standing (stand.0 place inside) some
-        (rw (ap (λ (those : Ways). those.by_name) holds.asked) (none_before follow.by_name follow.names place inside none))
+        (rw (ap (λ (those : Ways). those.by_name) holds.asked)
+        (none_before follow.by_name follow.names place inside none))
     stage Over stand = absurd stand
 
   pub watched_are : AreWatched ways looks names watched
@@ -444,7 +447,8 @@ makes_look {told_in} {told} {shows} {shows_mid} {seen} {seen_mid} {seen_new} {ol
           (record inside { names = names_new; printer = printer }) watched_new slots_new result
       by (Ok failed) visits = record {
         looked = λ calling ways headers names looks first holds.
-            look_made begins.stage visits calling ways headers names looks first (begins.holds told calling ways headers names looks first slots holds);
+            look_made begins.stage visits calling ways headers names looks first
+            (begins.holds told calling ways headers names looks first slots holds);
         stopped = tt;
         seen_is = saw;
         saw = tt;
@@ -458,7 +462,8 @@ makes_look {told_in} {told} {shows} {shows_mid} {seen} {seen_mid} {seen_new} {ol
       by (Err why) visits = record {
         looked = tt;
         stopped = λ calling ways headers names looks first holds.
-            look_stopped begins.stage visits calling ways headers names looks first (begins.holds told calling ways headers names looks first slots holds);
+            look_stopped begins.stage visits calling ways headers names looks first
+            (begins.holds told calling ways headers names looks first slots holds);
         seen_is = tt;
         saw = inr saw;
         stage = tt;

@@ -14,13 +14,16 @@ returns-in-Err-clause-adds g c = adds_unmeasured (sym c.open_id.ensures ∙ c.in
 
 pub returns-in-Err-begin_at-clause-adds : goal.returns-in-Err-begin_at-clause-adds
 returns-in-Err-begin_at-clause-adds g c =
-    adds_untold (sym c.open_id.ensures ∙ c.in-Some.is) c.in-Ok.ensures.ok c.in-Ok.ensures.found (c.in-Err-begin_at.ensures.ends g.W.Watch.told c.args.self.now) c.in-Ok.ensures.same
+    adds_untold (sym c.open_id.ensures ∙ c.in-Some.is) c.in-Ok.ensures.ok c.in-Ok.ensures.found
+    (c.in-Err-begin_at.ensures.ends g.W.Watch.told c.args.self.now) c.in-Ok.ensures.same
 
 pub invariant_of-self : goal.invariant_of-self
 invariant_of-self g c = grind (arith, common_steps)
 
 pub copy-requires-clause-found : goal.copy-requires-clause-found
-copy-requires-clause-found g c = long_at c.args.place _ (sym c.open_len.ensures.seen) (sym c.in-Ok.ensures.same) (is_held (latest (g.W.Watch.seen c.args.watch.now)) (watched_at (g.W.Watch.watched c.args.watch.now) c.args.place) c.in-Ok.ensures.found)
+copy-requires-clause-found g c = long_at c.args.place _ (sym c.open_len.ensures.seen) (sym c.in-Ok.ensures.same)
+    (is_held (latest (g.W.Watch.seen c.args.watch.now)) (watched_at (g.W.Watch.watched c.args.watch.now) c.args.place)
+    c.in-Ok.ensures.found)
 
 pub returns-clause-adds : goal.returns-clause-adds
 returns-clause-adds g c =
