@@ -222,6 +222,11 @@ singles (edit ∷ edits) = (edit ∷ []) ∷ singles edits
 abbrev Refines : Bool → List ℕ → List (List Edit) → Type 0
 Refines by_name name groups = (world : World) (last : Entry) → Stays by_name name world last → gained by_name name last (snapshots_from world groups) ≡ gained by_name name last (snapshots_from world (singles (all_edits groups)))
 
+same_matches : (one other : Snapshot) → ((file : ℕ) → other.holds file ≡ one.holds file) → (last : Entry)
+    → Matches one last → Matches other last
+same_matches one other same gap matches = tt
+same_matches one other same (version v) matches = same v.file ∙ matches
+
 one_group : {by_name : Bool} {name : List ℕ} (group : List Edit) (groups : List (List Edit)) → AreSeen group
     → Refines by_name name groups → Refines by_name name (group ∷ groups)
 one_group {by_name} [] groups seen rest world last stays = idle_look by_name last _ stays ∙ rest world last stays
@@ -242,20 +247,27 @@ one_group (truncate other n ∷ next ∷ edits) groups seen rest world last stay
 one_group (replace other bytes ∷ next ∷ edits) groups seen rest world last stays = elim seen [ ]
 one_group (remove other ∷ next ∷ edits) groups seen rest world last stays = elim seen [ ]
 one_group {by_name} {name} (end process ∷ next ∷ edits) groups seen rest world last stays =
-    let still : Stays by_name name (edited (end process) world) last = record { sound = sound_edited (end process) stays.sound; leads = stays.leads; matches = same_matches last stays.matches } in
+    let still : Stays by_name name (edited (end process) world)
+    last = record {
+      sound = sound_edited (end process) stays.sound;
+      leads = stays.leads;
+      matches = same_matches
+          (seen_in world) (seen_in (edited (end process) world)) (λ file. refl) last stays.matches;
+    } in
     one_group (next ∷ edits) groups seen rest (edited (end process) world) last still
-    ∙ sym (idle_look by_name last (snapshots_from (edited (end process) world) (singles (all_edits ((next ∷ edits) ∷ groups)))) still) where
-      same_matches : (last : Entry) → Matches (seen_in world) last → Matches (seen_in (edited (end process) world)) last
-      same_matches gap matches = tt
-      same_matches (version v) matches = matches
+    ∙ sym (idle_look by_name last (snapshots_from (edited (end process) world)
+    (singles (all_edits ((next ∷ edits) ∷ groups)))) still)
 one_group {by_name} {name} (bar other is ∷ next ∷ edits) groups seen rest world last stays =
-    let still : Stays by_name name (edited (bar other is) world) last = record { sound = sound_edited (bar other is) stays.sound; leads = stays.leads; matches = same_matches last stays.matches } in
+    let still : Stays by_name name (edited (bar other is) world)
+    last = record {
+      sound = sound_edited (bar other is) stays.sound;
+      leads = stays.leads;
+      matches = same_matches
+          (seen_in world) (seen_in (edited (bar other is) world)) (λ file. refl) last stays.matches;
+    } in
     one_group (next ∷ edits) groups seen rest (edited (bar other is) world) last still
-    ∙ sym (idle_look by_name last (snapshots_from (edited (bar other is) world) (singles (all_edits ((next ∷ edits) ∷ groups)))) still) where
-      same_matches : (last : Entry) → Matches (seen_in world) last
-          → Matches (seen_in (edited (bar other is) world)) last
-      same_matches gap matches = tt
-      same_matches (version v) matches = matches
+    ∙ sym (idle_look by_name last (snapshots_from (edited (bar other is) world)
+    (singles (all_edits ((next ∷ edits) ∷ groups)))) still)
 
 refines : {by_name : Bool} {name : List ℕ} (groups : List (List Edit)) → AllSeen groups → Refines by_name name groups
 refines [] seen world last stays = refl

@@ -20,14 +20,14 @@ use Rattle.follow_core.specs.{
   Printing.{PrinterState, broke as short_broke, no_room},
   declared.{notice.Notice.{Notice, TheVariants.Truncated}, visitor.Stop.{Stop, TheVariants.{Broke, Over}}},
   inner.Giving.{IsFront, AreGiven, ArePut, BrokeAt, Came, CanGoOn, Copies, Ends, FailsToRead, Follows, IfBroke, Keeps},
-  inner.Giving.{HoldsMany, IsPast, Noted, Puts, Starts, WereFound, change_between, fault_by, notes_past, over_by},
+  inner.Giving.{HoldsMany, IsPast, Noted, Puts, Starts, WereFound, change_between, fault_by, found_all, found_before},
+  inner.Giving.{found_begun, notes_past, over_by},
   inner.Visits.KeepsOthers,
   Standing.IsLong,
   Reading.{AllGive, AreRead, IsRead, IsWhole, none_read, one_more},
   Event.{Begins, begins_none, Event, all_but, bytes_in, gives, notes},
   Look.{Fate, sound, unmeasured, unsought, unread, failed_by},
   Notice.notice_of,
-  Version.held_at,
 }
 use Rattle.follow_core.proofs.{
   EventLemmas.{begins_after, begins_all, begins_bytes, begins_more, bytes-append, lines-append},
@@ -51,41 +51,49 @@ given_as events before more None same also given = given ∙ same
 given_as events before more (Some (Broke why)) same also given = given ∙ also
 given_as events before more (Some (Over why)) same also given = subst (Begins events) same given
 
--- what is due may be said in another way
-pub due_by : {told_in told opened : Bool} {Is : List Event → Type 0} {printer after : PrinterState} {name : List ℕ}
-    {due other before more : List Event} {old new : List Slot}
-    {stop : Option Stop} → (told_in ≡ true → (due ≡ other) × IfBroke stop (before ≡ more))
-    → Ends told_in Is told opened printer name due before old after new stop
-    → Ends told_in Is told opened printer name other more old after new stop
-due_by {before} {more} {stop} same ends = record { events = ends.events; are = λ t. given_as ends.events before more stop (same t).0 (same t).1 (ends.are t); found = ends.found; came = ends.came }
-
 pub if_broke : {A B : Type 0} (stop : Option Stop) → (A → B) → IfBroke stop A → IfBroke stop B
 if_broke None so broke = tt
 if_broke (Some (Broke why)) so broke = so broke
 if_broke (Some (Over why)) so broke = tt
-
-pub due_as : {told_in told opened : Bool} {Is : List Event → Type 0} {printer after : PrinterState} {name : List ℕ}
-    {due other before more : List Event} {old new : List Slot}
-    {stop : Option Stop} → (told_in ≡ true → (due ≡ other) × (before ≡ more))
-    → Ends told_in Is told opened printer name due before old after new stop
-    → Ends told_in Is told opened printer name other more old after new stop
-due_as {before} {more} {stop} same = due_by (λ t. ((same t).0, broke stop (same t).1)) where
-  broke : (stop : Option Stop) → before ≡ more → IfBroke stop (before ≡ more)
-  broke None is = tt
-  broke (Some (Broke why)) is = is
-  broke (Some (Over why)) is = tt
 
 early : (events due before more : List Event) (stop : Stop) → AreGiven (Some stop) events due before
     → AreGiven (Some stop) events (due ++ more) before
 early events due before more (Broke why) given = given
 early events due before more (Over why) given = begins_more more given
 
--- what stops the first of two steps stops both
-pub stops_early : {told_in told opened : Bool} {Is : List Event → Type 0} {printer after : PrinterState} {name : List ℕ}
-    {due before : List Event} (more : List Event)
-    {old new : List Slot} {stop : Stop} → Ends told_in Is told opened printer name due before old after new (Some stop)
-    → Ends told_in Is told opened printer name (due ++ more) before old after new (Some stop)
-stops_early {due} {before} more {stop} ends = record { events = ends.events; are = λ t. early ends.events due before more stop (ends.are t); found = ends.found; came = ends.came }
+module _ {told_in told opened : Bool} {Is : List Event → Type 0} {printer after : PrinterState} {name : List ℕ}
+    {due before : List Event} {old new : List Slot} where
+  -- what is due may be said in another way
+  pub due_by : {other more : List Event} {stop : Option Stop}
+      → (told_in ≡ true → (due ≡ other) × IfBroke stop (before ≡ more))
+      → Ends told_in Is told opened printer name due before old after new stop
+      → Ends told_in Is told opened printer name other more old after new stop
+  due_by {more} {stop} same ends = record {
+    events = ends.events;
+    are = λ t. given_as ends.events before more stop (same t).0 (same t).1 (ends.are t);
+    found = ends.found;
+    came = ends.came;
+  }
+
+  pub due_as : {other more : List Event} {stop : Option Stop} → (told_in ≡ true → (due ≡ other) × (before ≡ more))
+      → Ends told_in Is told opened printer name due before old after new stop
+      → Ends told_in Is told opened printer name other more old after new stop
+  due_as {more} {stop} same = due_by (λ t. ((same t).0, broke stop (same t).1)) where
+    broke : (stop : Option Stop) → before ≡ more → IfBroke stop (before ≡ more)
+    broke None is = tt
+    broke (Some (Broke why)) is = is
+    broke (Some (Over why)) is = tt
+
+  -- what stops the first of two steps stops both
+  pub stops_early : (more : List Event) {stop : Stop}
+      → Ends told_in Is told opened printer name due before old after new (Some stop)
+      → Ends told_in Is told opened printer name (due ++ more) before old after new (Some stop)
+  stops_early more {stop} ends = record {
+    events = ends.events;
+    are = λ t. early ends.events due before more stop (ends.are t);
+    found = ends.found;
+    came = ends.came;
+  }
 
 given_both : {done first : List Event} (events due before : List Event) (stop : Option Stop) → done ≡ first
     → AreGiven stop events due before
@@ -94,32 +102,18 @@ given_both events due before None same is = λ i. same i ++ is i
 given_both events due before (Some (Broke why)) same is = λ i. same i ++ is i
 given_both {first} events due before (Some (Over why)) same is = subst (λ front. Begins (front ++ events) (first ++ due)) (sym same) (begins_after first is)
 
--- once the first is done, both end as the second
-pub goes_after : {told_in told opened : Bool} {First Second : List Event → Type 0} (Is : List Event → Type 0)
-    {printer mid after : PrinterState} {name : List ℕ} {first none second before : List Event}
-    {old now new : List Slot} {stop : Option Stop}
-    → ((events more : List Event) → First events → Second more → Is (events ++ more))
-    → Ends told_in First told opened printer name first none old mid now None
-    → Ends told_in Second told false mid name second before now after new stop
-    → Ends told_in Is told opened printer name (first ++ second) (first ++ before) old after new stop
-goes_after {told} {opened} Is {printer} {after} {name} {second} {before} {old} {new} {stop} joins one two = record {
-  events = one.events ++ two.events;
-  are = λ t. given_both two.events second before stop (one.are t) (two.are t);
-  found = joins one.events two.events one.found two.found;
-  came = subst₂ (λ bytes lines. Came told printer opened name bytes lines old after new (over_by stop)) (sym (bytes-append one.events two.events))
-      (sym (lines-append name one.events two.events)) (came_after one.came two.came);
-}
-
 pub nothing_due : {told_in told : Bool} {Is : List Event → Type 0} {printer : PrinterState} {name : List ℕ}
     {before : List Event} {slots : List Slot} → Is []
     → Ends told_in Is told false printer name [] before slots printer slots None
 nothing_due found = record { events = []; are = λ t. refl; found = found; came = came_none }
 
 -- a call failed before anything was given
-pub broke_first : {told_in told : Bool} {Is : List Event → Type 0} {printer : PrinterState} {name : List ℕ}
-    {due : List Event} {slots : List Slot} {why : Fault} → Is []
-    → Ends told_in Is told false printer name due [] slots printer slots (Some (Broke why))
-broke_first found = record { events = []; are = λ t. refl; found = found; came = came_none }
+pub broke_first : {told_in told : Bool} {Tells : Notice → Type 0} {Begin : Option ℕ → ℕ → Type 0} {snapshot : Snapshot}
+    {known : List ℕ} {fate : Fate} {printer : PrinterState} {name : List ℕ} {due : List Event} {slots : List Slot}
+    {why : Fault} → snapshot.breaks ≡ true
+    → Ends told_in (WereFound Tells Begin snapshot known fate (Some (Broke why))) told false printer name due [] slots
+    printer slots (Some (Broke why))
+broke_first can = record { events = []; are = λ t. refl; found = found_before can tt; came = came_none }
 
 -- there was no memory for the first line
 pub over_first : {told_in told : Bool} {Is : List Event → Type 0} {printer : PrinterState} {name : List ℕ}
@@ -131,14 +125,6 @@ over_first {told} {printer} {slots} found = record {
   found = found;
   came = record { printer_is = λ none. absurd (cc); slots = wrote_text told printer.calling _ slots (Some fault.Memory) no_memory };
 }
-
--- what is so of what was given may be said in another way
-pub found_as : {told_in told opened : Bool} {Is Other : List Event → Type 0} {printer after : PrinterState}
-    {name : List ℕ} {due before : List Event} {old new : List Slot}
-    {stop : Option Stop} → ((events : List Event) → Is events → Other events)
-    → Ends told_in Is told opened printer name due before old after new stop
-    → Ends told_in Other told opened printer name due before old after new stop
-found_as so ends = record { events = ends.events; are = ends.are; found = so ends.events ends.found; came = ends.came }
 
 -- what is so whatever files tell
 pub untold : {told_in told opened : Bool} {Is : List Event → Type 0} {printer after : PrinterState} {name : List ℕ}
@@ -156,14 +142,6 @@ all_give [] told so all = tt
 all_give (notes notice ∷ events) told so all = (told notice all.0, all_give events told so all.1)
 all_give (gives bytes ∷ events) told so all = (so bytes all.0, all_give events told so all.1)
 
-noted_gives : (Tells : Notice → Type 0) (Is : List ℕ → Type 0) (events : List Event) → Noted Tells events
-    → AllGive Tells Is events
-noted_gives Tells Is events noted = all_give events (λ notice tells. tells) (λ bytes none. absurd none) noted
-
-pub noted_as : {One Other : Notice → Type 0} (events : List Event) → ((notice : Notice) → One notice → Other notice)
-    → Noted One events → Noted Other events
-noted_as events so = all_give events so (λ bytes none. none)
-
 give_both : (Tells : Notice → Type 0) (Is : List ℕ → Type 0) (events more : List Event) → AllGive Tells Is events
     → AllGive Tells Is more → AllGive Tells Is (events ++ more)
 give_both Tells Is [] more first second = second
@@ -174,15 +152,13 @@ give_both Tells Is (gives bytes ∷ events) more first second = (first.0, give_b
 read_from : {One Other : Option ℕ → ℕ → Type 0} {snapshot : Snapshot} {name bytes : List ℕ}
     → ((file : Option ℕ) (from : ℕ) → One file from → Other file from)
     → IsRead One snapshot name bytes → IsRead Other snapshot name bytes
-read_from so is = record { file = is.file; from = is.from; end = is.end; begins = so is.file is.from is.begins; read = is.read }
+read_from so is = record { file = is.file; from = is.from; end = is.end; begins = so _ _ is.begins; read = is.read }
 
 whole_from : {One Other : Option ℕ → ℕ → Type 0} {snapshot : Snapshot} {name bytes : List ℕ} {fate : Fate}
     → ((file : Option ℕ) (from : ℕ) → One file from → Other file from)
     → IsWhole One snapshot name fate bytes → IsWhole Other snapshot name fate bytes
-whole_from so whole = record {
-  is = record { file = whole.is.file; from = whole.is.from; end = whole.is.end; begins = so whole.is.file whole.is.from whole.is.begins; read = whole.is.read };
-  ends = whole.ends;
-}
+unfolding read_from
+whole_from so whole = record { is = read_from so whole.is; ends = whole.ends }
 
 -- of a name that came through it is so whatever becomes of it later
 sound_whole : {Begin : Option ℕ → ℕ → Type 0} {snapshot : Snapshot} {name bytes : List ℕ} (fate : Fate)
@@ -196,31 +172,80 @@ sound_whole fate whole = record {
   ];
 }
 
-pub found_from : {Tells Told : Notice → Type 0} {One Other : Option ℕ → ℕ → Type 0} (snapshot : Snapshot)
-    (name : List ℕ) (fate : Fate) (stop : Option Stop)
+found_from : {Tells Told : Notice → Type 0} {One Other : Option ℕ → ℕ → Type 0} {snapshot : Snapshot}
+    {name : List ℕ} {fate : Fate} {stop : Option Stop} {events : List Event}
     → ((notice : Notice) → Tells notice → Told notice)
     → ((file : Option ℕ) (from : ℕ) → One file from → Other file from)
-    → (events : List Event) → WereFound Tells One snapshot name fate stop events
-    → WereFound Told Other snapshot name fate stop events
-found_from snapshot name fate None told so events found = all_give events told (λ bytes. whole_from so) found
-found_from snapshot name fate (Some (Broke why)) told so events (can, found) = (can, all_give events told (λ bytes. whole_from so) found)
-found_from snapshot name fate (Some (Over why)) told so events (all, begins, found) = (all, begins, all_give all told (λ bytes. read_from so) found)
-
-pub noted_found : (Tells : Notice → Type 0) (Begin : Option ℕ → ℕ → Type 0) (snapshot : Snapshot) (name : List ℕ)
-    (fate : Fate) (over : Option Fault) (events : List Event) → Noted Tells events
-    → WereFound Tells Begin snapshot name fate (option_map Over over) events
-noted_found Tells Begin snapshot name fate None events noted = noted_gives Tells (IsWhole Begin snapshot name sound) events noted
-noted_found Tells Begin snapshot name fate (Some why) events noted = (events, begins_all events, noted_gives Tells (IsRead Begin snapshot name) events noted)
+    → WereFound Tells One snapshot name fate stop events → WereFound Told Other snapshot name fate stop events
+found_from {events} told so (found_all found) = found_all (all_give events told (λ bytes. whole_from so) found)
+found_from {events} told so (found_before can found) =
+    found_before can (all_give events told (λ bytes. whole_from so) found)
+found_from told so (found_begun all begins found) =
+    found_begun all begins (all_give all told (λ bytes. read_from so) found)
 
 -- two steps, of which the first was done
-pub found_both : (Tells : Notice → Type 0) (Begin : Option ℕ → ℕ → Type 0) (snapshot : Snapshot) (name : List ℕ)
-    (one fate : Fate) (stop : Option Stop) (events more : List Event)
+found_both : {Tells : Notice → Type 0} {Begin : Option ℕ → ℕ → Type 0} {snapshot : Snapshot} {name : List ℕ}
+    {one fate : Fate} {stop : Option Stop} {events more : List Event}
     → WereFound Tells Begin snapshot name one None events → WereFound Tells Begin snapshot name fate stop more
     → WereFound Tells Begin snapshot name fate stop (events ++ more)
-found_both Tells Begin snapshot name one fate None events more first second = give_both Tells (IsWhole Begin snapshot name sound) events more first second
-found_both Tells Begin snapshot name one fate (Some (Broke why)) events more first (can, second) = (can, give_both Tells (IsWhole Begin snapshot name fate) events more (all_give events (λ notice tells. tells) (λ bytes. sound_whole fate) first) second)
-found_both Tells Begin snapshot name one fate (Some (Over why)) events more first (all, begins, second) =
-    (events ++ all, begins_after events begins, give_both Tells (IsRead Begin snapshot name) events all (all_give events (λ notice tells. tells) (λ bytes whole. whole.is) first) second)
+found_both {events} {more} (found_all first) (found_all second) = found_all (give_both _ _ events more first second)
+found_both {fate} {events} {more} (found_all first) (found_before can second) = found_before can
+    (give_both _ _ events more (all_give events (λ notice tells. tells) (λ bytes. sound_whole fate) first) second)
+found_both {events} (found_all first) (found_begun all begins second) =
+    found_begun (events ++ all) (begins_after events begins)
+    (give_both _ _ events all (all_give events (λ notice tells. tells) (λ bytes whole. whole.is) first) second)
+
+module _ {told_in told opened : Bool} {Tells : Notice → Type 0} {Begin : Option ℕ → ℕ → Type 0} {snapshot : Snapshot}
+    {known name : List ℕ} {printer after : PrinterState} {old new : List Slot} where
+  -- what was found may be said in another way
+  pub found_as : {Told : Notice → Type 0} {Other : Option ℕ → ℕ → Type 0} {fate : Fate} {due before : List Event}
+      {stop : Option Stop} → ((notice : Notice) → Tells notice → Told notice)
+      → ((file : Option ℕ) (from : ℕ) → Begin file from → Other file from)
+      → Ends told_in (WereFound Tells Begin snapshot known fate stop) told opened printer name due before old after new
+      stop
+      → Ends told_in (WereFound Told Other snapshot known fate stop) told opened printer name due before old after new
+      stop
+  found_as told so ends = record {
+    events = ends.events;
+    are = ends.are;
+    found = found_from told so ends.found;
+    came = ends.came;
+  }
+
+  -- lines alone
+  pub noted_found : {Note : Notice → Type 0} {due before : List Event} (over : Option Fault)
+      → ((notice : Notice) → Note notice → Tells notice)
+      → Ends told_in (Noted Note) told opened printer name due before old after new (option_map Over over)
+      → Ends told_in (WereFound Tells Begin snapshot known sound (option_map Over over)) told opened printer name due
+      before old after new (option_map Over over)
+  noted_found {Note} over so ends = record {
+    events = ends.events;
+    are = ends.are;
+    found = by over ends.found;
+    came = ends.came;
+  } where
+    by : (over : Option Fault) → Noted Note ends.events
+        → WereFound Tells Begin snapshot known sound (option_map Over over) ends.events
+    by None noted = found_all (all_give ends.events so (λ bytes none. absurd none) noted)
+    by (Some why) noted =
+        found_begun _ (begins_all ends.events) (all_give ends.events so (λ bytes none. absurd none) noted)
+
+  -- once the first is done, both end as the second
+  pub goes_after : {one fate : Fate} {mid : PrinterState} {first none second before : List Event} {now : List Slot}
+      {stop : Option Stop}
+      → Ends told_in (WereFound Tells Begin snapshot known one None) told opened printer name first none old mid now
+      None
+      → Ends told_in (WereFound Tells Begin snapshot known fate stop) told false mid name second before now after new
+      stop
+      → Ends told_in (WereFound Tells Begin snapshot known fate stop) told opened printer name (first ++ second)
+      (first ++ before) old after new stop
+  goes_after {second} {before} {stop} one two = record {
+    events = one.events ++ two.events;
+    are = λ t. given_both two.events second before stop (one.are t) (two.are t);
+    found = found_both one.found two.found;
+    came = rw (bytes-append one.events two.events, lines-append name one.events two.events)
+        (came_after one.came two.came);
+  }
 
 -- bytes that were put are one event
 
@@ -228,7 +253,7 @@ one_event : {told opened : Bool} {printer after : PrinterState} {name bytes : Li
     {over : Option Fault}
     → Came told printer opened name bytes [] old after new over
     → Came told printer opened name (bytes_in (gives bytes ∷ [])) [] old after new over
-one_event {told} {opened} {printer} {after} {name} {bytes} {old} {new} {over} came = subst (λ those. Came told printer opened name those [] old after new over) (sym (append-nil bytes)) came
+one_event {bytes} came = rw (append-nil bytes) came
 
 -- a header alone is no event
 
@@ -241,10 +266,10 @@ pub header_only : {told_in told opened : Bool} {Is : List Event → Type 0} {pri
     {before : List Event} {old new : List Slot} (over : Option Fault)
     → Is [] → Puts told opened printer name [] old after new over
     → Ends told_in Is told opened printer name [] before old after new (option_map Over over)
-header_only {told} {opened} {printer} {after} {name} {old} {new} None found put =
-    record { events = []; are = λ t. refl; found = found; came = subst (λ bytes. Came told printer opened name bytes [] old after new None) (none_put None put.are) put.came }
-header_only {told} {opened} {printer} {after} {name} {old} {new} (Some why) found put =
-    record { events = []; are = λ t. begins_none; found = found; came = subst (λ bytes. Came told printer opened name bytes [] old after new (Some why)) (none_put (Some why) put.are) put.came }
+header_only None found put =
+    record { events = []; are = λ t. refl; found = found; came = rw (none_put None put.are) at put.came }
+header_only (Some why) found put =
+    record { events = []; are = λ t. begins_none; found = found; came = rw (none_put (Some why) put.are) at put.came }
 
 -- copying, read by read
 
@@ -349,7 +374,12 @@ pub past_noted : {told_in told : Bool} {printer after : PrinterState} {name : Li
     (notes_past position len) before old after new stop
 past_noted {position} {len} stop short ends =
     let is : nat_lt len position ≡ true = grind (arith, nat_tests) in
-    rw is (found_as (λ events noted. noted_as events (λ notice same. (same, short)) noted) ends)
+    rw is (record {
+      events = ends.events;
+      are = ends.are;
+      found = all_give ends.events (λ notice same. (same, short)) (λ bytes none. none) ends.found;
+      came = ends.came;
+    })
 
 pub opens_same : (names : List Watched) (place : ℕ)
     → changed_at place (opens (watched_at names place).opened) names ≡ names
@@ -380,17 +410,13 @@ pub none_of : {X : Type 0} (x : Option X) → is_some x ≡ false → x ≡ None
 none_of None is = refl
 none_of (Some x) is = cc
 
-pub contents_open : (snapshot : Snapshot) (watched : Watched)
-    → open_contents snapshot watched ≡ held_at snapshot watched.opened
-contents_open snapshot watched = cc
-
 -- the file that was opened is that to which the name leads
 pub opened_led : {told : Bool} {snapshot : Snapshot} {old new : List Watched} {place : ℕ} {name : List ℕ}
     {is_there : Bool} → IsTrue (is_watchable old place)
     → Reopens told snapshot old new place is_there → (watched_at old place).name ≡ name → told ≡ true
     → (watched_at new place).opened ≡ snapshot.leads name
-opened_led {snapshot} {old} {place} can reopens is t = ap (λ those. (watched_at those place).opened) reopens.names
-    ∙ ap (λ (w : Watched). w.opened) (opened_there old place can) ∙ reopens.leads t ∙ ap snapshot.leads is
+opened_led {snapshot} {old} {place} can reopens is t =
+    rw (reopens.names, opened_there old place can) (reopens.leads t ∙ ap snapshot.leads is)
 
 -- a name that broke
 
@@ -402,59 +428,53 @@ broke_at {place} {old} {fate} how is same fault (reason, broken) = record {
   broke = ap is_some is;
   fault_is = fault;
   reason = reason;
-  names = broken ∙ ap (changed_at place (breaks reason how)) same ∙ sym (broke_so reason old place how refl)
-      ∙ ap (λ failed. changed_at place (λ watched. record watched { opened = None; failed = failed; reason = reason }) old) (sym is);
+  names = rw (broken, same, is) (sym (broke_so reason old place how refl));
 }
 
 -- a file of it was opened before
 pub broke_opened : {place : ℕ} (file : Option ℕ) {old mid new : List Watched} {fate : Fate} {why : Fault}
     → mid ≡ changed_at place (opens file) old
     → BrokeAt place mid new fate why → BrokeAt place old new fate why
-broke_opened {place} file {old} {fate} opened broke =
-    let change : Watched → Watched = λ watched. record watched { opened = None; failed = failed_by fate None; reason = broke.reason } in record {
-      broke = broke.broke;
-      fault_is = broke.fault_is;
-      reason = broke.reason;
-      names = broke.names ∙ ap (changed_at place change) opened ∙ changed_at-again place (opens file) change old;
-    }
+broke_opened {place} file {old} opened broke = record {
+  broke = broke.broke;
+  fault_is = broke.fault_is;
+  reason = broke.reason;
+  names = rw (broke.names, opened) (changed_at-again place (opens file) _ old);
+}
 
 -- calls that follow one another on the watch: a file was opened, and then a call on it kept the names, or broke this one
 pub follows_from : {told : Bool} {led file : Option ℕ} (place : ℕ) (old : List Watched) {mid : List Watched}
     (new : List Watched) (fate : Fate) (stop : Option Stop)
-    → mid ≡ changed_at place (opens file) old → (told ≡ true → file ≡ led) → Keeps place mid new fate stop
-    → Follows told led place old new fate stop
-follows_from {file} place old new fate None opened leads keeps = (file, keeps ∙ opened, leads)
+    → mid ≡ changed_at place (opens file) old → (stop ≡ None → told ≡ true → file ≡ led)
+    → Keeps place mid new fate stop → Follows told led place old new fate stop
+follows_from {file} place old new fate None opened leads keeps = (file, keeps ∙ opened, leads refl)
 follows_from {file} place old new fate (Some (Broke why)) opened leads keeps = broke_opened file opened keeps.0
 follows_from {file} place old new fate (Some (Over why)) opened leads keeps = (file, keeps ∙ opened)
-
-pub follows_stop : (told : Bool) (led file : Option ℕ) (place : ℕ) (old : List Watched) {mid : List Watched}
-    (new : List Watched) (fate : Fate) (stop : Stop)
-    → mid ≡ changed_at place (opens file) old → Keeps place mid new fate (Some stop)
-    → Follows told led place old new fate (Some stop)
-follows_stop told led file place old new fate (Broke why) opened keeps = broke_opened file opened keeps.0
-follows_stop told led file place old new fate (Over why) opened keeps = (file, keeps ∙ opened)
 
 -- a look at which a call can fail is the same while the call goes on
 pub breaks_at : {seen seen_old : List Snapshot} → seen ≡ seen_old → (latest seen).breaks ≡ true
     → (latest seen_old).breaks ≡ true
-breaks_at saw can = ap (λ those. (latest those).breaks) (sym saw) ∙ can
+breaks_at saw can = rw saw at can
 
 -- what was found is what the files were found to be when the call began
 pub found_at : {seen seen_old : List Snapshot} {now old : List Watched} (place from : ℕ) (bytes : List ℕ)
     → seen ≡ seen_old → now ≡ old
     → Found (latest seen) (watched_at now place).name (reads_as (watched_at now place).opened from bytes)
     → Found (latest seen_old) (watched_at old place).name (reads_as (watched_at old place).opened from bytes)
-found_at place from bytes saw same = subst₂ (λ (those : List Snapshot) (names : List Watched). Found (latest those) (watched_at names place).name (reads_as (watched_at names place).opened from bytes)) saw same
+found_at place from bytes saw same found = rw (saw, same) at found
 
 pub long_at : {seen seen_old : List Snapshot} {now old : List Watched} (place len : ℕ) → seen_old ≡ seen → old ≡ now
     → HoldsMany (latest seen_old) (watched_at old place) len → HoldsMany (latest seen) (watched_at now place) len
-long_at place len saw same = subst₂ (λ (those : List Snapshot) (names : List Watched). HoldsMany (latest those) (watched_at names place) len) saw same
+long_at place len saw same long = rw (saw, same) at long
 
 -- of an open file it says how much it was found to hold
-pub is_held : (snapshot : Snapshot) (name : List ℕ) (len : ℕ) (opened : Option ℕ)
-    → Found snapshot name (holds_many opened len) → IsLong false snapshot name opened len
-is_held snapshot name len None found = λ no. absurd (false≢true no)
-is_held snapshot name len (Some file) found = found
+pub is_held : (snapshot : Snapshot) (watched : Watched) {len : ℕ}
+    → Found snapshot watched.name (holds_many watched.opened len) → HoldsMany snapshot watched len
+is_held snapshot watched {len} found = by watched.opened found where
+  by : (opened : Option ℕ) → Found snapshot watched.name (holds_many opened len)
+      → IsLong false snapshot watched.name opened len
+  by None found = λ no. absurd (false≢true no)
+  by (Some file) found = found
 
 pub held_many : (by_name : Bool) (snapshot : Snapshot) (name : List ℕ) (len : ℕ) (opened : Option ℕ)
     → is_some opened ≡ true → IsLong by_name snapshot name opened len → Found snapshot name (holds_many opened len)
@@ -506,7 +526,7 @@ module _ {told_in told : Bool} {snapshot : Snapshot} {name : List ℕ} {from pla
     ends = record {
       events = gives copied.puts.bytes ∷ [];
       are = λ t. ap (λ bytes. gives bytes ∷ []) (copied.puts.are ∙ copied.are t ∙ all t);
-      found = (
+      found = found_all (
         record {
           is = record { file = (watched_at watched place).opened; from = from; end = at; begins = (refl, refl); read = rw copied.puts.are copied.read };
           ends = elim over [ inl long ↦ inl long | inr none ↦ inr (inl none) ];
@@ -532,15 +552,18 @@ module _ {told_in told : Bool} {snapshot : Snapshot} {name : List ℕ} {from pla
     ends = record {
       events = gives copied.puts.bytes ∷ [];
       are = λ t. ap (λ bytes. gives bytes ∷ []) (copied.puts.are ∙ copied.are t) ∙ (let long = size t in taken_before _ past (omega (arith, below, long)));
-      found = (
-        can,
-        (
-          record {
-            is = record { file = (watched_at watched place).opened; from = from; end = at; begins = (refl, refl); read = rw copied.puts.are copied.read };
-            ends = inr (inr refl);
-          },
-          tt,
-        ),
+      found = found_before can (
+        record {
+          is = record {
+            file = (watched_at watched place).opened;
+            from = from;
+            end = at;
+            begins = (refl, refl);
+            read = rw copied.puts.are copied.read;
+          };
+          ends = inr (inr refl);
+        },
+        tt,
       );
       came = one_event copied.puts.came;
     };
@@ -558,7 +581,16 @@ module _ {told_in told : Bool} {snapshot : Snapshot} {name : List ℕ} {from pla
     ends = record {
       events = gives copied.puts.bytes ∷ [];
       are = λ t. begins_bytes (longer copied.puts.bytes (at - from) copied.puts.are (copied.are t));
-      found = (gives copied.bytes ∷ [], begins_bytes copied.puts.are, (record { file = (watched_at watched place).opened; from = from; end = at; begins = (refl, refl); read = copied.read }, tt));
+      found = found_begun (gives copied.bytes ∷ []) (begins_bytes copied.puts.are) (
+        record {
+          file = (watched_at watched place).opened;
+          from = from;
+          end = at;
+          begins = (refl, refl);
+          read = copied.read;
+        },
+        tt,
+      );
       came = one_event copied.puts.came;
     };
     keeps = same;
@@ -576,7 +608,7 @@ module _ {told_in told seeks : Bool} {snapshot : Snapshot} {start : List ℕ →
       (Some (Broke why))
   starts_unmeasured fault broken can = record {
     fate = unmeasured (watched_at watched place).opened;
-    ends = broke_first (can, tt);
+    ends = broke_first can;
     keeps = (broke_at (λ file. Len file) refl refl fault broken, refl);
     met = λ by_name. refl;
   }
@@ -588,7 +620,7 @@ module _ {told_in told seeks : Bool} {snapshot : Snapshot} {start : List ℕ →
       (Some (Broke why))
   starts_unsought viewed same fault (from, broken) sought can = rw viewed (record {
     fate = unsought (watched_at watched place).opened from;
-    ends = broke_first (can, tt);
+    ends = broke_first can;
     keeps = (broke_at (λ file. Read file from) refl same fault broken, refl);
     met = λ by_name. sought;
   })
@@ -600,19 +632,18 @@ module _ {told_in told seeks : Bool} {snapshot : Snapshot} {start : List ℕ →
       ≡ start (open_contents snapshot (watched_at watched place)))
       → Copies told_in told seen from place name now inside slots watched_new after slots_new stop
       → Starts told_in told seeks snapshot start place name watched printer slots watched_new after slots_new stop
-  starts_copied {from} stop viewed saw same part copied = let copies = rw (viewed, saw, same) at copied in let contents = open_contents snapshot (watched_at watched place) in
-      let holds = contents_open snapshot (watched_at watched place) in record {
-        fate = unread (watched_at watched place).opened copies.at;
-        ends = found_as (found_from snapshot (watched_at watched place).name (unread (watched_at watched place).opened copies.at) stop (λ notice told. told) (λ file from begins. tt))
-            (due_as (λ t. let due = ap (λ those. gives those ∷ []) (part t ∙ ap start holds) in
-            (due, ap (all_but (length contents - copies.at)) due ∙ ap (λ those. all_but (length those - copies.at) (gives (start (held_at snapshot (watched_at watched place).opened)) ∷ [])) holds)) copies.ends);
-        keeps = copies.keeps;
-        met = unread_meets stop;
-      } where
-        unread_meets : (stop : Option Stop) → IfBroke stop ((by_name : Bool) → true ≡ true)
-        unread_meets None = tt
-        unread_meets (Some (Broke why)) = λ by_name. refl
-        unread_meets (Some (Over why)) = tt
+  starts_copied stop viewed saw same part copied = let copies = rw (viewed, saw, same) at copied in record {
+    fate = unread (watched_at watched place).opened copies.at;
+    ends = found_as (λ notice told. told) (λ file from begins. tt) (due_as (λ t.
+        let due = ap (λ those. gives those ∷ []) (part t) in
+        (due, ap (all_but (length (open_contents snapshot (watched_at watched place)) - copies.at)) due)) copies.ends);
+    keeps = copies.keeps;
+    met = unread_meets stop;
+  } where
+    unread_meets : (stop : Option Stop) → IfBroke stop ((by_name : Bool) → true ≡ true)
+    unread_meets None = tt
+    unread_meets (Some (Broke why)) = λ by_name. refl
+    unread_meets (Some (Over why)) = tt
 
 -- what was found to have changed is what changed
 pub change_seen : {told : Bool} (snapshot : Snapshot) {old now : List Watched} (place : ℕ) {name : List ℕ}

@@ -1,12 +1,12 @@
 -- What a call on a name gives, by what the calls in it give: bytes under headers, and lines; the open file, and where the name leads.
 use Rattle.std.proofs.{
   lemmas.{Grind.common_steps, List.{append-nil, take-append-le}},
-  Common.{◌≡◌, ℕ, Bool, List, [], ◌∷◌, ◌++◌, inl, inr, ◌∙◌, ap, subst, ◌+◌, length, take, true, false, not},
-  Common.{if◌then◌else◌, Some, None, Option, refl, sym, arith, append_assoc, length-append, bytes_eq, is_none, rules},
+  Common.{◌≡◌, ℕ, Bool, List, [], ◌∷◌, ◌++◌, inl, inr, ◌∙◌, ◌+◌, length, take, true, false, not, if◌then◌else◌, Some},
+  Common.{None, Option, refl, sym, arith, append_assoc, length-append, bytes_eq, is_none, rules},
   Math.{Seq.take-append-add, Bool.and-false},
 }
 use Rattle.ports_core.specs.{
-  Slot.{Slot, with_written, with_broken, told_of},
+  Slot.{Slot, with_written, told_of},
   Message.{OnError, SaysFor, SaysOn},
   Text.{line_of, message_of, header_of},
   declared.{calling.Calling.{Calling, TheVariants.{Cutters, OwnName}}, reason.Reason.Reason, fault.Fault.Fault},
@@ -76,17 +76,19 @@ pub short_more : {told : Bool} {text : List ℕ} (more : List ℕ) {old new : Li
     → Short told text old new why → Short told (text ++ more) old new why
 short_more {told} {text} more {old} (short_broke n cut) =
     let (why, is) = cut.slots in
-    let same = sym (take-append-le n text more (omega (arith, cut.within))) in
     short_broke n (record {
       within = omega (arith, cut.within, length-append text more);
-      slots = (why, is ∙ ap (λ bytes. with_broken why 0 (with_written 0 (told_of told bytes) old)) same);
+      slots = (why, rw (take-append-le n text more (omega (arith, cut.within))) is);
     })
-short_more {told} {text} more {old} (no_room n within is) = no_room n (let a : length (text ++ more) ≡ length text + length more = length-append text more in omega (arith, within)) (is ∙ ap (λ bytes. with_written 0 (told_of told bytes) old) (sym (take-append-le n text more within)))
+short_more {told} {text} more {old} (no_room n within is) = no_room n
+    (let a : length (text ++ more) ≡ length text + length more = length-append text more in omega (arith, within))
+    (rw (take-append-le n text more within) is)
 
 pub short_later : {told : Bool} (first : List ℕ) {text : List ℕ} {old mid new : List Slot} {n : ℕ}
     → mid ≡ with_written 0 (told_of told first) old → BrokeAfter told mid new 0 text n
     → Short told (first ++ text) old new (fault.Write 0)
-short_later {told} first {text} {old} {mid} {new} {n} one cut = short_broke (length first + n) (subst (λ rest. BrokeAfter told old new 0 (first ++ rest) (length first + n)) (append-nil text) (broke_later told first text [] one cut))
+short_later {told} first {text} {n} one cut =
+    short_broke (length first + n) (rw (append-nil text) at (broke_later told first text [] one cut))
 
 pub itself : (name : List ℕ) → bytes_eq name name ≡ true
 itself name = search rules
@@ -116,7 +118,7 @@ pub short_after : {told : Bool} (first : List ℕ) {second : List ℕ} {old mid 
 short_after first one (short_broke n cut) = short_later first one cut
 short_after {told} first {second} {old} {mid} {new} one (no_room n within is) = no_room (length first + n)
     (let a : length (first ++ second) ≡ length first + length second = length-append first second in omega (arith, within))
-    (written_both told 0 first (take n second) old one is ∙ ap (λ bytes. with_written 0 (told_of told bytes) old) (sym (take-append-add first second n)))
+    (rw (take-append-add first second n) (written_both told 0 first (take n second) old one is))
 
 -- a text after another that came whole, or a beginning of it
 text_after : (told : Bool) (first second : List ℕ) (old : List Slot) {mid : List Slot} (new : List Slot)
@@ -139,12 +141,6 @@ pub wrote_line : {told : Bool} {calling : Calling} {line : List ℕ} {old new : 
     → OnError (Tells told calling line) old new → WroteBy told calling [] (line ∷ []) old new None
 wrote_line {told} {calling} tells = search rules
 
--- by the same printer
-pub wrote_by : (told : Bool) {one other : Calling} (text : List ℕ) (lines : List (List ℕ)) (old new : List Slot)
-    (over : Option Fault) → one ≡ other → WroteBy told one text lines old new over
-    → WroteBy told other text lines old new over
-wrote_by told text lines old new over is wrote = subst (λ calling. WroteBy told calling text lines old new over) is wrote
-
 -- a text and lines after others, or a beginning of them, as one text and its lines
 pub wrote_after : (told : Bool) (calling : Calling) (text more : List ℕ) {both : List ℕ} (lines further : List (List ℕ))
     {all : List (List ℕ)} {old mid : List Slot} (new : List Slot)
@@ -166,9 +162,8 @@ pub came_after : {told opened : Bool} {printer mid after : PrinterState} {name f
     → Came told printer opened name (first ++ second) (lines ++ more) old after new over
 came_after {opened} {printer} {name} {first} {second} {over} one two =
     let (text, last) = in_two printer opened name first second in record {
-      printer_is = λ none. two.printer_is none ∙ ap (λ (p : PrinterState). printer_under p false name second) (one.printer_is refl) ∙ last;
-      slots = wrote_after _ _ _ _ _ _ _ over (ap (λ (p : PrinterState). text_under printer opened name first ++ text_under p false name second) (one.printer_is refl) ∙ text)
-          refl one.slots (wrote_by _ _ _ _ _ _ (ap (λ (p : PrinterState). p.calling) (one.printer_is refl)) two.slots);
+      printer_is = λ none. rw (two.printer_is none, one.printer_is refl) last;
+      slots = wrote_after _ _ _ _ _ _ _ over text refl one.slots (rw (one.printer_is refl) at two.slots);
     }
 
 -- bytes that are put

@@ -12,15 +12,15 @@ use Rattle.std.proofs.{
 use Rattle.ports_core.specs.{Slot.{Slot, changed_at}, declared.fault.Fault.Fault}
 use Rattle.follow_core.specs.{
   Printing.PrinterState,
-  inner.Giving.{Adds, Copies, Ends, Follows, IfBroke, Keeps, Leads, FromEither, FromFront, HoldsMany, IsPast, Noted},
-  inner.Giving.{ReadsOf, ToldLed, ToldShort, WereFound, change_between, notes_past, stop_in},
+  inner.Giving.{Adds, Copies, Ends, Follows, IfBroke, Keeps, Leads, FromEither, HoldsMany, IsPast, Noted, ReadsOf},
+  inner.Giving.{ToldLed, ToldShort, WereFound, change_between, found_all, measures, notes_past, reads_on, stop_in},
   declared.{
     visitor.Stop.{Stop, TheVariants.{Broke, Over}},
     notice.Notice.{Notice, TheVariants.{Appeared, Inaccessible, Replaced, Truncated}},
   },
   Share.{Due, came_before, due_later, given_by, is_kept, led_before, left_from},
   Event.{Event, all_but, events_later, gives, notes, notes_in},
-  Look.{Fate, sound, unled, unopened, unmeasured, unsought, unread, can_meet},
+  Look.{Fate, sound, unled, unopened, unmeasured, unread, can_meet},
   Version.{Entry, version, gap, version_in, entries_at_look, entries_led, entries_open, held_at, is_same},
   Version.open_after_look,
   Gain.{file_of, last_from},
@@ -29,9 +29,9 @@ use Rattle.follow_core.specs.{
 }
 use Rattle.follow_core.proofs.{
   RunLemmas.last_from-append,
-  CallGivesLemmas.{broke_at, broke_first, contents_open, due_as, due_by, follows_from, follows_stop, found_as},
-  CallGivesLemmas.{found_both, found_from, goes_after, if_broke, is_held, noted_as, noted_found, nothing_due},
-  CallGivesLemmas.{opened_there, opens_same, stops_early, untold},
+  CallGivesLemmas.{broke_at, broke_first, due_as, due_by, follows_from, found_as, goes_after, if_broke, is_held},
+  CallGivesLemmas.{noted_found, nothing_due, opened_there, opens_same, stops_early},
+  CallGivesLemmas.untold,
 }
 use Rattle.watch_core.specs.{
   declared.watch.Broken.TheVariants.{Len, Look, Open},
@@ -70,9 +70,7 @@ caught_open : (snapshot : Snapshot) (last : Entry) {opened : Option ℕ} {file p
     → notes_past position len
     ++ gives (drop (if nat_lt len position then 0 else position) (held_at snapshot opened)) ∷ []
     ≡ events_later last (entries_open snapshot opened)
-caught_open snapshot last {opened} {position} {len} is = subst (λ o. StandsAt last o position → len ≡ length (held_at snapshot o)
-    → notes_past position len ++ gives (drop (if nat_lt len position then 0 else position) (held_at snapshot o)) ∷ []
-    ≡ events_later last (entries_open snapshot o)) (sym is) (caught snapshot last)
+caught_open snapshot last is = rw is (caught snapshot last)
 
 -- a beginning of it, where a read failed
 past_before : (position len left : ℕ) (bytes : List ℕ)
@@ -91,10 +89,10 @@ begins_so : (test : Bool) {from start position : ℕ} → from ≡ (if test then
 begins_so true is at = inl (at ∙ is)
 begins_so false is at = inr (at ∙ is)
 
-told_short : (snapshot : Snapshot) (name : List ℕ) (opened : Option ℕ) (position len : ℕ) → is_some opened ≡ true
-    → Found snapshot name (holds_many opened len)
-    → (notice : Notice) → IsPast position len notice → ToldShort snapshot name opened position notice
-told_short snapshot name opened position len some found notice (is, short) = (is, (some, len, found, short))
+told_short : (snapshot : Snapshot) (known : Watched) {position len : ℕ} → is_some known.opened ≡ true
+    → Found snapshot known.name (holds_many known.opened len)
+    → (notice : Notice) → IsPast position len notice → ToldShort snapshot known position notice
+told_short snapshot known {len} some found notice (is, short) = (is, (some, len, found, short))
 
 module _ {told_in told : Bool} {snapshot : Snapshot} {place : ℕ} {name : List ℕ} {position : ℕ} {watched : List Watched}
     {printer : PrinterState} {slots : List Slot} where
@@ -104,8 +102,8 @@ module _ {told_in told : Bool} {snapshot : Snapshot} {place : ℕ} {name : List 
       → Adds told_in told snapshot place name position watched printer slots watched printer slots (Ok position)
   adds_none is = record {
     fate = sound;
-    ends = λ last stands. due_as (λ t. let none = ap (λ file. events_later last (entries_open snapshot file)) (sym is) in (none, none)) (nothing_due tt);
-    stands = λ t last stands. subst (λ file. StandsAt (last_from last (entries_open snapshot file)) (watched_at watched place).opened position) (sym is) stands;
+    ends = λ last stands. due_as {before = []} (λ t. rw is (refl, refl)) (nothing_due (found_all tt));
+    stands = rw is (λ t last stands. stands);
     long = rw is (λ no. absurd (false≢true no));
     keeps = refl;
     reads = tt;
@@ -117,11 +115,11 @@ module _ {told_in told : Bool} {snapshot : Snapshot} {place : ℕ} {name : List 
       → Adds told_in told snapshot place name position watched printer slots watched_new printer slots (Err (Broke why))
   adds_unmeasured is fault broken can = record {
     fate = unmeasured (watched_at watched place).opened;
-    ends = λ last stands. broke_first (can, tt);
+    ends = λ last stands. broke_first can;
     stands = tt;
     long = tt;
     keeps = (broke_at (λ file. Len file) refl refl fault broken, refl);
-    reads = (refl, ap is_some is);
+    reads = measures (ap is_some is);
   }
 
   pub adds_untold : {file len : ℕ} {after : PrinterState} {watched_new : List Watched} {slots_new : List Slot}
@@ -134,8 +132,9 @@ module _ {told_in told : Bool} {snapshot : Snapshot} {place : ℕ} {name : List 
       (Err (Over why))
   adds_untold {file} {len} {why} is long found line same = record {
     fate = sound;
-    ends = λ last stands. due_by (λ t. (caught_open snapshot last is (stands t) (long t), tt)) (stops_early (gives _ ∷ []) (found_as (λ events noted. noted_found _ (FromEither (watched_at watched place).opened position) snapshot (watched_at watched place).name sound (Some why) events
-        (noted_as events (told_short snapshot (watched_at watched place).name (watched_at watched place).opened position len (ap is_some is) found) noted)) line));
+    ends = λ last stands. due_by (λ t. (caught_open snapshot last is (stands t) (long t), tt))
+        (stops_early (gives _ ∷ []) (noted_found (Some why)
+        (told_short snapshot (watched_at watched place) (ap is_some is) found) line));
     stands = tt;
     long = tt;
     keeps = same;
@@ -157,20 +156,19 @@ module _ {told_in told : Bool} {snapshot : Snapshot} {place : ℕ} {name : List 
       → Adds told_in told snapshot place name position watched printer slots watched_new after slots_new result
   adds_copied {file} {len} {from} {watched_new} {inside} {after} {mid} {slots_new} {result} viewed is long found saw unchanged begins line copied count = rw (← viewed) (record {
     fate = unread opened copies.at;
-    ends = λ last stands. due_as (λ t. due last (stands t) (long t)) (goes_after (WereFound (ToldShort snapshot known opened position) (FromEither opened position) snapshot known (unread opened copies.at) (stop_in result))
-        (λ events more noted gave. found_both (ToldShort snapshot known opened position) (FromEither opened position) snapshot known sound (unread opened copies.at) (stop_in result) events more
-        (noted_found (ToldShort snapshot known opened position) (FromEither opened position) snapshot known sound None events (noted_as events (told_short snapshot known opened position len (ap is_some is) found) noted))
-        (found_from snapshot known (unread opened copies.at) (stop_in result) (λ notice none. absurd none) (λ file start those. (those.0, ap is_some is, begins_so (nat_lt len position) begins those.1)) more gave)) (untold line) copies.ends);
+    ends = λ last stands. due_as (λ t. due last (stands t) (long t))
+        (goes_after (noted_found None (told_short snapshot (watched_at watched place) (ap is_some is) found)
+        (untold line))
+        (found_as (λ notice none. absurd none)
+        (λ file start those. (those.0, ap is_some is, begins_so (nat_lt len position) begins those.1)) copies.ends));
     stands = IfOk-weaker result (λ n. n ≡ len) _ (λ n whole t last stands. rw is (record { file = refl; seen = whole ∙ long t ∙ ap (λ file. length (held_at snapshot file)) is })) count;
-    long = IfOk-weaker result (λ n. n ≡ len) _ (λ n whole. rw whole (is_held snapshot known len opened found)) count;
+    long = IfOk-weaker result (λ n. n ≡ len) _
+        (λ n whole. rw whole (is_held snapshot (watched_at watched place) found)) count;
     keeps = copies.keeps;
     reads = read (stop_in result);
   }) where
     opened : Option ℕ
     opened = (watched_at watched place).opened
-
-    known : List ℕ
-    known = (watched_at watched place).name
 
     copies : Copies told_in told snapshot from place name watched inside mid watched_new after slots_new
         (stop_in result)
@@ -179,12 +177,9 @@ module _ {told_in told : Bool} {snapshot : Snapshot} {place : ℕ} {name : List 
     contents : List ℕ
     contents = open_contents snapshot (watched_at watched place)
 
-    holds : contents ≡ held_at snapshot opened
-    holds = contents_open snapshot (watched_at watched place)
-
     read : (stop : Option Stop) → IfBroke stop (ReadsOf opened (unread opened copies.at))
     read None = tt
-    read (Some (Broke why)) = (refl, ap is_some is)
+    read (Some (Broke why)) = reads_on (ap is_some is)
     read (Some (Over why)) = tt
 
     due : (last : Entry) → StandsAt last opened position → len ≡ length (held_at snapshot opened)
@@ -193,12 +188,9 @@ module _ {told_in told : Bool} {snapshot : Snapshot} {place : ℕ} {name : List 
         × (notes_past position len ++ all_but (length contents - copies.at) (gives (drop from contents) ∷ [])
         ≡ all_but (left_from snapshot opened copies.at) (events_later last (entries_open snapshot opened)))
     due last stands size =
-        let all = ap (λ those. notes_past position len ++ gives (drop from those) ∷ []) holds
-        ∙ ap (λ n. notes_past position len ++ gives (drop n (held_at snapshot opened)) ∷ []) begins ∙ caught_open snapshot last is stands size in (
-          all,
-          past_before position len (length contents - copies.at) (drop from contents) ∙ ap (all_but (length contents - copies.at)) all
-              ∙ ap (λ those. all_but (length those - copies.at) (events_later last (entries_open snapshot opened))) holds,
-        )
+        let all = ap (λ n. notes_past position len ++ gives (drop n contents) ∷ []) begins
+        ∙ caught_open snapshot last is stands size in
+        (all, past_before position len _ (drop from contents) ∙ ap (all_but (length contents - copies.at)) all)
 
 -- where the name leads
 
@@ -256,34 +248,22 @@ held_notes : (snapshot : Snapshot) (file : Option ℕ) (change : Notice)
 held_notes snapshot None change = refl
 held_notes snapshot (Some file) change = refl
 
-led_then : (snapshot : Snapshot) (file : Option ℕ) (change : Notice) (opened : Option ℕ) (fate : Fate)
+led_then : (snapshot : Snapshot) (file : Option ℕ) (change : Notice) {opened : Option ℕ} {fate : Fate}
     → ReadsOf opened fate
     → led_before snapshot fate (notes change ∷ all_held snapshot file)
     ≡ notes change ∷ came_before snapshot fate (all_held snapshot file)
-led_then snapshot file change opened (unmeasured those) reads = held_notes snapshot file change
-led_then snapshot file change opened (unread those from) reads = refl
-led_then snapshot file change opened sound reads = absurd reads
-led_then snapshot file change opened unled reads = absurd reads
-led_then snapshot file change opened unopened reads = absurd reads
-led_then snapshot file change opened (unsought those from) reads = absurd reads
+led_then snapshot file change (measures some) = held_notes snapshot file change
+led_then snapshot file change (reads_on some) = refl
 
-other_file : (opened file : Option ℕ) {led : Option ℕ} (fate : Fate) → ReadsOf file fate → file ≡ led
+other_file : (opened : Option ℕ) {file led : Option ℕ} {fate : Fate} → ReadsOf file fate → file ≡ led
     → is_same led opened ≡ false → is_kept opened fate ≡ false
-other_file opened file (unmeasured those) reads same other = ap (λ one. is_same one opened) (reads.0 ∙ same) ∙ other
-other_file opened file (unread those from) reads same other = ap (λ one. is_same one opened) (reads.0 ∙ same) ∙ other
-other_file opened file sound reads same other = absurd reads
-other_file opened file unled reads same other = absurd reads
-other_file opened file unopened reads same other = absurd reads
-other_file opened file (unsought those from) reads same other = absurd reads
+other_file opened (measures some) same other = rw same other
+other_file opened (reads_on some) same other = rw same other
 
-reads_meet : (by_name : Bool) (file : Option ℕ) (fate : Fate) → ReadsOf file fate → (seeks : Bool)
+reads_meet : (by_name : Bool) {file : Option ℕ} {fate : Fate} → ReadsOf file fate → (seeks : Bool)
     → can_meet false by_name seeks fate ≡ true
-reads_meet by_name file (unmeasured those) reads seeks = refl
-reads_meet by_name file (unread those from) reads seeks = refl
-reads_meet by_name file sound reads seeks = absurd reads
-reads_meet by_name file unled reads seeks = absurd reads
-reads_meet by_name file unopened reads seeks = absurd reads
-reads_meet by_name file (unsought those from) reads seeks = absurd reads
+reads_meet by_name (measures some) seeks = refl
+reads_meet by_name (reads_on some) seeks = refl
 
 -- what was found to have changed is told
 told_led : (snapshot : Snapshot) (name : List ℕ) (opened led : Option ℕ) {change : Notice}
@@ -303,7 +283,7 @@ pub told_now : (snapshot : Snapshot) {old now : List Watched} (place : ℕ) {led
     → Found snapshot (watched_at old place).name (leads_to led) → result ≡ Some change → (held : ℕ)
     → IsSeen snapshot (watched_at old place).name (watched_at old place).opened held change
 told_now snapshot {old} place {led} is opened same found changed = told_led snapshot (watched_at old place).name (watched_at old place).opened led found
-    (ap (λ file. change_between file led) (sym (opened ∙ ap (λ those. (watched_at those place).opened) same)) ∙ sym is ∙ changed)
+    (rw (is, opened, same) at changed)
 
 -- where nothing changed of a name without a file, it leads nowhere
 pub none_seen : (snapshot : Snapshot) {old now : List Watched} (place : ℕ) {led id : Option ℕ} {result : Option Notice}
@@ -311,7 +291,7 @@ pub none_seen : (snapshot : Snapshot) {old now : List Watched} (place : ℕ) {le
     → Found snapshot (watched_at old place).name (leads_to led) → result ≡ None → (watched_at old place).opened ≡ None
     → LeftOpen snapshot (watched_at old place).name None 0
 none_seen snapshot {old} place {led} is opened same found unchanged none = inl (nowhere led found
-    (ap (λ file. change_between file led) (sym (opened ∙ ap (λ those. (watched_at those place).opened) same ∙ none)) ∙ sym is ∙ unchanged)) where
+    (rw (is, opened, same, none) at unchanged)) where
       nowhere : (led : Option ℕ) → Found snapshot (watched_at old place).name (leads_to led)
           → change_between None led ≡ None → Found snapshot (watched_at old place).name (leads_to None)
       nowhere None found unchanged = found
@@ -334,7 +314,7 @@ module _ {told_in told by_name : Bool} {snapshot : Snapshot} {led : Option ℕ} 
       (Err (Broke why))
   leads_unled fault broken can = record {
     fate = unled;
-    ends = λ last stands. broke_first (can, tt);
+    ends = λ last stands. broke_first can;
     stands = tt;
     long = λ known. tt;
     follows = broke_at (λ file. Look) refl refl fault broken;
@@ -350,7 +330,8 @@ module _ {told_in told by_name : Bool} {snapshot : Snapshot} {led : Option ℕ} 
       (Ok position)
   leads_same none lost same = record {
     fate = sound;
-    ends = λ last stands. due_as (λ t. let due = (nothing_led snapshot last led (stands t).file (none t)).0 in (sym due, sym due)) (nothing_due tt);
+    ends = λ last stands. due_as (λ t. let due = (nothing_led snapshot last led (stands t).file (none t)).0 in
+        (sym due, sym due)) (nothing_due (found_all tt));
     stands = λ t last stands. let (due, still, same) = nothing_led snapshot last led stands.file (none t) in rw (still, same) stands;
     long = λ long. rw same (long_by snapshot (watched_at watched place).name position by_name (watched_at watched place).opened lost long);
     follows = ((watched_at watched place).opened, same ∙ sym (opens_same watched place), λ t. sym (nothing_led snapshot (fresh _) led (fresh_stands _).file (none t)).2);
@@ -361,7 +342,7 @@ module _ {told_in told by_name : Bool} {snapshot : Snapshot} {led : Option ℕ} 
   pub leads_unsaid : {watched_new : List Watched} {after : PrinterState} {slots_new : List Slot} {before : List Event}
       {change : Notice} {why : Fault}
       → (told_in ≡ true → change_between (watched_at watched place).opened led ≡ Some change)
-      → ToldLed by_name snapshot (watched_at watched place).name (watched_at watched place).opened change
+      → ToldLed by_name snapshot (watched_at watched place) change
       → Ends told_in (Noted (λ notice. notice ≡ change)) told false printer name
       (notes change ∷ []) before slots after slots_new (Some (Over why)) → watched_new ≡ watched
       → Leads told_in told by_name snapshot led place name position watched printer slots watched_new after slots_new
@@ -369,7 +350,7 @@ module _ {told_in told by_name : Bool} {snapshot : Snapshot} {led : Option ℕ} 
   leads_unsaid {why} changed seen line same = record {
     fate = sound;
     ends = λ last stands. due_by (λ t. (sym (change_led snapshot last led (stands t).file (changed t)).0, tt))
-        (stops_early (all_held snapshot led) (found_as (λ events noted. noted_found (ToldLed by_name snapshot (watched_at watched place).name (watched_at watched place).opened) FromFront snapshot (watched_at watched place).name sound (Some why) events (noted_as events (λ notice is. rw is seen) noted)) line));
+        (stops_early (all_held snapshot led) (noted_found (Some why) (λ notice is. rw is seen) line));
     stands = tt;
     long = λ known. tt;
     follows = ((watched_at watched place).opened, same ∙ sym (opens_same watched place));
@@ -381,7 +362,7 @@ module _ {told_in told by_name : Bool} {snapshot : Snapshot} {led : Option ℕ} 
   pub leads_unopened : {now watched_new : List Watched} {mid : List Slot} {before : List Event} {change : Notice}
       {why : Fault}
       → (told_in ≡ true → change_between (watched_at watched place).opened led ≡ Some change)
-      → ToldLed by_name snapshot (watched_at watched place).name (watched_at watched place).opened change
+      → ToldLed by_name snapshot (watched_at watched place) change
       → Ends told_in (Noted (λ notice. notice ≡ change)) told false printer name
       (notes change ∷ []) before slots printer mid None → now ≡ watched → why ≡ fault.Open place
       → NameBreaks (λ file. Open) place now watched_new → snapshot.breaks ≡ true
@@ -391,16 +372,14 @@ module _ {told_in told by_name : Bool} {snapshot : Snapshot} {led : Option ℕ} 
     fate = unopened;
     ends = λ last stands. due_as (λ t. let due = (change_led snapshot last led (stands t).file (changed t)).0 in
         (sym due, sym (ap notes_in due ∙ held_notes snapshot led change)))
-        (goes_after (WereFound (ToldLed by_name snapshot known (watched_at watched place).opened) FromFront snapshot known unopened (Some (Broke why))) (λ events more noted gave. found_both (ToldLed by_name snapshot (watched_at watched place).name (watched_at watched place).opened) FromFront snapshot known sound unopened (Some (Broke why)) events more
-        (noted_found (ToldLed by_name snapshot (watched_at watched place).name (watched_at watched place).opened) FromFront snapshot known sound None events (noted_as events (λ notice is. rw is seen) noted)) gave) line (broke_first {due = all_held snapshot led} (can, tt)));
+        (goes_after (noted_found None (λ notice is. rw is seen) line)
+        (broke_first {due = all_held snapshot led} can));
     stands = tt;
     long = λ those. tt;
     follows = broke_at (λ file. Open) refl same fault broken;
     other = λ t. refl;
     met = λ seeks. refl;
-  } where
-    known : List ℕ
-    known = (watched_at watched place).name
+  }
 
   -- it was told, and all that the file holds was given, or a beginning
   pub leads_opened : {now : Snapshot} {mid slots_new : List Slot} {after : PrinterState}
@@ -408,7 +387,7 @@ module _ {told_in told by_name : Bool} {snapshot : Snapshot} {led : Option ℕ} 
       {result : Result ℕ Stop}
       → IsTrue (is_watchable watched place)
       → (told_in ≡ true → change_between (watched_at watched place).opened led ≡ Some change)
-      → ToldLed by_name snapshot (watched_at watched place).name (watched_at watched place).opened change
+      → ToldLed by_name snapshot (watched_at watched place) change
       → Found snapshot (watched_at watched place).name (opens_as file)
       → Ends told_in (Noted (λ notice. notice ≡ change)) told false printer name
       (notes change ∷ []) before slots printer mid None → now ≡ snapshot
@@ -419,16 +398,18 @@ module _ {told_in told by_name : Bool} {snapshot : Snapshot} {led : Option ℕ} 
       result
   leads_opened {mid} {slots_new} {after} {watched_mid} {watched_new} {file} {change} {result} can changed seen opening line same opened leads is adding = record {
     fate = adds.fate;
-    ends = λ last stands. due_by (λ t. dues last (stands t) t) (goes_after (WereFound (ToldLed by_name snapshot known (watched_at watched place).opened) FromFront snapshot known adds.fate (stop_in result))
-        (λ events more noted gave. found_both (ToldLed by_name snapshot (watched_at watched place).name (watched_at watched place).opened) FromFront snapshot known sound adds.fate (stop_in result) events more
-        (noted_found (ToldLed by_name snapshot (watched_at watched place).name (watched_at watched place).opened) FromFront snapshot known sound None events (noted_as events (λ notice is. rw is seen) noted))
-        (found_from snapshot known adds.fate (stop_in result) (λ notice those. absurd (none_short those.1)) (λ file start those. at_front those.2) more (rw named at gave))) line (adds.ends (fresh now_open) (λ t. fresh_stands now_open)));
+    ends = λ last stands. due_by (λ t. dues last (stands t) t)
+        (goes_after (noted_found None (λ notice is. rw is seen) line)
+        (found_as (λ notice those. absurd (none_short those.1)) (λ file start those. at_front those.2)
+        (rw named at (adds.ends (fresh now_open) (λ t. fresh_stands now_open)))));
     stands = IfOk-weaker result _ _ (λ len at t last stands. rw ((change_led snapshot last led stands.file (changed t)).1)
         (subst (λ o. StandsAt (last_from (fresh o) (entries_open snapshot o)) o len) (is t) (at t (fresh now_open) (fresh_stands now_open)))) adds.stands;
     long = λ those. still_long result adds.long adds.keeps;
-    follows = follows_from place watched watched_new adds.fate (stop_in result) opened leads adds.keeps;
-    other = if_broke (stop_in result) (λ reads t. other_file (watched_at watched place).opened now_open adds.fate reads (is t) (change_led snapshot (fresh _) led (fresh_stands _).file (changed t)).2) adds.reads;
-    met = if_broke (stop_in result) (reads_meet true now_open adds.fate) adds.reads;
+    follows = follows_from place watched watched_new adds.fate (stop_in result) opened (λ none. leads) adds.keeps;
+    other = if_broke (stop_in result)
+        (λ reads t. other_file (watched_at watched place).opened reads (is t)
+        (change_led snapshot (fresh _) led (fresh_stands _).file (changed t)).2) adds.reads;
+    met = if_broke (stop_in result) (reads_meet true) adds.reads;
   } where
     adds : Adds told_in told snapshot place name 0 watched_mid printer mid watched_new after slots_new result
     adds = rw same at adding
@@ -436,21 +417,18 @@ module _ {told_in told by_name : Bool} {snapshot : Snapshot} {led : Option ℕ} 
     now_open : Option ℕ
     now_open = (watched_at watched_mid place).opened
 
-    known : List ℕ
-    known = (watched_at watched place).name
-
-    named : (watched_at watched_mid place).name ≡ known
+    named : (watched_at watched_mid place).name ≡ (watched_at watched place).name
     named = ap (λ those. (watched_at those place).name) opened ∙ ap (λ (w : Watched). w.name) (opened_there watched place can)
 
     at_front : {start : ℕ} → (start ≡ 0) ⊎ (start ≡ 0) → start ≡ 0
     at_front (inl at) = at
     at_front (inr at) = at
 
-    none_short : IsSeen snapshot known now_open 0 Truncated → ⊥
+    none_short : {known : List ℕ} → IsSeen snapshot known now_open 0 Truncated → ⊥
     none_short (some, len, found, short) = omega (arith, short)
 
     lost : (watched_at watched_mid place).opened ≡ None → LeftOpen snapshot (watched_at watched_mid place).name None 0
-    lost none = inr (rw (named, ← is_now none) opening) where
+    lost none = inr (rw named (rw (is_now none) at opening)) where
       is_now : (watched_at watched_mid place).opened ≡ None → file ≡ None
       is_now none = sym (ap (λ those. (watched_at those place).opened) opened ∙ ap (λ (w : Watched). w.opened) (opened_there watched place can)) ∙ none
 
@@ -473,7 +451,8 @@ module _ {told_in told by_name : Bool} {snapshot : Snapshot} {led : Option ℕ} 
         let held = fresh_dues snapshot now_open ∙ ap (all_held snapshot) (is t) in
         let due = (change_led snapshot last led stands.file (changed t)).0 in (
           ap (λ those. notes change ∷ those) held ∙ sym due,
-          if_broke (stop_in result) (λ reads. ap (λ those. notes change ∷ came_before snapshot adds.fate those) held ∙ sym (led_then snapshot led change now_open adds.fate reads)
+          if_broke (stop_in result) (λ reads. ap (λ those. notes change ∷ came_before snapshot adds.fate those) held
+              ∙ sym (led_then snapshot led change reads)
               ∙ ap (led_before snapshot adds.fate) (sym due)) adds.reads,
         )
 
@@ -496,14 +475,10 @@ same_file None some = absurd (false≢true some)
 same_file (Some id) some = eq-eqb id id refl
 
 -- where a call on the open file failed, what comes before it is given
-kept_given : (snapshot : Snapshot) (due : Due) (opened : Option ℕ) (fate : Fate) → ReadsOf opened fate
+kept_given : (snapshot : Snapshot) (due : Due) {opened : Option ℕ} {fate : Fate} → ReadsOf opened fate
     → came_before snapshot fate due.came ≡ given_by due snapshot opened fate
-kept_given snapshot due opened (unmeasured file) reads = rw (reads.0, same_file opened reads.1) refl
-kept_given snapshot due opened (unread file from) reads = rw (reads.0, same_file opened reads.1) refl
-kept_given snapshot due opened sound reads = absurd reads
-kept_given snapshot due opened unled reads = absurd reads
-kept_given snapshot due opened unopened reads = absurd reads
-kept_given snapshot due opened (unsought file from) reads = absurd reads
+kept_given snapshot due {opened} (measures some) = rw (same_file opened some) refl
+kept_given snapshot due {opened} (reads_on some) = rw (same_file opened some) refl
 
 -- and where another did, all that came to the open file
 led_given : (snapshot : Snapshot) (due : Due) (opened : Option ℕ) (fate : Fate) → is_kept opened fate ≡ false
@@ -520,12 +495,13 @@ from_either file from (same, some, inl at) = inl at
 from_either file from (same, some, inr at) = inr (same, some, at)
 
 -- what is told then; of a name without a file only where names are followed
-abbrev pub ToldAgain : (by_name : Bool) → Snapshot → List ℕ → Option ℕ → ℕ → Notice → Type 0
-ToldAgain by_name snapshot name opened position notice = (opened ≡ None → by_name ≡ true) × IsSeen snapshot name opened position notice
+abbrev pub ToldAgain : (by_name : Bool) → Snapshot → Watched → ℕ → Notice → Type 0
+ToldAgain by_name snapshot known position notice = (known.opened ≡ None → by_name ≡ true)
+    × IsSeen snapshot known.name known.opened position notice
 
-seen_short : (by_name : Bool) (snapshot : Snapshot) (name : List ℕ) (opened : Option ℕ) (position : ℕ) (notice : Notice)
-    → ToldShort snapshot name opened position notice → ToldAgain by_name snapshot name opened position notice
-seen_short by_name snapshot name opened position notice (is, seen) = (λ none. absurd (false≢true (sym (ap is_some none) ∙ seen.0)), rw is seen)
+seen_short : {by_name : Bool} (snapshot : Snapshot) (known : Watched) {position : ℕ} (notice : Notice)
+    → ToldShort snapshot known position notice → ToldAgain by_name snapshot known position notice
+seen_short snapshot known notice (is, seen) = (λ none. absurd (false≢true (sym (ap is_some none) ∙ seen.0)), rw is seen)
 
 -- before it is told what failed
 pub record LooksAgain (told_in told by_name : Bool) (snapshot : Snapshot) (place : ℕ) (name : List ℕ) (position : ℕ)
@@ -533,9 +509,14 @@ pub record LooksAgain (told_in told by_name : Bool) (snapshot : Snapshot) (place
     (printer : PrinterState) (slots : List Slot) (watched_new : List Watched) (after : PrinterState)
     (slots_new : List Slot) (result : Result ℕ Stop) : Type 0 where
   pub fate : Fate
-  pub ends : let opened = (watched_at watched place).opened in (last : Entry) → (told_in ≡ true → StandsAt last opened position)
-      → let due = due_later by_name name opened last snapshot in
-      Ends told_in (WereFound (ToldAgain by_name snapshot (watched_at watched place).name opened position) (FromFrontOr opened position) snapshot (watched_at watched place).name fate (stop_in result)) told false printer name (due.came ++ due.led) (given_by due snapshot opened fate) slots after slots_new (stop_in result)
+  pub ends : let known = watched_at watched place in (last : Entry)
+      → (told_in ≡ true → StandsAt last known.opened position)
+      → let due = due_later by_name name known.opened last snapshot in
+      Ends told_in
+      (WereFound (ToldAgain by_name snapshot known position) (FromFrontOr known.opened position)
+      snapshot known.name fate
+      (stop_in result)) told false printer name (due.came ++ due.led) (given_by due snapshot known.opened fate) slots
+      after slots_new (stop_in result)
   pub long : IfOk result
       (IsLong by_name snapshot (watched_at watched_new place).name (watched_at watched_new place).opened)
   pub stands : let opened = (watched_at watched place).opened in IfOk result (λ len. told_in ≡ true → (last : Entry) → StandsAt last opened position
@@ -556,12 +537,15 @@ module _ {told_in told : Bool} {snapshot : Snapshot} {place : ℕ} {name : List 
   stopped_looks by_name {watched_new} {stop} adds = record {
     fate = adds.fate;
     ends = λ last stands. let due = due_later by_name name (watched_at watched place).opened last snapshot in
-        due_by (λ t. (refl, if_broke (Some stop) (kept_given snapshot due (watched_at watched place).opened adds.fate) adds.reads))
-        (stops_early due.led (found_as (found_from snapshot (watched_at watched place).name adds.fate (Some stop) (seen_short by_name snapshot (watched_at watched place).name (watched_at watched place).opened position) from_either) (adds.ends last stands)));
+        due_by (λ t. (refl, if_broke (Some stop) (kept_given snapshot due) adds.reads))
+        (stops_early due.led (found_as (seen_short snapshot (watched_at watched place)) from_either
+        (adds.ends last stands)));
     long = tt;
     stands = tt;
-    follows = follows_stop told_in (open_after_look by_name name (watched_at watched place).opened snapshot) _ place watched watched_new adds.fate stop (sym (opens_same watched place)) adds.keeps;
-    met = if_broke (Some stop) (reads_meet by_name (watched_at watched place).opened adds.fate) adds.reads;
+    follows = follows_from {told = told_in}
+        {led = open_after_look by_name name (watched_at watched place).opened snapshot} place watched watched_new
+        adds.fate (Some stop) (sym (opens_same watched place)) (λ none. absurd (cc)) adds.keeps;
+    met = if_broke (Some stop) (reads_meet by_name) adds.reads;
   }
 
   -- one call after another
@@ -575,15 +559,13 @@ module _ {told_in told : Bool} {snapshot : Snapshot} {place : ℕ} {name : List 
       → LooksAgain told_in told by_name snapshot place name position watched printer slots watched_new after slots_new
       result
   looks_both {by_name} {result} adds leads met =
-      let known = (watched_at watched place).name in let opened = (watched_at watched place).opened in record {
+      let opened = (watched_at watched place).opened in record {
         fate = leads.fate;
         ends = λ last stands. let due = due_later by_name name opened last snapshot in
             due_by (λ t. (refl, if_broke (stop_in result) (λ other. led_given snapshot due opened leads.fate (other t)) leads.other))
-            (goes_after (WereFound (ToldAgain by_name snapshot known opened position) (FromFrontOr opened position) snapshot known leads.fate (stop_in result))
-            (λ events more one two. found_both (ToldAgain by_name snapshot known opened position) (FromFrontOr opened position) snapshot known adds.fate leads.fate (stop_in result) events more
-            (found_from snapshot known adds.fate None (seen_short by_name snapshot known opened position) from_either events one)
-            (found_from snapshot known leads.fate (stop_in result) (λ notice those. (λ none. those.0, those.1 position)) (λ file from at. inl at) more two))
-            (adds.ends last stands) (leads.ends _ (λ t. adds.stands t last (stands t))));
+            (goes_after (found_as (seen_short snapshot (watched_at watched place)) from_either (adds.ends last stands))
+            (found_as (λ notice those. (λ none. those.0, those.1 position)) (λ file from at. inl at)
+            (leads.ends _ (λ t. adds.stands t last (stands t)))));
         long = leads.long adds.long;
         stands = IfOk-weaker result _ _ (λ len at t last stands. rw (← at_look by_name name opened snapshot, last_from-append last (entries_open snapshot opened) _)
             (at t _ (adds.stands t last stands))) leads.stands;

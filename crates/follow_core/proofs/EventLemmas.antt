@@ -1,14 +1,11 @@
 -- Lists of events: what is in two of them, what entries give, and beginnings.
-use Rattle.std.proofs.{
-  Common.{◌≡◌, ℕ, List, [], ◌∷◌, ◌++◌, refl, sym, ◌∙◌, ap, append_assoc, map},
-  lemmas.List.append-nil,
-}
+use Rattle.std.proofs.{Common.{◌≡◌, ℕ, List, [], ◌∷◌, ◌++◌, refl, sym, ◌∙◌, append_assoc, map}, lemmas.List.append-nil}
 use Rattle.follow_core.specs.{
   declared.notice.Notice.Notice,
   Event.{Begins, begins_none, begins_within, begins_on, Event, bytes_in, events_between, events_later, gives, lines_in},
   Event.notes,
   Gain.{gain_between, gains_later, last_from},
-  Notice.{notice_of, notices_between},
+  Notice.{notices_between},
   inner.Giving.IsFront,
   Version.{Entry, gap, version},
 }
@@ -16,19 +13,21 @@ use Rattle.follow_core.specs.{
 pub bytes-append : (events more : List Event) → bytes_in (events ++ more) ≡ bytes_in events ++ bytes_in more
 bytes-append [] more = refl
 bytes-append (notes notice ∷ events) more = bytes-append events more
-bytes-append (gives bytes ∷ events) more = ap (λ rest. bytes ++ rest) (bytes-append events more) ∙ sym (append_assoc bytes (bytes_in events) (bytes_in more))
+bytes-append (gives bytes ∷ events) more =
+    rw (bytes-append events more) (sym (append_assoc bytes (bytes_in events) (bytes_in more)))
 
 pub lines-append : (name : List ℕ) (events more : List Event)
     → lines_in name (events ++ more) ≡ lines_in name events ++ lines_in name more
 lines-append name [] more = refl
-lines-append name (notes notice ∷ events) more = ap (λ rest. notice_of notice name ∷ rest) (lines-append name events more)
+lines-append name (notes notice ∷ events) more = rw (lines-append name events more) refl
 lines-append name (gives bytes ∷ events) more = lines-append name events more
 
 pub events-append : (last : Entry) (entries more : List Entry)
     → events_later last (entries ++ more) ≡ events_later last entries ++ events_later (last_from last entries) more
 events-append last [] more = refl
-events-append last (entry ∷ entries) more = ap (λ rest. events_between last entry ++ rest) (events-append entry entries more)
-    ∙ sym (append_assoc (events_between last entry) (events_later entry entries) (events_later (last_from entry entries) more))
+events-append last (entry ∷ entries) more =
+    rw (events-append entry entries more)
+    (sym (append_assoc (events_between last entry) (events_later entry entries) _))
 
 -- the bytes that entries give are what they add
 
@@ -42,7 +41,9 @@ gap_adds (version v) = refl
 gap_adds gap = refl
 
 bytes_between : (last entry : Entry) → bytes_in (events_between last entry) ≡ gain_between last entry
-bytes_between last gap = ap bytes_in (sym (append-nil (map (λ notice. notes notice) (notices_between last gap)))) ∙ noted_bytes (notices_between last gap) [] ∙ sym (gap_adds last)
+bytes_between last gap =
+    rw (← append-nil (map (λ notice. notes notice) (notices_between last gap)), gap_adds last)
+    (noted_bytes (notices_between last gap) [])
 bytes_between last (version v) = noted_bytes (notices_between last (version v)) (gives (gain_between last (version v)) ∷ []) ∙ append-nil _
 
 pub bytes_later : (last : Entry) (entries : List Entry)

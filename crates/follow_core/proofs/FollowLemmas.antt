@@ -1,8 +1,8 @@
 -- A look at all names: at one after another, one look more, and one that was stopped; and one look after another.
 use Rattle.std.proofs.{
   Common.{◌≡◌, ℕ, zero, suc, ◌<◌, ◌≤◌, ◌+◌, Bool, true, false, ◌||◌, List, [], ◌∷◌, ◌++◌, length, take, set, replicate},
-  Common.{get_or, slice_index_or, refl, sym, ◌∙◌, ap, subst, arith, append_assoc, inl, inr, ◌⊎◌, Option, Some, subst₂},
-  Common.{Err, Ok, None, is_some, rules},
+  Common.{get_or, slice_index_or, refl, sym, ◌∙◌, ap, subst, arith, append_assoc, inl, inr, ◌⊎◌, Option, Some, Err, Ok},
+  Common.{None, is_some, rules},
   Math.{Bool.or-false, Seq.{get_or-append_seam, map-set_same, take-suc}},
   lemmas.Bool.{cases_eq, cases_lt, false≢true},
   lemmas.List.{append-nil, get_or-map, get_or-set_other, get_or-set_same, length-append, length-map, length-replicate},
@@ -11,18 +11,18 @@ use Rattle.std.proofs.{
 use Rattle.ports_core.specs.{Slot.{Slot, changed_at}, declared.fault.Fault.Fault}
 use Rattle.follow_core.specs.{
   FollowState.{AllReady, Begun, up_to},
-  Followed.{last_header_from, messages_of, share_text, text_from},
+  Followed.{share_text},
   Look.{Fate, Look, Ways, failed_in, fate_at, is_dropped, sound},
   Share.{BeginsShare, Share, lines_of, share_by, share_of, shares_at_look_from},
   inner.{Visits.{KeepsOthers, Opened, Stopped, Visited, VisitedTo, Visits}, Giving.{IsFront, Shared}},
   Printing.PrinterState,
   Reading.{AreAtLook, IsGiven, names_more, no_names},
-  Sharing.{AllShared, AllShort, Wrote},
+  Sharing.{AllShared, AllShort},
   Standing.{AllStand, CanVisit, NameState, Stands, StandsAmong, no_state, state_at, texts, IsWatched},
   declared.name.Standing.{Standing, TheVariants.{New, Followed, Left}},
 }
 use Rattle.follow_core.proofs.{
-  CallLemmas.{wrote_after, wrote_by, wrote_none},
+  CallLemmas.{wrote_after, wrote_none},
   CallGivesLemmas.none_of,
   LookLemmas.{broken_sound, unbroken_in},
   RunLemmas.{failed-append, last-append, messages-append, text-append},
@@ -37,19 +37,13 @@ nothing_shared {told} {printer} {slots} = record { printer_is = refl; slots = wr
 
 -- further shares
 
-text_all : (printer : PrinterState) {mid : PrinterState} (shares more : List Share)
-    → mid ≡ record printer { last = last_header_from printer.headers printer.last shares }
-    → text_from printer.headers printer.last shares ++ text_from mid.headers mid.last more
-    ≡ text_from printer.headers printer.last (shares ++ more)
-text_all printer shares more is = search (rules, text-append)
-
 pub all_both : {told : Bool} {printer mid after : PrinterState} {shares more : List Share} {old now new : List Slot}
     → AllShared told printer shares old mid now
     → AllShared told mid more now after new → AllShared told printer (shares ++ more) old after new
-all_both {told} {printer} {mid} {shares} {more} {now} {new} all rest = record {
-  printer_is = rest.printer_is ∙ ap (λ (p : PrinterState). record p { last = last_header_from p.headers p.last more }) all.printer_is
-      ∙ ap (λ last. record printer { last = last }) (sym (last-append printer.headers printer.last shares more));
-  slots = wrote_after _ _ _ _ _ _ _ None (text_all printer shares more all.printer_is) (sym (messages-append shares more)) all.slots (wrote_by told (text_from mid.headers mid.last more) (messages_of more) now new None (ap (λ (p : PrinterState). p.calling) all.printer_is) rest.slots);
+all_both {printer} {shares} {more} all rest = record {
+  printer_is = rw (rest.printer_is, all.printer_is, last-append printer.headers printer.last shares more) refl;
+  slots = wrote_after _ _ _ _ _ _ _ None (sym (text-append printer.headers printer.last shares more))
+      (sym (messages-append shares more)) all.slots (rw all.printer_is at rest.slots);
 }
 
 -- a beginning of one share
@@ -86,13 +80,13 @@ shares_one : (ways : Ways) (looks : List Look) (look : Look) (from : ℕ) (names
     ≡ shares_at_look_from ways looks look from names ++ share_of ways looks look (from + length names) name ∷ []
 shares_one ways looks look from [] name = ap (λ place. share_of ways looks look place name ∷ []) (omega arith)
 shares_one ways looks look from (first ∷ names) name =
-    ap (λ rest. share_of ways looks look from first ∷ rest) (shares_one ways looks look (from + 1) names name
-    ∙ ap (λ place. shares_at_look_from ways looks look (from + 1) names ++ share_of ways looks look place name ∷ []) (omega arith))
+    let place : (from + 1) + length names ≡ from + suc (length names) = omega arith in
+    rw (shares_one ways looks look (from + 1) names name, place) refl
 
 fate_there : (fates : List Fate) (fate : Fate) {all : List Fate} → IsFront (fates ++ fate ∷ []) all → {place : ℕ}
     → length fates ≡ place → slice_index_or all place sound ≡ fate
-fate_there fates fate {all} (rest, is) {place} count = ap (λ those. slice_index_or those place sound) (is ∙ append_assoc fates (fate ∷ []) rest)
-    ∙ ap (λ n. slice_index_or (fates ++ fate ∷ rest) n sound) (sym count) ∙ get_or-append_seam fates fate rest sound
+fate_there fates fate (rest, is) count =
+    rw (is, append_assoc fates (fate ∷ []) rest, ← count) (get_or-append_seam fates fate rest sound)
 
 front_before : (fates : List Fate) (fate : Fate) {all : List Fate} → IsFront (fates ++ fate ∷ []) all
     → IsFront fates all
@@ -112,38 +106,45 @@ length_texts names now same = ap length (sym same) ∙ length-map now (λ (n : N
 pub same_length : (names now : List NameState) → texts now ≡ texts names → length names ≡ length now
 same_length names now same = sym (length-map names (λ (n : NameState). n.text)) ∙ length_texts names now same
 
--- the shares of the names before a place, and of the one at it
+-- the names before a place, and the one at it
+count_taken : (names now : List NameState) {place : ℕ} → texts now ≡ texts names → place < length now
+    → length (take place (texts names)) ≡ place
+count_taken names now {place} same within =
+    length-take-le place (texts names) (rw (length_texts names now same) (omega arith))
+
+names_next : (names now : List NameState) {place : ℕ} → texts now ≡ texts names → place < length now
+    → take place (texts names) ++ (state_at now place).text ∷ [] ≡ take (place + 1) (texts names)
+names_next names now {place} same within = let next : place + 1 ≡ suc place = omega arith in
+    rw (
+      next,
+      take-suc (texts names) place [] (rw (length_texts names now same) within),
+      text_there names now same within,
+    )
+    refl
+
+-- and their shares
 shares_next : (ways : Ways) (looks : List Look) (look : Look) (names now : List NameState) {place : ℕ}
     → texts now ≡ texts names → place < length now
     → shares_at_look_from ways looks look ways.first (take place (texts names))
     ++ share_of ways looks look (ways.first + place) (state_at now place).text ∷ []
-    ≡ shares_at_look_from ways looks look ways.first (take (suc place) (texts names))
+    ≡ shares_at_look_from ways looks look ways.first (take (place + 1) (texts names))
 shares_next ways looks look names now {place} same within =
-    let count : length (take place (texts names)) ≡ place = length-take-le place (texts names) (subst (λ n. place ≤ n) (sym (length_texts names now same)) (omega arith)) in
-    let below : place < length (texts names) = subst (λ n. place < n) (sym (length_texts names now same)) within in
-    ap (λ name. shares_at_look_from ways looks look ways.first (take place (texts names)) ++ share_of ways looks look (ways.first + place) name ∷ []) (sym (text_there names now same within))
-    ∙ ap (λ n. shares_at_look_from ways looks look ways.first (take place (texts names)) ++ share_of ways looks look (ways.first + n) (get_or (texts names) place []) ∷ []) (sym count)
-    ∙ sym (shares_one ways looks look ways.first (take place (texts names)) (get_or (texts names) place []))
-    ∙ ap (shares_at_look_from ways looks look ways.first) (sym (take-suc (texts names) place [] below))
-
--- the names before a place, and the one at it
-count_taken : (names now : List NameState) {place : ℕ} → texts now ≡ texts names → place < length now
-    → length (take place (texts names)) ≡ place
-count_taken names now {place} same within = length-take-le place (texts names) (subst (λ n. place ≤ n) (sym (length_texts names now same)) (omega arith))
-
-names_next : (names now : List NameState) {place : ℕ} → texts now ≡ texts names → place < length now
-    → take place (texts names) ++ (state_at now place).text ∷ [] ≡ take (suc place) (texts names)
-names_next names now {place} same within = ap (λ name. take place (texts names) ++ name ∷ []) (sym (text_there names now same within))
-    ∙ sym (take-suc (texts names) place [] (subst (λ n. place < n) (sym (length_texts names now same)) within))
+    rw (
+      ← names_next names now same within,
+      shares_one ways looks look ways.first (take place (texts names)) _,
+      count_taken names now same within,
+    ) refl
 
 -- what a look gives for one name more
 one_given : (looks : List Look) (look : Look) (from : ℕ) (names : List (List ℕ)) (name : List ℕ) {shares : List Share}
     {share : Share} → AreAtLook looks look from names shares
     → IsGiven looks look (from + length names) name share
     → AreAtLook looks look from (names ++ name ∷ []) (shares ++ share ∷ [])
-one_given looks look from [] name {share} no_names given = names_more (subst (λ n. IsGiven looks look n name share) (let e : from + 0 ≡ from = omega arith in e) given) no_names
+one_given looks look from [] name {share} no_names given = let e : from + 0 ≡ from = omega arith in
+    names_more (rw e at given) no_names
 one_given looks look from (first ∷ names) name {share} (names_more is rest) given =
-    names_more is (one_given looks look (from + 1) names name rest (subst (λ n. IsGiven looks look n name share) (let e : from + suc (length names) ≡ (from + 1) + length names = omega arith in e) given))
+    let e : from + suc (length names) ≡ (from + 1) + length names = omega arith in
+    names_more is (one_given looks look (from + 1) names name rest (rw e at given))
 
 pub visited_more : {told_in told : Bool} {ways : Ways} {looks : List Look} {snapshot : Snapshot}
     {names now : List NameState} {one : NameState} {place : ℕ}
@@ -161,22 +162,25 @@ visited_more {told_in} {told} {ways} {looks} {snapshot} {names} {now} {one} {pla
   shares = sofar.shares ++ visited.share ∷ [];
   count = length-append sofar.fates (visited.fate ∷ []) ∙ ap (λ n. n + 1) sofar.count ∙ omega arith;
   are = λ t all front. let look : Look = record { snapshot = snapshot; fates = all } in
-      ap (λ those. those ++ visited.share ∷ []) (sofar.are t all (front_before sofar.fates visited.fate front))
-      ∙ ap (λ share. shares_at_look_from ways looks look ways.first (take place (texts names)) ++ share ∷ []) (visited.is_share t all (fate_there sofar.fates visited.fate front sofar.count))
-      ∙ shares_next ways looks look names now sofar.same within ∙ ap (λ n. shares_at_look_from ways looks look ways.first (take n (texts names))) (let next : suc place ≡ place + 1 = omega arith in next);
+      (λ i. sofar.are t all (front_before sofar.fates visited.fate front) i
+      ++ visited.is_share t all (fate_there sofar.fates visited.fate front sofar.count) i ∷ [])
+      ∙ shares_next ways looks look names now sofar.same within;
   found = λ all front. let look : Look = record { snapshot = snapshot; fates = all } in
-      subst (λ those. AreAtLook looks look ways.first those (sofar.shares ++ visited.share ∷ [])) (names_next names now sofar.same within ∙ ap (λ n. take n (texts names)) (let next : suc place ≡ place + 1 = omega arith in next))
-      (one_given looks look ways.first (take place (texts names)) (state_at now place).text (sofar.found all (front_before sofar.fates visited.fate front))
-      (subst (λ n. IsGiven looks look n (state_at now place).text visited.share) (ap (λ n. ways.first + n) (sym (count_taken names now sofar.same within))) (visited.found all (fate_there sofar.fates visited.fate front sofar.count))));
-  is_failed = failed-append sofar.shares (visited.share ∷ []) ∙ ap (λ first. first || (is_some visited.share.failure || false)) sofar.is_failed
-      ∙ ap (λ last. before || (last || false)) visited.is_failed ∙ ap (λ last. before || last) (or-false failed);
+      rw (← names_next names now sofar.same within)
+      (one_given looks look ways.first (take place (texts names)) (state_at now place).text
+      (sofar.found all (front_before sofar.fates visited.fate front))
+      (rw (count_taken names now sofar.same within)
+      (visited.found all (fate_there sofar.fates visited.fate front sofar.count))));
+  is_failed = rw (failed-append sofar.shares (visited.share ∷ []), sofar.is_failed, visited.is_failed, or-false failed)
+      refl;
   shared = all_both sofar.shared (record {
     printer_is = visited.shared.printer_is refl;
-    slots = subst₂ (λ text lines. Wrote told mid.calling text lines slots new) (sym (append-nil _)) (sym (append-nil _)) visited.shared.slots;
+    slots = rw (append-nil, append-nil) visited.shared.slots;
   });
   same = texts_set now no_state one within same ∙ sofar.same;
   done = λ all front other below. there all front other below (cases_eq other place);
-  rest = λ other above inside. stays looks other (λ at. omega arith) (sofar.rest other (omega arith) (subst (λ n. other < n) (length-set now place one) inside));
+  rest = λ other above inside. stays looks other (λ at. omega arith)
+      (sofar.rest other (omega arith) (rw length-set at inside));
 } where
   visited : Visited told_in told ways looks snapshot (ways.first + place) (state_at now place).text mid slots after new
       (watched_at watched_new (ways.first + place)) one.standing failed
@@ -311,5 +315,8 @@ pub next_ready : (first : ℕ) (names : List NameState) (one : NameState) {place
 next_ready first names one {place} {watched_new} within ready keeps can other inside = by (cases_eq other place) where
   by : (other ≡ place) ⊎ (other ≡ place → ⊥)
       → CanVisit (state_at (set names place one) other) (watched_at watched_new (first + other))
-  by (inl at) = subst (λ n. CanVisit (state_at (set names place one) n) (watched_at watched_new (first + n))) (sym at) (subst (λ (n : NameState). CanVisit n (watched_at watched_new (first + place))) (sym (get_or-set_same names place one no_state within)) can)
-  by (inr elsewhere) = subst (λ (n : NameState). CanVisit n (watched_at watched_new (first + other))) (sym (get_or-set_other names place other one no_state elsewhere)) (subst (CanVisit (state_at names other)) (sym (keeps.others (first + other) (λ at. elsewhere (omega (arith, at))))) (ready other (subst (λ n. other < n) (length-set names place one) inside)))
+  by (inl at) = rw (at, get_or-set_same names place one no_state within) can
+  by (inr elsewhere) = rw (
+    get_or-set_other names place other one no_state elsewhere,
+    keeps.others (first + other) (λ at. elsewhere (omega (arith, at))),
+  ) (ready other (rw length-set at inside))

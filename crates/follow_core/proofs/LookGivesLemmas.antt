@@ -8,33 +8,33 @@ use Rattle.follow_core.specs.{
   },
   Reading.{AreAtLook, AreFound, IsFound, IsGiven, IsMissing, IsTold, LeftOpen, NoneBreaks, StartsIn, looks_more},
   Reading.{names_more, no_looks},
-  Event.{Event, bytes_in, gives, lines_in},
+  Event.{Event, gives, lines_in},
   Version.{Entry, gap, entries_at_look, entries_led, held_at, open_after_later, open_after_look, version},
   Gain.{file_of, last_from, last_of, gains_after},
   inner.{
     Giving.{Anywhere, BrokeAt, Came, Nothing, WereFound, Ends, Follows, IfBroke, Keeps, Shared, Starts, fault_by},
-    Giving.{is_read, stop_in, text_under},
+    Giving.{found_all, found_before, found_begun, is_read, stop_in, text_under},
     Visits.{Visits, TellsStop, Visited},
   },
   Look.{Fate, Look, Ways, can_meet, entries_in, failed_by, failed_in, fate_at, is_dropped, snapshots, sound, unled},
   Look.{unopened, unmeasured, unsought, unread, is_first},
   Notice.is_missing,
-  Share.{BeginsShare, Due, Share, due_at, due_later, failure_line, failure_of, given_by, is_kept, is_unopened},
-  Share.{led_before, missing_share, no_share, share_by},
+  Share.{Due, Share, due_later, failure_line, failure_of, given_by, is_kept, is_unopened, led_before, missing_share},
+  Share.{no_share, share_by},
   Printing.PrinterState,
   Telling.{Tells, failure_text, tail_by},
 }
 use Rattle.follow_core.proofs.{
   CallLemmas.{came_none, failure_said, wrote_after, wrote_line},
-  CallGivesLemmas.{broke_at, contents_open, found_as, found_both, found_from, goes_after, held_many, if_broke},
-  CallGivesLemmas.{keeps_others, none_of, nothing_due, opened_led, opened_there, some_of},
+  CallGivesLemmas.{broke_at, found_as, goes_after, held_many, if_broke, keeps_others, none_of, nothing_due, opened_led},
+  CallGivesLemmas.{opened_there, some_of},
   CatchLemmas.{FromFrontOr, LooksAgain, long_by, ToldAgain, at_look},
   LookLemmas.{first_last, last_file, looked_last, failed_more, failed_sound, broken_sound, broken_more, seeing, IsDue},
 }
 use Rattle.std.proofs.{
   Common.{◌⊎◌, ◌≡◌, ◌<◌, ◌+◌, arith, zero, suc, ℕ, Bool, true, false, not, List, [], ◌∷◌, ◌++◌, length, Option, Some},
-  Common.{None, refl, sym, ◌∙◌, ap, if◌then◌else◌, subst, inl, inr, ◌&&◌, Result, Ok, Err, IsTrue, IfOk, subst₂},
-  Common.{is_none, is_some},
+  Common.{None, refl, sym, ◌∙◌, ap, if◌then◌else◌, subst, inl, inr, ◌&&◌, Result, Ok, Err, IsTrue, IfOk, is_none},
+  Common.is_some,
   lemmas.{List.{append-nil, map-append}, Bool.false≢true, Result.IfOk-weaker},
   Math.Bool.and-false,
 }
@@ -83,7 +83,7 @@ all_came : {told : Bool} {printer after : PrinterState} {opened : Bool} {name by
     {old new : List Slot} {over : Option Fault}
     → Came told printer opened name bytes lines old after new over
     → Came told printer opened name bytes (lines ++ failure_line name None) old after new over
-all_came {told} {printer} {after} {opened} {name} {bytes} lines {old} {new} {over} came = subst (λ those. Came told printer opened name bytes those old after new over) (sym (append-nil lines)) came
+all_came lines came = rw (append-nil lines) came
 
 fault_line : (place : ℕ) (name : List ℕ) (fate : Fate) → is_some (failed_by fate None) ≡ true
     → (failure_text (fault_by place fate) name ∷ [] ≡ failure_line name (failure_of fate))
@@ -98,37 +98,34 @@ fault_line place name (unread file from) broke = (refl, refl)
 abbrev shared_as : (opened : Bool) → List ℕ → List Event → Option Fault → Share
 shared_as opened name events failure = record { name = name; is_opened = opened; events = events; failure = failure }
 
--- of a name that came through, whatever its fate was to be
-sound_found : {told_in told opened : Bool} {Tells : Notice → Type 0} (Begin : Option ℕ → ℕ → Type 0)
-    (snapshot : Snapshot) (known : List ℕ) (fate : Fate) {printer after : PrinterState} {name : List ℕ}
-    {due before : List Event} {old new : List Slot}
-    → Ends told_in
-    (WereFound Tells Begin snapshot known fate None) told opened printer name due before old after new None
-    → Ends told_in
-    (WereFound Tells Begin snapshot known sound None) told opened printer name due before old after new None
-sound_found Begin snapshot known fate ends = record { events = ends.events; are = ends.are; found = ends.found; came = ends.came }
-
 -- what a name that came through is due is its share
 due_share : {told_in : Bool} {ways : Ways} {before : List Look} {snapshot : Snapshot} {name : List ℕ} {due : Due}
     {opened : Option ℕ} → IsDue told_in ways before snapshot name due opened
     → told_in ≡ true → (fates : List Fate)
     → shared_as (is_first before) name (due.came ++ due.led) None
     ≡ share_by ways name before (seeing snapshot fates) sound
-due_share {before} {name} dues t fates = let is = dues.is t fates in rw is.0 (ap (λ (those : Due). shared_as (is_first before) name (those.came ++ those.led) None) is.1)
+due_share {before} {name} dues t fates = let is = dues.is t fates in rw (is.0, is.1) refl
 
 module _ {told_in told : Bool} {ways : Ways} {before : List Look} {snapshot : Snapshot} {name : List ℕ} {due : Due}
     {opened : Option ℕ} {printer after : PrinterState} {old mid : List Slot}
     (dues : IsDue told_in ways before snapshot name due opened) where
   -- all that is due was given
-  pub looked_whole : {none : List Event}
-      → Ends told_in (WereFound (IsTold before snapshot name) (StartsIn before name) snapshot name sound None) told
+  pub looked_whole : {none : List Event} {fate : Fate}
+      → Ends told_in (WereFound (IsTold before snapshot name) (StartsIn before name) snapshot name fate None) told
       (is_first before) printer name (due.came ++ due.led) none old after mid None
       → (is_first before ≡ true → (file : ℕ) × Found snapshot name (opens_as (Some file)))
       → Looked told_in told ways before snapshot name printer old after mid false sound
   looked_whole ends there = record {
     share = shared_as (is_first before) name ends.events None;
-    found = inl (record { named = refl; opened = refl; failed = refl; events = ends.found; broke = inl refl; there = there });
-    is_share = λ t fates. ap (λ events. shared_as (is_first before) name events None) (ends.are t) ∙ due_share dues t fates;
+    found = inl (record {
+      named = refl;
+      opened = refl;
+      failed = refl;
+      events = elim ends.found [ found_all all ↦ all ];
+      broke = inl refl;
+      there = there;
+    });
+    is_share = λ t fates. rw (ends.are t) (due_share dues t fates);
     failed = refl;
     shared = all_came (lines_in name ends.events) ends.came;
   }
@@ -148,10 +145,18 @@ module _ {told_in told : Bool} {ways : Ways} {before : List Look} {snapshot : Sn
       let line = fault_line place name fate broke in record {
         share = shared_as (is_first before) name ends.events (failure_of fate);
         is_share = λ t fates. share_is t fates line.1 ends.events (ends.are t);
-        found = inl (record { named = refl; opened = sym openly; failed = refl; events = ends.found.1; broke = inr ends.found.0; there = there });
+        found = inl (elim ends.found [
+          | found_before can all ↦ record {
+            named = refl;
+            opened = sym openly;
+            failed = refl;
+            events = all;
+            broke = inr can;
+            there = there;
+          }
+        ]);
         failed = line.1;
-        shared = subst (λ last. Came told printer (is_first before) name (bytes_in ends.events) (lines_in name ends.events ++ last) old after new None) line.0
-            (said_after ends.came (failure_said (is_read fate) place name (subst (λ those. SaysOn told (tail_by printer.calling) says.0 (message_of those name) mid new) fault says.1)));
+        shared = rw (← line.0) (said_after ends.came (failure_said (is_read fate) place name (rw fault at says.1)));
       } where
         share_is : told_in ≡ true → (fates : List Fate) → is_some (failure_of fate) ≡ true → (events : List Event)
             → events ≡ given_by due snapshot opened fate
@@ -159,8 +164,7 @@ module _ {told_in told : Bool} {ways : Ways} {before : List Look} {snapshot : Sn
             ≡ share_by ways name before (seeing snapshot fates) fate
         share_is t fates fails events are =
             let is = dues.is t fates in
-            rw (fails, openly) (ap (λ those. shared_as (is_first before) name those (failure_of fate)) (are
-            ∙ ap (λ (those : Due). given_by those snapshot opened fate) is.1 ∙ ap (λ file. given_by (due_at ways name before (seeing snapshot fates)) snapshot file fate) is.2))
+            rw (fails, openly, are, is.1, is.2) refl
 
 -- the first look
 
@@ -182,7 +186,7 @@ pub later_due : {told_in : Bool} {ways : Ways} {name : List ℕ} {before : Look}
     (due_later ways.by_name name opened (last_in ways name before looks) snapshot) opened
 later_due {ways} {name} {before} {looks} {snapshot} stands = record {
   is = λ t fates. let here = (stands t).file ∙ sym (last_file ways name before looks) in
-      (refl, ap (λ file. due_later ways.by_name name file (last_in ways name before looks) snapshot) here, here);
+      (refl, rw here refl, here);
 }
 
 -- Whatever looks were made before at a name that stood so: what is due at this one was given, call by call, before it is told what
@@ -211,13 +215,6 @@ opened_now : (place : ℕ) {file : Option ℕ} (old : List Watched) {new : List 
     → watched_at new place ≡ record (watched_at old place) { opened = file }
 opened_now place old is can = ap (λ those. watched_at those place) is ∙ opened_there old place can
 
-broken_now : (place : ℕ) (old : List Watched) {new : List Watched} {fate : Fate} {why : Fault}
-    (broke : BrokeAt place old new fate why) → IsTrue (is_watchable old place)
-    → watched_at new place
-    ≡ record (watched_at old place) { opened = None; failed = failed_by fate None; reason = broke.reason }
-broken_now place old {fate} broke can = ap (λ those. watched_at those place) broke.names
-    ∙ changed_there no_name place _ old (watchable_within old place can)
-
 none_there : (failed : Option Broken) → is_none failed ≡ true → failed ≡ None
 none_there None is = refl
 none_there (Some why) is = absurd (false≢true is)
@@ -236,25 +233,21 @@ last_seen looks look = ap latest (map-append (λ (l : Look). l.snapshot) looks (
 
 -- a name that came through it stands at its last entry
 through_stands : {told : Bool} {ways : Ways} (looks : List Look) (look : Look) {place : ℕ} {name : List ℕ}
-    {file led : Option ℕ} {len : ℕ}
-    (old : List Watched) {new : List Watched} → (watched_at old place).name ≡ name → IsTrue (is_watchable old place)
-    → is_dropped place looks ≡ false
-    → new ≡ changed_at place (opens file) old → fate_at place look ≡ sound → (told ≡ true → file ≡ led)
+    {file led : Option ℕ} {len : ℕ} (watched : Watched) → watched.name ≡ name → is_none watched.failed ≡ true
+    → is_dropped place looks ≡ false → fate_at place look ≡ sound → (told ≡ true → file ≡ led)
     → (told ≡ true → (ways.by_name ≡ false → is_some led ≡ true)
     × StandsAt (last_of (entries_in ways name (looks ++ look ∷ []))) led len)
-    → IsLong ways.by_name look.snapshot (watched_at new place).name (watched_at new place).opened len
-    → IsFollowed told ways (looks ++ look ∷ []) place name (watched_at new place) len
-through_stands {ways} looks look {place} {name} {len} old {new} named can kept is at leads last long =
-    let now = opened_now place old is can in
-    record {
-      named = ap (λ (w : Watched). w.name) now ∙ named;
-      unbroken = ap (λ (w : Watched). w.failed) now ∙ none_there (watched_at old place).failed can;
-      kept = kept_more place looks look kept at;
-      begun = begun_more looks look;
-      stands = λ t. record { file = ap (λ (w : Watched). w.opened) now ∙ leads t ∙ (last t).1.file; seen = (last t).1.seen };
-      there = λ t way. ap (λ (w : Watched). is_some w.opened) now ∙ ap is_some (leads t) ∙ (last t).0 way;
-      long = subst₂ (λ (s : Snapshot) those. IsLong ways.by_name s those (watched_at new place).opened len) (sym (last_seen looks look)) (ap (λ (w : Watched). w.name) now ∙ named) long;
-    }
+    → IsLong ways.by_name look.snapshot name file len
+    → IsFollowed told ways (looks ++ look ∷ []) place name (record watched { opened = file }) len
+through_stands looks look watched named can kept at leads last long = record {
+  named = named;
+  unbroken = none_there watched.failed can;
+  kept = kept_more _ looks look kept at;
+  begun = begun_more looks look;
+  stands = λ t. record { file = leads t ∙ (last t).1.file; seen = (last t).1.seen };
+  there = λ t way. ap is_some (leads t) ∙ (last t).0 way;
+  long = rw (last_seen looks look) long;
+}
 
 -- what a look gave, and how the name stands then
 looked_visited : {told_in told : Bool} {ways : Ways} {looks : List Look} {snapshot : Snapshot} {place : ℕ}
@@ -278,12 +271,21 @@ looked_visited fate kept looked stands = record {
 module _ {told_in told : Bool} {ways : Ways} {snapshot : Snapshot} {place : ℕ} {name : List ℕ} {standing : Standing}
     {old new : List Watched} {printer after : PrinterState} {slots slots_new : List Slot} where
   visits_by : (now : Standing) {failed : Bool} (change : Watched → Watched) → new ≡ changed_at place change old
-      → CanVisit (record { text = name; standing = now }) (watched_at new place)
+      → IsTrue (is_watchable old place)
+      → CanVisit (record { text = name; standing = now }) (change (watched_at old place))
       → ((looks : List Look) → Stands told_in ways looks place name (watched_at old place) standing
       → Visited told_in told ways looks snapshot place name printer slots after slots_new
-      (watched_at new place) now failed)
+      (change (watched_at old place)) now failed)
       → Visits told_in told ways snapshot place name standing old printer slots now new after slots_new (Ok failed)
-  visits_by now change is ready visited = record { visited = visited; stopped = tt; ready = ready; others = keeps_others change is; halts = tt }
+  visits_by now change is can ready visited = record {
+    visited = rw there visited;
+    stopped = tt;
+    ready = subst (CanVisit _) (sym there) ready;
+    others = keeps_others change is;
+    halts = tt;
+  } where
+    there : watched_at new place ≡ change (watched_at old place)
+    there = rw is (changed_there no_name place change old (watchable_within old place can))
 
   -- it broke
   drops : (fate : Fate) (why : Fault) → (watched_at old place).name ≡ name → IsTrue (is_watchable old place)
@@ -293,17 +295,12 @@ module _ {told_in told : Bool} {ways : Ways} {snapshot : Snapshot} {place : ℕ}
       × Looked told_in told ways looks snapshot name printer slots after slots_new true fate
       × (can_meet (is_first looks) ways.by_name ways.seeks fate ≡ true))
       → Visits told_in told ways snapshot place name standing old printer slots Left new after slots_new (Ok true)
-  drops fate why named can broke gave = visits_by Left _ broke.names tt (λ looks stands.
+  drops fate why named can broke gave = visits_by Left _ broke.names can tt (λ looks stands.
       let (kept, looked, met) = gave looks stands in
-      let now = broken_now place old broke can in
       looked_visited fate kept looked (λ fates at. record {
         begun = begun_more looks (seeing snapshot fates);
-        named = ap (λ (w : Watched). w.name) now ∙ named;
-        why = inl (
-          kept_more place looks _ kept at ∙ broke.broke,
-          broken_more looks _ (ap (λ (w : Watched). w.failed) now) kept at met,
-          ap (λ (w : Watched). w.opened) now,
-        );
+        named = named;
+        why = inl (kept_more place looks _ kept at ∙ broke.broke, broken_more looks _ refl kept at met, refl);
       }))
 
   -- it came through; what stopped it is told, or ends following
@@ -315,9 +312,11 @@ module _ {told_in told : Bool} {ways : Ways} {snapshot : Snapshot} {place : ℕ}
       → Visits told_in told ways snapshot place name standing old printer slots (Followed len) new after slots_new
       (Ok false)
   gave_through {len} fate named can (file, is, leads) gave long =
-      visits_by (Followed len) (opens file) is (rw (opened_now place old is can) (named, none_there (watched_at old place).failed can)) (λ looks stands.
-      let made = gave looks stands in looked_visited sound made.kept (looked_whole made.is_due (sound_found (StartsIn looks name) snapshot name fate made.ends) made.there)
-      (λ fates at. through_stands looks (seeing snapshot fates) old named can made.kept is at leads (λ t. ((made.last t).0, (made.last t).1 fates)) long))
+      visits_by (Followed len) (opens file) is can (named, none_there (watched_at old place).failed can)
+      (λ looks stands.
+      let made = gave looks stands in looked_visited sound made.kept (looked_whole made.is_due made.ends made.there)
+      (λ fates at. through_stands looks (seeing snapshot fates) (watched_at old place) named can made.kept at leads
+      (λ t. ((made.last t).0, (made.last t).1 fates)) (rw (opened_now place old is can, named) at long)))
 
   pub gave_fails : {led : Option ℕ} {mid : List Slot} (fate : Fate) (stop : Stop) {now : Standing}
       {result : Result Bool Fault} → (watched_at old place).name ≡ name
@@ -327,7 +326,12 @@ module _ {told_in told : Bool} {ways : Ways} {snapshot : Snapshot} {place : ℕ}
       → TellsStop told after.calling name mid now slots_new stop result
       → Visits told_in told ways snapshot place name standing old printer slots now new after slots_new result
   gave_fails {mid} fate (Broke why) named can broke gave (tells, left, says) = rw (tells, left) (drops fate why named can broke (λ looks stands.
-      let made = gave looks stands in (made.kept, looked_broke made.is_due place fate broke.broke broke.fault_is made.openly made.ends made.there (says.0, subst (λ (p : PrinterState). SaysOn told (tail_by p.calling) says.0 (message_of why name) mid slots_new) (made.ends.came.printer_is refl) says.1), made.met)))
+      let made = gave looks stands in (
+        made.kept,
+        looked_broke made.is_due place fate broke.broke broke.fault_is made.openly made.ends made.there
+            (says.0, rw (made.ends.came.printer_is refl) at says.1),
+        made.met,
+      )))
   gave_fails fate (Over why) named can follows gave (tells, same) = rw (tells, same) (record {
     visited = tt;
     stopped = λ looks stands. let made = gave looks stands in (
@@ -335,9 +339,18 @@ module _ {told_in told : Bool} {ways : Ways} {snapshot : Snapshot} {place : ℕ}
       record {
         share = shared_as (is_first looks) name made.ends.events None;
         after = after;
-        begins = λ t fates. subst (BeginsShare (shared_as (is_first looks) name made.ends.events None)) (due_share made.is_due t fates)
+        begins = λ t fates. rw (← due_share made.is_due t fates)
             (record { name = refl; opened = refl; events = made.ends.are t; unfailed = refl });
-        found = record { named = refl; opened = refl; unfailed = refl; all = made.ends.found.0; begins = made.ends.found.1; events = made.ends.found.2 };
+        found = elim made.ends.found [
+          | found_begun all begins found ↦ record {
+            named = refl;
+            opened = refl;
+            unfailed = refl;
+            all = all;
+            begins = begins;
+            events = found;
+          }
+        ];
         short = all_came (lines_in name made.ends.events) made.ends.came;
       },
     );
@@ -357,41 +370,55 @@ pub first_missing : {told_in told : Bool} {ways : Ways} {snapshot : Snapshot} {p
     → Visits told_in told ways snapshot place name New old printer slots
     (if ways.by_name then Followed 0 else Left) new printer slots_new (Ok true)
 first_missing {told_in} {told} {ways} {snapshot} {place} {name} {printer} {slots} {slots_new} {old} {new} reopens gone named can says =
-    visits_by _ (opens reopens.file) reopens.names (ready ways.by_name)
+    visits_by _ (opens None) (rw none at reopens.names) can (ready ways.by_name)
     (λ looks fresh. rw fresh.0 (looked_visited sound refl looked (λ fates at. stands fates at ways.by_name refl))) where
+      none : reopens.file ≡ None
+      none = none_of reopens.file (reopens.found ∙ gone)
+
       nowhere : told_in ≡ true → snapshot.leads name ≡ None
-      nowhere t = sym (reopens.leads t ∙ ap snapshot.leads named) ∙ none_of reopens.file (reopens.found ∙ gone)
+      nowhere t = sym (reopens.leads t ∙ ap snapshot.leads named) ∙ none
+
+      lost : Found snapshot name (opens_as None)
+      lost = rw (none, named) at reopens.opens
 
       looked : Looked told_in told ways [] snapshot name printer slots printer slots_new true sound
       looked = record {
         share = missing_share name;
         is_share = λ is fates. sym (rw (ap is_missing (entries_first ways (seeing snapshot fates) (nowhere is))) refl);
-        found = inr (record { first = refl; kept = refl; nowhere = rw (none_of reopens.file (reopens.found ∙ gone), named) at reopens.opens; is = refl });
+        found = inr (record { first = refl; kept = refl; nowhere = lost; is = refl });
         failed = refl;
         shared = said_after came_none (failure_said false place name says);
       }
 
-      lost : Found snapshot (watched_at new place).name (opens_as None)
-      lost = rw (ap (λ (w : Watched). w.name) (opened_now place old reopens.names can)) (rw (none_of reopens.file (reopens.found ∙ gone)) at reopens.opens)
-
-      unbroken : (watched_at new place).failed ≡ None
-      unbroken = ap (λ (w : Watched). w.failed) (opened_now place old reopens.names can) ∙ none_there (watched_at old place).failed can
+      unbroken : (watched_at old place).failed ≡ None
+      unbroken = none_there (watched_at old place).failed can
 
       ready : (by_name : Bool)
-          → CanVisit (record { text = name; standing = if by_name then Followed 0 else Left }) (watched_at new place)
-      ready true = (ap (λ (w : Watched). w.name) (opened_now place old reopens.names can) ∙ named, unbroken)
+          → CanVisit (record { text = name; standing = if by_name then Followed 0 else Left })
+          (opens None (watched_at old place))
+      ready true = (named, unbroken)
       ready false = tt
 
       stands : (fates : List Fate) → fate_at place (seeing snapshot fates) ≡ sound → (by_name : Bool)
           → ways.by_name ≡ by_name
-          → Stands told_in ways (seeing snapshot fates ∷ []) place name (watched_at new place)
+          → Stands told_in ways (seeing snapshot fates ∷ []) place name (opens None (watched_at old place))
           (if by_name then Followed 0 else Left)
-      stands fates at true way = through_stands [] (seeing snapshot fates) old named can refl reopens.names at (λ t. reopens.leads t ∙ ap snapshot.leads named) (λ t. (
-        λ other. absurd (false≢true (sym other ∙ way)),
-        subst (λ len. StandsAt (last_of (entries_in ways name (seeing snapshot fates ∷ []))) (snapshot.leads name) len)
-            (ap (λ led. length (held_at snapshot led)) (nowhere t)) (first_last ways (seeing snapshot fates)),
-      )) (rw (ap (λ (w : Watched). w.opened) (opened_now place old reopens.names can) ∙ none_of reopens.file (reopens.found ∙ gone)) (λ by. inr lost))
-      stands fates at false way = record { begun = refl; named = ap (λ (w : Watched). w.name) (opened_now place old reopens.names can) ∙ named; why = inr (record { way = way; unbroken = unbroken; kept = kept_more place [] (seeing snapshot fates) refl at; closed = ap (λ (w : Watched). w.opened) (opened_now place old reopens.names can) ∙ none_of reopens.file (reopens.found ∙ gone); unopened = nowhere }) }
+      stands fates at true way = through_stands [] (seeing snapshot fates) (watched_at old place) named can refl at
+          (λ t. refl) (λ t. (
+            λ other. absurd (false≢true (sym other ∙ way)),
+            rw (nowhere t) (record { file = refl; seen = refl }),
+          )) (λ by. inr lost)
+      stands fates at false way = record {
+        begun = refl;
+        named = named;
+        why = inr (record {
+          way = way;
+          unbroken = unbroken;
+          kept = kept_more place [] (seeing snapshot fates) refl at;
+          closed = refl;
+          unopened = nowhere;
+        });
+      }
 
 pub first_unopened : {told_in told : Bool} {ways : Ways} {snapshot : Snapshot} {place : ℕ} {name : List ℕ}
     {printer : PrinterState}
@@ -449,7 +476,7 @@ pub first_gave : {told_in told : Bool} {ways : Ways} {snapshot : Snapshot} {plac
     → (looks : List Look) → Stands told_in ways looks place name (watched_at old place) New
     → Gave told_in told ways looks snapshot place name (snapshot.leads name) printer slots after slots_new fate result
 first_gave {told_in} {told} {ways} {snapshot} {place} {name} {contents} {after} {slots} {slots_new} {mid} new {fate} {result} viewed reopens there named same keeps met long ends looks fresh =
-    subst₂ (λ (p : PrinterState) those. Gave told_in told ways those snapshot place name (snapshot.leads name) p slots after slots_new fate result) viewed (sym fresh.0) (record {
+    rw (← viewed, fresh.0) (record {
       kept = refl;
       due = record { came = []; led = gives (ways.start contents) ∷ [] };
       opened = None;
@@ -463,12 +490,11 @@ first_gave {told_in} {told} {ways} {snapshot} {place} {name} {contents} {after} 
               refl,
             );
       };
-      ends = rw (none_kept fate) (found_as (found_from snapshot name fate (stop_in result) (λ notice none. absurd none) (λ file from begins. inl refl)) ends);
+      ends = rw (none_kept fate) (found_as (λ notice none. absurd none) (λ file from begins. inl refl) ends);
       there = λ first. let (id, is) = some_of reopens.file (reopens.found ∙ there) in (id, rw (is, named) at reopens.opens);
       last = IfOk-weaker result (λ len. told_in ≡ true → len ≡ length contents) _ (λ len is t. (
         λ way. ap is_some (found t).1,
-        λ fates. subst (λ n. StandsAt (last_of (entries_in ways name (seeing snapshot fates ∷ []))) (snapshot.leads name) n)
-            (sym (is t ∙ ap length (same t))) (first_last ways (seeing snapshot fates)),
+        λ fates. rw (is t, same t) (first_last ways (seeing snapshot fates)),
       )) long;
       met = met;
       openly = opens_so result keeps;
@@ -488,7 +514,9 @@ pub first_long : {told_in : Bool} {snapshot : Snapshot} {place : ℕ} {old mid n
     → IsLong false seen (watched_at new place).name (watched_at new place).opened len
     → IsLong by_name seen (watched_at new place).name (watched_at new place).opened len
 first_long {place} {old} {new} seen len by_name reopens there can same long =
-    long_by seen (watched_at new place).name len by_name (watched_at new place).opened (λ none by. absurd (false≢true (sym (ap is_some none) ∙ (ap (λ those. is_some (watched_at those place).opened) same ∙ ap (λ (w : Watched). is_some w.opened) (opened_now place old reopens.names can) ∙ reopens.found ∙ there)))) long
+    long_by seen (watched_at new place).name len by_name (watched_at new place).opened
+    (λ none by. absurd (false≢true
+    (sym (ap is_some (rw (same, opened_now place old reopens.names can) at none)) ∙ reopens.found ∙ there))) long
 
 pub first_started : {told_in told : Bool} {ways : Ways} {snapshot now : Snapshot} {place : ℕ} {name : List ℕ}
     {printer inside middle after : PrinterState}
@@ -508,12 +536,11 @@ first_started {told_in} {told} {ways} {snapshot} {now} {place} {name} {inside} {
     first_gave new viewed reopens there named
     (λ t. ap (held_at now) (opened_led can reopens named t) ∙ ap (λ (s : Snapshot). held_at s (snapshot.leads name)) same) starts.keeps
     (if_broke (stop_in result) (λ met. met ways.by_name) starts.met)
-    (IfOk-weaker result (λ len. told_in ≡ true → len ≡ length (open_contents now (watched_at mid place))) (λ len. told_in ≡ true → len ≡ length contents) (λ len is t. is t ∙ ap length (contents_open now (watched_at mid place))) long)
-    (subst (λ s. Ends told_in (WereFound Nothing Anywhere s name starts.fate (stop_in result)) told true inside name (gives (ways.start contents) ∷ []) (led_before s starts.fate (gives (ways.start contents) ∷ [])) slots after slots_new (stop_in result)) same
-    (goes_after (WereFound Nothing Anywhere now name starts.fate (stop_in result)) (λ events more none found. found_both Nothing Anywhere now name sound starts.fate (stop_in result) events more none (rw known at found))
-    (header (WereFound Nothing Anywhere now name sound None) tt) starts.ends)) where
+    long
+    (rw (← same) (goes_after (header (WereFound Nothing Anywhere now name sound None) (found_all tt))
+    (rw known at starts.ends))) where
       known : (watched_at mid place).name ≡ name
-      known = ap (λ (w : Watched). w.name) (opened_now place old reopens.names can) ∙ named
+      known = rw (opened_now place old reopens.names can) named
 
 -- a later look at a name whose file was seen so far
 pub later_gave : {told_in told : Bool} {ways : Ways} {snapshot : Snapshot} {place : ℕ} {name : List ℕ} {position : ℕ}
@@ -531,7 +558,7 @@ later_gave {told_in} {ways} {snapshot} {place} {name} {position} {old} {result} 
   due = due_later ways.by_name name opened (last_in ways name before looks) snapshot;
   opened = opened;
   is_due = later_due followed.stands;
-  ends = found_as (found_from snapshot name again.fate (stop_in result) tells begins) (rw followed.named at (again.ends (last_in ways name before looks) followed.stands));
+  ends = found_as tells begins (rw followed.named at (again.ends (last_in ways name before looks) followed.stands));
   there = λ first. absurd (false≢true first);
   last = IfOk-weaker result _ _ (λ n is t. (
     λ way. ap (λ by_name. is_some (open_after_look by_name name opened snapshot)) way ∙ followed.there t way,
@@ -560,9 +587,15 @@ later_gave {told_in} {ways} {snapshot} {place} {name} {position} {old} {result} 
   left_open None by_name can long = long (can refl)
   left_open (Some file) by_name can long = long
 
-  tells : (notice : Notice) → ToldAgain ways.by_name snapshot name opened position notice
+  tells : (notice : Notice) → ToldAgain ways.by_name snapshot (watched_at old place) position notice
       → IsTold (before ∷ looks) snapshot name notice
-  tells notice (can, seen) = (refl, opened, position, left_open opened ways.by_name can followed.long, seen)
+  tells notice (can, seen) = (
+    refl,
+    opened,
+    position,
+    left_open opened ways.by_name can followed.long,
+    rw followed.named at seen,
+  )
 
   never_first : (stop : Option Stop) → IfBroke stop ((not (is_unopened again.fate) && false) ≡ false)
   never_first None = tt
@@ -579,8 +612,12 @@ left_due : {told_in : Bool} {ways : Ways} (looks : List Look) {snapshot : Snapsh
 left_due [] first missed = absurd (false≢true (sym first))
 left_due {ways} (before ∷ looks) {snapshot} {name} first missed = record {
   is = λ t fates.
-      let here = sym (missed.unopened t) ∙ last_file ways name before looks in
-      (refl, gap_gives ways.by_name (last_in ways name before looks) here missed.way ∙ ap (λ file. due_later ways.by_name name file (last_in ways name before looks) snapshot) (sym (missed.unopened t)), sym (missed.unopened t));
+      let here = sym (missed.unopened t) ∙ last_file ways name before looks in (
+        refl,
+        rw (missed.unopened t) (gap_gives ways.by_name (last_in ways name before looks) here missed.way),
+        sym
+            (missed.unopened t),
+      );
 } where
   gap_gives : (by_name : Bool) (last : Entry) → None ≡ file_of last → by_name ≡ false
       → record { came = []; led = [] } ≡ due_later by_name name None last snapshot
@@ -626,7 +663,10 @@ left_visited {snapshot} {place} {name} looks left = elim left.why [
     shared = came_none;
     stands = λ fates at. still_left looks (seeing snapshot fates) at left;
   }
-  | inr missed ↦ looked_visited sound missed.kept (looked_whole (left_due looks left.begun missed) {none = []} (rw left.begun (nothing_due tt)) (λ first. absurd (false≢true (sym left.begun ∙ first)))) (λ fates at. still_left looks (seeing snapshot fates) at left)
+  | inr missed ↦ looked_visited sound missed.kept
+      (looked_whole (left_due looks left.begun missed) {none = []} {fate = sound}
+      (rw left.begun (nothing_due (found_all tt))) (λ first. absurd (false≢true (sym left.begun ∙ first))))
+      (λ fates at. still_left looks (seeing snapshot fates) at left)
 ]
 
 -- where no call can fail

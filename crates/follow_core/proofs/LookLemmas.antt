@@ -19,7 +19,7 @@ use Rattle.follow_core.proofs.{
 }
 use Rattle.std.proofs.{
   Common.{◌≡◌, ℕ, ◌==◌, Bool, true, false, List, [], ◌∷◌, ◌++◌, length, Option, Some, None, refl, sym, ◌∙◌, ap},
-  Common.{if◌then◌else◌, subst, append_assoc, ◌&&◌, eqb-true, rules},
+  Common.{if◌then◌else◌, append_assoc, ◌&&◌, eqb-true, rules},
   lemmas.{List.{append-nil, map-append}, Bool.and_parts},
   Math.Bool.{and-false, and-true},
 }
@@ -75,20 +75,22 @@ pub look_goes_on : (ways : Ways) (name : List ℕ) (looks : List Look) (look : L
     → AreKept (entries_in ways name (looks ++ look ∷ []))
     → name_text ways.start (entries_in ways name (looks ++ look ∷ []))
     ≡ name_text ways.start (entries_in ways name looks) ++ gain ways name looks look
-look_goes_on ways name looks look kept = ap (name_text ways.start) (entries_go_on ways name looks look)
-    ∙ text_goes_on ways.start (entries_in ways name looks) (added ways name looks look) (subst AreKept (entries_go_on ways name looks look) kept)
-    ∙ ap (λ those. name_text ways.start (entries_in ways name looks) ++ those) (sym (gain_adds ways name looks look))
+look_goes_on ways name looks look kept = rw (entries_go_on ways name looks look, gain_adds ways name looks look)
+    (text_goes_on ways.start (entries_in ways name looks) _ (rw (entries_go_on ways name looks look) at kept))
 
 gains_are : (ways : Ways) (name : List ℕ) (before looks : List Look)
     → gains_after ways.start [] (entries_in ways name before) ++ gains_from ways name before looks
     ≡ gains_after ways.start [] (entries_in ways name (before ++ looks))
-gains_are ways name before [] = append-nil _ ∙ ap (λ those. gains_after ways.start [] (entries_in ways name those)) (sym (append-nil before))
+gains_are ways name before [] = rw (append-nil before) (append-nil _)
 gains_are ways name before (look ∷ looks) =
-    sym (append_assoc (gains_after ways.start [] (entries_in ways name before)) (gain ways name before look) (gains_from ways name (before ++ look ∷ []) looks))
-    ∙ ap (λ front. front ++ gains_from ways name (before ++ look ∷ []) looks) (ap (λ those. gains_after ways.start [] (entries_in ways name before) ++ those) (gain_adds ways name before look)
-    ∙ sym (ap (gains_after ways.start []) (entries_go_on ways name before look) ∙ gains-append ways.start (entries_in ways name before) (added ways name before look)))
-    ∙ gains_are ways name (before ++ look ∷ []) looks
-    ∙ ap (λ those. gains_after ways.start [] (entries_in ways name those)) (append_assoc before (look ∷ []) looks)
+    rw (
+      gain_adds ways name before look,
+      ← append_assoc before (look ∷ []) looks,
+      ← gains_are ways name (before ++ look ∷ []) looks,
+      entries_go_on ways name before look,
+      gains-append ways.start (entries_in ways name before) (added ways name before look),
+    )
+    (sym (append_assoc (gains_after ways.start [] (entries_in ways name before)) _ _))
 
 -- and what all looks give is the text
 pub looks_give_text : (ways : Ways) (name : List ℕ) (looks : List Look) → AreKept (entries_in ways name looks)

@@ -11,20 +11,17 @@ use Rattle.std.proofs.{
 use Rattle.ports_core.specs.{Slot.{Slot, adds}, declared.{fault.Fault.Fault, calling.Calling.Calling}}
 use Rattle.follow_core.specs.{
   FollowState.{AllReady, Begun, CanLook, FollowState, Holds, IsCause, IsOther, LooksOn, StandsIn, StopsOn, goes_on_at},
-  FollowState.{is_alive, is_alive_from, new_state, nothing, lacks_memory, output_broke, Halted, SawOrNot},
+  FollowState.{is_alive, is_alive_from, new_state, nothing, lacks_memory, output_broke, SawOrNot},
   FollowState.opened_follow,
-  Followed.any_failed,
   Look.{Look, Ways, snapshots, ways_of},
-  Share.{shares_at_look_from, shares_of},
   inner.{
     Visits.{StandFrom, VisitedTo, VisitsAll, any_goes_on, goes_on_as, AddsSome, Begins, MakesLook, LookedAll},
     Giving.{IsFront, HasStopped},
   },
-  Printing.{PrinterState, Short},
-  Reading.{AreAtLook, looks_more, no_looks},
+  Printing.{PrinterState},
+  Reading.{looks_more, no_looks},
   Sharing.CanPrint,
   Standing.{AllStand, CanVisit, NoneGoesOn, NameState, Stands, no_state, state_at, texts, AreWatched, IsFollowed},
-  Standing.IsWatched,
   declared.{
     name.Standing.{Standing, TheVariants.{New, Followed, Left}},
     follow.Stage.{Stage, TheVariants.{Fresh, Looking, Over}},
@@ -37,7 +34,7 @@ use Rattle.follow_core.proofs.{
   CallLemmas.no_memory,
   LookLemmas.last_file,
   RunLemmas.{failed-append, shares_more},
-  FollowLemmas.{nothing_shared, all_both, text_there, same_length, unbroken_watched, watched_there},
+  FollowLemmas.{nothing_shared, all_both, length_texts, text_there, same_length, unbroken_watched, watched_there},
 }
 use Rattle.watch_core.{
   specs.{Snapshot.{Snapshot, latest}, Watched.{Watched, watched_at, added, no_name}},
@@ -52,85 +49,7 @@ use Rattle.ports_core.specs.declared.fault.Fault.TheVariants as fault
 -- as many names
 length_names : (follow : FollowState) {names : List (List ℕ)} → texts follow.names ≡ names
     → length follow.names ≡ length names
-length_names follow same = sym (length-map follow.names (λ (n : NameState). n.text)) ∙ ap length same
-
--- they stand as the looks before left them
-stand_from : {told_in told : Bool} {calling : Calling} {ways : Ways} {headers : Bool} {names : List (List ℕ)}
-    {looks : List Look} {first : List Slot} {follow : FollowState}
-    {watched : List Watched} {slots : List Slot} → follow.stage ≡ Looking
-    → Holds told_in told calling ways headers names looks first follow watched slots
-    → StandFrom told_in (ways_of ways.first follow.by_name follow.start) looks follow.first follow.names watched
-stand_from {told_in} {ways} {looks} {follow} {watched} looking holds =
-    let (stand, many) = subst (StandsIn told_in ways looks follow.names watched) looking holds.stand in
-    subst (λ way. StandFrom told_in way looks follow.first follow.names watched) holds.asked
-    (record { numbered = λ some. holds.numbered looking (subst (λ n. 0 < n) (length_names follow holds.same) some); stand = stand; many = many })
-
-look_made : {told_in told : Bool} {snapshot : Snapshot} {old : FollowState} {names : List NameState}
-    {watched watched_new : List Watched} {printer : PrinterState}
-    {slots slots_new : List Slot} {failed : Bool} → old.stage ≡ Looking
-    → VisitsAll told_in told snapshot old.by_name old.start old.first old.names watched old.printer slots names
-    watched_new printer slots_new (Ok failed)
-    → LooksOn told_in told snapshot old watched slots
-    (record old { names = names; printer = printer; has_failed = old.has_failed || failed }) watched_new slots_new
-look_made {told_in} {told} {snapshot} {old} {names} {watched} {watched_new} {printer} {slots} {slots_new} {failed} looking visits calling ways headers asked looks first holds = (
-  visited.fates,
-  record {
-    asked = holds.asked;
-    same = visited.same ∙ holds.same;
-    numbered = holds.numbered;
-    stand = subst (StandsIn told_in ways (looks ++ look ∷ []) names watched_new) (sym looking) (
-      (λ place within. visited.done visited.fates front place (omega (arith, within, many))),
-      visits.count ∙ stood.many ∙ ap (λ n. ways.first + n) many,
-    );
-    shares = holds.shares ++ visited.shares;
-    are = λ t. ap (λ those. those ++ visited.shares) (holds.are t) ∙ ap (λ those. shares_of ways asked looks ++ those)
-        (visited.are t visited.fates front ∙ ap (shares_at_look_from ways looks look ways.first) (take_all (length old.names) (texts old.names) (omega (arith, size)) ∙ holds.same)) ∙ sym (shares_more ways asked looks look);
-    found = looks_more holds.found (subst (λ those. AreAtLook looks look ways.first those visited.shares)
-        (take_all (length old.names) (texts old.names) (omega (arith, size)) ∙ holds.same) (visited.found visited.fates front));
-    shared = all_both holds.shared visited.shared;
-    failed = failed-append holds.shares visited.shares ∙ ap (λ before. before || any_failed visited.shares) holds.failed
-        ∙ ap (λ now. old.has_failed || now) visited.is_failed;
-  },
-) where
-  stood : StandFrom told_in (ways_of ways.first old.by_name old.start) looks old.first old.names watched
-  stood = stand_from looking holds
-
-  visited : VisitedTo told_in told ways looks snapshot
-      (length old.names) old.names old.printer slots printer slots_new watched_new names failed
-  visited = subst (λ way. VisitedTo told_in told way looks snapshot (length old.names) old.names old.printer slots printer slots_new watched_new names failed) (sym holds.asked)
-      (visits.visited ways.first looks stood)
-
-  look : Look
-  look = record { snapshot = snapshot; fates = visited.fates }
-
-  front : IsFront visited.fates visited.fates
-  front = ([], sym (append-nil visited.fates))
-
-  many : length old.names ≡ length names
-  many = same_length old.names names visited.same
-
-  size : length (texts old.names) ≡ length old.names
-  size = length-map old.names (λ (n : NameState). n.text)
-
-look_stopped : {told_in told : Bool} {snapshot : Snapshot} {old : FollowState} {names : List NameState}
-    {watched watched_new : List Watched}
-    {printer : PrinterState} {slots slots_new : List Slot} {why : Fault} → old.stage ≡ Looking
-    → VisitsAll told_in told snapshot old.by_name old.start old.first old.names watched old.printer slots names
-    watched_new printer slots_new (Err why)
-    → StopsOn told_in told snapshot old watched slots watched_new slots_new why
-look_stopped {told_in} {told} {snapshot} {old} {watched_new} {slots} {slots_new} {why} looking visits calling ways headers names looks first holds =
-    let (whole, part, begun, printer, reached, shared, short) = visits.stopped ways.first looks (stand_from looking holds) in record {
-      shares = holds.shares;
-      are = holds.are;
-      found = holds.found;
-      whole = whole;
-      part = part;
-      begun = subst₂ (λ way those. Begun told_in way those looks snapshot watched_new whole part) (sym holds.asked) holds.same begun;
-      printer = printer;
-      reached = reached;
-      shared = all_both holds.shared shared;
-      short = short;
-    }
+length_names follow same = rw (← same) (sym (length_texts follow.names follow.names refl))
 
 -- whatever looks were made, the names broke just where they tell so
 abbrev pub Unbroken : (told_in told : Bool) → FollowState → List Watched → List Slot → List Watched → Type 0
@@ -147,9 +66,8 @@ added_at before names {place} within = get_or-append-add before (map added names
 added_stand : (told : Bool) (ways : Ways) (before : List Watched) (names : List (List ℕ)) → ways.first ≡ length before
     → AllStand told ways [] (map new_state names) (before ++ map added names)
 added_stand told ways before names first_is place within =
-    let inside : place < length names = subst (λ n. place < n) (length-map names new_state) within in
-    subst (λ (n : NameState). Stands told ways [] (ways.first + place) n.text (watched_at (before ++ map added names) (ways.first + place)) n.standing) (sym (get_or-map new_state names place [] no_state inside))
-    (subst (λ w. Stands told ways [] (ways.first + place) (slice_index_or names place []) w New) (sym (ap (λ n. watched_at (before ++ map added names) (n + place)) first_is ∙ added_at before names inside)) (refl, refl))
+    let inside : place < length names = rw (length-map names new_state) at within in
+    rw (get_or-map new_state names place [] no_state inside, first_is, added_at before names inside) (refl, refl)
 
 can_at : (text : List ℕ) (standing : Standing) → CanVisit (record { text = text; standing = standing }) (added text)
 can_at text New = (refl, refl)
@@ -160,9 +78,11 @@ added_ready : (names : List NameState) {first : ℕ} (before : List Watched) →
     → AllReady names first (before ++ map added (texts names))
 added_ready names {first} before first_is place within = subst (CanVisit (state_at names place)) (sym there) (can_at (state_at names place).text (state_at names place).standing) where
   there : watched_at (before ++ map added (texts names)) (first + place) ≡ added (state_at names place).text
-  there = ap (λ n. watched_at (before ++ map added (texts names)) (n + place)) (first_is (omega (arith, within)))
-      ∙ added_at before (texts names) (subst (λ n. place < n) (sym (length-map names (λ (n : NameState). n.text))) within)
-      ∙ ap added (get_or-map (λ (n : NameState). n.text) names place no_state [] within)
+  there = rw (
+    first_is (omega (arith, within)),
+    added_at before (texts names) {place = place} (rw (length_texts names names refl) within),
+    get_or-map (λ (n : NameState). n.text) names place no_state [] within,
+  ) refl
 
 -- following stands as before, but that its names are watched, after those that were
 pub record IsAdded (old mid : FollowState) (watched watched_mid : List Watched) : Type 0 where
@@ -176,16 +96,14 @@ held_added : {told_in told : Bool} {calling : Calling} {ways : Ways} {headers : 
     {slots : List Slot} → IsAdded old mid watched watched_mid
     → Holds told_in told calling ways headers names looks first old watched slots
     → Holds told_in told calling ways headers names looks first mid watched_mid slots
-held_added {told_in} {told} {calling} {ways} {headers} {names} {looks} {first} {old} {watched} {watched_mid} {slots} is holds =
-    subst (λ (f : FollowState). Holds told_in told calling ways headers names looks first f watched_mid slots) (sym is.mid_is) (record {
+held_added {told_in} {ways} {looks} {old} {watched} is holds =
+    rw is.mid_is (record {
       asked = holds.asked;
       same = holds.same;
-      numbered = λ looking some. is.first_is (subst (λ n. 0 < n) (sym (length_names old holds.same)) some) ∙ new.2;
+      numbered = λ looking some. is.first_is (rw (length_names old holds.same) some) ∙ new.2;
       stand = (
-        subst (λ those. AllStand told_in ways those old.names watched_mid) (sym new.0)
-            (subst (λ those. AllStand told_in ways [] those watched_mid) (sym new.1) (subst (AllStand told_in ways [] (map new_state (texts old.names))) (sym is.watched_is) (added_stand told_in ways watched (texts old.names) (sym new.2)))),
-        ap length is.watched_is ∙ length-append watched (map added (texts old.names)) ∙ ap (λ n. n + length (map added (texts old.names))) new.2
-            ∙ ap (λ n. ways.first + n) (length-map (texts old.names) added ∙ length-map old.names (λ (n : NameState). n.text)),
+        rw (new.0, new.1, is.watched_is) (added_stand told_in ways watched (texts old.names) (sym new.2)),
+        rw (is.watched_is, length-append, new.2, length-map, length-map) refl,
       );
       shares = holds.shares;
       are = holds.are;
@@ -194,7 +112,7 @@ held_added {told_in} {told} {calling} {ways} {headers} {names} {looks} {first} {
       failed = holds.failed;
     }) where
       new : (looks ≡ []) × (old.names ≡ map new_state (texts old.names)) × (length watched ≡ ways.first)
-      new = subst (StandsIn told_in ways looks old.names watched) is.fresh holds.stand
+      new = rw is.fresh at holds.stand
 
 -- a name that others added is before them
 other_added : {old mid : FollowState} {watched watched_mid : List Watched} → IsAdded old mid watched watched_mid
@@ -206,7 +124,7 @@ pub added_begins : {told_in : Bool} {old mid : FollowState} {watched watched_mid
     → IsAdded old mid watched watched_mid → Begins told_in old watched mid watched_mid
 added_begins {old} {mid} {watched} {watched_mid} is = record {
   stage = ap (λ (f : FollowState). f.stage) is.mid_is;
-  ready = subst (λ (f : FollowState). AllReady f.names f.first watched_mid) (sym is.mid_is) (subst (AllReady old.names mid.first) (sym is.watched_is) (added_ready old.names watched is.first_is));
+  ready = rw (is.mid_is, is.watched_is) (added_ready old.names watched is.first_is);
   others = other_added is;
   holds = λ told calling ways headers names looks first slots holds. held_added is holds;
 }
@@ -236,13 +154,18 @@ alive_from : (ways : Ways) (looks : List Look) (from : ℕ) (names : List NameSt
     → any_goes_on ways.by_name names ≡ is_alive_from ways looks from (texts names)
 alive_from ways looks from [] all = refl
 alive_from ways looks from (name ∷ names) all =
-    ap (λ rest. goes_on_as ways.by_name name.standing || rest) (alive_from ways looks (1 + from) names (λ place within. all (suc place) (omega arith) ∙ ap (λ at. goes_on_at ways looks at (state_at names place).text) (omega arith)))
-    ∙ ap (λ one. one || is_alive_from ways looks (1 + from) (texts names)) (all 0 (omega arith) ∙ ap (λ at. goes_on_at ways looks at name.text) (omega arith))
+    let here : from + 0 ≡ from = omega arith in
+    rw (
+      all 0 (omega arith),
+      here,
+      alive_from ways looks (1 + from) names (λ place within.
+          let next : from + suc place ≡ 1 + from + place = omega arith in rw next at (all (suc place) (omega arith))),
+    ) refl
 
 new_there : {names : List NameState} {place : ℕ} → place < length names → names ≡ map new_state (texts names)
     → (state_at names place).standing ≡ New
 new_there {names} {place} within new =
-    let inside : place < length (texts names) = subst (λ n. place < n) (sym (length-map names (λ (n : NameState). n.text))) within in
+    let inside : place < length (texts names) = rw (length_texts names names refl) within in
     ap (λ (those : List NameState). (state_at those place).standing) new
     ∙ ap (λ (n : NameState). n.standing) (get_or-map new_state (texts names) place [] no_state inside)
 
@@ -277,22 +200,6 @@ no_more_of told ways looks place name watched Left stands some none = elim stand
   | inr missed ↦ inr (missed.way, missed.closed)
 ]
 
-pub none_going : {told_in told : Bool} {calling : Calling} {ways : Ways} {headers : Bool} {names : List (List ℕ)}
-    {looks : List Look} {first slots : List Slot} {follow : FollowState} {watched : List Watched}
-    → Holds told_in told calling ways headers names looks first follow watched slots → 0 < length looks
-    → any_goes_on follow.by_name follow.names ≡ false → NoneGoesOn ways watched
-none_going {told_in} {ways} {looks} {follow} {watched} holds some none = stage follow.stage holds.stand where
-  way : ways.by_name ≡ follow.by_name
-  way = ap (λ (those : Ways). those.by_name) holds.asked
-
-  stage : (stage : Stage) → StandsIn told_in ways looks follow.names watched stage → NoneGoesOn ways watched
-  stage Fresh stand = absurd (let empty = ap length stand.0 in omega (arith, some, empty))
-  stage Looking stand = λ place within.
-      let inside : place < length follow.names = (let as_many = stand.1 in omega (arith, as_many, within)) in
-      no_more_of told_in ways looks (ways.first + place) (state_at follow.names place).text (watched_at watched (ways.first + place)) (state_at follow.names place).standing (stand.0 place inside) some
-      (rw way (none_before follow.by_name follow.names place inside none))
-  stage Over stand = absurd stand
-
 -- why a look was stopped
 
 -- following isn't over
@@ -306,8 +213,9 @@ can_print old watched slots live can = by old.stage live can where
 
 cause_is : {old : FollowState} {slots slots_new : List Slot} {why : Fault} (watched : List Watched)
     → (old.stage ≡ Over → ⊥) → CanLook old watched slots → HasStopped why slots_new → IsCause old slots slots_new why
-cause_is {old} {slots} {slots_new} watched live can (inl memory, error) = subst (IsCause old slots slots_new) (sym memory) lacks_memory
-cause_is {old} {slots} {slots_new} watched live can (inr (is, broken), error) = subst (IsCause old slots slots_new) (sym is) (output_broke (not-true _ (and_parts _ _ (can_print old watched slots live can).0).1, broken))
+cause_is {old} {slots} {slots_new} watched live can (inl memory, error) = rw memory lacks_memory
+cause_is {old} {slots} {slots_new} watched live can (inr (is, broken), error) = rw is
+    (output_broke (not-true _ (and_parts _ _ (can_print old watched slots live can).0).1, broken))
 
 -- by what the names broke
 
@@ -321,90 +229,174 @@ just_added before names watched rest {place} are within inside =
 -- before the first look none broke, of those that were added
 none_broken : {ways : Ways} {looks : List Look} (names : List (List ℕ)) (before watched : List Watched) → looks ≡ []
     → length before ≡ ways.first → IsFront watched (before ++ map added names) → AreWatched ways looks names watched
-none_broken {ways} names before watched none first_is (rest, are) = subst (λ (those : List Look). AreWatched ways those names watched) (sym none) (
+none_broken names before watched none first_is (rest, are) = rw none (
   (let size = sizes in omega (arith, size, first_is)),
   (λ above. absurd (omega (arith, above))),
-  subst (λ n. (place : ℕ) → n + place < length watched → IsWatched ways [] (n + place) (slice_index_or names place []) (watched_at watched (n + place))) first_is
-      (λ place within. let is = just_added before names watched rest are within (let size = sizes in omega (arith, size, within)) in
+  rw (← first_is) (λ place within. let is = just_added before names watched rest are within
+      (let size = sizes in omega (arith, size, within)) in
       unbroken_watched (ap (λ (w : Watched). w.name) is) (ap (λ (w : Watched). w.failed) is) refl),
 ) where
   sizes : length before + length names ≡ length watched + length rest
-  sizes = ap (λ n. length before + n) (sym (length-map names added)) ∙ sym (length-append before (map added names)) ∙ ap length are ∙ length-append watched rest
+  sizes = rw (length-append, length-append, length-map) at (ap length are)
 
-pub watched_are : {told_in told : Bool} {calling : Calling} {ways : Ways} {headers : Bool} {names : List (List ℕ)}
+module _ {told_in told : Bool} {calling : Calling} {ways : Ways} {headers : Bool} {names : List (List ℕ)}
     {looks : List Look} {first slots : List Slot} {follow : FollowState} {watched : List Watched}
-    → Holds told_in told calling ways headers names looks first follow watched slots
-    → AreWatched ways looks names watched
-watched_are {told_in} {ways} {names} {looks} {follow} {watched} holds = stage follow.stage holds.stand where
-  count : length follow.names ≡ length names
-  count = length_names follow holds.same
-
-  stage : (stage : Stage) → StandsIn told_in ways looks follow.names watched stage → AreWatched ways looks names watched
-  stage Fresh stand = none_broken names watched watched stand.0 stand.2 (map added names, refl)
-  stage Looking stand = (
-    (let as_many = stand.1 ∙ ap (λ n. ways.first + n) count in omega (arith, as_many)),
-    (λ above. stand.1 ∙ ap (λ n. ways.first + n) count),
-    λ place within.
+    (holds : Holds told_in told calling ways headers names looks first follow watched slots) where
+  pub none_going : 0 < length looks → any_goes_on follow.by_name follow.names ≡ false → NoneGoesOn ways watched
+  none_going some none = stage follow.stage holds.stand where
+    stage : (stage : Stage) → StandsIn told_in ways looks follow.names watched stage → NoneGoesOn ways watched
+    stage Fresh stand = absurd (let empty = ap length stand.0 in omega (arith, some, empty))
+    stage Looking stand = λ place within.
         let inside : place < length follow.names = (let as_many = stand.1 in omega (arith, as_many, within)) in
-        subst (λ those. IsWatched ways looks (ways.first + place) (slice_index_or those place []) (watched_at watched (ways.first + place))) holds.same
-        (rw (text_there follow.names follow.names refl inside)
-        (watched_there told_in (state_at follow.names place).text (watched_at watched (ways.first + place)) (state_at follow.names place).standing (stand.0 place inside))),
-  )
-  stage Over stand = absurd stand
+        no_more_of told_in ways looks (ways.first + place) _ (watched_at watched (ways.first + place))
+        (state_at follow.names place).standing (stand.0 place inside) some
+        (rw (ap (λ (those : Ways). those.by_name) holds.asked)
+        (none_before follow.by_name follow.names place inside none))
+    stage Over stand = absurd stand
+
+  pub watched_are : AreWatched ways looks names watched
+  watched_are = stage follow.stage holds.stand where
+    stage : (stage : Stage) → StandsIn told_in ways looks follow.names watched stage
+        → AreWatched ways looks names watched
+    stage Fresh stand = none_broken names watched watched stand.0 stand.2 (map added names, refl)
+    stage Looking stand =
+        let many = rw (length_names follow holds.same) at stand.1 in (
+          omega (arith, many),
+          (λ above. many),
+          λ place within.
+              let inside : place < length follow.names = (let as_many = stand.1 in omega (arith, as_many, within)) in
+              rw (← holds.same, text_there follow.names follow.names refl inside)
+              (watched_there told_in _ (watched_at watched (ways.first + place)) (state_at follow.names place).standing
+              (stand.0 place inside)),
+        )
+    stage Over stand = absurd stand
+
+  -- they stand as the looks before left them
+  stand_from : follow.stage ≡ Looking
+      → StandFrom told_in (ways_of ways.first follow.by_name follow.start) looks follow.first follow.names watched
+  stand_from looking = let (stand, many) = rw looking at holds.stand in
+      rw (← holds.asked) (record {
+        numbered = λ some. holds.numbered looking (rw (← length_names follow holds.same) some);
+        stand = stand;
+        many = many;
+      })
+
+module _ {told_in told : Bool} {snapshot : Snapshot} {old : FollowState} {names_new : List NameState}
+    {watched watched_new : List Watched} {printer : PrinterState} {slots slots_new : List Slot}
+    (looking : old.stage ≡ Looking) where
+  look_made : {failed : Bool}
+      → VisitsAll told_in told snapshot old.by_name old.start old.first old.names watched old.printer slots names_new
+      watched_new printer slots_new (Ok failed)
+      → LooksOn told_in told snapshot old watched slots
+      (record old { names = names_new; printer = printer; has_failed = old.has_failed || failed }) watched_new
+      slots_new
+  look_made {failed} visits calling ways headers names looks first holds = (
+    visited.fates,
+    record {
+      asked = holds.asked;
+      same = visited.same ∙ holds.same;
+      numbered = holds.numbered;
+      stand = subst (StandsIn told_in ways (looks ++ look ∷ []) names_new watched_new) (sym looking) (
+        (λ place within. visited.done visited.fates front place (omega (arith, within, many))),
+        rw (← many) (visits.count ∙ stood.many),
+      );
+      shares = holds.shares ++ visited.shares;
+      are = λ t. let more = rw taken at (visited.are t visited.fates front) in
+          (λ i. holds.are t i ++ more i) ∙ sym (shares_more ways names looks look);
+      found = looks_more holds.found (rw taken at (visited.found visited.fates front));
+      shared = all_both holds.shared visited.shared;
+      failed = rw (failed-append holds.shares visited.shares, holds.failed, visited.is_failed) refl;
+    },
+  ) where
+    stood : StandFrom told_in (ways_of ways.first old.by_name old.start) looks old.first old.names watched
+    stood = stand_from holds looking
+
+    visited : VisitedTo told_in told ways looks snapshot (length old.names) old.names old.printer slots printer
+        slots_new watched_new names_new failed
+    visited = rw holds.asked (visits.visited ways.first looks stood)
+
+    look : Look
+    look = record { snapshot = snapshot; fates = visited.fates }
+
+    front : IsFront visited.fates visited.fates
+    front = ([], sym (append-nil visited.fates))
+
+    many : length old.names ≡ length names_new
+    many = same_length old.names names_new visited.same
+
+    taken : take (length old.names) (texts old.names) ≡ names
+    taken = let size = length_texts old.names old.names refl in
+        take_all (length old.names) (texts old.names) (omega (arith, size)) ∙ holds.same
+
+  look_stopped : {why : Fault}
+      → VisitsAll told_in told snapshot old.by_name old.start old.first old.names watched old.printer slots names_new
+      watched_new printer slots_new (Err why)
+      → StopsOn told_in told snapshot old watched slots watched_new slots_new why
+  look_stopped visits calling ways headers names looks first holds =
+      let (whole, part, begun, printer, reached, shared, short) =
+      visits.stopped ways.first looks (stand_from holds looking) in record {
+        shares = holds.shares;
+        are = holds.are;
+        found = holds.found;
+        whole = whole;
+        part = part;
+        begun = subst₂ (λ way those. Begun told_in way those looks snapshot watched_new whole part) (sym holds.asked)
+            holds.same begun;
+        printer = printer;
+        reached = reached;
+        shared = all_both holds.shared shared;
+        short = short;
+      }
 
 -- A look from where following stands
 
--- there was no memory to begin one: some names were added, or all, and no call was made on one
-pub makes_none : {told_in told : Bool} {snapshot : Snapshot} {seen seen_new : List Snapshot} {old new : FollowState}
-    {watched watched_new : List Watched}
-    {slots : List Slot} {why : Fault} → Unbroken told_in told old watched slots watched_new
-    → ((number : ℕ) → IsOther old watched number → watched_at watched_new number ≡ watched_at watched number)
-    → (old.stage ≡ Over → ⊥) → CanLook old watched slots → why ≡ fault.Memory → seen_new ≡ seen
-    → MakesLook told_in told snapshot seen old watched slots seen_new new watched_new slots (Err why)
-makes_none {told} {old} {watched} {slots} unbroken others live can is same = record {
-  looked = tt;
-  stopped = λ calling ways headers names looks first holds. record {
-    shares = holds.shares;
-    are = holds.are;
-    found = holds.found;
-    whole = [];
-    part = [];
-    begun = nothing (unbroken calling ways headers names looks first holds);
-    printer = old.printer;
-    reached = slots;
-    shared = rw (append-nil holds.shares) holds.shared;
-    short = rw is (record { slots = λ output error others at. (error, refl, subst (λ those. Short told [] those slots fault.Memory) at no_memory) });
-  };
-  seen_is = tt;
-  saw = inl same;
-  stage = tt;
-  ready = tt;
-  can = tt;
-  cause = rw is lacks_memory;
-  error = (can_print old watched slots live can).1;
-  others = others;
-}
+module _ {told_in told : Bool} {snapshot : Snapshot} {seen seen_new : List Snapshot} {old new : FollowState}
+    {watched watched_new : List Watched} {slots : List Slot} {why : Fault} (live : old.stage ≡ Over → ⊥)
+    (can : CanLook old watched slots) (is : why ≡ fault.Memory) (same : seen_new ≡ seen) where
+  -- there was no memory to begin one: some names were added, or all, and no call was made on one
+  makes_none : Unbroken told_in told old watched slots watched_new
+      → ((number : ℕ) → IsOther old watched number → watched_at watched_new number ≡ watched_at watched number)
+      → MakesLook told_in told snapshot seen old watched slots seen_new new watched_new slots (Err why)
+  makes_none unbroken others = record {
+    looked = tt;
+    stopped = λ calling ways headers names looks first holds. record {
+      shares = holds.shares;
+      are = holds.are;
+      found = holds.found;
+      whole = [];
+      part = [];
+      begun = nothing (unbroken calling ways headers names looks first holds);
+      printer = old.printer;
+      reached = slots;
+      shared = rw (append-nil holds.shares) holds.shared;
+      short = rw is (record { slots = λ output error others at. (error, refl, rw (← at) no_memory) });
+    };
+    seen_is = tt;
+    saw = inl same;
+    stage = tt;
+    ready = tt;
+    can = tt;
+    cause = rw is lacks_memory;
+    error = (can_print old watched slots live can).1;
+    others = others;
+  }
 
-pub makes_few : {told_in told : Bool} {snapshot : Snapshot} {seen seen_new : List Snapshot} {old new : FollowState}
-    {watched watched_new : List Watched}
-    {slots : List Slot} {why : Fault} → old.stage ≡ Fresh → AddsSome (texts old.names) watched watched_new
-    → (old.stage ≡ Over → ⊥) → CanLook old watched slots → why ≡ fault.Memory → seen_new ≡ seen
-    → MakesLook told_in told snapshot seen old watched slots seen_new new watched_new slots (Err why)
-makes_few {told_in} {old} {watched} {watched_new} fresh adds = makes_none
-    (λ calling ways headers names looks first holds.
-    let stand = subst (StandsIn told_in ways looks old.names watched) fresh holds.stand in
-    none_broken names watched watched_new stand.0 stand.2 (subst (λ those. IsFront watched_new (watched ++ map added those)) holds.same adds.front))
-    (λ number other. ap (λ those. watched_at those number) adds.kept.1
-    ∙ get_or_append_left watched adds.kept.0 no_name number (subst (λ stage. IsOther (record old { stage = stage }) watched number) fresh other))
+  pub makes_few : old.stage ≡ Fresh → AddsSome (texts old.names) watched watched_new
+      → MakesLook told_in told snapshot seen old watched slots seen_new new watched_new slots (Err why)
+  makes_few fresh adds = makes_none
+      (λ calling ways headers names looks first holds.
+      let stand = rw fresh at holds.stand in
+      none_broken names watched watched_new stand.0 stand.2 (rw holds.same at adds.front))
+      (λ number other. rw adds.kept.1 (get_or_append_left watched adds.kept.0 no_name number
+      (subst (λ stage. IsOther (record old { stage = stage }) watched number) fresh other)))
 
-pub makes_all : {told_in told : Bool} {snapshot : Snapshot} {seen seen_new : List Snapshot} {old mid new : FollowState}
-    {watched watched_mid watched_new : List Watched} {slots : List Slot} {why : Fault}
-    → Begins told_in old watched mid watched_mid → watched_new ≡ watched_mid
-    → (old.stage ≡ Over → ⊥) → CanLook old watched slots → why ≡ fault.Memory → seen_new ≡ seen
-    → MakesLook told_in told snapshot seen old watched slots seen_new new watched_new slots (Err why)
-makes_all {told} {slots} begins same = makes_none
-    (λ calling ways headers names looks first holds. subst (AreWatched ways looks names) (sym same) (watched_are (begins.holds told calling ways headers names looks first slots holds)))
-    (λ number other. ap (λ those. watched_at those number) same ∙ (begins.others number other).1)
+  pub makes_all : {mid : FollowState} {watched_mid : List Watched} → Begins told_in old watched mid watched_mid
+      → watched_new ≡ watched_mid
+      → MakesLook told_in told snapshot seen old watched slots seen_new new watched_new slots (Err why)
+  makes_all begins added_now = makes_none
+      (λ calling ways headers names looks first holds.
+      rw added_now (watched_are (begins.holds told calling ways headers names looks first slots holds)))
+      (λ number other. rw added_now (begins.others number other).1)
 
 -- the names were looked at, once they were watched and the watch saw what the files hold
 pub makes_look : {told_in told : Bool} {shows shows_mid : ℕ → Snapshot}
@@ -421,27 +413,30 @@ pub makes_look : {told_in told : Bool} {shows shows_mid : ℕ → Snapshot}
     slots_new result
     → MakesLook told_in told (shows (length seen)) seen old watched slots seen_new
     (record inside { names = names_new; printer = printer }) watched_new slots_new result
-makes_look {told_in} {told} {shows} {shows_mid} {seen} {seen_mid} {seen_turned} {seen_new} {old} {inside} {names_new} {watched} {watched_mid} {watched_turned} {watched_new} {printer} {slots} {slots_new} {result} live can view begin shows_same seen_same turned watched_same names_are names_now seen_is visits =
+makes_look {told_in} {told} {shows} {shows_mid} {seen} {seen_mid} {seen_new} {old} {inside} {names_new} {watched} {watched_mid} {watched_new} {printer} {slots} {slots_new} {result} live can view begin shows_same seen_same turned watched_same names_are names_now seen_is visits =
     by result made where
       begins : Begins told_in old watched inside watched_mid
-      begins = subst (λ (f : FollowState). Begins told_in old watched f watched_mid) (sym view) begin
-
-      next : shows_mid (length seen_mid) ≡ shows (length seen)
-      next = ap (λ (those : ℕ → Snapshot). those (length seen_mid)) shows_same ∙ ap (λ (those : List Snapshot). shows (length those)) seen_same
+      begins = rw view begin
 
       snapshot : Snapshot
       snapshot = shows (length seen)
 
       saw : seen_new ≡ seen ++ snapshot ∷ []
-      saw = seen_is ∙ turned ∙ ap (λ (those : List Snapshot). those ++ shows_mid (length seen_mid) ∷ []) seen_same ∙ ap (λ one. seen ++ one ∷ []) next
+      saw = rw (seen_is, turned, shows_same, seen_same) refl
 
       Seen : Result Bool Fault → Type 0
       Seen those = VisitsAll told_in told snapshot inside.by_name inside.start inside.first inside.names watched_mid inside.printer slots names_new watched_new printer slots_new those
 
       made : Seen result
-      made = subst₂ (λ (s : Snapshot) w. VisitsAll told_in told s inside.by_name inside.start inside.first inside.names w inside.printer slots names_new watched_new printer slots_new result)
-          (ap latest turned ∙ latest-last seen_mid (shows_mid (length seen_mid)) ∙ next) watched_same
-          (subst₂ (λ these now. VisitsAll told_in told (latest seen_turned) inside.by_name inside.start inside.first these watched_turned inside.printer slots now watched_new printer slots_new result) names_are names_now visits)
+      made = rw (
+        turned,
+        latest-last seen_mid (shows_mid (length seen_mid)),
+        shows_same,
+        seen_same,
+        watched_same,
+        names_are,
+        names_now,
+      ) at visits
 
       others : {those : Result Bool Fault} → Seen those → (number : ℕ) → IsOther old watched number
           → watched_at watched_new number ≡ watched_at watched number
@@ -451,7 +446,9 @@ makes_look {told_in} {told} {shows} {shows_mid} {seen} {seen_mid} {seen_turned} 
       by : (result : Result Bool Fault) → Seen result → MakesLook told_in told snapshot seen old watched slots seen_new
           (record inside { names = names_new; printer = printer }) watched_new slots_new result
       by (Ok failed) visits = record {
-        looked = λ calling ways headers names looks first holds. look_made begins.stage visits calling ways headers names looks first (begins.holds told calling ways headers names looks first slots holds);
+        looked = λ calling ways headers names looks first holds.
+            look_made begins.stage visits calling ways headers names looks first
+            (begins.holds told calling ways headers names looks first slots holds);
         stopped = tt;
         seen_is = saw;
         saw = tt;
@@ -464,7 +461,9 @@ makes_look {told_in} {told} {shows} {shows_mid} {seen} {seen_mid} {seen_turned} 
       }
       by (Err why) visits = record {
         looked = tt;
-        stopped = λ calling ways headers names looks first holds. look_stopped begins.stage visits calling ways headers names looks first (begins.holds told calling ways headers names looks first slots holds);
+        stopped = λ calling ways headers names looks first holds.
+            look_stopped begins.stage visits calling ways headers names looks first
+            (begins.holds told calling ways headers names looks first slots holds);
         seen_is = tt;
         saw = inr saw;
         stage = tt;
@@ -513,7 +512,7 @@ module _ {told_in told : Bool} {calling : Calling} {ways : Ways} {headers : Bool
       {watched : List Watched} {slots : List Slot} → now ≡ shows
       → (p : Progress told_in told calling ways headers names shows first made going follow seen watched slots)
       → now (length seen) ≡ shows (length p.looks)
-  next_is {seen} same p = ap (λ (f : ℕ → Snapshot). f (length seen)) same ∙ ap shows (ap length p.observed ∙ length-map p.looks (λ (l : Look). l.snapshot))
+  next_is same p = rw (same, p.observed, length-map) refl
 
   pub one_more : {made : ℕ} {now : ℕ → Snapshot} {old new : FollowState} {seen seen_new : List Snapshot}
       {watched watched_new : List Watched} {slots slots_new : List Slot}
@@ -538,7 +537,7 @@ module _ {told_in told : Bool} {calling : Calling} {ways : Ways} {headers : Bool
         observed = more ∙ ap (λ front. front ++ look.snapshot ∷ []) p.observed ∙ sym (map-append (λ (l : Look). l.snapshot) p.looks (look ∷ []));
         is_made = made_more look (next_is same p) p.is_made p.alive;
         alive = λ t above. sym (alive told calling ways headers names (p.looks ++ look ∷ []) first slots_new watched_new
-            (subst (λ known. Holds known told calling ways headers names (p.looks ++ look ∷ []) first new watched_new slots_new) t holds));
+            (rw t at holds));
         ends = none told_in told calling ways headers names (p.looks ++ look ∷ []) first slots_new watched_new holds (let long = length-append p.looks (look ∷ []) in omega (arith, long));
         holds = holds;
       }
@@ -550,14 +549,13 @@ module _ {told_in told : Bool} {calling : Calling} {ways : Ways} {headers : Bool
       → SawOrNot seen (now (length seen)) seen_new → made < count
       → StopsOn told_in told (now (length seen)) old watched slots watched_new slots_new why
       → StoppedIn told_in told calling ways headers names count shows first seen_new watched_new slots_new why
-  one_stopped {count} {seen_new} {watched_new} {slots_new} {why} same p saw below stops = record {
+  one_stopped same p saw below stops = record {
     looks = p.looks;
-    saw = subst₂ (λ those s. SawOrNot those s seen_new) p.observed (next_is same p) saw;
+    saw = rw (← p.observed, ← next_is same p) saw;
     made = p.is_made;
-    within = subst (λ n. n < count) (sym p.count) below;
+    within = rw p.count below;
     alive = p.alive;
-    halted = subst (λ s. Halted told_in told calling ways headers names p.looks s first watched_new slots_new why) (next_is same p)
-        (stops calling ways headers names p.looks first p.holds);
+    halted = rw (← next_is same p) (stops calling ways headers names p.looks first p.holds);
   }
 
   -- no further look was made: as many were asked for, or it could give nothing
@@ -575,30 +573,26 @@ module _ {told_in told : Bool} {calling : Calling} {ways : Ways} {headers : Bool
     holds = p.holds;
   }
 
--- as long as no look begins
-pub still_made : {told_in told : Bool} {calling : Calling} {ways : Ways} {headers : Bool} {names : List (List ℕ)}
-    {shows : ℕ → Snapshot} {first : List Slot} {made : ℕ} {going : Bool} {follow : FollowState}
-    {seen now : List Snapshot}
-    {watched watched_now : List Watched} {slots : List Slot} → watched_now ≡ watched → now ≡ seen
-    → Progress told_in told calling ways headers names shows first made going follow seen watched slots
-    → Progress told_in told calling ways headers names shows first made going follow now watched_now slots
-still_made {told_in} {told} {calling} {ways} {headers} {names} {shows} {first} {made} {going} {follow} {slots} same saw so_far =
-    subst₂ (λ those names_now. Progress told_in told calling ways headers names shows first made going follow those names_now slots) (sym saw) (sym same) so_far
+  -- as long as no look begins
+  pub still_made : {made : ℕ} {going : Bool} {follow : FollowState} {seen now : List Snapshot}
+      {watched watched_now : List Watched} {slots : List Slot} → watched_now ≡ watched → now ≡ seen
+      → Progress told_in told calling ways headers names shows first made going follow seen watched slots
+      → Progress told_in told calling ways headers names shows first made going follow now watched_now slots
+  still_made same saw so_far = rw (saw, same) so_far
 
--- before the first look none was made
-pub none_made : {told_in told : Bool} {calling : Calling} {ways : Ways} {headers : Bool} {names : List (List ℕ)}
-    {shows : ℕ → Snapshot} {first : List Slot} {follow : FollowState} {seen : List Snapshot} {watched : List Watched}
-    {slots : List Slot} → seen ≡ [] → Holds told_in told calling ways headers names [] first follow watched slots
-    → Progress told_in told calling ways headers names shows first 0 true follow seen watched slots
-none_made unseen holds = record {
-  looks = [];
-  count = refl;
-  observed = unseen;
-  is_made = record { saw = refl; alive = λ t n above below. absurd (omega (arith, below)) };
-  alive = λ t above. absurd (omega (arith, above));
-  ends = λ over. absurd (false≢true (sym over));
-  holds = holds;
-}
+  -- before the first look none was made
+  pub none_made : {follow : FollowState} {seen : List Snapshot} {watched : List Watched} {slots : List Slot}
+      → seen ≡ [] → Holds told_in told calling ways headers names [] first follow watched slots
+      → Progress told_in told calling ways headers names shows first 0 true follow seen watched slots
+  none_made unseen holds = record {
+    looks = [];
+    count = refl;
+    observed = unseen;
+    is_made = record { saw = refl; alive = λ t n above below. absurd (omega (arith, below)) };
+    alive = λ t above. absurd (omega (arith, above));
+    ends = λ over. absurd (false≢true (sym over));
+    holds = holds;
+  }
 
 -- how many looks there are until a process is gone
 
@@ -686,11 +680,10 @@ pub ends_by : {told_in told : Bool} {calling : Calling} {ways : Ways} {headers :
     → FollowEndsAs told_in told calling ways headers names most shows first seen watched new status
     → FollowEndsBy process told_in told calling ways headers names count shows first seen watched new status
 ends_by (Some process) most are ends = (most, are, ends)
-ends_by {told_in} {told} {calling} {ways} {headers} {names} {count} {shows} {first} {seen} {watched} {new} {status} None most are ends =
-    subst (λ n. FollowEndsAs told_in told calling ways headers names n shows first seen watched new status) (no_fewer (cases_lt most count)) ends where
-      no_fewer : (most < count) ⊎ (count ≤ most) → most ≡ count
-      no_fewer (inl fewer) = absurd (false≢true (are.found fewer).2)
-      no_fewer (inr all) = let within = are.within in omega (arith, all, within)
+ends_by {count} None most are ends = rw (← no_fewer (cases_lt most count)) ends where
+  no_fewer : (most < count) ⊎ (count ≤ most) → most ≡ count
+  no_fewer (inl fewer) = absurd (false≢true (are.found fewer).2)
+  no_fewer (inr all) = let within = are.within in omega (arith, all, within)
 
 texts_of_new : (names : List (List ℕ)) → texts (map new_state names) ≡ names
 texts_of_new [] = refl
@@ -700,7 +693,7 @@ pub open_holds : {told_in told by_name : Bool} {calling : Calling} {start : Star
     {names : List (List ℕ)} {follow : FollowState} {watched : List Watched} {slots : List Slot}
     → follow ≡ opened_follow calling by_name start headers names → watched ≡ []
     → Holds told_in told calling (ways_of 0 by_name start) headers names [] slots follow watched slots
-open_holds {told_in} {told} {by_name} {calling} {start} {headers} {names} {watched} {slots} is unwatched = subst (λ (f : FollowState). Holds told_in told calling (ways_of 0 by_name start) headers names [] slots f watched slots) (sym is) (record {
+open_holds {names} is unwatched = rw is (record {
   asked = refl;
   same = texts_of_new names;
   numbered = λ looking some. refl;

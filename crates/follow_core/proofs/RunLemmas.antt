@@ -2,15 +2,14 @@
 use Rattle.std.{
   proofs.lemmas.Grind.common_steps,
   proofs.Math.{Seq.drop-append_seam as drop_front, Bool.or_assoc},
-  proofs.Common.{◌≡◌, ℕ, Bool, true, false, List, [], ◌∷◌, ◌++◌, length, drop, refl, sym, ◌∙◌, ap, append_assoc},
-  proofs.Common.{if◌then◌else◌, append-nil, Option, ◌||◌, arith, is_some},
-  specs.List.onto_first,
+  proofs.Common.{◌≡◌, ℕ, Bool, true, false, List, [], ◌∷◌, ◌++◌, refl, sym, append_assoc, append-nil, Option, ◌||◌},
+  proofs.Common.{arith, is_some},
 }
 use Rattle.ports_core.specs.Part.{IsBeginning}
 use Rattle.follow_core.specs.{
   Version.{Version, Entry, version, gap, entries_of, entries_later, entries_at_look, open_after_look, open_after_later},
   Version.open_after,
-  Run.{goes_on, runs_of, last_contents, whole_text, begun_text, name_text, KeptFrom, AreKept},
+  Run.{goes_on, runs_of, last_contents, whole_text, name_text, KeptFrom, AreKept},
   Gain.{gain_between, gains_later, last_from, gains_after},
   Look.{Ways, Look},
   Share.{Share, lines_of, shares_of, shares_from, shares_at_look},
@@ -29,7 +28,7 @@ record Begun (v : Version) (entries : List Entry) : Type 0 where
 
 whole_of : {v : Version} {entries : List Entry} (b : Begun v entries)
     → whole_text (runs_of (version v ∷ entries)) ≡ v.contents ++ gains_later (version v) entries
-whole_of {v} b = ap whole_text b.runs ∙ ap (λ x. x ++ whole_text b.others) b.last ∙ append_assoc v.contents b.more (whole_text b.others) ∙ ap (λ x. v.contents ++ x) (sym b.gains)
+whole_of {v} b = rw (b.runs, b.last, b.gains) (append_assoc v.contents b.more (whole_text b.others))
 
 goes : {v w : Version} {entries : List Entry} → Begun w entries → IsBeginning v.contents w.contents → goes_on v w ≡ true
     → Begun v (version w ∷ entries)
@@ -37,11 +36,9 @@ goes {v} {w} {entries} b (rest, is) test = record {
   run = w ∷ b.run;
   others = b.others;
   more = rest ++ b.more;
-  runs = ap (λ t. if t then onto_first v (runs_of (version w ∷ entries)) else (v ∷ []) ∷ runs_of (version w ∷ entries)) test ∙ ap (onto_first v) b.runs;
-  last = b.last ∙ ap (λ x. x ++ b.more) is ∙ append_assoc v.contents rest b.more;
-  gains = ap (λ t. (if t then drop (length v.contents) w.contents else w.contents) ++ gains_later (version w) entries) test
-      ∙ ap (λ x. drop (length v.contents) x ++ gains_later (version w) entries) is ∙ ap (λ x. x ++ gains_later (version w) entries) (drop_front v.contents rest)
-      ∙ ap (λ x. rest ++ x) b.gains ∙ sym (append_assoc rest b.more (whole_text b.others));
+  runs = rw (test, b.runs) refl;
+  last = rw (b.last, is) (append_assoc v.contents rest b.more);
+  gains = rw (test, b.gains, is, drop_front v.contents rest) (sym (append_assoc rest b.more (whole_text b.others)));
 }
 
 stops : {v w : Version} {entries : List Entry} → Begun w entries → goes_on v w ≡ false → Begun v (version w ∷ entries)
@@ -49,9 +46,9 @@ stops {v} {w} {entries} b test = record {
   run = [];
   others = runs_of (version w ∷ entries);
   more = [];
-  runs = ap (λ t. if t then onto_first v (runs_of (version w ∷ entries)) else (v ∷ []) ∷ runs_of (version w ∷ entries)) test;
+  runs = rw test refl;
   last = sym (append-nil v.contents);
-  gains = ap (λ t. (if t then drop (length v.contents) w.contents else w.contents) ++ gains_later (version w) entries) test ∙ sym (whole_of b);
+  gains = rw test (sym (whole_of b));
 }
 
 either : {v w : Version} {entries : List Entry} → Begun w entries → (test : Bool) → goes_on v w ≡ test
@@ -77,14 +74,14 @@ text_is_gains start [] all = refl
 text_is_gains start (gap ∷ entries) all = sym (after_gap entries all)
 text_is_gains start (version v ∷ entries) all =
     let b = begun entries all.0 all.1 in
-    ap (begun_text start) b.runs ∙ ap (λ x. start v.contents ++ drop (length v.contents) x ++ whole_text b.others) b.last
-    ∙ ap (λ x. start v.contents ++ x ++ whole_text b.others) (drop_front v.contents b.more) ∙ append_assoc (start v.contents) b.more (whole_text b.others)
-    ∙ ap (λ x. start v.contents ++ x) (sym b.gains)
+    rw (b.runs, b.last, drop_front v.contents b.more, b.gains)
+    (append_assoc (start v.contents) b.more (whole_text b.others))
 
 pub later-append : (last : Entry) (entries more : List Entry)
     → gains_later last (entries ++ more) ≡ gains_later last entries ++ gains_later (last_from last entries) more
 later-append last [] more = refl
-later-append last (entry ∷ entries) more = ap (λ x. gain_between last entry ++ x) (later-append entry entries more) ∙ sym (append_assoc (gain_between last entry) (gains_later entry entries) _)
+later-append last (entry ∷ entries) more =
+    rw (later-append entry entries more) (sym (append_assoc (gain_between last entry) (gains_later entry entries) _))
 
 pub gains-append : (start : List ℕ → List ℕ) (entries more : List Entry)
     → gains_after start [] (entries ++ more) ≡ gains_after start [] entries ++ gains_after start entries more
@@ -114,9 +111,8 @@ shares_from-append : (ways : Ways) (names : List (List ℕ)) (before looks : Lis
     ≡ shares_from ways names before looks ++ shares_at_look ways names (before ++ looks) look
 shares_from-append ways names before [] look = grind (arith, common_steps)
 shares_from-append ways names before (next ∷ looks) look =
-    ap (λ x. shares_at_look ways names before next ++ x)
-    (shares_from-append ways names (before ++ next ∷ []) looks look ∙ ap (λ those. shares_from ways names (before ++ next ∷ []) looks ++ shares_at_look ways names those look) (append_assoc before (next ∷ []) looks))
-    ∙ sym (append_assoc (shares_at_look ways names before next) (shares_from ways names (before ++ next ∷ []) looks) _)
+    rw (shares_from-append ways names (before ++ next ∷ []) looks look, append_assoc before (next ∷ []) looks)
+    (sym (append_assoc (shares_at_look ways names before next) _ _))
 
 pub shares_more : (ways : Ways) (names : List (List ℕ)) (looks : List Look) (look : Look)
     → shares_of ways names (looks ++ look ∷ []) ≡ shares_of ways names looks ++ shares_at_look ways names looks look
@@ -127,7 +123,8 @@ pub text-append : (headers : Bool) (last : Option (List ℕ)) (shares more : Lis
     ≡ text_from headers last shares ++ text_from headers (last_header_from headers last shares) more
 text-append headers last [] more = refl
 text-append headers last (share ∷ shares) more =
-    ap (λ x. share_text headers last share ++ x) (text-append headers (header_after headers last share) shares more) ∙ sym (append_assoc (share_text headers last share) _ _)
+    rw (text-append headers (header_after headers last share) shares more)
+    (sym (append_assoc (share_text headers last share) _ _))
 
 pub last-append : (headers : Bool) (last : Option (List ℕ)) (shares more : List Share)
     → last_header_from headers last (shares ++ more)
@@ -137,11 +134,13 @@ last-append headers last (share ∷ shares) more = last-append headers (header_a
 
 pub messages-append : (shares more : List Share) → messages_of (shares ++ more) ≡ messages_of shares ++ messages_of more
 messages-append [] more = refl
-messages-append (share ∷ shares) more = ap (λ x. lines_of share ++ x) (messages-append shares more) ∙ sym (append_assoc (lines_of share) (messages_of shares) (messages_of more))
+messages-append (share ∷ shares) more =
+    rw (messages-append shares more) (sym (append_assoc (lines_of share) (messages_of shares) (messages_of more)))
 
 pub failed-append : (shares more : List Share) → any_failed (shares ++ more) ≡ (any_failed shares || any_failed more)
 failed-append [] more = refl
-failed-append (share ∷ shares) more = ap (λ x. is_some share.failure || x) (failed-append shares more) ∙ sym (or_assoc (is_some share.failure) (any_failed shares) (any_failed more))
+failed-append (share ∷ shares) more =
+    rw (failed-append shares more) (sym (or_assoc (is_some share.failure) (any_failed shares) (any_failed more)))
 
 -- the entries of one look more
 looks-append : (by_name : Bool) (name : List ℕ) (opened : Option ℕ) (snaps : List Snapshot) (snapshot : Snapshot)
@@ -150,8 +149,8 @@ looks-append : (by_name : Bool) (name : List ℕ) (opened : Option ℕ) (snaps :
     ++ entries_at_look by_name name (open_after_later by_name name opened snaps) snapshot
 looks-append by_name name opened [] snapshot = append-nil _
 looks-append by_name name opened (next ∷ snaps) snapshot =
-    ap (λ x. entries_at_look by_name name opened next ++ x) (looks-append by_name name (open_after_look by_name name opened next) snaps snapshot)
-    ∙ sym (append_assoc (entries_at_look by_name name opened next) _ _)
+    rw (looks-append by_name name (open_after_look by_name name opened next) snaps snapshot)
+    (sym (append_assoc (entries_at_look by_name name opened next) _ _))
 
 pub entries-append : (by_name : Bool) (name : List ℕ) (first : Snapshot) (snaps : List Snapshot) (snapshot : Snapshot)
     → entries_of by_name name ((first ∷ snaps) ++ snapshot ∷ [])

@@ -1,13 +1,13 @@
 -- Where the first look begins to write: blocks that are read, and the lines in them.
 use Rattle.std.proofs.{
   lemmas.{Grind.common_steps, List.{length-take, drop-drop, take-take, drop-append-le}, Slice.take-put_mid},
-  Common.{◌≡◌, ℕ, ◌+◌, ◌-◌, ◌<◌, ◌≤◌, List, ◌++◌, length, take, drop, Bool, true, sym, ◌∙◌, ap, arith, min},
+  Common.{◌≡◌, ℕ, ◌+◌, ◌-◌, ◌<◌, ◌≤◌, List, ◌++◌, length, take, drop, Bool, true, sym, refl, ◌∙◌, ap, arith, min},
   Math.Seq.{take-add, take-append-add},
 }
 use borrow.Rule.Slice.PartMut.{put_mid}
 use Rattle.watch_core.specs.{Snapshot.{Snapshot, latest}, Watched.{Watched, GaveFrom, open_contents, watched_at}}
 use Rattle.seg_core.{
-  specs.{Line.{EndsAt, FallsShort, after_lines, delimiters, joined}, declared.unit.Unit.TheVariants.Lines},
+  specs.{Line.{EndsAt, FallsShort, after_lines, joined}, declared.unit.Unit.TheVariants.Lines},
   proofs.{
     LinesOf.joined-lines_of,
     FirstLines.{EndsAt-enough, EndsAt-rest},
@@ -89,8 +89,7 @@ passed_by {delim} {left} at size x {block} are short is =
     let all : drop at x ≡ block ++ drop (at + size) x = block_then x at size ∙ ap (λ those. those ++ drop (at + size) x) (sym are) in
     let counted = short.counted in let fewer = short.fewer in
     is ∙ ap (after_lines delim left) all ∙ after_of-append delim Lines left block (drop (at + size) x)
-    ∙ ap (λ none. none ++ after_lines delim (left - delimiters delim block) (drop (at + size) x)) (after_lines-past delim left block (omega (arith, counted, fewer)))
-    ∙ ap (λ n. after_lines delim (left - n) (drop (at + size) x)) (sym counted)
+    ∙ rw (after_lines-past delim left block (omega (arith, counted, fewer)), counted) refl
 
 -- a block that was read into the front of the buffer
 pub block_read : {contents now_contents : List ℕ} (buffer new : List ℕ) (from : ℕ) {size n : ℕ} (most : ℕ)

@@ -97,13 +97,16 @@ Noted Tells events = AllGive Tells (λ bytes. ⊥) events
 
 -- What was given tells what is so, and is what reads gave of files, from such places on; or a beginning of it where
 -- following ends. A call failed only where this look lets one fail.
-abbrev pub WereFound : (Notice → Type 0) → (Option ℕ → ℕ → Type 0) → Snapshot → List ℕ → Fate → Option Stop
-    → List Event → Type 0
-WereFound Tells Starts snapshot name fate None events = AllGive Tells (IsWhole Starts snapshot name sound) events
-WereFound Tells Starts snapshot name fate (Some (Broke why)) events =
-    (snapshot.breaks ≡ true) × AllGive Tells (IsWhole Starts snapshot name fate) events
-WereFound Tells Starts snapshot name fate (Some (Over why)) events =
-    (all : List Event) × Begins events all × AllGive Tells (IsRead Starts snapshot name) all
+pub data WereFound (Tells : Notice → Type 0) (Starts : Option ℕ → ℕ → Type 0) (snapshot : Snapshot) (name : List ℕ)
+    (fate : Fate) : Option Stop → List Event → Type 0 where
+  found_all : {events : List Event} → AllGive Tells (IsWhole Starts snapshot name sound) events
+      → WereFound Tells Starts snapshot name fate None events
+  found_before : {events : List Event} {why : Fault} → snapshot.breaks ≡ true
+      → AllGive Tells (IsWhole Starts snapshot name fate) events
+      → WereFound Tells Starts snapshot name fate (Some (Broke why)) events
+  found_begun : {events : List Event} {why : Fault} (all : List Event) → Begins events all
+      → AllGive Tells (IsRead Starts snapshot name) all
+      → WereFound Tells Starts snapshot name fate (Some (Over why)) events
 
 -- the open file was read, from this place on
 abbrev pub FromThere : Option ℕ → ℕ → Option ℕ → ℕ → Type 0
@@ -123,13 +126,13 @@ abbrev pub Nothing : Notice → Type 0
 Nothing notice = ⊥
 
 -- that the open file is shorter is told
-abbrev pub ToldShort : Snapshot → List ℕ → Option ℕ → (held : ℕ) → Notice → Type 0
-ToldShort snapshot name opened held notice = (notice ≡ Truncated) × IsSeen snapshot name opened held Truncated
+abbrev pub ToldShort : Snapshot → Watched → (held : ℕ) → Notice → Type 0
+ToldShort snapshot known held notice = (notice ≡ Truncated) × IsSeen snapshot known.name known.opened held Truncated
 
 -- where the name leads is told, as names are followed
-abbrev pub ToldLed : (by_name : Bool) → Snapshot → List ℕ → Option ℕ → Notice → Type 0
-ToldLed by_name snapshot name opened notice = (by_name ≡ true)
-    × ((held : ℕ) → IsSeen snapshot name opened held notice)
+abbrev pub ToldLed : (by_name : Bool) → Snapshot → Watched → Notice → Type 0
+ToldLed by_name snapshot known notice = (by_name ≡ true)
+    × ((held : ℕ) → IsSeen snapshot known.name known.opened held notice)
 
 -- following is over: there was no memory, or standard output is broken; a message can still be said
 abbrev pub HasStopped : Fault → List Slot → Type 0
@@ -185,10 +188,9 @@ IfBroke (Some (Broke why)) so = so
 IfBroke (Some (Over why)) so = Unit {0}
 
 -- the call that failed asks how long this file is, or reads it to write it
-abbrev pub ReadsOf : Option ℕ → Fate → Type 0
-ReadsOf opened (unmeasured file) = (file ≡ opened) × (is_some opened ≡ true)
-ReadsOf opened (unread file from) = (file ≡ opened) × (is_some opened ≡ true)
-ReadsOf opened fate = ⊥
+pub data ReadsOf (opened : Option ℕ) : Fate → Type 0 where
+  measures : is_some opened ≡ true → ReadsOf opened (unmeasured opened)
+  reads_on : {from : ℕ} → is_some opened ≡ true → ReadsOf opened (unread opened from)
 
 -- Bytes of the open file were written from one place on; a read that fails is that of another.
 pub record Copies (told_in told : Bool) (snapshot : Snapshot) (from : ℕ) (place : ℕ) (name : List ℕ)
@@ -240,11 +242,11 @@ pub record Adds (told_in told : Bool) (snapshot : Snapshot) (place : ℕ) (name 
     (watched : List Watched) (printer : PrinterState) (slots : List Slot) (watched_new : List Watched)
     (after : PrinterState) (slots_new : List Slot) (result : Result ℕ Stop) : Type 0 where
   pub fate : Fate
-  pub ends : let opened = (watched_at watched place).opened in (last : Entry)
-      → (told_in ≡ true → StandsAt last opened position) → let due = events_later last (entries_open snapshot opened) in
-      let known = (watched_at watched place).name in
+  pub ends : let known = watched_at watched place in (last : Entry)
+      → (told_in ≡ true → StandsAt last known.opened position)
+      → let due = events_later last (entries_open snapshot known.opened) in
       Ends told_in
-      (WereFound (ToldShort snapshot known opened position) (FromEither opened position) snapshot known fate
+      (WereFound (ToldShort snapshot known position) (FromEither known.opened position) snapshot known.name fate
       (stop_in result)) told false printer name due (came_before snapshot fate due) slots after slots_new
       (stop_in result)
   pub stands : let opened = (watched_at watched place).opened in IfOk result (λ len. told_in ≡ true → (last : Entry)
@@ -262,14 +264,11 @@ pub record Leads (told_in told by_name : Bool) (snapshot : Snapshot) (led : Opti
     (position : ℕ) (watched : List Watched) (printer : PrinterState) (slots : List Slot) (watched_new : List Watched)
     (after : PrinterState) (slots_new : List Slot) (result : Result ℕ Stop) : Type 0 where
   pub fate : Fate
-  pub ends : let opened = (watched_at watched place).opened in (last : Entry)
-      → (told_in ≡ true → StandsAt last opened position)
-      → let due = events_later last (entries_led snapshot opened led) in
-      let known = (watched_at watched place).name in
-      Ends told_in
-      (WereFound (ToldLed by_name snapshot known opened) FromFront snapshot known fate
-      (stop_in result)) told false printer name due (led_before snapshot fate due) slots after slots_new
-      (stop_in result)
+  pub ends : let known = watched_at watched place in (last : Entry)
+      → (told_in ≡ true → StandsAt last known.opened position)
+      → let due = events_later last (entries_led snapshot known.opened led) in
+      Ends told_in (WereFound (ToldLed by_name snapshot known) FromFront snapshot known.name fate (stop_in result))
+      told false printer name due (led_before snapshot fate due) slots after slots_new (stop_in result)
   pub stands : let opened = (watched_at watched place).opened in IfOk result (λ len. told_in ≡ true → (last : Entry)
       → StandsAt last opened position → StandsAt (last_from last (entries_led snapshot opened led)) led len)
   pub long : HoldsMany snapshot (watched_at watched place) position → let now = watched_at watched_new place in

@@ -3,11 +3,12 @@ use Rattle.follow_core.proofs.LookedLemmas.{makes_all, makes_few, makes_look}
 use Rattle.follow_core.proofs.follow.Follow.make_look.Goals as goal
 
 pub returns-in-Err-clause-makes : goal.returns-in-Err-clause-makes
-returns-in-Err-clause-makes g c = makes_few c.in-Err.ensures.err.1 c.in-Err.ensures.err.2 c.requires.live c.requires.can c.in-Err.ensures.err.0 c.begin.ensures.seen
+returns-in-Err-clause-makes g c = makes_few c.requires.live c.requires.can c.in-Err.ensures.err.0 c.begin.ensures.seen
+    c.in-Err.ensures.err.1 c.in-Err.ensures.err.2
 
 pub returns-in-Err-turn-clause-makes : goal.returns-in-Err-turn-clause-makes
-returns-in-Err-turn-clause-makes g c = makes_all c.in_default.ensures.begins c.turn.ensures.watched c.requires.live c.requires.can
-    c.in-Err-turn.ensures.err.0 (c.in-Err-turn.ensures.err.1 ∙ c.begin.ensures.seen)
+returns-in-Err-turn-clause-makes g c = makes_all c.requires.live c.requires.can c.in-Err-turn.ensures.err.0
+    (c.in-Err-turn.ensures.err.1 ∙ c.begin.ensures.seen) c.in_default.ensures.begins c.turn.ensures.watched
 
 pub invariant_of-self : goal.invariant_of-self
 invariant_of-self g c = grind (arith, common_steps)
