@@ -498,19 +498,19 @@ begun_by : (style : Style) (operands : List Operand) {lines : List Line} (steps 
     (settled_of style operands lines)
 begun_by style operands {lines} steps {state} more {last} {ending} rest all =
     rw (settled_by_plan style operands all, map-append (section_of lines) steps more, append_assoc (map (section_of lines) steps) (map (section_of lines) more) (open_at lines last ending ∷ [])) (by state more last ending rest) where
-  at_end : (state last : State) (ending : Ending) → Runs style.suppress lines state [] last ending
-      → kept_by state.operands ≡ is_last_kept ending
-  at_end state last ending (is_used_up state' none) = ap kept_by none
-  at_end state last ending (misses state' operand those is none) = ap kept_by is
-  at_end state last ending (is_above state' operand those matched cut is at far) = ap kept_by is
-  at_end state last ending (is_below state' operand those matched cut is at within low) = ap kept_by is
+      at_end : (state last : State) (ending : Ending) → Runs style.suppress lines state [] last ending
+          → kept_by state.operands ≡ is_last_kept ending
+      at_end state last ending (is_used_up state' none) = ap kept_by none
+      at_end state last ending (misses state' operand those is none) = ap kept_by is
+      at_end state last ending (is_above state' operand those matched cut is at far) = ap kept_by is
+      at_end state last ending (is_below state' operand those matched cut is at within low) = ap kept_by is
 
-  by : (state : State) (more : List Step) (last : State) (ending : Ending)
-      → Runs style.suppress lines state more last ending
-      → Begins (draft_part (manner_of style) (draft_by style lines steps (kept_by state.operands) []))
-      (part_of style (map (section_of lines) steps ++ (map (section_of lines) more ++ open_at lines last ending ∷ [])))
-  by state [] last ending rest = begins_with style lines steps (open_at lines last ending) [] (kept_by state.operands) (at_end state last ending rest)
-  by state (step ∷ more) last ending rest = begins_with style lines steps (section_of lines step) _ (kept_by state.operands) (first_kept rest)
+      by : (state : State) (more : List Step) (last : State) (ending : Ending)
+          → Runs style.suppress lines state more last ending
+          → Begins (draft_part (manner_of style) (draft_by style lines steps (kept_by state.operands) []))
+          (part_of style (map (section_of lines) steps ++ (map (section_of lines) more ++ open_at lines last ending ∷ [])))
+      by state [] last ending rest = begins_with style lines steps (open_at lines last ending) [] (kept_by state.operands) (at_end state last ending rest)
+      by state (step ∷ more) last ending rest = begins_with style lines steps (section_of lines step) _ (kept_by state.operands) (first_kept rest)
 
 -- The sections once one more ended
 
