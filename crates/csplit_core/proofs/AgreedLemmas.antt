@@ -69,7 +69,7 @@ turned_by {suppress} {x} {state} {operand} {operands} cut some is at within = el
   | inl low ↦ too_low low (is_below state operand operands (suc (length x)) cut is at within low)
   | inr from ↦
       turns from _ _ _ (cuts state operand operands (suc (length x)) cut _ _ _ is at from within
-      (runs_on _ _ _ (omega (arith, some, from, line_some suppress cut))))
+      (runs_on _ _ _ (omega (arith, line_some suppress cut))))
 ]
 
 turned : {suppress : Bool} {x : List Line} {state : State} {operand : Operand} {operands : List Operand}
@@ -162,12 +162,12 @@ place_front : {suppress : Bool} {lines : List Line} {first : State} {steps : Lis
 place_front {suppress} (cuts state operand operands matched cut steps' last' ending' is at least within rest) total total' index line more more' how how' from before =
     same_by (nat_lt line cut) (suppress && nat_le line cut) index _ _
     (λ lt le. place_front rest total total' (index + 1) line more more' how how' (left_by suppress line cut lt le) before)
-place_front run total total' index line more more' how how' from before = absurd (omega (arith, from, before))
+place_front run total total' index line more more' how how' from before = absurd (omega arith)
 
 current_grows : {suppress : Bool} {lines : List Line} {first : State} {steps : List Step} {last : State}
     {ending : Ending} → Runs suppress lines first steps last ending → first.current ≤ last.current
 current_grows {suppress} (cuts state operand operands matched cut steps' last' ending' is at least within rest) =
-    omega (arith, current_grows rest, line_some suppress cut, least)
+    omega (arith, current_grows rest, line_some suppress cut)
 current_grows run = omega arith
 
 -- from the current line on, what follows decides
@@ -178,8 +178,8 @@ place_after : {suppress : Bool} {lines : List Line} {first : State} {steps : Lis
     ≡ place_from suppress total (index + length steps) more how line
 place_after {suppress} (cuts state operand operands matched cut steps' last' ending' is at least within rest) total index line more how from =
     let on : line_after suppress cut ≤ last'.current = current_grows rest in
-    ap (λ b. cond b (in_section index) (cond (suppress && nat_le line cut) (left_out index) (place_from suppress total (index + 1) (steps' ++ more) how line))) (not_less_test line cut (omega (arith, line_some suppress cut, on, from)))
-    ∙ ap (λ b. cond b (left_out index) (place_from suppress total (index + 1) (steps' ++ more) how line)) (not_left suppress line cut (omega (arith, on, from)))
+    ap (λ b. cond b (in_section index) (cond (suppress && nat_le line cut) (left_out index) (place_from suppress total (index + 1) (steps' ++ more) how line))) (not_less_test line cut (omega (arith, line_some suppress cut)))
+    ∙ ap (λ b. cond b (left_out index) (place_from suppress total (index + 1) (steps' ++ more) how line)) (not_left suppress line cut (omega arith))
     ∙ place_after rest total (index + 1) line more how from
     ∙ ap (λ i. place_from suppress total i more how line) (let e : index + 1 + length steps' ≡ index + suc (length steps') = omega arith in e)
 place_after {suppress} run total index line more how from = ap (λ i. place_from suppress total i more how line) (let e : index ≡ index + 0 = omega arith in e)
@@ -215,8 +215,8 @@ decided_by : (suppress : Bool) (a b : List Line) {last : State} (ending : Ending
 decided_by suppress a b (missed operand repetition) some is line from within not index more end rest = settled_place a b (missed operand repetition) is more end rest line from
     (elim (cases_lt line (suc (length a) - most_held operand.target)) [ inl less ↦ less | inr beyond ↦ absurd (not refl beyond) ])
 decided_by suppress a b {last} (below operand repetition) some (operands, matched, cut, is, at, in_lines, low, often) line from within not index more end rest =
-    nowhere_by matched cut is (cuts_still suppress a b last operand operand.target matched cut at) (omega (arith, length-append a b, in_lines)) low more end rest index line
-decided_by suppress a b ending some is line from within not index more end rest = settled_place a b ending is more end rest line from (omega (arith, within))
+    nowhere_by matched cut is (cuts_still suppress a b last operand operand.target matched cut at) (omega (arith, length-append a b)) low more end rest index line
+decided_by suppress a b ending some is line from within not index more end rest = settled_place a b ending is more end rest line from (omega arith)
 
 -- Two places for each that does
 
@@ -229,7 +229,7 @@ pub in_later : (suppress : Bool) (total : ℕ) {index : ℕ} (other line : ℕ) 
     → index < other → place_from suppress total other steps how line ≡ in_section index → ⊥
 in_later suppress total other line [] how less is = grind (arith, common_steps)
 in_later suppress total other line (step ∷ steps) how less is =
-    step_later other less (λ same. in_later suppress total (other + 1) line steps how (omega (arith, less)) same) (nat_lt line step.cut) (suppress && nat_le line step.cut) is
+    step_later other less (λ same. in_later suppress total (other + 1) line steps how (omega arith) same) (nat_lt line step.cut) (suppress && nat_le line step.cut) is
 
 -- a line after the cut isn't in the section
 
@@ -253,14 +253,14 @@ into_all : {s : ℕ} (places : ℕ → Place) (n : ℕ) (a : List Line)
 into_all places n [] here = refl
 into_all {s} places n (line ∷ a) here =
     ap (λ has. cond has (line ∷ lines_into s places (n + 1) a) (lines_into s places (n + 1) a)) (ap (is_in s) (here n (omega arith) (omega arith)) ∙ eq-eqb s s refl)
-    ∙ ap (λ those. line ∷ those) (into_all places (n + 1) a (λ k from within. here k (omega (arith, from)) (omega (arith, within))))
+    ∙ ap (λ those. line ∷ those) (into_all places (n + 1) a (λ k from within. here k (omega arith) (omega arith)))
 
 into_none : (s : ℕ) (places : ℕ → Place) (n : ℕ) (a : List Line)
     → ((line : ℕ) → n ≤ line → line < n + length a → is_in s (places line) ≡ false) → lines_into s places n a ≡ []
 into_none s places n [] not_in = refl
 into_none s places n (line ∷ a) not_in =
     ap (λ has. cond has (line ∷ lines_into s places (n + 1) a) (lines_into s places (n + 1) a)) (not_in n (omega arith) (omega arith))
-    ∙ into_none s places (n + 1) a (λ k from within. not_in k (omega (arith, from)) (omega (arith, within)))
+    ∙ into_none s places (n + 1) a (λ k from within. not_in k (omega arith) (omega arith))
 
 into_same : (s : ℕ) (places others : ℕ → Place) (n : ℕ) (a : List Line)
     → ((line : ℕ) → n ≤ line → line < n + length a → places line ≡ others line)
@@ -268,7 +268,7 @@ into_same : (s : ℕ) (places others : ℕ → Place) (n : ℕ) (a : List Line)
 into_same s places others n [] same = refl
 into_same s places others n (line ∷ a) same =
     ap (λ place. cond (is_in s place) (line ∷ lines_into s places (n + 1) a) (lines_into s places (n + 1) a)) (same n (omega arith) (omega arith))
-    ∙ ap (λ those. cond (is_in s (others n)) (line ∷ those) those) (into_same s places others (n + 1) a (λ k from within. same k (omega (arith, from)) (omega (arith, within))))
+    ∙ ap (λ those. cond (is_in s (others n)) (line ∷ those) those) (into_same s places others (n + 1) a (λ k from within. same k (omega arith) (omega arith)))
 
 goes_elsewhere : {s : ℕ} (place : Place) → (place ≡ in_section s → ⊥) → is_in s place ≡ false
 goes_elsewhere place differs = grind (arith, common_steps)
@@ -295,8 +295,8 @@ places_with suppress index cut later line = cond (nat_lt line cut) (in_section i
 
 left_there : (suppress : Bool) (cut line : ℕ) → cut ≤ line → line < line_after suppress cut
     → (suppress && nat_le line cut) ≡ true
-left_there true cut line from within = let less : line ≤ cut = omega (arith, within) in grind (arith, nat_tests, less)
-left_there false cut line from within = absurd (omega (arith, from, within))
+left_there true cut line from within = let less : line ≤ cut = omega arith in grind (arith, nat_tests, less)
+left_there false cut line from within = absurd (omega arith)
 
 -- the lines before the cut, that at it, and those after it
 step_parts : (suppress : Bool) (lines : List Line) (current cut index s : ℕ) (later : ℕ → Place) → 1 ≤ current
@@ -309,21 +309,21 @@ step_parts suppress lines current cut index s later some least within =
     let next = line_after suppress cut in
     let least_next : cut ≤ next = line_some suppress cut in
     let most_next : next ≤ suc cut = after_within suppress cut cut (omega arith) in
-    let front : length (lines_between current cut lines) ≡ cut - current = length-take-le (cut - current) (drop (current - 1) lines) (let long : length (drop (current - 1) lines) ≡ length lines - (current - 1) = length-drop (current - 1) lines in omega (arith, long, some, least, within)) in
-    let middle : length (lines_between cut next lines) ≡ next - cut = length-take-le (next - cut) (drop (cut - 1) lines) (let long : length (drop (cut - 1) lines) ≡ length lines - (cut - 1) = length-drop (cut - 1) lines in omega (arith, long, some, least, within, most_next)) in
+    let front : length (lines_between current cut lines) ≡ cut - current = length-take-le (cut - current) (drop (current - 1) lines) (let long : length (drop (current - 1) lines) ≡ length lines - (current - 1) = length-drop (current - 1) lines in omega arith) in
+    let middle : length (lines_between cut next lines) ≡ next - cut = length-take-le (next - cut) (drop (cut - 1) lines) (let long : length (drop (cut - 1) lines) ≡ length lines - (cut - 1) = length-drop (cut - 1) lines in omega arith) in
     ap (lines_into s places current) (sym (between_rest current cut lines some least))
     ∙ into-append s places current (lines_between current cut lines) (drop (cut - 1) lines)
     ∙ ap (λ those. lines_into s places current (lines_between current cut lines) ++ those)
-    (ap (λ n. lines_into s places n (drop (cut - 1) lines)) (let e : current + length (lines_between current cut lines) ≡ cut = omega (arith, front, least) in e)
-    ∙ ap (lines_into s places cut) (sym (between_rest cut next lines (omega (arith, some, least)) least_next))
+    (ap (λ n. lines_into s places n (drop (cut - 1) lines)) (let e : current + length (lines_between current cut lines) ≡ cut = omega arith in e)
+    ∙ ap (lines_into s places cut) (sym (between_rest cut next lines (omega arith) least_next))
     ∙ into-append s places cut (lines_between cut next lines) (drop (next - 1) lines)
     ∙ ap (λ those. those ++ lines_into s places (cut + length (lines_between cut next lines)) (drop (next - 1) lines))
     (into_none s places cut (lines_between cut next lines) (λ line from before.
     ap (λ has. is_in s (cond has (in_section index) (cond (suppress && nat_le line cut) (left_out index) (later line)))) (not_less_test line cut from)
-    ∙ ap (λ has. is_in s (cond has (left_out index) (later line))) (left_there suppress cut line from (omega (arith, before, middle, least_next)))))
-    ∙ ap (λ n. lines_into s places n (drop (next - 1) lines)) (let e : cut + length (lines_between cut next lines) ≡ next = omega (arith, middle, least_next) in e)
+    ∙ ap (λ has. is_in s (cond has (left_out index) (later line))) (left_there suppress cut line from (omega arith))))
+    ∙ ap (λ n. lines_into s places n (drop (next - 1) lines)) (let e : cut + length (lines_between cut next lines) ≡ next = omega arith in e)
     ∙ into_same s places later next (drop (next - 1) lines) (λ line from before.
-    ap (λ has. cond has (in_section index) (cond (suppress && nat_le line cut) (left_out index) (later line))) (not_less_test line cut (omega (arith, from, least_next)))
+    ap (λ has. cond has (in_section index) (cond (suppress && nat_le line cut) (left_out index) (later line))) (not_less_test line cut (omega arith))
     ∙ ap (λ has. cond has (left_out index) (later line)) (not_left suppress line cut from)))
 
 step_before : (suppress : Bool) (lines : List Line) (current cut : ℕ) {index : ℕ} (later : ℕ → Place) (line : ℕ)
@@ -345,17 +345,17 @@ placed_from {suppress} {lines} (cuts state operand operands matched cut steps' l
       arith,
       common_steps,
       (into_none s later (line_after suppress cut) (drop (line_after suppress cut - 1) lines)
-          (λ line from before. goes_elsewhere (later line) (in_later suppress (length lines) (index + 1) line steps' ending' (omega (arith, at))))),
+          (λ line from before. goes_elsewhere (later line) (in_later suppress (length lines) (index + 1) line steps' ending' (omega arith)))),
     ))
     ∙ into_all (place_from suppress (length lines) index (step_of state operand matched cut ∷ steps') ending') state.current (lines_between state.current cut lines)
-    (λ line from before. step_before suppress lines state.current cut later line some least within before ∙ ap in_section (let e : index ≡ s = omega (arith, at) in e)))
+    (λ line from before. step_before suppress lines state.current cut later line some least within before ∙ ap in_section (let e : index ≡ s = omega arith in e)))
 placed_from {suppress} {lines} (cuts state operand operands matched cut steps' last' ending' is cuts_at least within rest) some index (suc k) {s} at =
     let later = place_from suppress (length lines) (index + 1) steps' ending' in
-    placed_from rest (omega (arith, line_some suppress cut, some, least)) (index + 1) k (omega (arith, at))
+    placed_from rest (omega (arith, line_some suppress cut)) (index + 1) k (omega arith)
     ∙ sym (step_parts suppress lines state.current cut index s later some least within
     ∙ ap (λ those. those ++ lines_into s later (line_after suppress cut) (drop (line_after suppress cut - 1) lines))
     (into_none s (place_from suppress (length lines) index (step_of state operand matched cut ∷ steps') ending') state.current (lines_between state.current cut lines)
-    (λ line from before. ap (is_in s) (step_before suppress lines state.current cut later line some least within before) ∙ ne_eqb s index (λ same. omega (arith, at, same)))))
+    (λ line from before. ap (is_in s) (step_before suppress lines state.current cut later line some least within before) ∙ ne_eqb s index (λ same. omega arith))))
 placed_from {lines} {first} {ending} run some index k at = rest_placed lines first.current (whole_end (length lines) ending) index some (end_is ending) k at
 
 -- Lines in no section
@@ -374,7 +374,7 @@ left_by_step : {suppress : Bool} {index : ℕ} (cut line : ℕ) {step : Step} {s
 left_by_step cut line true le lt_is le_is rest same = absurd (cc)
 left_by_step cut line false true lt_is le_is rest same = grind (arith, common_steps)
 left_by_step {index} cut line false false lt_is le_is rest same =
-    let there = rest same in let at : cut ≡ index + 1 + there.k = there.at in record { so = there.so; k = suc there.k; at = omega (arith, at); is = there.is }
+    let there = rest same in let at : cut ≡ index + 1 + there.k = there.at in record { so = there.so; k = suc there.k; at = omega arith; is = there.is }
 
 left_at : (suppress : Bool) (total index cut line : ℕ) (steps : List Step) (ending : Ending)
     → place_from suppress total index steps ending line ≡ left_out cut → LeftAt suppress index cut line steps
@@ -463,11 +463,11 @@ module _ (suppress : Bool) (operands : List Operand) (x : List Line) where
   }
   decides (some_wait k kept past (too_low low rest)) =
       decides_by matching _ _ matching_comes rest refl kept
-      (let e : length (lines_between made.last.current 0 (x ++ matching)) ≡ 0 = (grind (arith, common_steps)) in omega (arith, e))
+      (let e : length (lines_between made.last.current 0 (x ++ matching)) ≡ 0 = (grind (arith, common_steps)) in omega arith)
   decides (some_wait k kept past (turns from steps end how rest)) =
       decides_by matching _ _ matching_comes rest refl kept
       (let e : length (lines_between made.last.current (suc (length x) - k) (x ++ matching)) ≡ length open_lines
-      = ap length (between_still made.last.current (suc (length x) - k) x matching inside.1 (omega arith) ∙ ap (λ p. lines_between made.last.current p x) (sym past)) in omega (arith, e))
+      = ap length (between_still made.last.current (suc (length x) - k) x matching inside.1 (omega arith) ∙ ap (λ p. lines_between made.last.current p x) (sym past)) in omega arith)
 
   pub settled_is_agreed : IsAgreed (whole_outputs suppress operands) x (settled_outputs suppress operands x)
   settled_is_agreed =
@@ -507,9 +507,9 @@ module _ (suppress : Bool) (operands : List Operand) (x : List Line) where
   differ_line : (line : ℕ) → WaitsAt line → Waits suppress x made.last made.ending
       → (y : List Line) × (z : List Line) × CanCome y × CanCome z
       × (place_of suppress operands (x ++ y) line ≢ place_of suppress operands (x ++ z) line)
-  differ_line line (live, from, past, within) (none_waits same) = absurd (omega (arith, ends_after_all (length x) made.ending live, same, past, within))
+  differ_line line (live, from, past, within) (none_waits same) = absurd (omega (arith, ends_after_all (length x) made.ending live))
   differ_line line (live, from, past, within) (some_wait k kept settled turned) =
-      let away = turned_away k line turned (omega (arith, settled, past)) in (
+      let away = turned_away k line turned (omega arith) in (
         [],
         matching,
         none_comes,
@@ -525,15 +525,15 @@ module _ (suppress : Bool) (operands : List Operand) (x : List Line) where
   undecided_by : (final : Bool) → is_final made.ending ≡ final → IsUndecided (place_of suppress operands) x
       (cond final []
       (drop (settled_end (length x) made.ending - made.last.current) (drop (made.last.current - 1) x)))
-  undecided_by true final = nothing_waits (λ i within y z. same_line y z (i + 1) (omega arith) (omega (arith, within)) (λ waits. false≢true (sym waits.0 ∙ final)))
+  undecided_by true final = nothing_waits (λ i within y z. same_line y z (i + 1) (omega arith) (omega arith) (λ waits. false≢true (sym waits.0 ∙ final)))
   undecided_by false live =
       let n = made.last.current - 1 + (settled_end (length x) made.ending - made.last.current) in
       let some : 1 ≤ made.last.current = inside.1 in
       let count : length (take n x) ≡ min n (length x) = length-take n x in record {
         before = take n x;
         are_last = sym (take-append-drop n x) ∙ ap (λ rest. take n x ++ rest) (sym (drop-drop (settled_end (length x) made.ending - made.last.current) (made.last.current - 1) x));
-        differ = λ i past within. differ_line (i + 1) (live, omega (arith, past, within, count, some), omega (arith, past, within, count, some), omega (arith, within)) end_waits;
-        decided = λ i within y z y_comes z_comes. same_line y z (i + 1) (omega arith) (omega (arith, within, count)) (λ waits. omega (arith, within, count, waits.1, waits.2, some));
+        differ = λ i past within. differ_line (i + 1) (live, omega arith, omega arith, omega arith) end_waits;
+        decided = λ i within y z y_comes z_comes. same_line y z (i + 1) (omega arith) (omega arith) (λ waits. omega arith);
       }
 
   pub waiting_is_undecided : IsUndecided (place_of suppress operands) x (waiting_lines x made)
@@ -546,6 +546,6 @@ module _ (suppress : Bool) (operands : List Operand) (x : List Line) where
     sections = λ k. placed_from here (omega arith) 0 k (omega arith);
     cuts = λ line cut some same.
         let left = left_at suppress (length x) 0 cut line made.steps made.ending same in
-        (left.so, ap (λ n. get_or (map (λ (step : Step). step.cut) made.steps) n 0) (let e : cut ≡ left.k = omega (arith, left.at) in e) ∙ left.is);
+        (left.so, ap (λ n. get_or (map (λ (step : Step). step.cut) made.steps) n 0) (let e : cut ≡ left.k = omega arith in e) ∙ left.is);
     rest = λ line some within same. nowhere_at here 0 line some within same;
   }

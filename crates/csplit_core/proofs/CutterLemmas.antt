@@ -194,9 +194,9 @@ at_more {cutter} t whole some at ends count =
       counted = count;
       taken = at.taken;
       written = at.written;
-      few = omega (arith, at.few, count-append t whole);
+      few = omega (arith, count-append t whole);
       written_is = at.written_is ∙ sym (first_still at.taken cutter.progress.current t whole some at.few);
-      left_is = ap (λ those. those ++ t) at.left_is ∙ rest_more (cutter.progress.current + at.taken) t whole (omega (arith, some)) at.few;
+      left_is = ap (λ those. those ++ t) at.left_is ∙ rest_more (cutter.progress.current + at.taken) t whole (omega arith) at.few;
       writes = subst (Writes (manner_of cutter.style) cutter.writer) (ended_still cutter.style cutter.operands t (kept_by (state_in cutter).operands) at.written whole (runs_to at ends)) at.writes;
     }
 
@@ -238,7 +238,7 @@ module _ {cutter : CutterState} {x left : List ℕ} (n : ℕ) (some : 1 ≤ cutt
       ∙ sym (first_further cutter.progress.current at.taken n x some)
 
   left_on : after_lines newline n left ≡ text_from (cutter.progress.current + at.taken + n) x
-  left_on = ap (after_lines newline n) at.left_is ∙ from_further (cutter.progress.current + at.taken) n x (omega (arith, some))
+  left_on = ap (after_lines newline n) at.left_is ∙ from_further (cutter.progress.current + at.taken) n x (omega arith)
 
 -- Writing lines that wait to the open section.
 
@@ -268,10 +268,10 @@ module _ {told : Bool} {writer now : WriterState} {window left_in : Window} {n l
 
   -- all of it was written
   pub emptied_went : left ≤ 0 → Goes told writer (with_bytes (take n window.held)) old mid now None
-  emptied_went none = goes_as (ap (λ k. take k window.held) (let e : n - left ≡ n = omega (arith, none) in e)) so_far.went
+  emptied_went none = goes_as (ap (λ k. take k window.held) (let e : n - left ≡ n = omega arith in e)) so_far.went
 
   pub emptied_window : left ≤ 0 → left_in ≡ without_first window n
-  emptied_window none = so_far.rest ∙ ap (without_first window) (let e : n - left ≡ n = omega (arith, none) in e)
+  emptied_window none = so_far.rest ∙ ap (without_first window) (let e : n - left ≡ n = omega arith in e)
 
 -- more bytes of what stands at its front go
 module _ {told : Bool} {writer now : WriterState} {window left_in : Window} {n left : ℕ} {old mid : List Slot}
@@ -290,11 +290,11 @@ module _ {told : Bool} {writer now : WriterState} {window left_in : Window} {n l
       → Emptying told writer next window after n (left - bytes) old new
   empties few dropped went more =
       let less : length front ≤ length left_in.held = (grind (arith, common_steps)) in
-      let count : n - left + bytes ≡ n - (left - bytes) = (let all = so_far.few in omega (arith, all, few)) in record {
-        few = omega (arith, so_far.few);
+      let count : n - left + bytes ≡ n - (left - bytes) = (let all = so_far.few in omega arith) in record {
+        few = omega arith;
         rest = dropped ∙ ap (λ (w : Window). without_first w bytes) so_far.rest ∙ ap (λ held. record window { held = held }) (drop-drop bytes (n - left) window.held) ∙ ap (without_first window) count;
         went = goes_as (taken_more ∙ ap (λ k. take k window.held) count) (goes_more (take (n - left) window.held) (take bytes front) so_far.went went);
-        size = omega (arith, so_far.size, more, length-take-le bytes front within, less, ap (λ (w : Window). length w.held) dropped ∙ length-drop bytes left_in.held, within);
+        size = omega (arith, length-take-le bytes front within, ap (λ (w : Window). length w.held) dropped ∙ length-drop bytes left_in.held);
       }
 
   -- a write of it stopped
@@ -302,7 +302,7 @@ module _ {told : Bool} {writer now : WriterState} {window left_in : Window} {n l
       → Goes told now (with_bytes (take bytes front)) mid new next (Some fault)
       → Goes told writer (with_bytes (take n window.held)) old new next (Some fault)
   empties_short few stopped =
-      let count : n - left + bytes + (left - bytes) ≡ n = (let all = so_far.few in omega (arith, all, few)) in
+      let count : n - left + bytes + (left - bytes) ≡ n = (let all = so_far.few in omega arith) in
       goes_as (ap (λ those. those ++ take (left - bytes) (drop (n - left + bytes) window.held)) taken_more ∙ sym (take-add (n - left + bytes) (left - bytes) window.held) ∙ ap (λ k. take k window.held) count)
       (stops_among (take (n - left) window.held ++ take bytes front) (take (left - bytes) (drop (n - left + bytes) window.held)) (goes_more (take (n - left) window.held) (take bytes front) so_far.went stopped))
 
@@ -315,12 +315,12 @@ pub record Parted (delim most over front : ℕ) (held text : List ℕ) : Type 0 
 both_parts : (n : ℕ) (xs ys : List ℕ) {k : ℕ} → k ≡ min n (length xs) → (n < length xs) ⊎ (length xs ≤ n)
     → (take k xs ++ take (n - k) ys ≡ take n (xs ++ ys)) × (drop k xs ++ drop (n - k) ys ≡ drop n (xs ++ ys))
 both_parts n xs ys {k} is (inl less) =
-    let e : k ≡ n = omega (arith, is, less) in
-    let none : n - k ≡ 0 = omega (arith, e) in
+    let e : k ≡ n = omega arith in
+    let none : n - k ≡ 0 = omega arith in
     (grind (arith, common_steps, e, none, append-nil, take-append-le, drop-append-le))
 both_parts n xs ys {k} is (inr more) =
-    let e : k ≡ length xs = omega (arith, is, more) in
-    let all : length xs + (n - k) ≡ n = omega (arith, e, more) in
+    let e : k ≡ length xs = omega arith in
+    let all : length xs + (n - k) ≡ n = omega arith in
     (grind (arith, common_steps, e, all, take-append-add xs ys (n - k), drop-append-add xs ys (n - k), take_all, drop_all))
 
 pub parted : {delim most over long front : ℕ} {held text : List ℕ}
@@ -330,7 +330,7 @@ parted {delim} {most} {over} {held = held} {text} is all least =
     let parts = both_parts over held text (least ∙ ap (min over) all) (cases_lt over (length held)) in record {
       goes = parts.0 ∙ ap (λ n. take n (held ++ text)) is ∙ sym (first_lines-is_take delim (line_count delim (held ++ text) - most) (held ++ text));
       stays = parts.1 ∙ ap (λ n. drop n (held ++ text)) is ∙ last_lines-is_drop delim most (held ++ text);
-      within = omega (arith, over-le-length delim most held text, is, all, least);
+      within = omega (arith, over-le-length delim most held text);
     }
 
 -- what `hold_last` owes at each of its ends
@@ -396,7 +396,7 @@ module _ {cutter : CutterState} {x left bytes : List ℕ} {at : IsAt (bare cutte
       counted = at.counted;
       taken = at.taken + over;
       written = at.written ++ bytes;
-      few = omega (arith, few_taken at, left_count at, at.counted, some);
+      few = omega (arith, few_taken at, left_count at);
       written_is = written_on over some at bytes_is;
       left_is = held_is ∙ left_on over some at ∙ ap (λ k. text_from k x) (let e : cutter.progress.current + at.taken + over ≡ cutter.progress.current + (at.taken + over) = omega arith in e);
       writes = writes (draft_at at) at.writes;
@@ -460,7 +460,7 @@ hold_past {cutter = cutter} {window} {left} {n = n} aim ready all less dropped =
   };
 } where
   none : window.held ≡ []
-  none = ap (λ (w : Window). w.held) dropped ∙ drop_all n cutter.window.held (omega (arith, all))
+  none = ap (λ (w : Window). w.held) dropped ∙ drop_all n cutter.window.held (omega arith)
 
   past : (x : List ℕ) (at : IsAt (bare cutter) x left) (arrives : Arrives cutter at)
       → is_final arrives.ends.ending ≡ true
@@ -528,7 +528,7 @@ cut_draft : {cutter : CutterState} {x left before : List ℕ} (at : IsAt cutter 
 cut_draft {cutter} {x} {before} at cut {operand} kept are some on before_is =
     let bytes : at.written ++ before ≡ bytes_of (lines_between cutter.progress.current cut.line (all_lines x)) =
     written_on (cut.line - (cutter.progress.current + at.taken)) some at before_is
-    ∙ ap (λ n. first_lines newline n (text_from cutter.progress.current x)) (let e : at.taken + (cut.line - (cutter.progress.current + at.taken)) ≡ cut.line - cutter.progress.current = omega (arith, on) in e)
+    ∙ ap (λ n. first_lines newline n (text_from cutter.progress.current x)) (let e : at.taken + (cut.line - (cutter.progress.current + at.taken)) ≡ cut.line - cutter.progress.current = omega arith in e)
     ∙ sym (bytes_between cutter.progress.current cut.line x) in
     let ended = flat_map (file_in cutter.style) (map (section_of (all_lines x)) at.steps) in
     let next = section_of (all_lines x) (step_at cutter operand cut) in
@@ -559,8 +559,8 @@ pub cut_begins : {cutter : CutterState} {x left : List ℕ} (line : List ℕ) {b
     (settled_part cutter x)
 cut_begins {cutter} {x} {left} line {at} cut now fit will before_is =
     let state = state_after (suppress_in cutter) now.goes.operand now.goes.operands cutter.progress.repetition cut.matched cut.line in
-    let on : cutter.progress.current + at.taken ≤ cut.line = (let p = now.place_is in omega (arith, p, now.before)) in
-    let some : 1 ≤ state.current = (let least = line_some (suppress_in cutter) cut.line in omega (arith, least, fit.fits.some, will.from)) in
+    let on : cutter.progress.current + at.taken ≤ cut.line = (let p = now.place_is in omega arith) in
+    let some : 1 ≤ state.current = (let least = line_some (suppress_in cutter) cut.line in omega arith) in
     subst (λ draft. Begins (draft_part (manner_of cutter.style) draft) (settled_part cutter x))
     (sym (cut_draft at cut (kept_by state.operands) now.goes.are fit.fits.some on (before_is ∙ ap (λ n. first_lines newline (cut.line - n) left) now.place_is)))
     (let rest = runs_on cutter.style.suppress (all_lines x) state some in begun_by cutter.style cutter.operands (at.steps ++ step_at cutter now.goes.operand cut ∷ []) _ rest (leads_on at cut now.goes _ _ _ rest))
@@ -667,11 +667,11 @@ module _ {told : Bool} {cutter mid : CutterState} {writer next : WriterState} {c
       let state = passed_state went passed now.goes.are in
       let current : mid.progress.current ≡ line_after (suppress_in cutter) cut.line = ap (λ (s : State). s.current) state in
       let lines_is : mid.lines ≡ cutter.lines = ap (λ (c : CutterState). c.lines) passed.same in
-      let on : cutter.progress.current + at.taken ≤ cut.line = (let p = now.place_is in let b = now.before in omega (arith, p, b)) in
-      let first : 1 ≤ cut.line = (let s = fit.fits.some in omega (arith, s, will.from)) in
+      let on : cutter.progress.current + at.taken ≤ cut.line = (let p = now.place_is in let b = now.before in omega arith) in
+      let first : 1 ≤ cut.line = (let s = fit.fits.some in omega arith) in
       let same_count : n ≡ cut.line - (cutter.progress.current + at.taken) = n_is ∙ ap (λ n. cut.line - n) now.place_is in
       let left_after : all ≡ text_from cut.line x = all_is ∙ left_on n fit.fits.some at
-      ∙ ap (λ n. text_from n x) (let e : cutter.progress.current + at.taken + n ≡ cut.line = omega (arith, on, same_count) in e) in
+      ∙ ap (λ n. text_from n x) (let e : cutter.progress.current + at.taken + n ≡ cut.line = omega arith in e) in
       let draft = draft_at at in
       let steps = at.steps ++ step_at cutter now.goes.operand cut ∷ [] in
       let draft_is : with_next (opening_of cutter.style kept) (with_bytes before draft) ≡ draft_by cutter.style (all_lines x) steps kept [] =
@@ -679,14 +679,14 @@ module _ {told : Bool} {cutter mid : CutterState} {writer next : WriterState} {c
       let now_part : draft_part manner (draft_by cutter.style (all_lines x) steps kept []) ≡ draft_part (manner_of mid.style) (draft_by mid.style (all_lines x) steps kept []) = ap (λ (s : Style). draft_part (manner_of s) (draft_by s (all_lines x) steps kept [])) (sym style_is) in
       let near : mid.lines ≤ search_line mid.style.suppress (state_in mid) =
       (let e : search_line mid.style.suppress (state_in mid) ≡ search_after (suppress_in cutter) cut = ap (λ b. search_line b (state_in mid)) suppress_is
-      ∙ (grind (arith, common_steps)) in let n = now.near in omega (arith, e, n, lines_is)) in record {
+      ∙ (grind (arith, common_steps)) in let n = now.near in omega arith) in record {
         now = record {
           steps = steps;
           leads = grind (arith, common_steps, suppress_is, (ap (λ (c : CutterState). c.operands) passed.same), state, (leads_on at cut now.goes));
           counted = lines_is ∙ at.counted;
           taken = 0;
           written = [];
-          few = omega (arith, current, after_within (suppress_in cutter) cut.line cutter.lines will.within, at.counted);
+          few = omega (arith, after_within (suppress_in cutter) cut.line cutter.lines will.within);
           written_is = sym (first_lines-zero newline (text_from mid.progress.current x));
           left_is = rest_from mid.style.suppress all cut.line x first left_after skipped whole
               ∙ ap (λ n. text_from n x) (ap (λ b. line_after b cut.line) suppress_is ∙ sym current ∙ (let e : mid.progress.current ≡ mid.progress.current + 0 = omega arith in e));
@@ -695,7 +695,7 @@ module _ {told : Bool} {cutter mid : CutterState} {writer next : WriterState} {c
         looked = record {
           counted = lines_is ∙ at.counted;
           last = now.last;
-          others = λ operand operands are other from less. absurd (omega (arith, near, from, less));
+          others = λ operand operands are other from less. absurd (omega arith);
         };
         near = near;
         none = refl;
@@ -715,7 +715,7 @@ module _ {told : Bool} {cutter mid : CutterState} {writer next : WriterState} {c
       fit = record { fits = passed.fit.fits; most = passed.fit.most; delim = passed.fit.delim; sought = passed.fit.sought };
       held = passed.held;
       after = λ x at now. after_at line now;
-      size = omega (arith, empty, shorter);
+      size = omega arith;
       end = end_of mid.style.suppress left all n all_is skipped whole;
     };
   }

@@ -154,7 +154,7 @@ first_opened : (told : Bool) {style : Style} {operands : List Operand} {old new 
     → Opened told style operands old new (first_cutter operands style writer aim)
 first_opened told {style} {operands} {old} {new} {writer} aim two begun none says moves =
     let ends = first_ends operands says moves in
-    let none' : size_of writer.current + 0 ≡ 0 = omega (arith, none) in record {
+    let none' : size_of writer.current + 0 ≡ 0 = omega arith in record {
       asked = refl;
       operands_are = refl;
       stands = first_stands operands style (begun.writes (manner_of style) nothing_yet (first_writes style)) ends (is_final ends.ending) refl;
@@ -229,7 +229,7 @@ live_draft {cutter} {x} fit live =
       writes = live.at.writes;
       settled = live_part live;
       whole = ap (λ draft. draft_part (manner_of cutter.style) (with_next Never draft)) (draft_is whole_end cutter.style cutter.operands x (live.at.taken + n) (runs_to live.at live.ends)
-          (omega (arith, left_count live.at, few_taken live.at, live.at.counted, ends_after_all (line_count newline x) live.ends.ending live.live, some))
+          (omega (arith, left_count live.at, few_taken live.at, ends_after_all (line_count newline x) live.ends.ending live.live))
           (written_on n some live.at (sym (first_lines-all newline n (omega arith)))))
           ∙ whole_part_is cutter.style cutter.operands (all_lines x);
     }
@@ -333,10 +333,10 @@ held_is {stage} {x} {result} holds few is = by holds.stands where
       let all : length (whole_lines x) + length (open_line x) ≡ length x = sym (length-append (whole_lines x) (open_line x)) ∙ ap length (lines_then_open) in
       let rest_long : length stage.rest ≡ length (open_line x) = ap length rest_is in
       let long : length (waiting stage.cutter.style stage.cutter.operands x) ≡ length stage.cutter.window.held + length stage.rest = ap length (live_waiting stage x live rest_is) ∙ length-append stage.cutter.window.held stage.rest in
-      omega (arith, is, held_within live, all, rest_long, few, long)
+      omega (arith, held_within live)
   by (inr past) =
       let long : length (waiting stage.cutter.style stage.cutter.operands x) ≡ 0 = ap length (ap (λ lines. waiting_of lines (plan (suppress_in stage.cutter) stage.cutter.operands lines) (open_line x)) (sym (all_complete x)) ∙ ap (λ final. cond final [] (bytes_of (waiting_lines (all_lines (whole_lines x)) (plan_in stage.cutter (whole_lines x))) ++ open_line x)) past.past) in
-      omega (arith, is, ap length past.none, ap length (holds.past past.aim), long)
+      omega (arith, ap length past.none, ap length (holds.past past.aim))
 
 -- What the stage that takes in bytes does with the cutter of lines.
 
@@ -481,7 +481,7 @@ passes_on {view = view} next {mid} {piece} result is differs took cutter past li
         past = λ is_below was. past (sym aim_is ∙ is_below);
         still = λ is_below. absurd (differs is_below);
         unbroken = rest.0;
-        size = omega (arith, took.went.size, sym (length-append view.rest piece) ∙ ap length (sym lines_then_open) ∙ length-append (whole_lines text) (open_line text), ap load cutter, rest.1);
+        size = omega (arith, sym (length-append view.rest piece) ∙ ap length (sym lines_then_open) ∙ length-append (whole_lines text) (open_line text), ap load cutter);
       });
 })
 
@@ -608,7 +608,7 @@ pub passes_by : (told : Bool) (stage next : CsplitState) (piece : List ℕ) (old
     → engine.Passes terms told piece stage next old new (IsMetWith terms piece stage) result
 passes_by told stage next piece old new (Ok done) passes is_ready taken fits = record {
   same = same_by csplit_work passes.took.keeps;
-  size = omega (arith, taken);
+  size = omega arith;
   holds = λ x holds. holds_by passes holds (below_or_not stage.cutter.aim);
   outputs = λ before x at. rw (settled_then piece at.holds) at ((passes.took.reaches (whole_lines x) (lines_whole x) at.holds.stands).there before (stands_so told at)).outputs;
   ready = record {
@@ -617,8 +617,8 @@ passes_by told stage next piece old new (Ok done) passes is_ready taken fits = r
     manner = rw (passes.took.keeps.style, same_manner passes.took.keeps.writer) is_ready.manner;
     sound = passes.took.went.sound;
     unbroken = passes.passed.unbroken;
-    room = let size = passes.passed.size in omega (arith, size, is_ready.room, taken);
-    few = omega (arith, taken, fits);
+    room = let size = passes.passed.size in omega arith;
+    few = omega arith;
   };
   owns = owns_on passes.took.keeps.writer;
   there = passes.took.keeps.writer.owns.there;
@@ -627,7 +627,7 @@ passes_by told stage next piece old new (Ok done) passes is_ready taken fits = r
 }
 passes_by told stage next piece old new (Err fault) stopped is_ready taken fits = record {
   same = same_by csplit_work stopped.took.keeps;
-  size = omega (arith, taken);
+  size = omega arith;
   holds = tt;
   outputs = tt;
   ready = tt;
@@ -757,7 +757,7 @@ sweeps stage next {old} {new} is taken clears_view none are =
     let clears = rw is at clears_view in
     let kept = files_left (ap (λ (c : CutterState). c.writer.keeps) clears.same) (ap (λ (c : CutterState). c.writer.current) clears.same) clears.removes in record {
       same = ap (λ (c : CutterState). csplit_work c.style c.operands) clears.same;
-      size = omega (arith, taken);
+      size = omega arith;
       removes = rw none clears.removes;
       swept = λ first own. rw none (all_cleared first (files stage) (files next) old new clears.removes own.writer.there own.writer.from (own.writer.own own.all));
       owns = λ first own. record { writer = kept.owns first own.writer; all = ap (λ (c : CutterState). c.writer.keeps) clears.same ∙ own.all };

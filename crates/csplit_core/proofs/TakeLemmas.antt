@@ -60,7 +60,7 @@ place_before : {cutter : CutterState} {x : List ℕ} (t : List ℕ) (cut : Cut) 
     → CutsIn cutter (x ++ t) cut → cutter.progress.current ≤ cut.line
     → cutter.progress.current + live.at.taken ≤ cut.line
 place_before t cut live whole goes from =
-    let at = rw (all_lines-append t (inl whole)) at goes.cuts in omega (arith, live_taken live, live_before t live cut.matched cut.line goes.are at, from)
+    let at = rw (all_lines-append t (inl whole)) at goes.cuts in omega (arith, live_taken live, live_before t live cut.matched cut.line goes.are at)
 
 -- What arrives where more lines came.
 
@@ -70,8 +70,8 @@ more_lines cutter lines aim = record cutter { lines = lines; aim = aim }
 enough_left : (lines current taken most : ℕ) {left : ℕ} → 1 ≤ current → current + taken ≤ lines + 1
     → taken ≡ lines + 1 - current - most → left ≡ lines - (current + taken - 1) → (taken ≡ 0) ⊎ (most ≤ left)
 enough_left lines current taken most some few is left_is = elim (cases_lt most (lines + 1 - current)) [
-  | inl more ↦ inr (omega (arith, some, few, is, left_is, more))
-  | inr none ↦ inl (omega (arith, is, none))
+  | inl more ↦ inr (omega arith)
+  | inr none ↦ inl (omega arith)
 ]
 
 pub arrives_more : {cutter : CutterState} {lines : ℕ} {aim : Turn} {x : List ℕ} (t : List ℕ) (live : IsLive cutter x)
@@ -90,7 +90,7 @@ arrives_more {cutter} {x} t live whole fit count ends =
       more : {taken most other : ℕ} → (taken ≡ 0) ⊎ (other ≤ line_count newline cutter.window.held) → most ≡ other
           → (taken ≡ 0) ⊎ (most ≤ line_count newline (cutter.window.held ++ t))
       more (inl none) is = inl none
-      more {most = most} {other = other} (inr enough) is = inr (omega (arith, line_count-grows newline cutter.window.held t, enough, is))
+      more {most = most} {other = other} (inr enough) is = inr (omega (arith, line_count-grows newline cutter.window.held t))
 
 -- Once more lines came, and what is settled of them is written and the others held.
 
@@ -125,7 +125,7 @@ took_held {cutter = cutter} {next} {lines} {aim} {t} {fault = fault} sound fit d
   went = where_well fault held.went (λ went. record {
     stands = λ x whole stands. let there = reached x whole stands in went.stands (x ++ t) there.at there.arrives;
     sound = sound_held went sound;
-    size = (most_load cutter.lines (size_of next.writer.current + length next.window.held) (size_of cutter.writer.current + length cutter.window.held) next.lines (length t) 0 (omega (arith, ap (λ (c : CutterState). c.lines) went.same, few)) (omega (arith, length-append cutter.window.held t, went.size)));
+    size = (most_load cutter.lines (size_of next.writer.current + length next.window.held) (size_of cutter.writer.current + length cutter.window.held) next.lines (length t) 0 (omega (arith, ap (λ (c : CutterState). c.lines) went.same)) (omega (arith, length-append cutter.window.held t)));
   });
 } where
   reached : (x : List ℕ) → IsWhole x → Stands cutter x
@@ -146,12 +146,12 @@ cuts_there : {cutter : CutterState} {lines : ℕ} {x : List ℕ} (line : List �
     (at_more line (inl whole) fit.fits.some live.at live.ends count)
 unfolding at_more
 cuts_there {cutter} {lines} {x} line cut live whole fit one count from goes near =
-    let more : lines ≡ cutter.lines + 1 = (let l = count-line line whole one in omega (arith, count, l, live.at.counted)) in
-    let place : lines - delimiters newline cutter.window.held ≡ cutter.progress.current + live.at.taken = (let s = fit.fits.some in omega (arith, left_count live.at, whole_count (subst IsWhole (sym live.at.left_is) (whole_from (cutter.progress.current + live.at.taken) whole)), more, few_taken live.at, s)) in record {
+    let more : lines ≡ cutter.lines + 1 = (let l = count-line line whole one in omega arith) in
+    let place : lines - delimiters newline cutter.window.held ≡ cutter.progress.current + live.at.taken = (let s = fit.fits.some in omega (arith, left_count live.at, whole_count (subst IsWhole (sym live.at.left_is) (whole_from (cutter.progress.current + live.at.taken) whole)), few_taken live.at)) in record {
       last = (all_lines x, all_lines-line line whole one, λ ends. whole-append line whole (inr ends));
       near = near;
       place_is = place;
-      before = omega (arith, place_before line cut live whole goes from, place);
+      before = omega (arith, place_before line cut live whole goes from);
       goes = goes;
     }
 
@@ -171,7 +171,7 @@ take_cut {told} {cutter} {mid} {next} line more {cut} {old} {new} {fault} fit di
     stands = λ x whole stands. let there = reached x whole stands in subst (Stands next) (append_assoc x line more) (went.stands (x ++ line) there.0 there.1);
     sound = went.sound;
     size = let both : length (line ++ more) ≡ length line + length more = length-append line more in
-        most_load cutter.lines (size_of next.writer.current + length next.window.held) (size_of cutter.writer.current + length cutter.window.held) next.lines (length (line ++ more)) 0 (omega (arith, went.lines, line_has line one, both)) (omega (arith, length-append cutter.window.held line, both, went.size));
+        most_load cutter.lines (size_of next.writer.current + length next.window.held) (size_of cutter.writer.current + length cutter.window.held) next.lines (length (line ++ more)) 0 (omega (arith, line_has line one)) (omega (arith, length-append cutter.window.held line));
   });
 } where
   all : CutsAll told (more_lines cutter (cutter.lines + 1) mid.aim) cut
@@ -255,7 +255,7 @@ takes_again {one = one} {three = three} {a} {b} {fault = fault} whole first seco
   went = where_well fault second.went (λ went. record {
     stands = λ x before stands. subst (Stands three) (append_assoc x a b) (went.stands (x ++ a) (whole-append a before whole) (first.went.stands x before stands));
     sound = went.sound;
-    size = omega (arith, length-append a b, first.went.size, went.size);
+    size = omega (arith, length-append a b);
   });
 }
 
@@ -363,7 +363,7 @@ module _ {told : Bool} {cutter now mid : CutterState} {cut cut' : Cut} {place : 
               grows = part_trans (part_at at) (part_at after.now) (part_at again.now) after.grows again.grows;
               reaches = reaches_then so_far.keeps.style after.grows after.reaches again.reaches;
             };
-        size = omega (arith, once.size, so_far.size);
+        size = omega arith;
         end = (so_far.end.0 ++ once.end.0, so_far.end.1 ∙ ap (λ those. so_far.end.0 ++ those) once.end.1 ∙ sym (append_assoc so_far.end.0 once.end.0 rest));
       }
 
@@ -396,7 +396,7 @@ drained_place : (lines : ℕ) (held line : List ℕ) {items : List ℕ} {n count
     → n ≡ length items → count ≡ delimiters newline (take (n - length line) items) → place ≡ lines - count
     → place ≡ lines - delimiters newline held
 drained_place lines held line {n = n} items_is long count_is place_is =
-    let size : n - length line ≡ length held = omega (arith, long, ap length items_is ∙ length-append held line) in
+    let size : n - length line ≡ length held = omega (arith, ap length items_is ∙ length-append held line) in
     (grind (arith, common_steps, size, items_is, count_is, place_is, take_at))
 
 pub cut_drained : {told : Bool} {cutter next : CutterState} {window : Window} {cut : Cut} {n count place : ℕ}
@@ -439,8 +439,8 @@ found_held rest size found (Err fault) held is are = tt
 piece_from : (text : List ℕ) (first size n : ℕ) → first ≤ size → size ≤ length text
     → take (size + n - first) (drop first text) ≡ drop first (take size text) ++ take n (drop size text)
 piece_from text first size n low within =
-    let parts : drop first text ≡ drop first (take size text) ++ drop size text = ap (drop first) (sym (take-append-drop size text)) ∙ drop-append-le first (take size text) (drop size text) (let e = length-take-le size text within in omega (arith, low, e)) in
-    ap (take (size + n - first)) parts ∙ ap (λ k. take k (drop first (take size text) ++ drop size text)) (let e : size + n - first ≡ length (drop first (take size text)) + n = omega (arith, length-drop first (take size text) ∙ ap (λ k. k - first) (length-take-le size text within), low) in e)
+    let parts : drop first text ≡ drop first (take size text) ++ drop size text = ap (drop first) (sym (take-append-drop size text)) ∙ drop-append-le first (take size text) (drop size text) (let e = length-take-le size text within in omega arith) in
+    ap (take (size + n - first)) parts ∙ ap (λ k. take k (drop first (take size text) ++ drop size text)) (let e : size + n - first ≡ length (drop first (take size text)) + n = omega (arith, length-drop first (take size text) ∙ ap (λ k. k - first) (length-take-le size text within)) in e)
     ∙ take-append-add (drop first (take size text)) (drop size text) n
 
 pub gone_on : {told : Bool} {cutter mid next : CutterState} (text : List ℕ) {rest : List ℕ} (first size : ℕ)
@@ -496,10 +496,10 @@ spread_passes {told} {cutter} {mid} {end} {next} {cut} {place} {waiting} {line} 
   reaches = λ x at here. let after = spread.so_far.after x at here in let there = reached x at here in
       reaches_then spread.so_far.keeps.style after.grows after.reaches (reaches_as there.same (sym (settled_same (x ++ take n rest) spread.so_far.keeps)) (held_now.reaches (x ++ take n rest) there.at there.arrives));
   went = where_well fault held_now.went (λ went. record {
-    lines = omega (arith, ap (λ (c : CutterState). c.lines) went.same, over_now.few, spread.so_far.lines, length-take-le n rest over.within);
+    lines = omega (arith, ap (λ (c : CutterState). c.lines) went.same, length-take-le n rest over.within);
     sound = sound_held went (subst IsSound over_now.same over.sound);
     stands = λ x at here. let there = reached x at here in went.stands (x ++ take n rest) there.at there.arrives;
-    size = omega (arith, went.size, spread.so_far.size, length-append left (take n rest));
+    size = omega (arith, length-append left (take n rest));
   });
 } where
   over_now : PassesOver (record spread.now { aim = mid.aim }) rest end n
@@ -574,7 +574,7 @@ module _ {told : Bool} {cutter mid next : CutterState} {text : List ℕ} {size :
       let end_is : end ≡ more_lines cutter end.lines mid.aim = gone.over.same ∙ ap (λ (c : CutterState). record c { lines = end.lines }) mid_is in
       record {
         on = gone.on;
-        took = took_held (subst IsSound end_is gone.over.sound) fit differs (omega (arith, gone.over.few, length-append line (take gone.on.n (drop size text)), length-take-le gone.on.n (drop size text) gone.over.within, ap (λ (c : CutterState). c.lines) mid_is, line_has line start.line))
+        took = took_held (subst IsSound end_is gone.over.sound) fit differs (omega (arith, length-append line (take gone.on.n (drop size text)), length-take-le gone.on.n (drop size text) gone.over.within, ap (λ (c : CutterState). c.lines) mid_is, line_has line start.line))
             (ends_on line start.line start.complete mid_is tries gone.over end_is) (rw end_is at gone.held);
       }
 
@@ -598,7 +598,7 @@ module _ {told : Bool} {cutter mid next : CutterState} {text : List ℕ} {size :
       n = 0;
       within = omega arith;
       whole = inl refl;
-      size_is = ok_as result (λ passed both. omega (arith, both.0)) are;
+      size_is = ok_as result (λ passed both. omega arith) are;
       found = ok_as result (λ passed both. rw both.1 tt) are;
     };
     took = take_cut (take size text) [] fit differs start.line mid_is will tries all;
@@ -614,7 +614,7 @@ stretch_past {text = text} {size} passed start took size_is none =
         n = length (drop size text);
         within = omega arith;
         whole = rw rest start.rest;
-        size_is = omega (arith, size_is, length-drop size text, start.within);
+        size_is = omega (arith, length-drop size text);
         found = rw none tt;
       };
       took = rw rest (rw take-append-drop took);

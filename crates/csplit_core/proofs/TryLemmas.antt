@@ -75,7 +75,7 @@ ends_still b (misses state operand operands is none) still =
     misses state operand operands is ((grind (arith, common_steps, none, (still operand operands is))))
 ends_still {suppress} {a} b (is_above state operand operands matched cut is at far) still = is_above state operand operands matched cut is (cuts_still suppress a b state operand operand.target matched cut at) still
 ends_still {suppress} {a} b (is_below state operand operands matched cut is at within low) still =
-    is_below state operand operands matched cut is (cuts_still suppress a b state operand operand.target matched cut at) (omega (arith, length-append a b, within)) low
+    is_below state operand operands matched cut is (cuts_still suppress a b state operand operand.target matched cut at) (omega (arith, length-append a b)) low
 ends_still b (cuts state operand operands matched cut steps' last' ending' is at from within rest) still = ends_still b rest still
 
 pub stays : (suppress : Bool) (operands : List Operand) (a b : List Line)
@@ -100,12 +100,12 @@ module _ {suppress : Bool} (all : List Line) {total : ℕ} {state : State} {foun
       → FallsAt total state.current matched most turn → Turns suppress all state turn
   falls matched real {most} at_cut is few (Above line cap) at = record {
     ending = above operand state.repetition matched real;
-    runs = is_above state operand operands matched real are at_cut (let less : most ≤ real = (grind (arith, common_steps)) in omega (arith, less, at.2, seen.count));
+    runs = is_above state operand operands matched real are at_cut (let less : most ≤ real = (grind (arith, common_steps)) in omega arith);
     aims = (at.0, at.1 ∙ is);
   }
   falls matched real {most} at_cut is few Below at =
       let same : most ≡ real = capped real (2 ^ 64 - 1) most total is at.0 few in
-      record { ending = below operand state.repetition; runs = is_below state operand operands matched real are at_cut (omega (arith, same, at.0, seen.count)) (omega (arith, same, at.1)); aims = tt }
+      record { ending = below operand state.repetition; runs = is_below state operand operands matched real are at_cut (omega arith) (omega arith); aims = tt }
   falls matched real at_cut is few (Cuts line cut) at = (grind (arith, common_steps, seen.count))
   falls matched real at_cut is few turn at = absurd at
 
@@ -121,7 +121,7 @@ module _ {suppress : Bool} (all : List Line) {total : ℕ} {state : State} {foun
       → FallsAt total state.current total most turn → Turns suppress all state turn
   falls_search offset target near is_found = falls total (moved offset total)
       (subst (λ t. CutsAt suppress all state operand t total (moved offset total)) (sym target)
-      (record { not_before = near; within = omega (arith, seen.count); match = seen.last operand operands are near ∙ is_found; first = seen.others operand operands are }, refl))
+      (record { not_before = near; within = omega arith; match = seen.last operand operands are near ∙ is_found; first = seen.others operand operands are }, refl))
 
   -- and where it has not, or the search begins after it, no line matches
   pub misses_search : {pattern : Pattern} {kept : Bool} {offset : Offset} → operand.target ≡ Search pattern kept offset
@@ -129,8 +129,8 @@ module _ {suppress : Bool} (all : List Line) {total : ℕ} {state : State} {foun
   misses_search target none = record {
     ending = missed operand state.repetition;
     runs = misses state operand operands are (subst (Misses suppress all state operand) (sym target)
-        (looks_past operand all (search_line suppress state) (λ other from less. seen.others operand operands are other from (omega (arith, less, seen.count)))
-        (λ near. let at : search_line suppress state ≤ total = omega (arith, seen.count, near) in ap
+        (looks_past operand all (search_line suppress state) (λ other from less. seen.others operand operands are other from (omega arith))
+        (λ near. let at : search_line suppress state ≤ total = omega arith in ap
         (is_match operand all) seen.count ∙ seen.last operand operands are at ∙ none at)));
     aims = tt;
   }
@@ -160,8 +160,8 @@ repeated_again : (total : ℕ) (state next : State) (target : Target) {matched :
     → next.matched ≡ matched
     → IsRepeatedBy total state target → IsRepeatedBy total next target
 repeated_again total state next (Number n) cut at some within again same few =
-    omega (arith, fewer_left total state next (Number n) cut at some within again same, again)
-repeated_again total state next (Search pattern kept offset) cut at some within again same few = omega (arith, at.0, few, again, same)
+    omega (arith, fewer_left total state next (Number n) cut at some within again same)
+repeated_again total state next (Search pattern kept offset) cut at some within again same few = omega arith
 
 repeated_by : (total : ℕ) (state : State) (operand : Operand) (operands : List Operand) {matched : ℕ} (cut : ℕ)
     → Moves total state operand.target matched cut → 1 ≤ cut → cut ≤ total → IsRepeated total state (operand ∷ operands)
@@ -175,10 +175,10 @@ fits_after : (suppress : Bool) {total : ℕ} {state : State} {operand : Operand}
     → Moves total state operand.target matched cut → matched ≤ total → state.current ≤ cut → cut ≤ total
     → Fits total (state_after suppress operand operands state.repetition matched cut)
 fits_after suppress {total} {state} {operand} {operands} matched cut fits are at few least within = record {
-  some = omega (arith, line_some suppress cut, fits.some, least);
+  some = omega (arith, line_some suppress cut);
   current = omega (arith, after_within suppress cut total within);
   matched = few;
-  repeated = repeated_by total state operand operands cut at (omega (arith, fits.some, least)) within (subst (IsRepeated total state) are fits.repeated)
+  repeated = repeated_by total state operand operands cut at (omega arith) within (subst (IsRepeated total state) are fits.repeated)
       (has_more operand.times state.repetition) (state_after suppress operand operands state.repetition matched cut) refl refl;
 }
 
@@ -201,7 +201,7 @@ module _ {cutter : CutterState} {cut : Cut} {operand : Operand} (progress : Prog
 
   fewer : needed cutter.lines (state_of cutter.operands progress) < needed cutter.lines (state_in cutter)
   fewer = subst (λ state. needed cutter.lines state < needed cutter.lines (state_in cutter)) (sym (next cutter.operands _ are))
-      (fewer_moves suppress cutter.lines (state_in cutter) cut.matched cut.line are at (omega (arith, fit.fits.some, will.from)) will.within)
+      (fewer_moves suppress cutter.lines (state_in cutter) cut.matched cut.line are at (omega arith) will.within)
 
   state : PassesOn cutter cut (record cutter { progress = progress })
   state one more is = grind (arith, common_steps)
@@ -269,7 +269,7 @@ ends_over text fit count stays x before counted ends =
     let here : length (all_lines x) ≡ line_count newline x = length-all_lines x in
     let there : length (all_lines text) ≡ line_count newline text = length-all_lines text in
     let both : length (all_lines x ++ all_lines text) ≡ length (all_lines x) + length (all_lines text) = length-append (all_lines x) (all_lines text) in (
-      omega (arith, count, counted, count-append text before),
+      omega (arith, count-append text before),
       record {
         ending = ends.ending;
         runs = rw (← all_lines-append text before) at (ends_still (all_lines text) ends.runs (grind (arith, common_steps)));
@@ -323,7 +323,7 @@ pub next_tries : {cutter : CutterState} (next : CutterState) (line : List ℕ) (
     → Tries (record cutter { lines = cutter.lines + 1 }) line next result → TriesNext cutter line next result
 next_tries next line None fit one aim counted tries = λ x whole live. tries (x ++ line) (next_looked line live whole one aim)
 next_tries next line (Some cut) fit one aim counted tries = λ x whole live.
-    let both = tries (x ++ line) (next_looked line live whole one aim) in (both.0, omega (arith, both.1 (inr (next_sought live fit aim)), counted))
+    let both = tries (x ++ line) (next_looked line live whole one aim) in (both.0, omega (arith, both.1 (inr (next_sought live fit aim))))
 
 -- What stays so of a state when more lines come
 
@@ -335,7 +335,7 @@ passes {text = text} {n = n} sound within whole count stays = record {
   same = refl;
   within = within;
   whole = whole;
-  few = omega (arith, count, line_count-le-length newline (take n text), length-take-le n text within);
+  few = omega (arith, line_count-le-length newline (take n text), length-take-le n text within);
   sound = grind (arith, common_steps);
   ends = ends_over (take n text) sound.fit count stays;
 }
@@ -347,7 +347,7 @@ passes_all : {cutter : CutterState} {text : List ℕ} {n : ℕ} → IsSound cutt
     → PassesOver cutter text (record cutter { lines = cutter.lines + n }) (length text)
 passes_all {text = text} sound whole count stays =
     let all : text ≡ take (length text) text = sym (take_all (length text) text (omega arith)) in
-    passes sound (omega arith) (subst IsWhole all whole) (omega (arith, count, whole_count whole, ap (line_count newline) all)) (rw all at stays)
+    passes sound (omega arith) (subst IsWhole all whole) (omega (arith, whole_count whole, ap (line_count newline) all)) (rw all at stays)
 
 pub passes_used_up : {cutter : CutterState} {text : List ℕ} {n : ℕ} → IsSound cutter → IsWhole text
     → n ≡ delimiters newline text → cutter.aim ≡ UsedUp
@@ -362,8 +362,8 @@ pub passes_below : {cutter : CutterState} {text : List ℕ} (line end : ℕ) →
 passes_below {cutter} {text} line end sound (matched, aim) ends =
     let less : cutter.lines < line = (subst (AimHolds cutter.operands cutter.lines cutter.progress) aim sound.aim).above in
     let count : line_count newline (take end text) ≡ line - 1 - cutter.lines = (grind (arith, common_steps, EndsAt-enough, line_count_near, lines_of-first_lines, length-take-le, ends)) in
-    passes sound ends.within (whole_by (take end text) _ refl (omega (arith, count, ends.complete))) (omega (arith, less, count))
-    (subst (StaysOver cutter (take end text) (line - 1)) (sym aim) (let e : line - 1 < line = omega (arith, less) in e))
+    passes sound ends.within (whole_by (take end text) _ refl (omega arith)) (omega arith)
+    (subst (StaysOver cutter (take end text) (line - 1)) (sym aim) (let e : line - 1 < line = omega arith in e))
 
 pub passes_short : {cutter : CutterState} {text : List ℕ} (line : ℕ) {count : ℕ} → IsSound cutter → IsWhole text
     → (matched : ℕ) × (cutter.aim ≡ Above matched line) → FallsShort newline (line - 1 - cutter.lines) text count
@@ -385,19 +385,19 @@ pub record Unmatched (cutter : CutterState) (text left : List ℕ) (next : Cutte
 
 pub first_ends : (x : List ℕ) (end : ℕ) → end < length x → Passes (is_byte newline) x end
     → ends_with newline (take (suc end) x) ≡ true
-first_ends [] end within here = absurd (omega (arith, within))
+first_ends [] end within here = absurd (omega arith)
 first_ends (byte ∷ x) zero within here = here
-first_ends (byte ∷ []) (suc end) within here = absurd (omega (arith, within))
-first_ends (byte ∷ next ∷ x) (suc end) within here = first_ends (next ∷ x) end (omega (arith, within)) here
+first_ends (byte ∷ []) (suc end) within here = absurd (omega arith)
+first_ends (byte ∷ next ∷ x) (suc end) within here = first_ends (next ∷ x) end (omega arith) here
 
 -- it is a complete line
 first_parts : (x : List ℕ) (end : ℕ) → end < length x → Passes (is_byte newline) x end
     → Nowhere (Passes (is_byte newline) x) 0 end
     → (take (suc end) x ≡ take end x ++ newline ∷ []) × HasNone newline (take end x)
-first_parts [] end within here none = absurd (omega (arith, within))
+first_parts [] end within here none = absurd (omega arith)
 first_parts (byte ∷ x) zero within here none = (ap (λ b. b ∷ []) (eqb-true byte newline here), tt)
 first_parts (byte ∷ x) (suc end) within here none =
-    let rest = first_parts x end (omega (arith, within)) here (λ k low high. none (suc k) (omega arith) (omega (arith, high))) in
+    let rest = first_parts x end (omega arith) here (λ k low high. none (suc k) (omega arith) (omega arith)) in
     (ap (λ those. byte ∷ those) rest.0, (λ same. none 0 (omega arith) (omega arith) (eq-eqb byte newline same), rest.1))
 
 without_last : (text : List ℕ) → HasNone newline text → without_newline (text ++ newline ∷ []) ≡ text
@@ -444,7 +444,7 @@ unmatched_on {cutter} {after = after} more rest so parts whole same count others
   all = so.all ∙ ap (λ those. so.front ++ those) parts ∙ sym (append_assoc so.front more rest);
   whole = whole-append more so.whole whole;
   same = same ∙ ap (λ (those : CutterState). record those { lines = after.lines }) so.same;
-  count = omega (arith, count, so.count, count-append more (inl so.whole));
+  count = omega (arith, count-append more (inl so.whole));
   none = λ operand is. rw (← all_lines-append more (inl so.whole)) at (none_more operand cutter.lines (all_lines so.front) (all_lines more) (search_line (suppress_in cutter) (state_in cutter)) (so.none operand is)
       (subst (λ n. NoneFrom operand n (all_lines more) (search_line (suppress_in cutter) (state_in cutter))) (so.count ∙ ap (λ n. cutter.lines + n) (sym (length-all_lines so.front))) (others operand is)));
 }
@@ -484,7 +484,7 @@ marks_clear : (operand : Operand) (x : List ℕ) (count start : ℕ)
     → ((pattern : Pattern) → pattern_in operand.target ≡ Some pattern → AreClear pattern x)
     → NoneFrom operand count (all_lines x) start
 marks_clear operand x count start clear k less near =
-    let few : k < line_count newline x = (let e : length (all_lines x) ≡ line_count newline x = length-all_lines x in omega (arith, e, less)) in
+    let few : k < line_count newline x = (let e : length (all_lines x) ≡ line_count newline x = length-all_lines x in omega arith) in
     ap (λ (l : Line). l.marks operand) (get_or-map marked (lines_of newline x) k [] unmarked few)
     ∙ (grind (arith, common_steps))
 
@@ -528,7 +528,7 @@ next_found {text = text} {left} end aim so now_is first finds sure =
     let one : suc end ≡ end + 1 = omega arith in
     rw (now_is, left_is, ← one) (record {
       some = omega arith;
-      within = omega (arith, first.within);
+      within = omega arith;
       line = first.line;
       ends = first.ends;
       aim = ap (λ (those : CutterState). those.aim) so.same ∙ aim;
@@ -557,22 +557,22 @@ line_clear pattern {text} place front line more rest clear all within (bytes, is
     let parts : text ≡ front ++ bytes ++ after = all ∙ append_assoc front (line ++ more) rest
     ∙ ap (λ those. front ++ those) (append_assoc line more rest ∙ ap (λ those. those ++ (more ++ rest)) is ∙ append_assoc bytes (newline ∷ []) (more ++ rest))
     ∙ sym (append_assoc front bytes after) in
-    ap (contains pattern) (ap without_newline is ∙ without_last bytes none) ∙ clear front bytes after parts (omega (arith, ap length is ∙ length-append bytes (newline ∷ []), length-append line more, within))
+    ap (contains pattern) (ap without_newline is ∙ without_last bytes none) ∙ clear front bytes after parts (omega (arith, ap length is ∙ length-append bytes (newline ∷ []), length-append line more))
 
 each_clear : (pattern : Pattern) {text : List ℕ} (place : ℕ) (front : List ℕ) (lines : List (List ℕ)) (rest : List ℕ)
     → IsClear pattern text place → text ≡ front ++ joined lines ++ rest → length front + length (joined lines) ≤ place
     → AreLines newline lines
     → (0 < length lines → ends_with newline (joined lines) ≡ true) → (k : ℕ) → k < length lines
     → contains pattern (without_newline (get_or lines k [])) ≡ false
-each_clear pattern place front [] rest clear all within are ends k less = absurd (omega (arith, less))
+each_clear pattern place front [] rest clear all within are ends k less = absurd (omega arith)
 each_clear pattern place front (line ∷ []) rest clear all within (inl complete) ends zero less = line_clear pattern place front line [] rest clear all within complete
 each_clear pattern place front (line ∷ []) rest clear all within (inr unended) ends zero less = grind (arith, common_steps, false≢true, ends_none, append-nil)
-each_clear pattern place front (line ∷ []) rest clear all within are ends (suc k) less = absurd (omega (arith, less))
+each_clear pattern place front (line ∷ []) rest clear all within are ends (suc k) less = absurd (omega arith)
 each_clear pattern place front (line ∷ next ∷ lines) rest clear all within are ends zero less = line_clear pattern place front line (joined (next ∷ lines)) rest clear all within are.0
 each_clear pattern place front (line ∷ next ∷ lines) rest clear all within are ends (suc k) less =
     each_clear pattern place (front ++ line) (next ∷ lines) rest clear
-    (all ∙ ap (λ those. those ++ rest) (sym (append_assoc front line (joined (next ∷ lines))))) (omega (arith, length-append front line, length-append line (joined (next ∷ lines)), within)) are.1
-    (λ some. sym (ends_with-append newline line (joined (next ∷ lines)) (grind (arith, common_steps))) ∙ ends (omega arith)) k (omega (arith, less))
+    (all ∙ ap (λ those. those ++ rest) (sym (append_assoc front line (joined (next ∷ lines))))) (omega (arith, length-append front line, length-append line (joined (next ∷ lines)))) are.1
+    (λ some. sym (ends_with-append newline line (joined (next ∷ lines)) (grind (arith, common_steps))) ∙ ends (omega arith)) k (omega arith)
 
 whole_ends : {x : List ℕ} → IsWhole x → 0 < length (lines_of newline x)
     → ends_with newline (joined (lines_of newline x)) ≡ true
@@ -584,7 +584,7 @@ clear_front pattern text place n clear low within whole =
     let x = take n text in
     let joined_is : joined (lines_of newline x) ≡ x = joined-lines_of newline x in
     each_clear pattern place [] (lines_of newline x) (drop n text) clear (sym (take-append-drop n text) ∙ ap (λ those. those ++ drop n text) (sym joined_is))
-    (omega (arith, ap length joined_is ∙ length-take-le n text within, low)) (AreLines-lines_of newline x) (whole_ends whole)
+    (omega (arith, ap length joined_is ∙ length-take-le n text within)) (AreLines-lines_of newline x) (whole_ends whole)
 
 -- A line has its newline at its end, if it has one.
 
@@ -592,9 +592,9 @@ one_line : (line : List ℕ) → IsLine line → AreLines newline (line ∷ [])
 one_line line one = subst (AreLines newline) one (AreLines-lines_of newline line)
 
 none_at : (text : List ℕ) (n d : ℕ) → n < length text → HasNone newline text → get_or text n d ≡ newline → ⊥
-none_at [] n d less none is = absurd (omega (arith, less))
+none_at [] n d less none is = absurd (omega arith)
 none_at (byte ∷ text) zero d less none is = none.0 is
-none_at (byte ∷ text) (suc n) d less none is = none_at text n d (omega (arith, less)) none.1 is
+none_at (byte ∷ text) (suc n) d less none is = none_at text n d (omega arith) none.1 is
 
 pub text_ended : (line : List ℕ) {last : ℕ} (d : ℕ) → IsLine line → last ≡ get_or line (length line - 1) d
     → last ≡ newline → take (length line - 1) line ≡ without_newline line

@@ -33,7 +33,7 @@ lines_in-append (one ∷ a) b = ap (λ those. one.lines ++ those) (lines_in-appe
 pub between_rest : (first cut : ℕ) (lines : List Line) → 1 ≤ first → first ≤ cut
     → lines_between first cut lines ++ drop (cut - 1) lines ≡ drop (first - 1) lines
 between_rest first cut lines some least =
-    ap (λ those. lines_between first cut lines ++ those) (ap (λ n. drop n lines) (let e : cut - 1 ≡ first - 1 + (cut - first) = omega (arith, some, least) in e) ∙ sym (drop-drop (cut - first) (first - 1) lines))
+    ap (λ those. lines_between first cut lines ++ those) (ap (λ n. drop n lines) (let e : cut - 1 ≡ first - 1 + (cut - first) = omega arith in e) ∙ sym (drop-drop (cut - first) (first - 1) lines))
     ∙ take-append-drop (cut - first) (drop (first - 1) lines)
 
 steps_and_rest : {lines : List Line} {first : State} {steps : List Step} {last : State} {ending : Ending}
@@ -41,7 +41,7 @@ steps_and_rest : {lines : List Line} {first : State} {steps : List Step} {last :
     → lines_in (map (section_of lines) steps) ++ drop (last.current - 1) lines ≡ drop (first.current - 1) lines
 steps_and_rest {lines} (cuts state operand operands matched cut steps' last' ending' is at from within rest) some =
     append_assoc (lines_between state.current cut lines) (lines_in (map (section_of lines) steps')) (drop (last'.current - 1) lines)
-    ∙ ap (λ those. lines_between state.current cut lines ++ those) (steps_and_rest rest (omega (arith, some, from)))
+    ∙ ap (λ those. lines_between state.current cut lines ++ those) (steps_and_rest rest (omega arith))
     ∙ between_rest state.current cut lines some from
 steps_and_rest run some = refl
 

@@ -98,15 +98,15 @@ sound_replace {world} {name} bytes sound = record { known = λ a file is. knows 
   knows : (a : List ℕ) (file : ℕ) (test : Bool)
       → (if test then Some (length world.files) else led_to world.links a) ≡ Some file
       → file < length (world.files ++ bytes ∷ [])
-  knows a file true is = let n = length-append world.files (bytes ∷ []) in let e : length world.files ≡ file = cc in omega (arith, n, e)
-  knows a file false is = let n = length-append world.files (bytes ∷ []) in let k : file < length world.files = sound.known a file is in omega (arith, n, k)
+  knows a file true is = let n = length-append world.files (bytes ∷ []) in let e : length world.files ≡ file = cc in omega arith
+  knows a file false is = let n = length-append world.files (bytes ∷ []) in let k : file < length world.files = sound.known a file is in omega arith
 
   ones : (a b : List ℕ) (file : ℕ) (test other : Bool) → bytes_eq name a ≡ test → bytes_eq name b ≡ other
       → (if test then Some (length world.files) else led_to world.links a) ≡ Some file
       → (if other then Some (length world.files) else led_to world.links b) ≡ Some file → a ≡ b
   ones a b file true true same also is one = sym ((bytes_eq-Decides name a).0 same) ∙ (bytes_eq-Decides name b).0 also
-  ones a b file true false same also is one = absurd (let e : length world.files ≡ file = cc in let k : file < length world.files = sound.known b file one in omega (arith, e, k))
-  ones a b file false true same also is one = absurd (let e : length world.files ≡ file = cc in let k : file < length world.files = sound.known a file is in omega (arith, e, k))
+  ones a b file true false same also is one = absurd (let e : length world.files ≡ file = cc in let k : file < length world.files = sound.known b file one in omega arith)
+  ones a b file false true same also is one = absurd (let e : length world.files ≡ file = cc in let k : file < length world.files = sound.known a file is in omega arith)
   ones a b file false false same also is one = sound.one a b file is one
 
 sound_remove : {world : World} {name : List ℕ} → Sound world → Sound (edited (remove name) world)

@@ -277,9 +277,9 @@ next_bytes : (contents : List ℕ) {read_old read_new : List ℕ} (tail : List �
     → n ≤ length read_old → length read_new ≡ length read_old → GaveFrom contents at read_old read_new n
     → take (at - from) (drop from contents) ++ take n (read_new ++ tail) ≡ take ((at + n) - from) (drop from contents)
 next_bytes contents {read_new} tail {from} {at} {n} past few long gave =
-    let count : (at + n) - from ≡ (at - from) + n = omega (arith, past) in
-    let place : from + (at - from) ≡ at = omega (arith, past) in
-    ap (λ piece. take (at - from) (drop from contents) ++ piece) (take-append-le n read_new tail (omega (arith, few, long)) ∙ gave.front ∙ ap (λ k. take n (drop k contents)) (sym place) ∙ ap (take n) (sym (drop_drop (at - from) from contents)))
+    let count : (at + n) - from ≡ (at - from) + n = omega arith in
+    let place : from + (at - from) ≡ at = omega arith in
+    ap (λ piece. take (at - from) (drop from contents) ++ piece) (take-append-le n read_new tail (omega arith) ∙ gave.front ∙ ap (λ k. take n (drop k contents)) (sym place) ∙ ap (take n) (sym (drop_drop (at - from) from contents)))
     ∙ sym (ap (λ k. take k (drop from contents)) count ∙ take-add (at - from) n (drop from contents))
 
 -- What was copied so far, or a beginning of it where following ends.
@@ -317,11 +317,11 @@ copied_more {snapshot} {contents} {opened} {known} {from} {at} {n} {read_old} {r
   puts = puts_after so_far.puts put;
   are = λ t. ap (λ front. front ++ take n (read_new ++ tail)) (so_far.are t)
       ∙ next_bytes contents tail past few long (subst (λ those. GaveFrom those at read_old read_new n) (sym same) (gave t));
-  read = subst₂ (λ piece more. AreRead snapshot known opened from (so_far.bytes ++ piece) (at + more)) (sym front) (length-take-le n read_new (omega (arith, few, long)))
+  read = subst₂ (λ piece more. AreRead snapshot known opened from (so_far.bytes ++ piece) (at + more)) (sym front) (length-take-le n read_new (omega arith))
       (one_more (take n read_new) so_far.read found);
 } where
   front : take n (read_new ++ tail) ≡ take n read_new
-  front = take-append-le n read_new tail (omega (arith, few, long))
+  front = take-append-le n read_new tail (omega arith)
 
 -- how the outputs can be used after a call
 
@@ -490,7 +490,7 @@ opened_is names place readable = (and_parts (is_some (watched_at names place).op
 -- all was written, or the file has no more
 pub all_taken : (contents : List ℕ) (from at : ℕ) {len : ℕ} → len ≡ length contents → len ≤ at
     → take (at - from) (drop from contents) ≡ drop from contents
-all_taken contents from at size past = take_all (at - from) (drop from contents) (let long = length-drop from contents in omega (arith, size, past, long))
+all_taken contents from at size past = take_all (at - from) (drop from contents) (let long = length-drop from contents in omega arith)
 
 none_left : (bytes : List ℕ) → bytes ≡ [] → length bytes ≡ 0
 none_left bytes is = ap length is
@@ -499,14 +499,14 @@ none_left bytes is = ap length is
 pub some_read : (contents : List ℕ) {at len n : ℕ} {old new : List ℕ} → len ≡ length contents → at < len → n ≡ 0
     → 0 < length old → GaveFrom contents at old new n → ⊥
 some_read contents {at} size below none room gave =
-    let empty = none_left (drop at contents) (gave.ended none room).0 in let long = length-drop at contents in absurd (omega (arith, empty, long, size, below))
+    let empty = none_left (drop at contents) (gave.ended none room).0 in let long = length-drop at contents in absurd (omega arith)
 
 -- what comes before the place of a read that failed
 taken_before : (contents : List ℕ) {from at : ℕ} → from ≤ at → at ≤ length contents
     → gives (take (at - from) (drop from contents)) ∷ []
     ≡ all_but (length contents - at) (gives (drop from contents) ∷ [])
 taken_before contents {from} {at} past within =
-    ap (λ n. gives (take n (drop from contents)) ∷ []) (let long = length-drop from contents in omega (arith, past, within, long))
+    ap (λ n. gives (take n (drop from contents)) ∷ []) (let long = length-drop from contents in omega arith)
 
 module _ {told_in told : Bool} {snapshot : Snapshot} {name : List ℕ} {from place : ℕ} {watched : List Watched}
     {printer : PrinterState} {slots : List Slot} where
@@ -551,7 +551,7 @@ module _ {told_in told : Bool} {snapshot : Snapshot} {name : List ℕ} {from pla
     at = at;
     ends = record {
       events = gives copied.puts.bytes ∷ [];
-      are = λ t. ap (λ bytes. gives bytes ∷ []) (copied.puts.are ∙ copied.are t) ∙ (let long = size t in taken_before _ past (omega (arith, below, long)));
+      are = λ t. ap (λ bytes. gives bytes ∷ []) (copied.puts.are ∙ copied.are t) ∙ (let long = size t in taken_before _ past (omega arith));
       found = found_before can (
         record {
           is = record {

@@ -77,11 +77,11 @@ pub short_more : {told : Bool} {text : List ℕ} (more : List ℕ) {old new : Li
 short_more {told} {text} more {old} (short_broke n cut) =
     let (why, is) = cut.slots in
     short_broke n (record {
-      within = omega (arith, cut.within, length-append text more);
-      slots = (why, rw (take-append-le n text more (omega (arith, cut.within))) is);
+      within = omega (arith, length-append text more);
+      slots = (why, rw (take-append-le n text more (omega arith)) is);
     })
 short_more {told} {text} more {old} (no_room n within is) = no_room n
-    (let a : length (text ++ more) ≡ length text + length more = length-append text more in omega (arith, within))
+    (let a : length (text ++ more) ≡ length text + length more = length-append text more in omega arith)
     (rw (take-append-le n text more within) is)
 
 pub short_later : {told : Bool} (first : List ℕ) {text : List ℕ} {old mid new : List Slot} {n : ℕ}
@@ -117,7 +117,7 @@ pub short_after : {told : Bool} (first : List ℕ) {second : List ℕ} {old mid 
     → Short told (first ++ second) old new why
 short_after first one (short_broke n cut) = short_later first one cut
 short_after {told} first {second} {old} {mid} {new} one (no_room n within is) = no_room (length first + n)
-    (let a : length (first ++ second) ≡ length first + length second = length-append first second in omega (arith, within))
+    (let a : length (first ++ second) ≡ length first + length second = length-append first second in omega arith)
     (rw (take-append-add first second n) (written_both told 0 first (take n second) old one is))
 
 -- a text after another that came whole, or a beginning of it

@@ -425,7 +425,7 @@ module _ {told_in told by_name : Bool} {snapshot : Snapshot} {led : Option ℕ} 
     at_front (inr at) = at
 
     none_short : {known : List ℕ} → IsSeen snapshot known now_open 0 Truncated → ⊥
-    none_short (some, len, found, short) = omega (arith, short)
+    none_short (some, len, found, short) = omega arith
 
     lost : (watched_at watched_mid place).opened ≡ None → LeftOpen snapshot (watched_at watched_mid place).name None 0
     lost none = inr (rw named (rw (is_now none) at opening)) where

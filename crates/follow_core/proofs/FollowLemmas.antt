@@ -189,7 +189,7 @@ visited_more {told_in} {told} {ways} {looks} {snapshot} {names} {now} {one} {pla
   -- another name
   stays : (looks : List Look) (other : ℕ) → (other ≡ place → ⊥) → StandsAmong told_in ways looks now watched other
       → StandsAmong told_in ways looks (set now place one) watched_new other
-  stays looks other elsewhere stands = rw (get_or-set_other now place other one no_state elsewhere, visits.others.others (ways.first + other) (λ at. elsewhere (omega (arith, at)))) stands
+  stays looks other elsewhere stands = rw (get_or-set_other now place other one no_state elsewhere, visits.others.others (ways.first + other) (λ at. elsewhere (omega arith))) stands
 
   there : (all : List Fate) → IsFront (sofar.fates ++ visited.fate ∷ []) all → (other : ℕ) → other < place + 1
       → (other ≡ place) ⊎ (other ≡ place → ⊥)
@@ -285,7 +285,7 @@ visited_short {told_in} {told} {ways} {looks} {snapshot} {names} {now} {place} {
       ≡ share_of ways looks look number (get_or (texts names) place [])
   share_is t =
       let count = sofar.count in
-      rw (text_there names now sofar.same within, stopped.0, get_or_past sofar.fates number sound (omega (arith, count))) refl
+      rw (text_there names now sofar.same within, stopped.0, get_or_past sofar.fates number sound (omega arith)) refl
 
   watched_now : (other : ℕ) → other < length now → (other < place) ⊎ (place ≤ other)
       → IsWatched ways (looks ++ look ∷ []) (ways.first + other) (state_at now other).text
@@ -293,7 +293,7 @@ visited_short {told_in} {told} {ways} {looks} {snapshot} {names} {now} {place} {
   watched_now other inside (inl less) = watched_there told_in (state_at now other).text (watched_at watched (ways.first + other)) (state_at now other).standing (sofar.done sofar.fates front other less)
   watched_now other inside (inr more) =
       let count = sofar.count in
-      watched_sound looks look (get_or_past sofar.fates (ways.first + other) sound (omega (arith, count, more)))
+      watched_sound looks look (get_or_past sofar.fates (ways.first + other) sound (omega arith))
       (watched_there told_in (state_at now other).text (watched_at watched (ways.first + other)) (state_at now other).standing (sofar.rest other more inside))
 
   -- the one at which it was stopped
@@ -307,7 +307,7 @@ visited_short {told_in} {told} {ways} {looks} {snapshot} {names} {now} {place} {
   still other inside =
       let now_is = watched_now other inside (cases_lt other place) in
       rw (text_there names now sofar.same inside, opened.1) (opens_keeps (IsWatched ways (looks ++ look ∷ []) (ways.first + other) (state_at now other).text) watched number (ways.first + other) opened.0 now_is
-      (λ same. opens_unbroken (unbroken other (omega (arith, same))) now_is))
+      (λ same. opens_unbroken (unbroken other (omega arith)) now_is))
 
 pub next_ready : (first : ℕ) (names : List NameState) (one : NameState) {place : ℕ} {watched watched_new : List Watched}
     → place < length names → AllReady names first watched → KeepsOthers (first + place) watched watched_new
@@ -318,5 +318,5 @@ next_ready first names one {place} {watched_new} within ready keeps can other in
   by (inl at) = rw (at, get_or-set_same names place one no_state within) can
   by (inr elsewhere) = rw (
     get_or-set_other names place other one no_state elsewhere,
-    keeps.others (first + other) (λ at. elsewhere (omega (arith, at))),
+    keeps.others (first + other) (λ at. elsewhere (omega arith)),
   ) (ready other (rw length-set at inside))

@@ -684,12 +684,12 @@ sound_at look place (inr (none, inr missing)) kept unbroken = missing.kept
 sound_among : {before : List Look} {look : Look} (from : ℕ) (names : List (List ℕ)) {shares : List Share}
     → AreAtLook before look from names shares → look.snapshot.breaks ≡ false
     → (place : ℕ) → place < length names → failed_in (from + place) before ≡ None → fate_at (from + place) look ≡ sound
-sound_among from [] given unbroken place within kept = absurd (omega (arith, within))
+sound_among from [] given unbroken place within kept = absurd (omega arith)
 sound_among {before} {look} from (name ∷ names) (names_more given rest) unbroken zero within kept =
     let at : from ≡ from + 0 = omega arith in rw at at (sound_at look from given (rw (← at) at kept) unbroken)
 sound_among {before} {look} from (name ∷ names) (names_more given rest) unbroken (suc place) within kept =
     let at : from + 1 + place ≡ from + suc place = omega arith in
-    rw at at (sound_among (from + 1) names rest unbroken place (omega (arith, within)) (rw (← at) at kept))
+    rw at at (sound_among (from + 1) names rest unbroken place (omega arith) (rw (← at) at kept))
 
 none_breaks_before : (looks : List Look) (look : Look) → NoneBreaks (looks ++ look ∷ [])
     → NoneBreaks looks × (look.snapshot.breaks ≡ false)

@@ -79,7 +79,7 @@ added_ready : (names : List NameState) {first : ℕ} (before : List Watched) →
 added_ready names {first} before first_is place within = subst (CanVisit (state_at names place)) (sym there) (can_at (state_at names place).text (state_at names place).standing) where
   there : watched_at (before ++ map added (texts names)) (first + place) ≡ added (state_at names place).text
   there = rw (
-    first_is (omega (arith, within)),
+    first_is (omega arith),
     added_at before (texts names) {place = place} (rw (length_texts names names refl) within),
     get_or-map (λ (n : NameState). n.text) names place no_state [] within,
   ) refl
@@ -185,15 +185,15 @@ alive_is {ways} {looks} {follow} {watched} holds = search (rules, alive_from, fr
 
 none_before : (by_name : Bool) (names : List NameState) (place : ℕ) → place < length names
     → any_goes_on by_name names ≡ false → goes_on_as by_name (state_at names place).standing ≡ false
-none_before by_name [] place within none = absurd (omega (arith, within))
+none_before by_name [] place within none = absurd (omega arith)
 none_before by_name (name ∷ names) zero within none = (or_parts (goes_on_as by_name name.standing) (any_goes_on by_name names) none).0
-none_before by_name (name ∷ names) (suc place) within none = none_before by_name names place (omega (arith, within)) (or_parts (goes_on_as by_name name.standing) (any_goes_on by_name names) none).1
+none_before by_name (name ∷ names) (suc place) within none = none_before by_name names place (omega arith) (or_parts (goes_on_as by_name name.standing) (any_goes_on by_name names) none).1
 
 no_more_of : (told : Bool) (ways : Ways) (looks : List Look) (place : ℕ) (name : List ℕ) (watched : Watched)
     (standing : Standing) → Stands told ways looks place name watched standing → 0 < length looks
     → goes_on_as ways.by_name standing ≡ false
     → (is_some watched.failed ≡ true) ⊎ ((ways.by_name ≡ false) × (watched.opened ≡ None))
-no_more_of told ways looks place name watched New stands some none = absurd (let empty = ap length stands.0 in omega (arith, some, empty))
+no_more_of told ways looks place name watched New stands some none = absurd (let empty = ap length stands.0 in omega arith)
 no_more_of told ways looks place name watched (Followed position) stands some none = absurd (false≢true (sym none))
 no_more_of told ways looks place name watched Left stands some none = elim stands.why [
   | inl (dropped, broke, closed) ↦ inl (ap is_some broke.call ∙ dropped)
@@ -230,10 +230,10 @@ just_added before names watched rest {place} are within inside =
 none_broken : {ways : Ways} {looks : List Look} (names : List (List ℕ)) (before watched : List Watched) → looks ≡ []
     → length before ≡ ways.first → IsFront watched (before ++ map added names) → AreWatched ways looks names watched
 none_broken names before watched none first_is (rest, are) = rw none (
-  (let size = sizes in omega (arith, size, first_is)),
-  (λ above. absurd (omega (arith, above))),
+  (let size = sizes in omega arith),
+  (λ above. absurd (omega arith)),
   rw (← first_is) (λ place within. let is = just_added before names watched rest are within
-      (let size = sizes in omega (arith, size, within)) in
+      (let size = sizes in omega arith) in
       unbroken_watched (ap (λ (w : Watched). w.name) is) (ap (λ (w : Watched). w.failed) is) refl),
 ) where
   sizes : length before + length names ≡ length watched + length rest
@@ -245,9 +245,9 @@ module _ {told_in told : Bool} {calling : Calling} {ways : Ways} {headers : Bool
   pub none_going : 0 < length looks → any_goes_on follow.by_name follow.names ≡ false → NoneGoesOn ways watched
   none_going some none = stage follow.stage holds.stand where
     stage : (stage : Stage) → StandsIn told_in ways looks follow.names watched stage → NoneGoesOn ways watched
-    stage Fresh stand = absurd (let empty = ap length stand.0 in omega (arith, some, empty))
+    stage Fresh stand = absurd (let empty = ap length stand.0 in omega arith)
     stage Looking stand = λ place within.
-        let inside : place < length follow.names = (let as_many = stand.1 in omega (arith, as_many, within)) in
+        let inside : place < length follow.names = (let as_many = stand.1 in omega arith) in
         no_more_of told_in ways looks (ways.first + place) _ (watched_at watched (ways.first + place))
         (state_at follow.names place).standing (stand.0 place inside) some
         (rw (ap (λ (those : Ways). those.by_name) holds.asked)
@@ -261,10 +261,10 @@ module _ {told_in told : Bool} {calling : Calling} {ways : Ways} {headers : Bool
     stage Fresh stand = none_broken names watched watched stand.0 stand.2 (map added names, refl)
     stage Looking stand =
         let many = rw (length_names follow holds.same) at stand.1 in (
-          omega (arith, many),
+          omega arith,
           (λ above. many),
           λ place within.
-              let inside : place < length follow.names = (let as_many = stand.1 in omega (arith, as_many, within)) in
+              let inside : place < length follow.names = (let as_many = stand.1 in omega arith) in
               rw (← holds.same, text_there follow.names follow.names refl inside)
               (watched_there told_in _ (watched_at watched (ways.first + place)) (state_at follow.names place).standing
               (stand.0 place inside)),
@@ -326,7 +326,7 @@ module _ {told_in told : Bool} {snapshot : Snapshot} {old : FollowState} {names_
 
     taken : take (length old.names) (texts old.names) ≡ names
     taken = let size = length_texts old.names old.names refl in
-        take_all (length old.names) (texts old.names) (omega (arith, size)) ∙ holds.same
+        take_all (length old.names) (texts old.names) (omega arith) ∙ holds.same
 
   look_stopped : {why : Fault}
       → VisitsAll told_in told snapshot old.by_name old.start old.first old.names watched old.printer slots names_new
@@ -502,7 +502,7 @@ made_more {told_in} {ways} {names} {shows} {looks} look is before alive = record
       → is_alive ways names (take n (looks ++ look ∷ [])) ≡ true
   by t n above (inl below) inside = ap (is_alive ways names) (take-append-le n looks (look ∷ []) (omega arith)) ∙ before.alive t n above below
   by t n above (inr past) inside =
-      let at : n ≡ length looks = omega (arith, past, inside) in
+      let at : n ≡ length looks = omega arith in
       ap (λ m. is_alive ways names (take m (looks ++ look ∷ []))) at ∙ ap (is_alive ways names) (take-append_seam looks (look ∷ [])) ∙ alive t (subst (λ m. 0 < m) at above)
 
 module _ {told_in told : Bool} {calling : Calling} {ways : Ways} {headers : Bool} {names : List (List ℕ)}
@@ -533,12 +533,12 @@ module _ {told_in told : Bool} {calling : Calling} {ways : Ways} {headers : Bool
       let (fates, holds) = looks_on calling ways headers names p.looks first p.holds in
       let look : Look = record { snapshot = now (length seen); fates = fates } in record {
         looks = p.looks ++ look ∷ [];
-        count = length-append p.looks (look ∷ []) ∙ ap (λ n. n + 1) p.count ∙ omega (arith, is);
+        count = length-append p.looks (look ∷ []) ∙ ap (λ n. n + 1) p.count ∙ omega arith;
         observed = more ∙ ap (λ front. front ++ look.snapshot ∷ []) p.observed ∙ sym (map-append (λ (l : Look). l.snapshot) p.looks (look ∷ []));
         is_made = made_more look (next_is same p) p.is_made p.alive;
         alive = λ t above. sym (alive told calling ways headers names (p.looks ++ look ∷ []) first slots_new watched_new
             (rw t at holds));
-        ends = none told_in told calling ways headers names (p.looks ++ look ∷ []) first slots_new watched_new holds (let long = length-append p.looks (look ∷ []) in omega (arith, long));
+        ends = none told_in told calling ways headers names (p.looks ++ look ∷ []) first slots_new watched_new holds (let long = length-append p.looks (look ∷ []) in omega arith);
         holds = holds;
       }
 
@@ -568,8 +568,8 @@ module _ {told_in told : Bool} {calling : Calling} {ways : Ways} {headers : Bool
     looks = p.looks;
     observed = p.observed;
     made = p.is_made;
-    within = omega (arith, count, within);
-    over = λ fewer. let (some, stops) = over (omega (arith, count, fewer)) in let above : 0 < length p.looks = omega (arith, count, some) in (above, (λ t. p.alive t above ∙ stops), p.ends stops);
+    within = omega arith;
+    over = λ fewer. let (some, stops) = over (omega arith) in let above : 0 < length p.looks = omega arith in (above, (λ t. p.alive t above ∙ stops), p.ends stops);
     holds = p.holds;
   }
 
@@ -588,8 +588,8 @@ module _ {told_in told : Bool} {calling : Calling} {ways : Ways} {headers : Bool
     looks = [];
     count = refl;
     observed = unseen;
-    is_made = record { saw = refl; alive = λ t n above below. absurd (omega (arith, below)) };
-    alive = λ t above. absurd (omega (arith, above));
+    is_made = record { saw = refl; alive = λ t n above below. absurd (omega arith) };
+    alive = λ t above. absurd (omega arith);
     ends = λ over. absurd (false≢true (sym over));
     holds = holds;
   }
@@ -599,7 +599,7 @@ module _ {told_in told : Bool} {calling : Calling} {ways : Ways} {headers : Bool
 pub until_step : (process : Option ℕ) (shows : ℕ → Snapshot) (from left : ℕ) → 0 < left
     → is_over process (shows from) ≡ false
     → until_over process shows from left ≡ 1 + until_over process shows (from + 1) (left - 1)
-until_step process shows from zero some runs = absurd (omega (arith, some))
+until_step process shows from zero some runs = absurd (omega arith)
 until_step process shows from (suc left) some runs = let less : suc left - 1 ≡ left = omega arith in rw (runs, less) refl
 
 until_least : (process : Option ℕ) (shows : ℕ → Snapshot) (from left : ℕ) → 0 < left
@@ -616,11 +616,11 @@ until_within process shows from (suc left) = by (is_over process (shows from)) (
   by : (over : Bool) → until_over process shows (from + 1) left ≤ left
       → (if over then 1 else 1 + until_over process shows (from + 1) left) ≤ suc left
   by true rest = omega arith
-  by false rest = omega (arith, rest)
+  by false rest = omega arith
 
 until_found : (process : Option ℕ) (shows : ℕ → Snapshot) (from left : ℕ) → until_over process shows from left < left
     → (last : ℕ) × (from + until_over process shows from left ≡ suc last) × IsTrue (is_over process (shows last))
-until_found process shows from zero fewer = absurd (omega (arith, fewer))
+until_found process shows from zero fewer = absurd (omega arith)
 until_found process shows from (suc left) fewer = by (is_over process (shows from)) (until_found process shows (from + 1) left) refl fewer where
   by : (over : Bool)
       → (until_over process shows (from + 1) left < left
@@ -630,20 +630,20 @@ until_found process shows from (suc left) fewer = by (is_over process (shows fro
       → (last : ℕ) × (from + (if over then 1 else 1 + until_over process shows (from + 1) left) ≡ suc last)
       × IsTrue (is_over process (shows last))
   by true rest is fewer = (from, omega arith, is)
-  by false rest is fewer = let (last, at, over) = rest (omega (arith, fewer)) in (last, omega (arith, at), over)
+  by false rest is fewer = let (last, at, over) = rest (omega arith) in (last, omega arith, over)
 
 -- at least those that were made
 pub most_made : (told : Bool) (process : Option ℕ) (shows : ℕ → Snapshot) (count made : ℕ) → made ≤ count
     → (told ≡ true → made ≤ until_over process shows 0 count)
     → (most : ℕ) × AreMost told process shows count most × (made ≤ most)
-most_made false process shows count made within left = (count, record { are = λ t. absurd (false≢true t); within = omega arith; found = λ fewer. absurd (omega (arith, fewer)) }, within)
+most_made false process shows count made within left = (count, record { are = λ t. absurd (false≢true t); within = omega arith; found = λ fewer. absurd (omega arith) }, within)
 most_made true process shows count made within left =
-    (until_over process shows 0 count, record { are = λ t. refl; within = until_within process shows 0 count; found = λ fewer. let (last, at, over) = until_found process shows 0 count fewer in (last, omega (arith, at), over) }, left refl)
+    (until_over process shows 0 count, record { are = λ t. refl; within = until_within process shows 0 count; found = λ fewer. let (last, at, over) = until_found process shows 0 count fewer in (last, omega arith, over) }, left refl)
 
 pub until_some : (process : Option ℕ) (shows : ℕ → Snapshot) {made count : ℕ}
     → until_over process shows 0 count ≡ made + until_over process shows made (count - made) → made < count
     → made + 1 ≤ until_over process shows 0 count
-until_some process shows {made} {count} is below = let some = until_least process shows made (count - made) (omega (arith, below)) in omega (arith, is, some)
+until_some process shows {made} {count} is below = let some = until_least process shows made (count - made) (omega arith) in omega arith
 
 -- one more, before which the process isn't gone
 pub until_more : (process : Option ℕ) {shows now : ℕ → Snapshot} {made count seen : ℕ} {gone : Bool}
@@ -651,9 +651,9 @@ pub until_more : (process : Option ℕ) {shows now : ℕ → Snapshot} {made cou
     → gone ≡ is_over process (now seen) → gone ≡ false → now ≡ shows → seen ≡ made
     → until_over process shows 0 count ≡ made + 1 + until_over process shows (made + 1) (count - (made + 1))
 until_more process {shows} {now} {made} {count} {seen} is below told runs same at =
-    let next = until_step process shows made (count - made) (omega (arith, below)) (ap (is_over process) (sym ((λ i. same i (at i)))) ∙ sym told ∙ runs) in
+    let next = until_step process shows made (count - made) (omega arith) (ap (is_over process) (sym ((λ i. same i (at i)))) ∙ sym told ∙ runs) in
     let less : count - made - 1 ≡ count - (made + 1) = omega arith in
-    let rest = ap (until_over process shows (made + 1)) less in omega (arith, is, next, rest)
+    let rest = ap (until_over process shows (made + 1)) less in omega arith
 
 -- the last one, before which it is gone
 pub until_last : {told : Bool} {process : Option ℕ} {shows now : ℕ → Snapshot} {made count seen : ℕ} {gone : Bool}
@@ -663,12 +663,12 @@ pub until_last : {told : Bool} {process : Option ℕ} {shows now : ℕ → Snaps
     → AreMost told process shows count (made + 1)
 until_last {process} {shows} {now} {made} {count} {seen} is below found gone same at =
     let over : is_over process (shows made) ≡ true = ap (is_over process) (sym (λ i. same i (at i))) ∙ found gone in record {
-      are = λ t. let all = is t in let one = last_is (count - made) (omega (arith, below)) over in omega (arith, all, one);
-      within = omega (arith, below);
+      are = λ t. let all = is t in let one = last_is (count - made) (omega arith) over in omega arith;
+      within = omega arith;
       found = λ fewer. (made, omega arith, over);
     } where
       last_is : (left : ℕ) → 0 < left → is_over process (shows made) ≡ true → until_over process shows made left ≡ 1
-      last_is zero some over = absurd (omega (arith, some))
+      last_is zero some over = absurd (omega arith)
       last_is (suc left) some over = rw over refl
 
 -- a whole run
@@ -683,7 +683,7 @@ ends_by (Some process) most are ends = (most, are, ends)
 ends_by {count} None most are ends = rw (← no_fewer (cases_lt most count)) ends where
   no_fewer : (most < count) ⊎ (count ≤ most) → most ≡ count
   no_fewer (inl fewer) = absurd (false≢true (are.found fewer).2)
-  no_fewer (inr all) = let within = are.within in omega (arith, all, within)
+  no_fewer (inr all) = let within = are.within in omega arith
 
 texts_of_new : (names : List (List ℕ)) → texts (map new_state names) ≡ names
 texts_of_new [] = refl

@@ -89,7 +89,7 @@ passed_by {delim} {left} at size x {block} are short is =
     let all : drop at x ≡ block ++ drop (at + size) x = block_then x at size ∙ ap (λ those. those ++ drop (at + size) x) (sym are) in
     let counted = short.counted in let fewer = short.fewer in
     is ∙ ap (after_lines delim left) all ∙ after_of-append delim Lines left block (drop (at + size) x)
-    ∙ rw (after_lines-past delim left block (omega (arith, counted, fewer)), counted) refl
+    ∙ rw (after_lines-past delim left block (omega arith), counted) refl
 
 -- a block that was read into the front of the buffer
 pub block_read : {contents now_contents : List ℕ} (buffer new : List ℕ) (from : ℕ) {size n : ℕ} (most : ℕ)

@@ -40,25 +40,25 @@ pub one_of : {word : ℕ} (from : ℕ) → word < 2 ^ 64 → (bit_and word from 
     → (bit : ℕ) × (bit < 64) × (bit_at word bit ≡ 1) × (bit_at from bit ≡ 1)
 one_of {word} from fits some =
     let l = and_le_l word from in
-    let lowest = bit_at-trailing_zeros w64 (bit_and word from) (omega (arith, some)) (omega (arith, l, fits)) in
+    let lowest = bit_at-trailing_zeros w64 (bit_and word from) (omega arith) (omega arith) in
     let bit : ℕ = trailing_zeros w64 (bit_and word from) in
     let e = bit_at_and word from bit in
     let is = lowest.1 in
     let m = bit_at-lt word bit in
     let n = bit_at-lt from bit in
-    (bit, lowest.0, omega (arith, e, is, m, n), omega (arith, e, is, m, n))
+    (bit, lowest.0, omega arith, omega arith)
 
 pub none_of : (word from bit : ℕ) → bit_and word from ≡ 0 → bit_at word bit ≡ 1 → bit_at from bit ≡ 1 → ⊥
 none_of word from bit none here there =
     let e = bit_at_and word from bit in
     let z = ap (λ w. bit_at w bit) none ∙ bit_at-zero bit in
-    omega (arith, e, z, here, there)
+    omega arith
 
 -- Hops are added.
 
 pub adding_one : {code : List Node} {old new : List Hop} {hop : Hop} → AreHops code old → IsHop code hop
     → new ≡ old ++ hop ∷ [] → AreHops code new
-adding_one {old} {hop} are is e = let l = ap length e in let m = length-append old (hop ∷ []) in each_to (each_more are is e) (omega (arith, l, m))
+adding_one {old} {hop} are is e = let l = ap length e in let m = length-append old (hop ∷ []) in each_to (each_more are is e) (omega arith)
 
 pub hops_added : (old more : List Hop) {new : List Hop} {at to : ℕ} → new ≡ old ++ more → HopsTo old at to
     → HopsTo new at to
@@ -87,7 +87,7 @@ pub all_met : (code : List Node) (base : List ℕ) (old new : List Hop) {count :
     → number < count + 1 → Flows code false false number to → Meets base new (number / 64) to
 all_met code base old new {count} before grown here number to h f = elim (cases_eq number count) [
   | inl same ↦ rw (← same) at (here to (subst (λ n. Flows code false false n to) same f))
-  | inr other ↦ meets_kept _ _ grown (before number to (omega (arith, h, other)) f)
+  | inr other ↦ meets_kept _ _ grown (before number to (omega arith) f)
 ]
 
 -- the first hops are in two parts
@@ -108,7 +108,7 @@ part_onward {all} {count} p is eh en = record {
   last = p.last;
   parted = λ place l. elim (cases_eq place count) [
     | inl same ↦ inl (rw (eh ∙ ap (λ n. get_or all n no_hop) (sym same)) at (hops_to_last _ _ en))
-    | inr other ↦ elim (p.parted place (omega (arith, l, other))) [
+    | inr other ↦ elim (p.parted place (omega arith)) [
       | inl on ↦ inl (hops_added _ _ en on)
       | inr land ↦ inr land
     ]
@@ -120,10 +120,10 @@ pub part_landing : {code : List Node} {base : List ℕ} {all onward landings new
     → new ≡ landings ++ hop ∷ [] → Parting code base all onward new (count + 1)
 part_landing {all} {landings} {count} {hop} p is eh en = record {
   first = p.first;
-  last = let l = ap length en in let m = length-append landings (hop ∷ []) in each_to (each_more p.last is en) (omega (arith, l, m));
+  last = let l = ap length en in let m = length-append landings (hop ∷ []) in each_to (each_more p.last is en) (omega arith);
   parted = λ place l. elim (cases_eq place count) [
     | inl same ↦ inr (rw (eh ∙ ap (λ n. get_or all n no_hop) (sym same)) at (hops_to_last _ _ en))
-    | inr other ↦ elim (p.parted place (omega (arith, l, other))) [
+    | inr other ↦ elim (p.parted place (omega arith)) [
       | inl on ↦ inl on
       | inr land ↦ inr (hops_added _ _ en land)
     ]
@@ -139,7 +139,7 @@ parting_ends {all} {onward} {landings} p h met number to f = elim (met number to
   | inl near ↦ inl near
   | inr other ↦ inr (elim other [
     | inl based ↦ inl based
-    | inr hop ↦ inr (rw hop.3 at (subst (λ at. PartsTo onward landings at (end_of (get_or all hop.0 no_hop))) hop.2 (p.parted hop.0 (let l = hop.1 in omega (arith, l, h)))))
+    | inr hop ↦ inr (rw hop.3 at (subst (λ at. PartsTo onward landings at (end_of (get_or all hop.0 no_hop))) hop.2 (p.parted hop.0 (let l = hop.1 in omega arith))))
   ])
 ]
 
@@ -152,7 +152,7 @@ plain_node code {number} {read} e inside plain = λ to f.
     (read, here, plain number to (flows_of _ _ here f))
 
 pub plain_beyond : (code : List Node) {number : ℕ} → length code ≤ number → IsPlain code number
-plain_beyond code {number} h = λ to f. absurd (let l = at_least code number f.0 f.1 in omega (arith, l, h))
+plain_beyond code {number} h = λ to f. absurd (let l = at_least code number f.0 f.1 in omega arith)
 
 -- the first words of a set have no anchors
 abbrev pub NoneAnchors : List Node → List ℕ → ℕ → Type 0
@@ -163,7 +163,7 @@ pub none_more : (code : List Node) (words : List ℕ) (count anchors : ℕ) → 
 none_more code words count anchors before has none = λ number h k. elim (cases_lt number (64 * count)) [
   | inl l ↦ before number l k
   | inr l ↦
-      let same : number ≡ count * 64 + number % 64 = omega (arith, h, l) in
+      let same : number ≡ count * 64 + number % 64 = omega arith in
       let one = (is_in_word _ _ _ (omega arith)).1 (rw same at k) in
       elim (has (number % 64) (omega arith)) [
         | inl two ↦ absurd (none_of _ _ _ none one two)
@@ -179,12 +179,12 @@ kept_or : {code : List Node} {at word all : ℕ} → Closes code at word all →
 kept_or {word} {all} c fits small = same_from_bits_below 64 (bit_or word all) all (or_lt 64 word all fits small) small (λ bit h.
     let e = bit_at_or word all bit in
     let l = bit_at-lt word bit in
-    elim (cases_eq (bit_at word bit) 1) [ inl one ↦ let k = c.kept bit h one in omega (arith, e, one, k) | inr other ↦ omega (arith, e, l, other) ])
+    elim (cases_eq (bit_at word bit) 1) [ inl one ↦ let k = c.kept bit h one in omega arith | inr other ↦ omega arith ])
 
 unset_fuller : (words : List ℕ) (at word : ℕ) → get_or words at 0 ≤ word → unset (set words at word) ≤ unset words
 unset_fuller [] at word l = omega arith
-unset_fuller (x ∷ words) zero word l = omega (arith, l)
-unset_fuller (x ∷ words) (suc at) word l = let r = unset_fuller words at word l in omega (arith, r)
+unset_fuller (x ∷ words) zero word l = omega arith
+unset_fuller (x ∷ words) (suc at) word l = let r = unset_fuller words at word l in omega arith
 
 -- a word was closed
 pub record Closed (code : List Node) (at : ℕ) (old now : List ℕ) : Type 0 where
@@ -199,22 +199,22 @@ close_word {code} {at} {word} {all} {old} {now} h ew c fits small es = record {
   adds = record {
     size = ap length en ∙ length-set old at _;
     kept = λ number k. elim (cases_eq (number / 64) at) [
-      | inl same ↦ let e : number ≡ at * 64 + number % 64 = omega (arith, same) in rw (← e) at ((is_in_word now at (number % 64) (omega arith)).0 (bit_now _ (left_bit word all (number % 64) (bit_old _ (omega arith) (subst (IsIn old) e k)))))
+      | inl same ↦ let e : number ≡ at * 64 + number % 64 = omega arith in rw (← e) at ((is_in_word now at (number % 64) (omega arith)).0 (bit_now _ (left_bit word all (number % 64) (bit_old _ (omega arith) (subst (IsIn old) e k)))))
       | inr other ↦ rw (← en) at ((set_elsewhere old (bit_or word all) number other).1 k)
     ];
     from = λ number k. elim (cases_eq (number / 64) at) [
       | inl same ↦
-          let e : number ≡ at * 64 + number % 64 = omega (arith, same) in
+          let e : number ≡ at * 64 + number % 64 = omega arith in
           let b = c.from_chosen (number % 64) (omega arith) (in_all _ (omega arith) (rw e at k)) in
           (at * 64 + b.0, (is_in_word _ _ _ b.1).0 (ap (λ w. bit_at w b.0) (sym ew) ∙ b.2), subst (λ n. FlowsOn code false false (at * 64 + b.0) n) (sym e) b.3)
       | inr other ↦ (number, (set_elsewhere _ _ _ other).0 (rw en at k), (0, refl))
     ];
   };
   elsewhere = λ number other k. (set_elsewhere _ _ _ other).0 (rw en at k);
-  fuller = rw (← en) at (unset_fuller old at (bit_or word all) (let l = le_or_l word all in omega (arith, l, ew)));
+  fuller = rw (← en) at (unset_fuller old at (bit_or word all) (let l = le_or_l word all in omega arith));
   closed = λ start to here k s.
-      let e : start ≡ at * 64 + start % 64 = omega (arith, here) in
-      let f : to ≡ at * 64 + to % 64 = (let q = s.1 in omega (arith, here, q)) in
+      let e : start ≡ at * 64 + start % 64 = omega arith in
+      let f : to ≡ at * 64 + to % 64 = (let q = s.1 in omega arith) in
       let flow = subst (λ n. Flows code false false n (at * 64 + to % 64)) e (rw f at s.0) in
       let b = c.closed (start % 64) (to % 64) (omega arith) (omega arith) (in_all _ (omega arith) (rw e at k)) flow in
       rw (← f) at ((is_in_word now at (to % 64) (omega arith)).0 (bit_now _ (right_bit word all (to % 64) b)));
@@ -240,7 +240,7 @@ based_of : {code : List Node} {closures : Closures} {at : ℕ} (words : List ℕ
     → at < width code → bit_and (get_or words at 0) (get_or closures.leads.items at 0) ≡ 0 → start / 64 ≡ at
     → IsIn words start → Flows code false false start to → IsIn closures.base.items to
 based_of {at} words {start} {to} c inside e here h f =
-    let same : start ≡ at * 64 + start % 64 = omega (arith, here) in
+    let same : start ≡ at * 64 + start % 64 = omega arith in
     let one = (is_in_word _ _ _ (omega arith)).1 (rw same at h) in
     elim (c.leads.each at inside (start % 64) to (omega arith) (rw same at f)) [
       | inl two ↦ absurd (none_of _ _ _ e one two)
@@ -271,7 +271,7 @@ apart_skip {count} s c begun inside e = record {
   adds = s.adds;
   done = λ start to h k flow. elim (cases_lt start (64 * count)) [
     | inl before ↦ s.done start to before k flow
-    | inr here ↦ inl (s.adds.kept to (begun to (based_of _ c inside e (omega (arith, h, here)) k flow)))
+    | inr here ↦ inl (s.adds.kept to (begun to (based_of _ c inside e (omega arith) k flow)))
   ];
 }
 
@@ -284,16 +284,16 @@ apart_more {code} {now} {new} {count} s c begun inside size closes fits small en
   adds = adds_both s.adds w.adds;
   done = λ start to h k flow. elim (cases_eq (start / 64) count) [
     | inl here ↦ closed_meets c w (λ number based. s.adds.kept number (begun number based)) here k flow
-    | inr other ↦ elim (s.done start to (omega (arith, h, other)) (w.elsewhere start other k) flow) [ inl was ↦ inl (w.adds.kept to was) | inr hop ↦ inr hop ]
+    | inr other ↦ elim (s.done start to (omega arith) (w.elsewhere start other k) flow) [ inl was ↦ inl (w.adds.kept to was) | inr hop ↦ inr hop ]
   ];
 }
   where
     w : Closed code count now new
-    w = close_word (let e = s.adds.size in omega (arith, e, size, inside)) refl closes fits small en
+    w = close_word (let e = s.adds.size in omega arith) refl closes fits small en
 
 pub apart_ends : {code : List Node} {closures : Closures} {old now : List ℕ} {count : ℕ}
     → Apart code closures old now count → length now ≤ count → IsApart code closures.hops now
-apart_ends s h = λ start to k flow. let w = is_within _ k in s.done start to (omega (arith, w, h)) k flow
+apart_ends s h = λ start to k flow. let w = is_within _ k in s.done start to (omega arith) k flow
 
 -- Following a hop.
 
@@ -302,9 +302,9 @@ entered_if : (words : List ℕ) {new : List ℕ} {at bit : ℕ} (holds : Bool) �
     → new ≡ set words at (bit_or (get_or words at 0) (bool_byte holds * 2 ^ bit % 2 ^ 64))
     → (other : ℕ) → IsIn new other ↔ (IsIn words other ⊎ (IsTrue holds × (other ≡ at * 64 + bit)))
 entered_if words {at} {bit} true h small en other =
-    let here : (at * 64 + bit) / 64 ≡ at = omega (arith, small) in
-    let there : (at * 64 + bit) % 64 ≡ bit = omega (arith, small) in
-    let e = entered_one _ (omega (arith, h, small)) refl
+    let here : (at * 64 + bit) / 64 ≡ at = omega arith in
+    let there : (at * 64 + bit) % 64 ≡ bit = omega arith in
+    let e = entered_one _ (omega arith) refl
     (rw (here, there) en) _ in
     (λ k. elim (e.0 k) [ inl was ↦ inl was | inr same ↦ inr (refl, same) ], λ k. e.1 (elim k [ inl was ↦ inl was | inr q ↦ inr q.1 ]))
 entered_if words false h small en other = search (rules, or_zero_r, set-get_or)
@@ -340,7 +340,7 @@ led_is {code} {hop} {old} {mid} {holds} is size fits high some any em = record {
 }
   where
     exact : (other : ℕ) → IsIn mid other ↔ (IsIn old other ⊎ (IsTrue holds × (other ≡ end_of hop)))
-    exact = entered_if _ _ (let w = is.word in omega (arith, w, size)) is.bit em
+    exact = entered_if _ _ (let w = is.word in omega arith) is.bit em
 
     entered : (number : ℕ) → IsTrue holds → number ≡ end_of hop
         → (start : ℕ) × IsIn old start × FlowsOn code false false start number
@@ -366,7 +366,7 @@ follows_none {hop} {old} {mid} {all} is size high apart led eo z = record {
 }
   where
     read : get_or mid hop.word 0 ≡ all
-    read = ap (λ w. get_or w hop.word 0) led.set ∙ get_or-set_same old hop.word all 0 (let w = is.word in omega (arith, w, size))
+    read = ap (λ w. get_or w hop.word 0) led.set ∙ get_or-set_same old hop.word all 0 (let w = is.word in omega arith)
 
     -- its bit was there
     was_in : IsIn mid (end_of hop) → IsIn old (end_of hop)
@@ -375,7 +375,7 @@ follows_none {hop} {old} {mid} {all} is size high apart led eo z = record {
         let e = fresh_bit all high is.bit in
         let none = ap (λ w. bit_at w hop.bit) (sym eo ∙ z) ∙ bit_at-zero hop.bit in
         let l = bit_at-lt (get_or old hop.word 0) hop.bit in
-        (is_in_word old hop.word hop.bit is.bit).0 (omega (arith, now, e, none, l))
+        (is_in_word old hop.word hop.bit is.bit).0 (omega arith)
 
     settled : (number : ℕ) → IsIn mid number → IsIn old number
     settled number k = elim (led.new number k) [ inl was ↦ was | inr e ↦ rw (← e) at (was_in (subst (IsIn mid) e k)) ]
@@ -394,7 +394,7 @@ follows_more {code} {hop} {old} {mid} {new} {all} {over} c is size high begun ap
       | inl here ↦ closed_meets c w (λ number based. led.adds.kept number (begun number based)) here k flow
       | inr other ↦ elim (led.new from (w.elsewhere from other k)) [
         | inl was ↦ elim (apart from to was flow) [ inl there ↦ inl (w.adds.kept to (led.adds.kept to there)) | inr hop ↦ inr hop ]
-        | inr e ↦ absurd (other (let b = is.bit in omega (arith, e, b)))
+        | inr e ↦ absurd (other (let b = is.bit in omega arith))
       ]
     ];
     fuller = omega (arith, w.fuller, less);
@@ -405,24 +405,24 @@ follows_more {code} {hop} {old} {mid} {new} {all} {over} c is size high begun ap
 }
   where
     inside_old : hop.word < length old
-    inside_old = let w = is.word in omega (arith, w, size)
+    inside_old = let w = is.word in omega arith
 
     read : all ≡ get_or mid hop.word 0
     read = sym (ap (λ w. get_or w hop.word 0) led.set ∙ get_or-set_same old hop.word all 0 inside_old)
 
     w : Closed code hop.word mid new
-    w = close_word (let s = led.adds.size in omega (arith, s, inside_old)) read closes led.fits small en
+    w = close_word (let s = led.adds.size in omega arith) read closes led.fits small en
 
     differs : get_or old hop.word 0 ≡ all → ⊥
     differs e =
         let f = and_le_l all (bit_not w64 (get_or old hop.word 0)) in
         let a = led.fits in
-        let one = bit_at-trailing_zeros w64 over (omega (arith, some)) (omega (arith, eo, f, a)) in
+        let one = bit_at-trailing_zeros w64 over (omega arith) (omega arith) in
         let bit : ℕ = trailing_zeros w64 over in
         let b = fresh_bit all high one.0 in
         let is = sym (ap (λ w. bit_at w bit) eo) ∙ one.1 in
         let same = ap (λ w. bit_at w bit) e in
-        omega (arith, b, is, same)
+        omega arith
 
     less : unset mid < unset old
     less = rw (← led.set) at (unset-set old hop.word all inside_old (let l = led.larger in omega (arith, l, differs)) (let l = led.fits in omega (arith, l)))
@@ -445,21 +445,21 @@ following_more {closures} {hop} {now} {count} {over} {led} s f eh = record {
   closer = record {
     adds = adds_both s.closer.adds f.closer.adds;
     apart = f.closer.apart;
-    fuller = omega (arith, s.closer.fuller, f.closer.fuller);
+    fuller = omega arith;
     less = λ some. elim (cases_eq over 0) [
-      | inl z ↦ let l = f.closer.less (λ y. some (ap (λ n. bit_or n led) z ∙ or_zero_l led ∙ y)) in let m = s.closer.fuller in omega (arith, l, m)
-      | inr more ↦ let l = s.closer.less more in let m = f.closer.fuller in omega (arith, l, m)
+      | inl z ↦ let l = f.closer.less (λ y. some (ap (λ n. bit_or n led) z ∙ or_zero_l led ∙ y)) in let m = s.closer.fuller in omega arith
+      | inr more ↦ let l = s.closer.less more in let m = f.closer.fuller in omega arith
     ];
   };
   done = λ z place l bit small one k.
       let a = le_or_l over led in
       let b = le_or_r over led in
-      let was = f.settled (omega (arith, b, z)) ((get_or closures.hops.onward.items place no_hop).at * 64 + bit) k in
+      let was = f.settled (omega arith) ((get_or closures.hops.onward.items place no_hop).at * 64 + bit) k in
       elim (cases_eq place count) [
         | inl same ↦
             let e : get_or closures.hops.onward.items place no_hop ≡ hop = ap (λ p. get_or closures.hops.onward.items p no_hop) same ∙ sym eh in
             rw (← e) at (f.followed bit small (subst (λ h. bit_at h.from bit ≡ 1) e one) (subst (λ h. IsIn now (h.at * 64 + bit)) e was))
-        | inr other ↦ f.closer.adds.kept (end_of (get_or closures.hops.onward.items place no_hop)) (s.done (omega (arith, a, z)) place (omega (arith, l, other)) bit small one was)
+        | inr other ↦ f.closer.adds.kept (end_of (get_or closures.hops.onward.items place no_hop)) (s.done (omega arith) place (omega arith) bit small one was)
       ];
 }
 
@@ -467,7 +467,7 @@ following_more {closures} {hop} {now} {count} {over} {led} s f eh = record {
 from_bit : {code : List Node} {hop : Hop} {from to : ℕ} → IsHop code hop → hop.at ≡ from / 64 → end_of hop ≡ to
     → Flows code false false from to → bit_at hop.from (from % 64) ≡ 1
 from_bit {code} {hop} {from} is at end flow =
-    let same : from ≡ hop.at * 64 + from % 64 = omega (arith, at) in
+    let same : from ≡ hop.at * 64 + from % 64 = omega arith in
     (is.exact (from % 64) (omega arith)).1 (rw same at (subst (Flows code false false from) (sym end) flow))
 
 pub following_ends : {code : List Node} {closures : Closures} {old now : List ℕ} {count over : ℕ}
@@ -484,9 +484,9 @@ following_ends {code} {closures} {now} {over} s are h = record {
     ended : over ≡ 0 → (from to : ℕ) → IsIn now from → Flows code false false from to
         → HopsTo closures.hops.onward.items (from / 64) to → IsIn now to
     ended z from to k flow hop =
-        let same : from ≡ (get_or closures.hops.onward.items hop.0 no_hop).at * 64 + from % 64 = (let e = hop.2 in omega (arith, e)) in
+        let same : from ≡ (get_or closures.hops.onward.items hop.0 no_hop).at * 64 + from % 64 = (let e = hop.2 in omega arith) in
         let one = from_bit (are.each hop.0 hop.1) hop.2 hop.3 flow in
-        rw hop.3 at (s.done z hop.0 (let l = hop.1 in omega (arith, l, h)) (from % 64) (omega arith) one (subst (IsIn now) same k))
+        rw hop.3 at (s.done z hop.0 (let l = hop.1 in omega arith) (from % 64) (omega arith) one (subst (IsIn now) same k))
 
 -- Following the landings.
 
@@ -509,7 +509,7 @@ landing_more {landings} {hop} {old} {count} s is led eh = record {
     | inl same ↦
         let e : get_or landings place no_hop ≡ hop = ap (λ p. get_or landings p no_hop) same ∙ sym eh in
         rw (← e) at (led.followed bit small (subst (λ h. bit_at h.from bit ≡ 1) e one) (s.adds.kept (hop.at * 64 + bit) (subst (λ h. IsIn old (h.at * 64 + bit)) e k)))
-    | inr other ↦ led.adds.kept (end_of (get_or landings place no_hop)) (s.led place (omega (arith, l, other)) bit small one k)
+    | inr other ↦ led.adds.kept (end_of (get_or landings place no_hop)) (s.led place (omega arith) bit small one k)
   ];
 }
 
@@ -520,9 +520,9 @@ landing_ends {landings} {old} s are h = record {
   adds = s.adds;
   over = s.over;
   led = λ from to k flow hop.
-      let same : from ≡ (get_or landings hop.0 no_hop).at * 64 + from % 64 = (let e = hop.2 in omega (arith, e)) in
+      let same : from ≡ (get_or landings hop.0 no_hop).at * 64 + from % 64 = (let e = hop.2 in omega arith) in
       let one = from_bit (are.each hop.0 hop.1).leads hop.2 hop.3 flow in
-      rw hop.3 at (s.led hop.0 (let l = hop.1 in omega (arith, l, h)) (from % 64) (omega arith) one (subst (IsIn old) same k));
+      rw hop.3 at (s.led hop.0 (let l = hop.1 in omega arith) (from % 64) (omega arith) one (subst (IsIn old) same k));
 }
 
 -- Until nothing is missing.

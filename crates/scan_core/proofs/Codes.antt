@@ -39,16 +39,16 @@ pub at-split : (a b : List Node) (n : ℕ) (node : Node) → At (a ++ b) n node
     → (At a n node) ⊎ ((k : ℕ) × (n ≡ length a + k) × At b k node)
 at-split [] b n node h = inr (n, omega arith, h)
 at-split (x ∷ a) b zero node h = inl h
-at-split (x ∷ a) b (suc n) node h = elim (at-split a b n _ h) [ inl g ↦ inl g | inr g ↦ inr (g.0, omega (arith, g.1), g.2) ]
+at-split (x ∷ a) b (suc n) node h = elim (at-split a b n _ h) [ inl g ↦ inl g | inr g ↦ inr (g.0, omega arith, g.2) ]
 
 -- the same step further on in a longer code
 pub leads_shift : (node : Node) (line : List ℕ) (base at place at' place' : ℕ) → Leads node line at place at' place'
     → Leads node line (base + at) place (base + at') place'
-leads_shift (Take bytes) line base at place at' place' h = (omega (arith, h.0), h.1, h.2, h.3)
-leads_shift First line base at place at' place' h = (omega (arith, h.0), h.1, h.2)
-leads_shift Last line base at place at' place' h = (omega (arith, h.0), h.1, h.2)
-leads_shift (Choose skip) line base at place at' place' h = (elim h.0 [ inl e ↦ inl (omega (arith, e)) | inr e ↦ inr (omega (arith, e)) ], h.1)
-leads_shift (Back by) line base at place at' place' h = (omega (arith, h.0), h.1)
+leads_shift (Take bytes) line base at place at' place' h = (omega arith, h.1, h.2, h.3)
+leads_shift First line base at place at' place' h = (omega arith, h.1, h.2)
+leads_shift Last line base at place at' place' h = (omega arith, h.1, h.2)
+leads_shift (Choose skip) line base at place at' place' h = (elim h.0 [ inl e ↦ inl (omega arith) | inr e ↦ inr (omega arith) ], h.1)
+leads_shift (Back by) line base at place at' place' h = (omega arith, h.1)
 
 pub walk-left : (a b : List Node) (line : List ℕ) (count at place to stop : ℕ) → Walks a line count at place to stop
     → Walks (a ++ b) line count at place to stop
@@ -79,16 +79,16 @@ pub fits_moved : (node : Node) (base size number : ℕ) {more moved : ℕ} → F
 fits_moved (Take bytes) base size number f l e = tt
 fits_moved First base size number f l e = tt
 fits_moved Last base size number f l e = tt
-fits_moved (Choose skip) base size number f l e = omega (arith, f, l, e)
-fits_moved (Back by) base size number f l e = omega (arith, f, e)
+fits_moved (Choose skip) base size number f l e = omega arith
+fits_moved (Back by) base size number f l e = omega arith
 
 pub fits_led : {code : List Node} (line : List ℕ) (at place : ℕ) {at' : ℕ} (place' : ℕ) (node : Node) → IsCode code
     → At code at node → Leads node line at place at' place' → at' ≤ length code
-fits_led {code} line at place place' (Take bytes) c here h = let l = at_least code at (Take bytes) here in omega (arith, l, h.0)
-fits_led {code} line at place place' First c here h = let l = at_least code at First here in omega (arith, l, h.0)
-fits_led {code} line at place place' Last c here h = let l = at_least code at Last here in omega (arith, l, h.0)
+fits_led {code} line at place place' (Take bytes) c here h = let l = at_least code at (Take bytes) here in omega arith
+fits_led {code} line at place place' First c here h = let l = at_least code at First here in omega arith
+fits_led {code} line at place place' Last c here h = let l = at_least code at Last here in omega arith
 fits_led line at place place' (Choose skip) c here h = search (rules, at_least)
-fits_led {code} line at place place' (Back by) c here h = let l = at_least code at (Back by) here in omega (arith, l, h.0)
+fits_led {code} line at place place' (Back by) c here h = let l = at_least code at (Back by) here in omega arith
 
 -- a code's walks from its front to its end are those of a kind
 pub record Exact (code : List Node) (line : List ℕ) (Kind : ℕ → ℕ → Type 0) : Type 0 where
@@ -98,22 +98,22 @@ pub record Exact (code : List Node) (line : List ℕ) (Kind : ℕ → ℕ → Ty
 
 pub leads_unshift : (node : Node) (line : List ℕ) (base size at place : ℕ) {at' : ℕ} (place' : ℕ) → FitsIn size at node
     → Leads node line (base + at) place at' place' → (k : ℕ) × (at' ≡ base + k) × Leads node line at place k place'
-leads_unshift (Take bytes) line base size at place place' b h = (at + 1, omega (arith, h.0), (refl, h.1, h.2, h.3))
-leads_unshift First line base size at place place' b h = (at + 1, omega (arith, h.0), (refl, h.1, h.2))
-leads_unshift Last line base size at place place' b h = (at + 1, omega (arith, h.0), (refl, h.1, h.2))
+leads_unshift (Take bytes) line base size at place place' b h = (at + 1, omega arith, (refl, h.1, h.2, h.3))
+leads_unshift First line base size at place place' b h = (at + 1, omega arith, (refl, h.1, h.2))
+leads_unshift Last line base size at place place' b h = (at + 1, omega arith, (refl, h.1, h.2))
 leads_unshift (Choose skip) line base size at place place' b h =
-    elim h.0 [ inl e ↦ (at + 1, omega (arith, e), (inl refl, h.1)) | inr e ↦ (at + skip, omega (arith, e), (inr refl, h.1)) ]
-leads_unshift (Back by) line base size at place place' b h = (at - by, omega (arith, h.0, b), (omega (arith, b), h.1))
+    elim h.0 [ inl e ↦ (at + 1, omega arith, (inl refl, h.1)) | inr e ↦ (at + skip, omega arith, (inr refl, h.1)) ]
+leads_unshift (Back by) line base size at place place' b h = (at - by, omega arith, (omega arith, h.1))
 
 -- a walk that begins in the second of two parts stays there
 pub in_second : (a : List Node) {b : List Node} (line : List ℕ) → IsCode b → (count : ℕ) {at : ℕ} (k place stop : ℕ)
     → at ≡ length a + k → Walks (a ++ b) line count at place (length (a ++ b)) stop
     → Walks b line count k place (length b) stop
-in_second a {b} line f zero k place stop e w = let l = length-append a b in (omega (arith, l, e, w.0), w.1)
+in_second a {b} line f zero k place stop e w = let l = length-append a b in (omega arith, w.1)
 in_second a {b} line f (suc count) k place stop e w = elim (at-split a b _ _ w.2.1) [
-  | inl h ↦ let l = at_least a _ _ h in absurd (omega (arith, l, e))
+  | inl h ↦ let l = at_least a _ _ h in absurd (omega arith)
   | inr h ↦
-      let same : h.0 ≡ k = omega (arith, e, h.1) in
+      let same : h.0 ≡ k = omega arith in
       let here : At b k w.2.0 = at_at b _ same h.2 in
       let led : Leads w.2.0 line (length a + k) place w.0 w.1 = subst (λ n. Leads w.2.0 line n place w.0 w.1) e w.2.2 in
       let moved = leads_unshift _ _ _ _ k _ _ (f.fits k w.2.0 here) led in
@@ -126,22 +126,22 @@ pub through : {a b : List Node} {line : List ℕ} → IsCode a → IsCode b → 
     → (middle : ℕ) × Path a line at place (length a) middle × Path b line 0 middle (length b) stop
 through {a} {b} f g zero {place} h w =
     let l = length-append a b in
-    (place, (zero, (omega (arith, l, w.0, h), refl)), (zero, (omega (arith, l, w.0, h), w.1)))
+    (place, (zero, (omega arith, refl)), (zero, (omega arith, w.1)))
 through {a} {b} {line} f g (suc count) {at} {place} {stop} h w = elim (cases_eq at (length a)) [
-  | inl same ↦ (place, (zero, (same, refl)), (suc count, in_second a line g (suc count) 0 place stop (omega (arith, same)) w))
+  | inl same ↦ (place, (zero, (same, refl)), (suc count, in_second a line g (suc count) 0 place stop (omega arith) w))
   | inr other ↦ elim (at-split a b _ _ w.2.1) [
     | inl here ↦
         let step : Goes a line at place w.0 w.1 = (w.2.0, here, w.2.2) in
         let rest = through f g count (fits_led line at place w.1 w.2.0 f here w.2.2) w.3 in
         (rest.0, (suc rest.1.0, (w.0, w.1, step, rest.1.1)), rest.2)
-    | inr far ↦ absurd (other (omega (arith, far.1, h)))
+    | inr far ↦ absurd (other (omega arith))
   ]
 ]
 
 pub ended : (code : List Node) (line : List ℕ) (count : ℕ) {at place : ℕ} (to : ℕ) {stop : ℕ} → at ≡ length code
     → Walks code line count at place to stop → place ≡ stop
 ended code line zero to e w = w.1
-ended code line (suc count) {at} to e w = let l = at_least code at w.2.0 w.2.1 in absurd (omega (arith, l, e))
+ended code line (suc count) {at} to e w = let l = at_least code at w.2.0 w.2.1 in absurd (omega arith)
 
 -- The walks of a pattern's code are what it matches: each way of putting codes together.
 
@@ -169,10 +169,10 @@ exact_one {node} {line} {Kind} out there here = record {
     fits (suc n) other h = absurd h
 
     sound : (from to count : ℕ) → Walks (node ∷ []) line count 0 from 1 to → Kind from to
-    sound from to zero w = absurd (omega (arith, w.0))
+    sound from to zero w = absurd (omega arith)
     sound from to (suc count) w =
         let o = out 0 from w.0 w.1 (rw w.2.1 at w.2.2) in
-        rw (ended (node ∷ []) line count 1 (omega (arith, o.0)) w.3) at o.1
+        rw (ended (node ∷ []) line count 1 (omega arith) w.3) at o.1
 
 -- one code after another
 pub exact_both : {a b : List Node} {line : List ℕ} {Kind Other : ℕ → ℕ → Type 0} → Exact a line Kind
@@ -180,8 +180,8 @@ pub exact_both : {a b : List Node} {line : List ℕ} {Kind Other : ℕ → ℕ �
 exact_both {a} {b} {line} e f = record {
   fits = record {
     fits = λ n node h. let l = length-append a b in elim (at-split a b n _ h) [
-      | inl k ↦ fits_moved _ 0 _ _ (e.fits.fits n node k) (omega (arith, l)) (omega arith)
-      | inr k ↦ fits_moved _ _ _ _ (f.fits.fits k.0 node k.2) (omega (arith, l)) k.1
+      | inl k ↦ fits_moved _ 0 _ _ (e.fits.fits n node k) (omega arith) (omega arith)
+      | inr k ↦ fits_moved _ _ _ _ (f.fits.fits k.0 node k.2) (omega arith) k.1
     ];
   };
   sound = λ from to p. let t = through e.fits f.fits _ (omega arith) p.1 in (t.0, e.sound from t.0 t.1, f.sound t.0 to t.2);
@@ -212,14 +212,14 @@ exact_maybe {code} {line} {Kind} e = record {
 
     sound : (from to count : ℕ) → Walks (maybe code) line count 0 from (suc (length code)) to
         → (from ≡ to) ⊎ Kind from to
-    sound from to zero w = absurd (omega (arith, w.0))
+    sound from to zero w = absurd (omega arith)
     sound from to (suc count) w =
         let led : ((w.0 ≡ 0 + 1) ⊎ (w.0 ≡ 0 + (length code + 1))) × (w.1 ≡ from) = subst (λ m. Leads m line 0 from w.0 w.1) w.2.1 w.2.2 in
         elim led.0 [
           | inl q ↦
-              let inside = in_second (Choose (length code + 1) ∷ []) line e.fits count 0 w.1 to (omega (arith, q)) w.3 in
+              let inside = in_second (Choose (length code + 1) ∷ []) line e.fits count 0 w.1 to (omega arith) w.3 in
               inr (e.sound from to (count, rw led.1 at inside))
-          | inr q ↦ inl (sym led.1 ∙ ended (maybe code) line count (suc (length code)) (omega (arith, q)) w.3)
+          | inr q ↦ inl (sym led.1 ∙ ended (maybe code) line count (suc (length code)) (omega arith) w.3)
         ]
 
     complete : (from to : ℕ) → (from ≡ to) ⊎ Kind from to → Path (maybe code) line 0 from (suc (length code)) to
@@ -255,12 +255,12 @@ star_begun : {code : List Node} {line : List ℕ} {Kind : ℕ → ℕ → Type 0
     → {count at' place' place stop : ℕ} → StarHolds code line Kind count → (at' ≡ 0 + 1) ⊎ (at' ≡ 0 + (length code + 2))
     → place' ≡ place → Walks (starred code) line count at' place' (length code + 2) stop → Often Kind place stop
 star_begun {Kind} e {at'} {place'} {place} {stop} ih (inl q) same w =
-    let inside = ih.within at' 0 place' stop (omega (arith, q)) (omega arith) w in
+    let inside = ih.within at' 0 place' stop (omega arith) (omega arith) w in
     let rest : Often Kind inside.0 stop = inside.2 in
     (suc rest.0, parts_first _ _ (e.sound place inside.0 (rw (← same) inside.1)) rest.1)
 star_begun {code} {line} e {count} ih (inr q) same w =
     let l = length-append code (Back (length code + 1) ∷ []) in
-    (0, sym same ∙ ended (starred code) line count (length code + 2) (omega (arith, q, l)) w)
+    (0, sym same ∙ ended (starred code) line count (length code + 2) (omega arith) w)
 
 star_at : {code : List Node} {line : List ℕ} {Kind : ℕ → ℕ → Type 0} → Exact code line Kind
     → {count k place stop : ℕ} → StarHolds code line Kind count → k ≤ length code → (at' place' : ℕ) {node : Node}
@@ -271,13 +271,13 @@ star_at e {k} {stop} ih h at' place' {node} (inl here) led w =
     let n1 : suc k ≡ 1 + k = omega arith in
     let moved = leads_unshift _ _ 1 _ k _ _ (e.fits.fits k node here) (rw n1 at led) in
     let fits = fits_led _ k _ _ _ e.fits here moved.2 in
-    let rest = ih.within at' moved.0 place' stop (omega (arith, moved.1)) fits w in
+    let rest = ih.within at' moved.0 place' stop (omega arith) fits w in
     (rest.0, (suc rest.1.0, (moved.0, place', (node, here, moved.2), rest.1.1)), rest.2)
 star_at {code} {line} e {k} {place} {stop} ih h at' place' (inr (zero, far, last)) led w =
     let back_led : Leads (Back (length code + 1)) line (suc k) place at' place' = subst (λ n. Leads n line (suc k) place at' place') last led in
-    let at0 : at' ≡ 0 = omega (arith, back_led.0, far) in
+    let at0 : at' ≡ 0 = omega arith in
     let rest = ih.whole place' stop (rw at0 at w) in
-    (place', (zero, (omega (arith, far), sym back_led.1)), rest)
+    (place', (zero, (omega arith, sym back_led.1)), rest)
 star_at e ih h at' place' (inr (suc j, far, last)) led w = absurd last
 
 star_holds : {code : List Node} {line : List ℕ} {Kind : ℕ → ℕ → Type 0} → Exact code line Kind → (count : ℕ)
@@ -300,16 +300,16 @@ exact_starred {code} {line} {Kind} e = record {
 }
   where
     size : length code + 2 ≡ length (starred code)
-    size = let l = length-append code (Back (length code + 1) ∷ []) in omega (arith, l)
+    size = let l = length-append code (Back (length code + 1) ∷ []) in omega arith
 
     fits : (n : ℕ) (node : Node) → At (starred code) n node → FitsIn (length (starred code)) n node
-    fits zero node h = rw h (let l = size in omega (arith, l))
+    fits zero node h = rw h (let l = size in omega arith)
     fits (suc n) node h = there (at-split code (Back (length code + 1) ∷ []) n node h)
       where
         there : (At code n node) ⊎ ((j : ℕ) × (n ≡ length code + j) × At (Back (length code + 1) ∷ []) j node)
             → FitsIn (length (starred code)) (suc n) node
-        there (inl k) = fits_moved node 1 _ _ (e.fits.fits n node k) (let l = size in omega (arith, l)) (omega arith)
-        there (inr (zero, far, last)) = rw last (omega (arith, far))
+        there (inl k) = fits_moved node 1 _ _ (e.fits.fits n node k) (let l = size in omega arith) (omega arith)
+        there (inr (zero, far, last)) = rw last (omega arith)
         there (inr (suc j, far, last)) = absurd last
 
     around : (from to : ℕ) → Kind from to → Path (starred code) line 0 from 0 to
@@ -350,7 +350,7 @@ exact_copies e (suc count) = exact_both (exact_copies e count) e
 exact_up_to : {code : List Node} {line : List ℕ} {Kind : ℕ → ℕ → Type 0} → Exact code line Kind → (most : ℕ)
     → Exact (up_to most code) line (AtMost Kind most)
 exact_up_to e zero = exact_by (exact_none) (λ from to q. (0, omega arith, q))
-    (λ from to k. let e : k.0 ≡ 0 = omega (arith, k.1) in rw e at k.2)
+    (λ from to k. let e : k.0 ≡ 0 = omega arith in rw e at k.2)
 exact_up_to {Kind} e (suc most) =
     exact_by
     (exact_maybe (exact_both e (exact_up_to e _)))
@@ -359,12 +359,12 @@ exact_up_to {Kind} e (suc most) =
     there : (from to : ℕ) → (from ≡ to) ⊎ ((middle : ℕ) × Kind from middle × AtMost Kind most middle to)
         → AtMost Kind (suc most) from to
     there from to (inl q) = (0, omega arith, q)
-    there from to (inr (middle, k, (count, h, p))) = (suc count, omega (arith, h), parts_first Kind count k p)
+    there from to (inr (middle, k, (count, h, p))) = (suc count, omega arith, parts_first Kind count k p)
 
     here : (count from to : ℕ) → count ≤ suc most → Parts Kind count from to
         → (from ≡ to) ⊎ ((middle : ℕ) × Kind from middle × AtMost Kind most middle to)
     here zero from to h p = inl p
-    here (suc count) from to h p = let q = parts_next Kind count p in inr (q.0, q.1, (count, omega (arith, h), q.2))
+    here (suc count) from to h p = let q = parts_next Kind count p in inr (q.0, q.1, (count, omega arith, q.2))
 
 pub parts_join : (Kind : ℕ → ℕ → Type 0) (first second from middle to : ℕ) → Parts Kind first from middle
     → Parts Kind second middle to → Parts Kind (first + second) from to
@@ -395,18 +395,18 @@ exact_repeated {Kind} {low} None e b =
     (exact_both (exact_copies e _) (exact_starred e))
     (λ from to k. let often : Often Kind k.0 to = k.2 in
     (low + often.0, omega arith, tt, parts_join _ _ _ _ _ _ k.1 often.1)) (λ from to k.
-    let q : k.0 ≡ low + (k.0 - low) = omega (arith, k.1) in
+    let q : k.0 ≡ low + (k.0 - low) = omega arith in
     let split = parts_split _ _ _ _ _ (rw q at k.3) in
     (split.0, split.1, (k.0 - low, split.2)))
 exact_repeated {Kind} {low} (Some high) e b =
     exact_by
     (exact_both (exact_copies e _) (exact_up_to e _))
     (λ from to k. let most : AtMost Kind (high - low) k.0 to = k.2 in
-    (low + most.0, omega arith, omega (arith, most.1, b), parts_join _ _ _ _ _ _ k.1 most.2))
+    (low + most.0, omega arith, omega arith, parts_join _ _ _ _ _ _ k.1 most.2))
     (λ from to k.
-    let q : k.0 ≡ low + (k.0 - low) = omega (arith, k.1) in
+    let q : k.0 ≡ low + (k.0 - low) = omega arith in
     let split = parts_split _ _ _ _ _ (rw q at k.3) in
-    (split.0, split.1, (k.0 - low, omega (arith, k.2), split.2)))
+    (split.0, split.1, (k.0 - low, omega arith, split.2)))
 
 mutual
   pub code_exact : (pattern : Pattern) (line : List ℕ) → IsOrdered pattern
@@ -427,7 +427,7 @@ pub contained : (pattern : Pattern) {line : List ℕ} → IsOrdered pattern
     → Contains pattern line ↔ ((place : ℕ) × (place ≤ length line)
     × Entered (code_of pattern) line (length (code_of pattern)) place)
 contained pattern {line} o = (
-  λ c. let s = (code_exact _ _ o).complete c.0 c.1 c.4 in (c.1, c.3, (c.0, omega (arith, c.2, c.3), s)),
+  λ c. let s = (code_exact _ _ o).complete c.0 c.1 c.4 in (c.1, c.3, (c.0, omega arith, s)),
   λ c.
       let entered : Entered (code_of pattern) line (length (code_of pattern)) c.0 = c.2 in
       let m = (code_exact _ _ o).sound entered.0 c.0 entered.2 in
@@ -444,22 +444,22 @@ pub record Weighs (code : List Node) (positions : ℕ) : Type 0 where
 
 weight-append : (a b : List Node) → weight (a ++ b) ≡ weight a + weight b
 weight-append [] b = let e : weight b ≡ 0 + weight b = omega arith in e
-weight-append (node ∷ a) b = let e = weight-append a b in omega (arith, e)
+weight-append (node ∷ a) b = let e = weight-append a b in omega arith
 
 weighs_both : {a b : List Node} {m n : ℕ} → Weighs a m → Weighs b n → Weighs (a ++ b) (m + n)
-weighs_both {a} {b} v w = let e = weight-append a b in let l = length-append a b in record { exact = omega (arith, e, v.exact, w.exact); most = omega (arith, l, v.most, w.most) }
+weighs_both {a} {b} v w = let e = weight-append a b in let l = length-append a b in record { exact = omega arith; most = omega arith }
 
 weighs_copies : (count : ℕ) {code : List Node} {n : ℕ} → Weighs code n → Weighs (copies count code) (count * n)
-weighs_copies zero {n} w = let z : 0 ≡ 0 * n = grind arith in record { exact = z; most = omega (arith, z) }
-weighs_copies (suc count) {n} w = let t : suc count * n ≡ count * n + n = grind (arith, suc-mul count n) in subst (Weighs _) (omega (arith, t)) (weighs_both (weighs_copies count w) w)
+weighs_copies zero {n} w = let z : 0 ≡ 0 * n = grind arith in record { exact = z; most = omega arith }
+weighs_copies (suc count) {n} w = let t : suc count * n ≡ count * n + n = grind (arith, suc-mul count n) in subst (Weighs _) (omega arith) (weighs_both (weighs_copies count w) w)
 
 weighs_up_to : (count : ℕ) {code : List Node} {n : ℕ} → Weighs code n → Weighs (up_to count code) (count * n + count)
-weighs_up_to zero {n} w = let z : 0 ≡ 0 * n + 0 = grind arith in record { exact = z; most = omega (arith, z) }
+weighs_up_to zero {n} w = let z : 0 ≡ 0 * n + 0 = grind arith in record { exact = z; most = omega arith }
 weighs_up_to (suc count) {code} {n} w =
     let b = weighs_both w (weighs_up_to count w) in
     let t = suc-mul count n in
-    let f : 1 + weight (code ++ up_to count code) ≡ suc count * n + suc count = omega (arith, b.exact, t) in
-    record { exact = f; most = omega (arith, b.most, t) }
+    let f : 1 + weight (code ++ up_to count code) ≡ suc count * n + suc count = omega arith in
+    record { exact = f; most = omega arith }
 
 weighs_starred : {code : List Node} {n : ℕ} → Weighs code n → Weighs (starred code) (n + 1)
 weighs_starred w = search (rules, weight-append, length-append)
@@ -469,12 +469,12 @@ weighs_repeated : {code : List Node} {n : ℕ} (low : ℕ) (high : Option ℕ) �
 weighs_repeated {n} low None o w =
     let one : 1 * n ≡ n = grind arith in
     let t = add-mul low 1 n in
-    subst (Weighs _) (omega (arith, t, one)) (weighs_both (weighs_copies low w) (weighs_starred w))
+    subst (Weighs _) (omega arith) (weighs_both (weighs_copies low w) (weighs_starred w))
 weighs_repeated {n} low (Some high) o w =
     let t = add-mul low (high - low) n in
-    let e : low + (high - low) ≡ high = omega (arith, o) in
+    let e : low + (high - low) ≡ high = omega arith in
     let f = ap (λ k. k * n) e in
-    subst (Weighs _) (omega (arith, t, f)) (weighs_both (weighs_copies low w) (weighs_up_to (high - low) w))
+    subst (Weighs _) (omega arith) (weighs_both (weighs_copies low w) (weighs_up_to (high - low) w))
 
 mutual
   pub weighs : (pattern : Pattern) → IsOrdered pattern → Weighs (code_of pattern) (positions_in pattern)
@@ -501,8 +501,8 @@ found_contains pattern {line} {found} o f =
 
 -- twice the positions are room enough
 pub enough_room : (pattern : Pattern) → IsOrdered pattern → length (code_of pattern) < 2 * positions_of pattern
-enough_room pattern o = let w = weighs _ o in omega (arith, w.most)
+enough_room pattern o = let w = weighs _ o in omega arith
 
 pub bound_of : (pattern : Pattern) (places : ℕ) {steps : ℕ} → IsOrdered pattern
     → steps ≤ places * (weight (code_of pattern) + 1) → steps ≤ places * positions_of pattern
-bound_of pattern places o h = let e = ap (λ n. places * (n + 1)) (weighs _ o).exact in omega (arith, h, e)
+bound_of pattern places o h = let e = ap (λ n. places * (n + 1)) (weighs _ o).exact in omega arith

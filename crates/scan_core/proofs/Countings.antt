@@ -42,9 +42,9 @@ counted_in (head ∷ code) (suc number) node here = counted_in code number node 
 pub counted_out : (code : List Node) (number : ℕ) → length code ≤ number
     → (number ≡ length code) ↔ (counted_at code number ≡ 1)
 counted_out [] zero h = (λ e. refl, λ e. refl)
-counted_out [] (suc number) h = (λ e. absurd (omega (arith, e)), λ e. absurd (omega (arith, e)))
-counted_out (node ∷ code) zero h = absurd (omega (arith, h))
-counted_out (node ∷ code) (suc number) h = let r = counted_out code number (omega (arith, h)) in (λ e. r.0 (omega (arith, e)), λ e. let q = r.1 e in omega (arith, q))
+counted_out [] (suc number) h = (λ e. absurd (omega arith), λ e. absurd (omega arith))
+counted_out (node ∷ code) zero h = absurd (omega arith)
+counted_out (node ∷ code) (suc number) h = let r = counted_out code number (omega arith) in (λ e. r.0 (omega arith), λ e. let q = r.1 e in omega arith)
 
 -- A step of a set of words over a byte, word by word.
 
@@ -62,7 +62,7 @@ shifted_low kept {carry} h =
     let e = bit_at_or (kept * 2 ^ 1 % 2 ^ 64) carry 0 in
     let a = bit_at_lowest (kept * 2 ^ 1 % 2 ^ 64) in
     let b = bit_at_lowest carry in
-    omega (arith, e, a, b, h)
+    omega arith
 
 shifted_high : (kept carry bit : ℕ) → carry < 2 → bit + 1 < 64
     → bit_at (bit_or (kept * 2 ^ 1 % 2 ^ 64) carry) (suc bit) ≡ bit_at kept bit
@@ -72,9 +72,9 @@ shifted_high kept carry bit h small =
     let half : kept * 2 ^ 1 % 2 ^ 64 / 2 ≡ kept % 2 ^ 63 = omega arith in
     let a = bit_at-suc (kept * 2 ^ 1 % 2 ^ 64) bit ∙ ap (λ x. bit_at x bit) half in
     let whole : kept / 2 ^ 63 * 2 ^ 63 + kept % 2 ^ 63 ≡ kept = omega arith in
-    let b = bit_at_cat_low (kept / 2 ^ 63) 63 (kept % 2 ^ 63) bit (omega (arith, small)) in
+    let b = bit_at_cat_low (kept / 2 ^ 63) 63 (kept % 2 ^ 63) bit (omega arith) in
     let c = ap (λ x. bit_at x bit) whole in
-    omega (arith, e, none, a, b, c)
+    omega arith
 
 -- a bit of a word that the byte is taken from
 kept_bit : (code : List Node) (words : List ℕ) {byte : ℕ} (at bit takes : ℕ) → IsMask code (Takes byte) at takes
@@ -104,15 +104,15 @@ passing_more {code} {byte} {base} {old} {now} {new} {at} {carry} {kept} takes p 
   past = λ number l. elim (cases_lt number (64 * at)) [
     | inl before ↦ rw (← en) at (earlier number before (p.past number before))
     | inr here ↦
-        let same : number ≡ at * 64 + number % 64 = omega (arith, l, here) in
+        let same : number ≡ at * 64 + number % 64 = omega arith in
         rw (← same) at (joined (number % 64) (omega arith) (inside (number % 64) (omega arith)))
   ];
-  rest = λ n l. ap (λ w. get_or w n 0) en ∙ get_or-set_other now at n _ 0 (λ e. omega (arith, e, l)) ∙ p.rest n (omega (arith, l));
-  bit = omega (arith, fits);
+  rest = λ n l. ap (λ w. get_or w n 0) en ∙ get_or-set_other now at n _ 0 (λ e. omega arith) ∙ p.rest n (omega arith);
+  bit = omega arith;
   over =
       let k = kept_is 63 (omega arith) in
       let e : at * 64 + 63 + 1 ≡ (at + 1) * 64 = omega arith in
-      let top : bit_at kept 63 ≡ kept / 2 ^ 63 = omega (arith, fits) in (
+      let top : bit_at kept 63 ≡ kept / 2 ^ 63 = omega arith in (
         λ c. rw e at (k.0 (top ∙ c)),
         λ led. sym top ∙ k.1 (rw (← e) at led),
       );
@@ -124,7 +124,7 @@ passing_more {code} {byte} {base} {old} {now} {new} {at} {carry} {kept} takes p 
         rw (← e) at (kept_bit code old at bit takes m small)
 
     read : get_or new at 0 ≡ bit_or (bit_or (kept * 2 ^ 1 % 2 ^ 64) carry) (get_or base at 0)
-    read = let s = p.size in ap (λ w. get_or w at 0) en ∙ get_or-set_same now at _ 0 (omega (arith, h, s))
+    read = let s = p.size in ap (λ w. get_or w at 0) en ∙ get_or-set_same now at _ 0 (omega arith)
 
     earlier : (number : ℕ) → number < 64 * at → IsIn now number ↔ LedOrBase code byte base old number
         → IsIn
@@ -157,8 +157,8 @@ passing_more {code} {byte} {base} {old} {now} {new} {at} {carry} {kept} takes p 
           λ k. e ∙ p.over.1 (rw z at k),
         )
     inside (suc bit) small =
-        let e = shifted_high _ _ _ p.bit (omega (arith, small)) in
-        let k = kept_is bit (omega (arith, small)) in
+        let e = shifted_high _ _ _ p.bit (omega arith) in
+        let k = kept_is bit (omega arith) in
         let z : at * 64 + bit + 1 ≡ at * 64 + suc bit = omega arith in (
           λ i. rw z at (k.0 (sym e ∙ i)),
           λ led. e ∙ k.1 (rw (← z) at led),
@@ -168,7 +168,7 @@ pub passing_ends : {code : List Node} {byte : ℕ} {base old now : List ℕ} {at
     → Passing code byte base old now at carry → length old ≤ at → length old ≡ width code → length base ≡ width code
     → (number : ℕ) → IsIn now number ↔ LedOrBase code byte base old number
 passing_ends {code} {byte} {base} {old} {now} {at} p h size same number = (
-  λ k. let l = is_within now k in let s = p.size in (p.past number (omega (arith, l, s, h))).0 k,
+  λ k. let l = is_within now k in let s = p.size in (p.past number (omega arith)).0 k,
   λ k. (p.past number (within k)).1 k,
 )
   where
@@ -176,8 +176,8 @@ passing_ends {code} {byte} {base} {old} {now} {at} p h size same number = (
     within (inl k) =
         let l = pass_least code k.2 in
         let e = k.2.3 in
-        omega (arith, l, e, size, h)
-    within (inr front) = let l = is_within base front in omega (arith, l, same, size, h)
+        omega arith
+    within (inr front) = let l = is_within base front in omega arith
 
 -- no bit of words that are 0
 pub none_in : (words : List ℕ) {at : ℕ} → ((n : ℕ) → n < at → get_or words n 0 ≡ 0) → length words ≤ at → (number : ℕ)
@@ -186,8 +186,8 @@ none_in words {at} zeros h number k =
     let l = is_within _ k in
     let same : number ≡ number / 64 * 64 + number % 64 = omega arith in
     let b = (is_in_word _ _ _ (omega arith)).1 (rw same at k) in
-    let z = ap (λ x. bit_at x (number % 64)) (zeros (number / 64) (omega (arith, l, h))) ∙ bit_at-zero _ in
-    omega (arith, b, z)
+    let z = ap (λ x. bit_at x (number % 64)) (zeros (number / 64) (omega arith)) ∙ bit_at-zero _ in
+    omega arith
 
 -- the weights of the marked numbers
 abbrev sum_of : (ℕ → ℕ) → List Bool → ℕ
@@ -201,13 +201,13 @@ sum_same one other e (mark ∷ marks) = grind (arith, common_steps)
 
 sum_none : (marks : List Bool) → sum_of (λ n. 0) marks ≡ 0
 sum_none [] = refl
-sum_none (true ∷ marks) = let r = sum_none marks in omega (arith, r)
-sum_none (false ∷ marks) = let r = sum_none marks in omega (arith, r)
+sum_none (true ∷ marks) = let r = sum_none marks in omega arith
+sum_none (false ∷ marks) = let r = sum_none marks in omega arith
 
 among_sum : (code : List Node) (marks : List Bool) → positions_among code marks ≡ sum_of (counted_at code) marks
 among_sum code [] = refl
-among_sum [] (mark ∷ marks) = let z = sum_none marks in omega (arith, z)
-among_sum (node ∷ code) (mark ∷ marks) = let r = among_sum code marks in omega (arith, r)
+among_sum [] (mark ∷ marks) = let z = sum_none marks in omega arith
+among_sum (node ∷ code) (mark ∷ marks) = let r = among_sum code marks in omega arith
 
 weight_bit : {weight : ℕ} (word counts : ℕ) → bit_at counts 0 ≡ weight
     → weight_if (word % 2 == 1) weight ≡ bit_and word counts % 2
@@ -226,16 +226,16 @@ unfolding bits
 sum_bits zero counts rest small exact = grind (arith, common_steps)
 sum_bits (suc count) {weight} {word} counts rest small exact =
     let half : word / 2 < 2 ^ count = halved count word small in
-    let r = sum_bits count (counts / 2) rest half (λ bit l. sym (bit_at-suc counts bit) ∙ exact (suc bit) (omega (arith, l))) in
+    let r = sum_bits count (counts / 2) rest half (λ bit l. sym (bit_at-suc counts bit) ∙ exact (suc bit) (omega arith)) in
     let step = ones_step (bit_and word counts) in
     let shr : bit_and word counts / 2 ≡ bit_and (word / 2) (counts / 2) = and_shr word counts 1 in
     let e = ap count_ones shr in
     let w = weight_bit word counts (exact 0 (omega arith)) in
     let same = sum_same (λ n. weight (suc (count + n))) (λ n. weight (suc count + n)) (λ n. ap weight (omega arith)) rest in
-    omega (arith, r, step, e, w, same)
+    omega arith
   where
     halved : (k n : ℕ) → n < 2 ^ suc k → n / 2 < 2 ^ k
-    halved k n h = let e : 2 ^ suc k ≡ 2 ^ k * 2 = grind arith in omega (arith, e, h)
+    halved k n h = let e : 2 ^ suc k ≡ 2 ^ k * 2 = grind arith in omega arith
 
 -- the set bits of the first words that are positions
 abbrev pub ones_below : List ℕ → List ℕ → ℕ → ℕ
@@ -245,20 +245,20 @@ ones_below words counts (suc n) = ones_below words counts n + count_ones (bit_an
 ones_front : (word other : ℕ) (words counts : List ℕ) (n : ℕ)
     → ones_below (word ∷ words) (other ∷ counts) (suc n) ≡ count_ones (bit_and word other) + ones_below words counts n
 ones_front word other words counts zero = omega arith
-ones_front word other words counts (suc n) = let r = ones_front word other words counts n in omega (arith, r)
+ones_front word other words counts (suc n) = let r = ones_front word other words counts n in omega arith
 
 ones_sum : (weight : ℕ → ℕ) (words counts : List ℕ) → length counts ≡ length words
     → ((n : ℕ) → n < length words → get_or words n 0 < 2 ^ 64)
     → ((n bit : ℕ) → n < length words → bit < 64 → bit_at (get_or counts n 0) bit ≡ weight (64 * n + bit))
     → ones_below words counts (length words) ≡ sum_of weight (flags_of words)
 ones_sum weight [] counts size fits exact = refl
-ones_sum weight (word ∷ words) [] size fits exact = absurd (omega (arith, size))
+ones_sum weight (word ∷ words) [] size fits exact = absurd (omega arith)
 ones_sum weight (word ∷ words) (other ∷ counts) size fits exact =
     let z : (bit : ℕ) → bit < 64 → bit_at other bit ≡ weight bit = λ bit l. exact 0 bit (omega arith) l ∙ ap weight (omega arith) in
     let b = sum_bits 64 other (flags_of words) (fits 0 (omega arith)) z in
-    let r = ones_sum (λ n. weight (64 + n)) words counts (omega (arith, size)) (λ n h. fits (suc n) (omega (arith, h))) (λ n bit h l. exact (suc n) bit (omega (arith, h)) l ∙ ap weight (omega arith)) in
+    let r = ones_sum (λ n. weight (64 + n)) words counts (omega arith) (λ n h. fits (suc n) (omega arith)) (λ n bit h l. exact (suc n) bit (omega arith) l ∙ ap weight (omega arith)) in
     let f = ones_front word other words counts (length words) in
-    omega (arith, b, r, f)
+    omega arith
 
 counted_most : (code : List Node) (n : ℕ) → counted_at code n ≤ 1
 counted_most [] zero = omega arith
@@ -274,9 +274,9 @@ positions_are code words size m fits = search (rules, ones_sum, among_sum, bit_a
 bits_front : (count word n : ℕ) (rest : List Bool) → n < count
     → get_or (bits count word ++ rest) n false ≡ (bit_at word n == 1)
 unfolding bits
-bits_front zero word n rest h = absurd (omega (arith, h))
+bits_front zero word n rest h = absurd (omega arith)
 bits_front (suc count) word zero rest h = ap (λ x. x == 1) (sym (bit_at_lowest word))
-bits_front (suc count) word (suc n) rest h = bits_front count (word / 2) n rest (omega (arith, h)) ∙ ap (λ x. x == 1) (sym (bit_at-suc word n))
+bits_front (suc count) word (suc n) rest h = bits_front count (word / 2) n rest (omega arith) ∙ ap (λ x. x == 1) (sym (bit_at-suc word n))
 
 bits_beyond : (count word n : ℕ) (rest : List Bool)
     → get_or (bits count word ++ rest) (count + n) false ≡ get_or rest n false
@@ -289,7 +289,7 @@ bits_beyond (suc count) word n rest =
 bits_length : (count word : ℕ) → length (bits count word) ≡ count
 unfolding bits
 bits_length zero word = refl
-bits_length (suc count) word = let r = bits_length count (word / 2) in omega (arith, r)
+bits_length (suc count) word = let r = bits_length count (word / 2) in omega arith
 
 pub flags_length : (words : List ℕ) → length (flags_of words) ≡ 64 * length words
 flags_length [] = refl
@@ -297,19 +297,19 @@ flags_length (word ∷ words) =
     let a = length-append (bits 64 word) (flags_of words) in
     let b = bits_length 64 word in
     let r = flags_length words in
-    omega (arith, a, b, r)
+    omega arith
 
 flag_is : (words : List ℕ) (n : ℕ) → get_or (flags_of words) n false ≡ (bit_at (get_or words (n / 64) 0) (n % 64) == 1)
 flag_is [] n = sym (ap (λ x. x == 1) (bit_at-zero _))
 flag_is (word ∷ words) n = elim (cases_lt n 64) [
   | inl first ↦
-      let low : n / 64 ≡ 0 = omega (arith, first) in
-      let place : n % 64 ≡ n = omega (arith, first) in
+      let low : n / 64 ≡ 0 = omega arith in
+      let place : n % 64 ≡ n = omega arith in
       bits_front _ _ n _ first ∙ sym (ap (λ k. bit_at (get_or (word ∷ words) k 0) (n % 64) == 1) low ∙ ap (λ k. bit_at word k == 1) place)
   | inr later ↦
-      let e : n ≡ 64 + (n - 64) = omega (arith, later) in
-      let high : n / 64 ≡ suc ((n - 64) / 64) = omega (arith, later) in
-      let place : n % 64 ≡ (n - 64) % 64 = omega (arith, later) in
+      let e : n ≡ 64 + (n - 64) = omega arith in
+      let high : n / 64 ≡ suc ((n - 64) / 64) = omega arith in
+      let place : n % 64 ≡ (n - 64) % 64 = omega arith in
       ap (λ k. get_or (bits 64 word ++ flags_of words) k false) e ∙ bits_beyond 64 word (n - 64) (flags_of words) ∙ flag_is words (n - 64)
       ∙ sym (ap (λ k. bit_at (get_or (word ∷ words) k 0) (n % 64) == 1) high ∙ ap (λ k. bit_at (get_or words ((n - 64) / 64) 0) k == 1) place)
 ]

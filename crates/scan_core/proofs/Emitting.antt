@@ -54,7 +54,7 @@ starred_out {marked} {chosen} before code {start} {size} low b n s m ch e =
         let l = ap length n in
         let a = length-append before (Back 0 ∷ reverse code) in
         let r = length-reverse code in
-        omega (arith, l, a, r, b, s)
+        omega arith
 
     set_now : marked ≡ before ++ Back (length code + 1) ∷ reverse code
     set_now =
@@ -66,7 +66,7 @@ starred_out {marked} {chosen} before code {start} {size} low b n s m ch e =
         let l = ap length set_now in
         let a = length-append before (Back (length code + 1) ∷ reverse code) in
         let r = length-reverse code in
-        omega (arith, l, a, r, b)
+        omega arith
 
     whole : chosen ≡ before ++ reverse (starred code)
     whole =
@@ -100,10 +100,10 @@ exact_out {nodes} before code {low} {high} b n s same some e =
     ∙ ap (λ l. before ++ reverse l) (sym (append-nil (copies low code))) ∙ ap (λ k. before ++ reverse (copies low code ++ up_to k code)) none
   where
     one : suc (low - 1) ≡ low
-    one = omega (arith, same, some)
+    one = omega arith
 
     none : 0 ≡ high - low
-    none = omega (arith, same)
+    none = omega arith
 
 -- one more optional copy
 pub optional_more : {nodes now middle new : List Node} (more before code : List Node) {start size : ℕ} (count : ℕ)

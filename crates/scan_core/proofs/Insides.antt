@@ -34,9 +34,9 @@ has_tests words number = rw shr_and_one (eqb-true _ 1, eq-eqb _ 1)
 
 pub unset-set : (words : List ℕ) (at word : ℕ) → at < length words → get_or words at 0 < word → word ≤ 2 ^ 64
     → unset (set words at word) < unset words
-unset-set [] at word h l m = absurd (omega (arith, h))
-unset-set (x ∷ words) zero word h l m = omega (arith, l, m)
-unset-set (x ∷ words) (suc at) word h l m = let r = unset-set words at word (omega (arith, h)) l m in omega (arith, r)
+unset-set [] at word h l m = absurd (omega arith)
+unset-set (x ∷ words) zero word h l m = omega arith
+unset-set (x ∷ words) (suc at) word h l m = let r = unset-set words at word (omega arith) l m in omega arith
 
 -- the first bits of a word are as they should be, and no others are set
 pub record AreBits (Is : ℕ → ℕ → Type 0) (count word : ℕ) : Type 0 where
@@ -48,15 +48,15 @@ pub bits_more : {Is : ℕ → ℕ → Type 0} {count word : ℕ} (flag : Bool) �
 bits_more {Is} {count} {word} true a h is = record {
   past = λ bit l. elim (cases_eq bit count) [
     | inl same ↦ rw same (subst (Is count) (sym (bit_at_set_same w64 word count h)) is)
-    | inr other ↦ rw (← bit_at_set_other w64 word count h bit other) at (a.past bit (omega (arith, l, other)))
+    | inr other ↦ rw (← bit_at_set_other w64 word count h bit other) at (a.past bit (omega arith))
   ];
-  rest = λ bit l. bit_at_set_other w64 word count h bit (λ q. omega (arith, q, l)) ∙ a.rest bit (omega (arith, l));
+  rest = λ bit l. bit_at_set_other w64 word count h bit (λ q. omega arith) ∙ a.rest bit (omega arith);
 }
 bits_more false a h is = search (rules, or_zero_r, cases_eq)
 
 pub flag_one : (flag : Bool) → (bool_byte flag ≡ 1) ↔ IsTrue flag
 flag_one true = (λ e. refl, λ t. refl)
-flag_one false = (λ e. absurd (omega (arith, e)), λ t. absurd (false≢true t))
+flag_one false = (λ e. absurd (omega arith), λ t. absurd (false≢true t))
 
 pub not_one : (flag : Bool) → IsTrue flag ⊎ (bool_byte (not flag) ≡ 1)
 not_one true = inl refl
@@ -75,13 +75,13 @@ entered_one old {new} {number} {word} h ew en other = elim (cases_eq other numbe
 ]
   where
     read : get_or new (number / 64) 0 ≡ bit_or word (1 * 2 ^ (number % 64) % 2 ^ 64)
-    read = ap (λ l. get_or l (number / 64) 0) en ∙ get_or-set_same old _ _ 0 (omega (arith, h))
+    read = ap (λ l. get_or l (number / 64) 0) en ∙ get_or-set_same old _ _ 0 (omega arith)
 
     elsewhere : (other ≡ number → ⊥)
         → bit_at (get_or new (other / 64) 0) (other % 64) ≡ bit_at (get_or old (other / 64) 0) (other % 64)
     elsewhere differs = elim (cases_eq (other / 64) (number / 64)) [
       | inl same ↦ ap (λ k. bit_at (get_or new k 0) (other % 64)) same ∙ ap (λ x. bit_at x (other % 64)) read
-          ∙ bit_at_set_other w64 word _ (omega arith) _ (λ e. differs (omega (arith, e, same)))
+          ∙ bit_at_set_other w64 word _ (omega arith) _ (λ e. differs (omega arith))
           ∙ ap (λ x. bit_at x (other % 64)) ew ∙ ap (λ k. bit_at (get_or old k 0) (other % 64)) (sym same)
       | inr apart ↦ ap (λ x. bit_at x (other % 64)) (ap (λ l. get_or l (other / 64) 0) en ∙ get_or-set_other old _ _ _ 0 apart)
     ]
@@ -95,8 +95,8 @@ grows_one {old} {new} {number} {word} h none ew fits en eo = record {
   size = ap length en ∙ length-set old _ more;
   exact = is;
   goes = record {
-    low = omega (arith, eo);
-    under = λ other l k. elim ((is other).0 k) [ inl was ↦ was | inr same ↦ absurd (omega (arith, l, eo, same)) ];
+    low = omega arith;
+    under = λ other l k. elim ((is other).0 k) [ inl was ↦ was | inr same ↦ absurd (omega arith) ];
     fuller = omega (arith, fuller);
     less = λ l. fuller;
   };
@@ -113,15 +113,15 @@ grows_one {old} {new} {number} {word} h none ew fits en eo = record {
       | inl same ↦
           let unchanged = en ∙ ap (set old (number / 64)) (sym same ∙ ew) ∙ set-get_or old _ 0 in
           absurd (none (rw unchanged at ((is number).1 (inr refl))))
-      | inr differs ↦ let l = le_or_l word (1 * 2 ^ (number % 64) % 2 ^ 64) in omega (arith, l, differs, ew)
+      | inr differs ↦ let l = le_or_l word (1 * 2 ^ (number % 64) % 2 ^ 64) in omega arith
     ]
 
     fuller : unset new < unset old
-    fuller = rw (← en) at (unset-set old (number / 64) (bit_or word (1 * 2 ^ (number % 64) % 2 ^ 64)) (omega (arith, h)) larger
-        (let m = or_lt 64 word (1 * 2 ^ (number % 64) % 2 ^ 64) fits (omega arith) in omega (arith, m)))
+    fuller = rw (← en) at (unset-set old (number / 64) (bit_or word (1 * 2 ^ (number % 64) % 2 ^ 64)) (omega arith) larger
+        (let m = or_lt 64 word (1 * 2 ^ (number % 64) % 2 ^ 64) fits (omega arith) in omega arith))
 
 pub goes_none : {words : List ℕ} {before : ℕ} → GoesOn words words before before
-goes_none = record { low = omega arith; under = λ number l h. h; fuller = omega arith; less = λ l. absurd (omega (arith, l)) }
+goes_none = record { low = omega arith; under = λ number l h. h; fuller = omega arith; less = λ l. absurd (omega arith) }
 
 pub grows_none : {Added : ℕ → Type 0} {words : List ℕ} {on : ℕ} → ((number : ℕ) → Added number → IsIn words number)
     → Grows Added words words on on
@@ -215,14 +215,14 @@ spreading_more {number} s g = record {
     | inl before ↦ (g.exact to).1 (inl (s.closed start to before was flow))
     | inr here ↦
         let w = g.goes.low in
-        let e : start ≡ number = omega (arith, w, h, here) in
+        let e : start ≡ number = omega arith in
         (g.exact to).1 (inr (rw e at was, rw e at flow))
   ];
 }
 
 pub spreading_ends : {code : List Node} {at_first at_last : Bool} {old now : List ℕ} {number : ℕ}
     → Spreading code at_first at_last old now number → length code ≤ number → SpreadsOut code at_first at_last old now
-spreading_ends {code} s h = spreads_out s.adds (λ start to k flow. s.closed start to (let l = at_least code start flow.0 flow.1 in omega (arith, l, h)) k flow)
+spreading_ends {code} s h = spreads_out s.adds (λ start to k flow. s.closed start to (let l = at_least code start flow.0 flow.1 in omega arith) k flow)
 
 pub visits_smaller : {Added : ℕ → Type 0} {old new : List ℕ} {number on most : ℕ} → Grows Added old new (number + 1) on
     → number < most → unset new * (most + 1) + (most - on) < unset old * (most + 1) + (most - number)
@@ -234,10 +234,10 @@ pub either_bit : (a b bit : ℕ) → bit_at (bit_or a b) bit ≡ 1 → (bit_at a
 either_bit a b bit h = search (rules, cases_eq, bit_at_or, bit_at-lt)
 
 pub left_bit : (a b bit : ℕ) → bit_at a bit ≡ 1 → bit_at (bit_or a b) bit ≡ 1
-left_bit a b bit h = let e = bit_at_or a b bit in let l = bit_at-lt b bit in omega (arith, e, h, l)
+left_bit a b bit h = let e = bit_at_or a b bit in let l = bit_at-lt b bit in omega arith
 
 pub right_bit : (a b bit : ℕ) → bit_at b bit ≡ 1 → bit_at (bit_or a b) bit ≡ 1
-right_bit a b bit h = let e = bit_at_or a b bit in let l = bit_at-lt a bit in omega (arith, e, h, l)
+right_bit a b bit h = let e = bit_at_or a b bit in let l = bit_at-lt a bit in omega arith
 
 -- a bit that stands for a number of a word
 pub bit_is : {at : ℕ} (number bit : ℕ) → number / 64 ≡ at → bit < 64
@@ -247,14 +247,14 @@ bit_is number bit here h =
     let same = bit_at_set_same w64 0 (number % 64) (omega arith) in
     let word : bit_or 0 (1 * 2 ^ (number % 64) % 2 ^ 64) ≡ 1 * 2 ^ (number % 64) % 2 ^ 64 = zero_or (1 * 2 ^ (number % 64) % 2 ^ 64) in (
       λ k. elim (cases_eq bit (number % 64)) [
-        | inl e ↦ omega (arith, e, here)
+        | inl e ↦ omega arith
         | inr other ↦
             let o = bit_at_set_other w64 0 (number % 64) (omega arith) bit other in
             let z = bit_at-zero bit in
             let w = ap (λ x. bit_at x bit) word in
-            absurd (omega (arith, o, z, w, k))
+            absurd (omega arith)
       ],
-      λ e. let q : bit ≡ number % 64 = omega (arith, e, here, h) in ap (bit_at (1 * 2 ^ (number % 64) % 2 ^ 64)) q ∙ ap (λ x. bit_at x (number % 64)) (sym word) ∙ same,
+      λ e. let q : bit ≡ number % 64 = omega arith in ap (bit_at (1 * 2 ^ (number % 64) % 2 ^ 64)) q ∙ ap (λ x. bit_at x (number % 64)) (sym word) ∙ same,
     )
 
 -- what a number of a word leads to in it
@@ -268,7 +268,7 @@ both_led {to} one other bit w o a b = (
 
 pub none_led : (code : List Node) {number to : ℕ} (bit : ℕ) → (Flows code false false number to → ⊥)
     → (bit_at 0 bit ≡ 1) ↔ Flows code false false number to
-none_led code bit never = (λ k. let z = bit_at-zero bit in absurd (omega (arith, z, k)), λ f. absurd (never f))
+none_led code bit never = (λ k. let z = bit_at-zero bit in absurd (omega arith), λ f. absurd (never f))
 
 -- what some of the numbers lead to is there
 pub record Insiding (code : List Node) (at word all done : ℕ) : Type 0 where
@@ -293,7 +293,7 @@ inside_more {at} {all} {done} found {bit} i small fits here is = record {
     | inl old ↦ i.from_word n h old
     | inr new ↦
         let e = fresh_bit all fits small in
-        let was = i.from_word bit small (omega (arith, e, here, bit_at-lt all bit)) in
+        let was = i.from_word bit small (omega (arith, bit_at-lt all bit)) in
         (was.0, was.1, was.2, (suc was.3.0, (at * 64 + bit, was.3.1, (is n h).0 new)))
   ];
   looked = λ b to h l k f. elim (cases_eq b bit) [
@@ -307,7 +307,7 @@ pub inside_ends : {code : List Node} {at word all done : ℕ} → Insiding code 
 inside_ends {all} {done} i fits none = record {
   kept = i.kept;
   from_chosen = i.from_word;
-  closed = λ n to h l k f. i.looked n to h l (let e = fresh_bit all fits h in let z = ap (λ w. bit_at w n) none ∙ bit_at-zero n in let b = bit_at-lt done n in omega (arith, e, z, k, b)) f;
+  closed = λ n to h l k f. i.looked n to h l (let e = fresh_bit all fits h in let z = ap (λ w. bit_at w n) none ∙ bit_at-zero n in let b = bit_at-lt done n in omega arith) f;
 }
 
 -- one more was looked at
@@ -317,8 +317,8 @@ inside_smaller all {done} {bit} small fits here = elim (cases_eq (bit_or done (1
   | inl same ↦
       let e = fresh_bit all fits small in
       let s = sym (bit_at_set_same w64 done bit small) ∙ ap (λ w. bit_at w bit) same in
-      absurd (omega (arith, e, s, here))
-  | inr grown ↦ let l = le_or_l done (1 * 2 ^ bit % 2 ^ 64) in let m = or_lt 64 done (1 * 2 ^ bit % 2 ^ 64) fits (omega arith) in omega (arith, l, m, grown)
+      absurd (omega arith)
+  | inr grown ↦ let l = le_or_l done (1 * 2 ^ bit % 2 ^ 64) in let m = or_lt 64 done (1 * 2 ^ bit % 2 ^ 64) fits (omega arith) in omega arith
 ]
 
 -- the first eights of a word are joined
@@ -336,7 +336,7 @@ eight_bits : {word : ℕ} (eight bit : ℕ) → word < 2 ^ 64
 eight_bits {word} eight bit h =
     let e : bit_and word (2 ^ (8 + eight * 8) - 2 ^ (eight * 8)) ≡ word / 2 ^ (eight * 8) % 256 * 2 ^ (eight * 8) = and_high word 8 _ in
     let l = and_le_l word (2 ^ (8 + eight * 8) - 2 ^ (eight * 8)) in
-    let q : word / 2 ^ (eight * 8) % 256 * 2 ^ (eight * 8) % 2 ^ 64 ≡ bit_and word (2 ^ (8 + eight * 8) - 2 ^ (eight * 8)) = omega (arith, e, l, h) in
+    let q : word / 2 ^ (eight * 8) % 256 * 2 ^ (eight * 8) % 2 ^ 64 ≡ bit_and word (2 ^ (8 + eight * 8) - 2 ^ (eight * 8)) = omega arith in
     ap (λ x. bit_at x bit) q ∙ bit_at_and word (2 ^ (8 + eight * 8) - 2 ^ (eight * 8)) bit
 
 -- an entry by its word, its eight and its choice
@@ -354,8 +354,8 @@ join_more {code} {at} {word} {eight} {all} {entry} j i within h fits e = record 
     | inl before ↦ left_bit all entry bit (j.kept bit before is)
     | inr here ↦
         let m = eight_bits eight bit fits in
-        let o = bit_at_mask_inside (eight * 8) (8 + eight * 8) bit here (omega (arith, l)) in
-        right_bit all entry bit (c.kept bit (omega (arith, l, h)) (omega (arith, m, o, is)))
+        let o = bit_at_mask_inside (eight * 8) (8 + eight * 8) bit here (omega arith) in
+        right_bit all entry bit (c.kept bit (omega arith) (omega arith))
   ];
   from_word = λ number l is. elim (either_bit all entry number is) [
     | inl old ↦ j.from_word number l old
@@ -363,7 +363,7 @@ join_more {code} {at} {word} {eight} {all} {entry} j i within h fits e = record 
         let k = c.from_chosen number l new in
         let m = eight_bits eight k.0 fits in
         let b = bit_at-lt word k.0 in
-        (k.0, k.1, (let is = k.2 in omega (arith, m, is, b)), k.3)
+        (k.0, k.1, (let is = k.2 in omega arith), k.3)
   ];
   closed = λ number to l m is f. elim (either_bit all entry number is) [
     | inl old ↦ left_bit all entry to (j.closed number to l m old f)
@@ -374,7 +374,7 @@ join_more {code} {at} {word} {eight} {all} {entry} j i within h fits e = record 
     c : Closes code at (word / 2 ^ (eight * 8) % 256 * 2 ^ (eight * 8) % 2 ^ 64) entry
     c =
         let place : ℕ = at * 2048 + (eight * 256 + word / 2 ^ (eight * 8) % 256) in
-        rw e (entry_at place (omega (arith, h)) (omega (arith, h)) (omega arith) (i.each place (omega (arith, within, h))))
+        rw e (entry_at place (omega arith) (omega arith) (omega arith) (i.each place (omega arith)))
 
 -- the bits of a number in its place in a word
 fitted : (n i : ℕ) → i < 64 → bit_at (n % 2 ^ 64) i ≡ bit_at n i
@@ -383,8 +383,8 @@ fitted n i h =
     let b = bit_at_and n (2 ^ 64 - 2 ^ 0) i in
     let o = bit_at_ones 64 i h in
     let l = bit_at-lt n i in
-    let q : n % 2 ^ 64 ≡ bit_and n (2 ^ (64 + 0) - 2 ^ 0) = omega (arith, e) in
-    ap (λ x. bit_at x i) q ∙ b ∙ omega (arith, o, l)
+    let q : n % 2 ^ 64 ≡ bit_and n (2 ^ (64 + 0) - 2 ^ 0) = omega arith in
+    ap (λ x. bit_at x i) q ∙ b ∙ omega arith
 
 pub placed_below : (n : ℕ) {s i : ℕ} → i < 64 → i < s → bit_at (n * 2 ^ s % 2 ^ 64) i ≡ 0
 placed_below n {s} {i} h l = fitted _ i h ∙ ap (λ x. bit_at x i) (omega arith) ∙ bit_at_cat_low n s 0 i l ∙ bit_at-zero i
@@ -400,13 +400,13 @@ halved high low j h = elim (cases_lt j 4) [
       let b = bit_at_cat_low high 4 0 j l in
       let z = bit_at-zero j in
       let e : bit_at (high * 16 + 0) j ≡ bit_at (high * 16) j = ap (λ x. bit_at x j) (omega arith) in
-      omega (arith, a, b, z, e)
+      omega arith
   | inr l ↦
       let a = bit_at_cat_high high 4 low j h l in
       let b = bit_at_cat_high high 4 0 j (omega arith) l in
       let z = bit_at_above low 4 j h l in
       let e : bit_at (high * 16 + 0) j ≡ bit_at (high * 16) j = ap (λ x. bit_at x j) (omega arith) in
-      omega (arith, a, b, z, e)
+      omega arith
 ]
 
 halved_placed : (high low s i : ℕ) → low < 16 → i < 64
@@ -417,13 +417,13 @@ halved_placed high low s i h small = elim (cases_lt i s) [
       let a = placed_below (high * 16 + low) small l in
       let b = placed_below (high * 16) small l in
       let d = placed_below low small l in
-      omega (arith, a, b, d)
+      omega arith
   | inr l ↦
       let a = placed (high * 16 + low) small l in
       let b = placed (high * 16) small l in
       let d = placed low small l in
       let e = halved high low (i - s) h in
-      omega (arith, a, b, d, e)
+      omega arith
 ]
 
 -- what two choices lead to is what both together lead to
@@ -433,11 +433,11 @@ closes_both : {code : List Node} {at : ℕ} (one other : ℕ) {chosen : ℕ} (al
 closes_both one other all more c d e = record {
   kept = λ bit h is. elim (cases_eq (bit_at one bit) 1) [
     | inl first ↦ left_bit _ _ _ (c.kept bit h first)
-    | inr differs ↦ right_bit _ _ _ (d.kept bit h (let q = e bit h in let l = bit_at-lt one bit in let m = bit_at-lt other bit in omega (arith, q, l, m, is, differs)))
+    | inr differs ↦ right_bit _ _ _ (d.kept bit h (let q = e bit h in let l = bit_at-lt one bit in let m = bit_at-lt other bit in omega arith))
   ];
   from_chosen = λ number h is. elim (either_bit _ _ _ is) [
-    | inl old ↦ let k = c.from_chosen number h old in (k.0, k.1, (let q = e k.0 k.1 in let is = k.2 in let l = bit_at-lt other k.0 in omega (arith, q, is, l)), k.3)
-    | inr new ↦ let k = d.from_chosen number h new in (k.0, k.1, (let q = e k.0 k.1 in let is = k.2 in let l = bit_at-lt one k.0 in omega (arith, q, is, l)), k.3)
+    | inl old ↦ let k = c.from_chosen number h old in (k.0, k.1, (let q = e k.0 k.1 in let is = k.2 in let l = bit_at-lt other k.0 in omega arith), k.3)
+    | inr new ↦ let k = d.from_chosen number h new in (k.0, k.1, (let q = e k.0 k.1 in let is = k.2 in let l = bit_at-lt one k.0 in omega arith), k.3)
   ];
   closed = λ number to h l is f. elim (either_bit _ _ _ is) [
     | inl old ↦ left_bit _ _ _ (c.closed number to h l old f)
@@ -459,13 +459,13 @@ entry_of_halves {code} {inside} {place} i low high = closes_both _ _ _ _ one oth
         (get_or inside (place - place % 16) 0)
     one =
         let before : ℕ = place - place % 16 in
-        entry_at _ (omega arith) (omega arith) (omega arith) (i.each before (omega (arith, low)))
+        entry_at _ (omega arith) (omega arith) (omega arith) (i.each before (omega arith))
 
     other : Closes code (place / 2048) (place % 16 * 2 ^ (place / 256 % 8 * 8) % 2 ^ 64)
         (get_or inside (place - place / 16 % 16 * 16) 0)
     other =
         let before : ℕ = place - place / 16 % 16 * 16 in
-        entry_at _ (omega arith) (omega arith) (omega arith) (i.each before (omega (arith, high)))
+        entry_at _ (omega arith) (omega arith) (omega arith) (i.each before (omega arith))
 
     bits : (bit : ℕ) → bit < 64
         → bit_at (chosen_at place) bit ≡ max (bit_at (place / 16 % 16 * 16 * 2 ^ (place / 256 % 8 * 8) % 2 ^ 64) bit)

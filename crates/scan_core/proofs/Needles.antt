@@ -24,19 +24,19 @@ use Rattle.scan_core.proofs.{Codes.{contained, at_at}, Enterings.{at_once, at_le
 
 step_near : (code : List Node) (line : List ℕ) {number : ℕ} (node : Node) {at : ℕ} (place : ℕ) {at' : ℕ} (place' : ℕ)
     → IsPassed code number → At code at node → Leads node line at place at' place' → at < number → at' ≤ number
-step_near code line (Take bytes) place place' passed here led low = omega (arith, led.0, low)
-step_near code line First place place' passed here led low = omega (arith, led.0, low)
-step_near code line Last place place' passed here led low = omega (arith, led.0, low)
+step_near code line (Take bytes) place place' passed here led low = omega arith
+step_near code line First place place' passed here led low = omega arith
+step_near code line Last place place' passed here led low = omega arith
 step_near code line (Choose skip) place place' passed here led low = grind (arith, common_steps)
-step_near code line (Back by) place place' passed here led low = omega (arith, led.0, low)
+step_near code line (Back by) place place' passed here led low = omega arith
 
 come_by : (code : List Node) {line : List ℕ} {number : ℕ} → IsPassed code number → (count : ℕ) {at : ℕ} (place : ℕ)
     {to stop : ℕ} → Walks code line count at place to stop → at ≤ number → number < to
     → (there : ℕ) × (rest : ℕ) × Walks code line rest number there to stop
-come_by code passed zero place w low high = absurd (omega (arith, w.0, low, high))
+come_by code passed zero place w low high = absurd (omega arith)
 come_by code {line} {number} passed (suc count) {at} place w low high = elim (cases_eq at number) [
   | inl same ↦ (place, suc count, rw same at w)
-  | inr other ↦ come_by code passed count w.1 w.3 (step_near code line w.2.0 place w.1 passed w.2.1 w.2.2 (omega (arith, low, other))) high
+  | inr other ↦ come_by code passed count w.1 w.3 (step_near code line w.2.0 place w.1 passed w.2.1 w.2.2 (omega arith)) high
 ]
 
 -- A walk that goes on from nodes which take bytes takes one after another.
@@ -54,21 +54,21 @@ taken : (code : List Node) (line : List ℕ) (k number place : ℕ) {to : ℕ} (
     → Walks code line count number place to stop → number + k < to → AreTakes code number k
     → (place + k < length line) × ((bytes : List Bool) → At code (number + k) (Take bytes)
     → IsTrue (has bytes (slice_index line (place + k))))
-taken code line k number place stop zero w high takes = absurd (omega (arith, w.0, high))
+taken code line k number place stop zero w high takes = absurd (omega arith)
 taken code line zero number place stop (suc count) w high takes =
     let first = takes 0 (omega arith) in
     let here : number + 0 ≡ number = omega arith in
     let there : place ≡ place + 0 = omega arith in
     let led = led_on _ _ _ _ _ w (at_at _ _ here first.1) in (
-      omega (arith, led.0),
+      omega arith,
       λ bytes at. rw there at (led_on _ _ _ _ _ w (at_at _ _ here at)).1,
     )
 taken code line (suc k) number place {to} stop (suc count) w high takes =
     let first = takes 0 (omega arith) in
     let led = led_on code count to stop first.0 w (at_at code (Take first.0) (omega arith) first.1) in
-    let more = taken code line k (number + 1) (place + 1) stop count led.2 (omega (arith, high)) (λ j low. let next = takes (suc j) (omega (arith, low)) in (next.0, at_at code (Take next.0) (omega arith) next.1)) in
+    let more = taken code line k (number + 1) (place + 1) stop count led.2 (omega arith) (λ j low. let next = takes (suc j) (omega arith) in (next.0, at_at code (Take next.0) (omega arith) next.1)) in
     let there : place + 1 + k ≡ place + suc k = omega arith in (
-      omega (arith, more.0),
+      omega arith,
       λ bytes at. rw there at (more.1 bytes (at_at code (Take bytes) (omega arith) at)),
     )
 
@@ -85,8 +85,8 @@ pub is_byte_needle : (code : List Node) {number : ℕ} (bytes : List Bool) (few 
 is_byte_needle code {number} bytes few passed here among line are ends =
     let walk = comes _ passed (at_least _ _ _ here) ends in
     let same : number ≡ number + 0 = omega arith in
-    let first : AreTakes code number 0 = λ k low. (bytes, at_at code (Take bytes) (omega (arith, low)) here) in
-    let t = taken code line 0 number walk.0 walk.2 walk.1 walk.3 (let low = at_least code number (Take bytes) here in omega (arith, low)) first in
+    let first : AreTakes code number 0 = λ k low. (bytes, at_at code (Take bytes) (omega arith) here) in
+    let t = taken code line 0 number walk.0 walk.2 walk.1 walk.3 (let low = at_least code number (Take bytes) here in omega arith) first in
     (walk.0 + 0, t.0, among (slice_index line (walk.0 + 0)) (are (walk.0 + 0) t.0) (t.1 bytes (at_at _ _ same here)))
 
 -- a node that takes one byte alone takes bytes
@@ -104,7 +104,7 @@ pub is_text_needle : (code : List Node) {number : ℕ} {text needle : List ℕ} 
 is_text_needle code {number} {text} passed literal same some line are ends = (
   walk.0,
   rw same (record {
-    fits = let last = each (length text - 1) (omega (arith, some)) in omega (arith, last.0, some);
+    fits = let last = each (length text - 1) (omega arith) in omega arith;
     reads = λ j within. (each j within).1;
   }),
 )
@@ -114,12 +114,12 @@ is_text_needle code {number} {text} passed literal same some line are ends = (
     takes k within = let one = literal k within in only_takes code (number + k) one.0 one.1 one.2
 
     walk : (there : ℕ) × (rest : ℕ) × (stop : ℕ) × Walks code line rest number there (length code) stop
-    walk = comes code passed (let one = takes 0 some in let low = at_least code (number + 0) (Take one.0) one.1 in omega (arith, low)) ends
+    walk = comes code passed (let one = takes 0 some in let low = at_least code (number + 0) (Take one.0) one.1 in omega arith) ends
 
     each : (k : ℕ) → k < length text → (walk.0 + k < length line) × (slice_index line (walk.0 + k) ≡ slice_index text k)
     each k within =
         let one = takes k within in
-        let t = taken _ _ k _ _ _ _ walk.3 (at_least _ _ _ one.1) (λ j low. let next = takes j (omega (arith, low, within)) in (next.0, next.1)) in
+        let t = taken _ _ k _ _ _ _ walk.3 (at_least _ _ _ one.1) (λ j low. let next = takes j (omega arith) in (next.0, next.1)) in
         (t.0, one.2 (slice_index line (walk.0 + k)) (are (walk.0 + k) t.0) (t.1 one.0 one.1))
 
 -- Stretches of a text
@@ -136,11 +136,11 @@ pub lacks_text : {needle text : List ℕ} {place : ℕ} → Nowhere (OccursAt te
     → LacksBefore (Text needle) text place
 lacks_text none before part after all ends has =
     let fits = has.1.fits in
-    none (length before + has.0) (omega arith) (omega (arith, ends, fits)) (rw all (record {
-      fits = (let one : length (before ++ part) ≡ length before + length part = length-append before part in let two : length (before ++ part ++ after) ≡ length (before ++ part) + length after = length-append _ after in omega (arith, one, two, fits));
+    none (length before + has.0) (omega arith) (omega arith) (rw all (record {
+      fits = (let one : length (before ++ part) ≡ length before + length part = length-append before part in let two : length (before ++ part ++ after) ≡ length (before ++ part) + length after = length-append _ after in omega arith);
       reads = λ j within.
           let there : length before + has.0 + j ≡ length before + (has.0 + j) = omega arith in
-          ap (λ n. slice_index (before ++ part ++ after) n) there ∙ part_at before part after (omega (arith, within, fits)) ∙ has.1.reads j within;
+          ap (λ n. slice_index (before ++ part ++ after) n) there ∙ part_at before part after (omega arith) ∙ has.1.reads j within;
     }))
 
 -- a stretch that lacks the needle contains no match
@@ -167,12 +167,12 @@ pub literal_more : (code : List Node) (from : ℕ) {at : ℕ} (byte : ℕ) (text
     → IsLiteral code from (text ++ byte ∷ [])
 literal_more code from {at} byte text node all literal here only k within = elim (cases_eq k (length text)) [
   | inl same ↦
-      let there : at ≡ from + k = omega (arith, all, same) in
+      let there : at ≡ from + k = omega arith in
       let last : byte ≡ slice_index (text ++ byte ∷ []) k = sym (ap (λ n. slice_index (text ++ byte ∷ []) n) same ∙ get_or-append_seam text byte [] _) in
       (node, at_at _ _ there here, rw last at only)
   | inr other ↦
       let long : length (text ++ byte ∷ []) ≡ length text + 1 = length-append text _ in
-      let less : k < length text = omega (arith, within, long, other) in
+      let less : k < length text = omega arith in
       let one = literal k less in
       (one.0, one.1, rw (← get_or_append_left text (byte ∷ []) _ k less) at one.2)
 ]

@@ -34,7 +34,7 @@ pub record Searched (code : List Node) (line : List ℕ) (place : ℕ) (words : 
 -- at the line's front nothing came before
 pub front_is : {code : List Node} {line base words : List ℕ} {place steps : ℕ} → Searched code line place words steps
     → IsBase code base → place ≡ 0 → (number : ℕ) → IsIn words number → IsIn base number
-front_is s b z number k = elim ((s.came number).0 k) [ inl came ↦ absurd (let e = came.1 in omega (arith, e, z)) | inr on ↦ (b.exact number).1 on ]
+front_is s b z number k = elim ((s.came number).0 k) [ inl came ↦ absurd (let e = came.1 in omega arith) | inr on ↦ (b.exact number).1 on ]
 
 -- what is entered at a place
 pub entered_here : {code : List Node} {line : List ℕ} {place steps : ℕ} {at_first at_last : Bool} {old new : List ℕ}
@@ -51,7 +51,7 @@ entered_here s p o number = let r = reaches_exact _ p _ in (
 -- the set of a place has no more positions than the code
 pub few_positions : (code : List Node) (words : List ℕ) {positions : ℕ}
     → positions ≡ positions_among code (flags_of words) → positions ≤ weight code + 1
-few_positions code words e = let m = positions_most code (flags_of words) in omega (arith, m, e)
+few_positions code words e = let m = positions_most code (flags_of words) in omega arith
 
 -- the steps so far and those of one place more fit 128 bits
 pub search_fits : {code : List Node} {line : List ℕ} {place steps positions : ℕ} {old : List ℕ} (now : List ℕ)
@@ -61,9 +61,9 @@ pub search_fits : {code : List Node} {line : List ℕ} {place steps positions : 
 search_fits {code} {place} now s e few far =
     let w = weight_length code in
     let m = few_positions code now e in
-    let size : weight code + 1 ≤ 9223372036854775808 = omega (arith, w, few) in
+    let size : weight code + 1 ≤ 9223372036854775808 = omega arith in
     let most : place * (weight code + 1) ≤ 18446744073709551616 * 9223372036854775808 = mul-le-mul far size in
-    omega (arith, s.so_far.bound, most, m, size)
+    omega arith
 
 marked_here : (code : List Node) {line : List ℕ} {place : ℕ} (words : List ℕ)
     → ((number : ℕ) → IsIn words number ↔ Entered code line number place) → (number : ℕ)
@@ -97,8 +97,8 @@ pub search_found : {code : List Node} {line : List ℕ} {place steps positions :
     → place < length line → positions ≡ positions_among code (flags_of now) → IsIn now (length code)
     → IsOutcome code line (record { found = true; steps = steps + positions })
 search_found {code} now s here h p is =
-    counted_found s.so_far (omega (arith, h)) ((here (length code)).0 is) (omega arith)
-    (steps_wider _ (steps_more _ s.so_far.bound (few_positions _ _ p)) (omega (arith, h)))
+    counted_found s.so_far (omega arith) ((here (length code)).0 is) (omega arith)
+    (steps_wider _ (steps_more _ s.so_far.bound (few_positions _ _ p)) (omega arith))
 
 -- the line's end
 pub search_ends : {code : List Node} {line : List ℕ} {place steps positions : ℕ} {old : List ℕ} (now : List ℕ)
@@ -121,10 +121,10 @@ built_set : {code : List Node} {entries : ℕ} {sets : List (List Bool)} {rows :
     → Built code entries sets rows → entries ≤ length sets * 256
     → IsOpen code set → Built code entries (sets ++ set ∷ []) rows
 built_set {sets} {set} b small o = let l = length-append sets (set ∷ []) in record {
-  some = omega (arith, l);
+  some = omega arith;
   front = λ number. rw (← get_or_append_left sets (set ∷ []) [] 0 b.some) at (b.front number);
-  going = each_to (each_more b.going o refl) (omega (arith, l));
-  told = each_by b.told (λ place read h t. tells_more _ (omega (arith, h, small)) t);
+  going = each_to (each_more b.going o refl) (omega arith);
+  told = each_by b.told (λ place read h t. tells_more _ (omega arith) t);
 }
 
 -- the entry of a state and a byte by its place
@@ -157,8 +157,8 @@ twin_entry {code} {place} {twin} {read} d {building} f a less e = record {
 
     t : Tells code building.sets.items (place / 256) twin read
     t =
-        let here : place / 256 * 256 + twin < place = omega (arith, less) in
-        rw (← (e ∙ get_or_default building.rows.items (place / 256 * 256 + twin) d 0 (omega (arith, here, f.built.told.size)))) at (subst (λ t. t) (sym (tells_at refl (omega (arith, less)))) (f.built.told.each (place / 256 * 256 + twin) here))
+        let here : place / 256 * 256 + twin < place = omega arith in
+        rw (← (e ∙ get_or_default building.rows.items (place / 256 * 256 + twin) d 0 (omega arith))) at (subst (λ t. t) (sym (tells_at refl (omega arith))) (f.built.told.each (place / 256 * 256 + twin) here))
 
 -- the sets stay, or one is added
 record Grown (code : List Node) (place : ℕ) (sets sets' : List (List Bool)) (rows : List ℕ) : Type 0 where
@@ -173,8 +173,8 @@ grown : {code : List Node} {place : ℕ} {sets sets' : List (List Bool)} {rows :
 grown b r k (inl e) = rw e (record { built = b; order = r; known = k; same = refl })
 grown {sets} {set} b r k (inr e) = let l = length-append sets (set ∷ []) in rw e.0 (record {
   built = built_set b r e.1;
-  order = omega (arith, r, l);
-  known = omega (arith, k, l);
+  order = omega arith;
+  known = omega arith;
   same = get_or_append_left sets _ [] _ k;
 })
 
@@ -182,7 +182,7 @@ grown {sets} {set} b r k (inr e) = let l = length-append sets (set ∷ []) in rw
 pub set_size : {code : List Node} {sets : List (List Bool)} {state : ℕ} (words : List ℕ)
     → AreEach [] (λ _. IsOpen code) (length sets) sets → state < length sets
     → flags_of words ≡ set_at sets state → length words ≡ width code
-set_size words are h e = let l = flags_length words in let m = ap length e in let s = (are.each _ h).size in omega (arith, l, m, s)
+set_size words are h e = let l = flags_length words in let m = ap length e in let s = (are.each _ h).size in omega arith
 
 pub led_on : {code : List Node} {most place read : ℕ} {old new : Building} (before : List ℕ) {words : List ℕ}
     → IsBuilding code most place old → place / 256 < length old.sets.items
@@ -223,7 +223,7 @@ pub building_more : {code : List Node} {most place read : ℕ} {old new : Buildi
 building_more {code} {place} {old} {new} l es ew er =
     let b = l.so_far.built in
     let built : Built code (place + 1) old.sets.items new.rows.items = record { some = b.some; front = b.front; going = b.going; told = each_more b.told l.tells er } in
-    rw es (record { built = built; room = l.so_far.room; size = ap (λ w. length w.items) ew ∙ l.so_far.size; order = omega (arith, l.known) })
+    rw es (record { built = built; room = l.so_far.room; size = ap (λ w. length w.items) ew ∙ l.so_far.size; order = omega arith })
 
 -- a set that a line's front has
 pub front_built : {code : List Node} (words : List ℕ) {sets : List (List Bool)} → length words ≡ width code
@@ -253,13 +253,13 @@ pub alike_below : (code : List Node) (n one other : ℕ) {node : Node}
     → m < n + 1 → At code m (Take bytes) → has bytes one ≡ has bytes other
 alike_below code n one other {node} before is h here m bytes l at = elim (cases_eq m n) [
   | inl same ↦ here bytes (at_once code n (rw (← is) at (at_index code n node h)) (rw same at at))
-  | inr differs ↦ before m bytes (omega (arith, l, differs)) at
+  | inr differs ↦ before m bytes (omega arith) at
 ]
 
 pub alike_all : (code : List Node) {n one other : ℕ} → length code ≤ n
     → ((m : ℕ) (bytes : List Bool) → m < n → At code m (Take bytes) → has bytes one ≡ has bytes other)
     → AreAlike code one other
-alike_all code h before number bytes at = let l = at_least code number (Take bytes) at in before number bytes (omega (arith, l, h)) at
+alike_all code h before number bytes at = let l = at_least code number (Take bytes) at in before number bytes (omega arith) at
 
 -- what was seen of a set is so
 pub state_is : {code : List Node} {sets : List (List Bool)} {rows : List ℕ} {number : ℕ} {now last : List ℕ}

@@ -37,7 +37,7 @@ pub record IsPlace (line : List ℕ) (place : ℕ) (at_first at_last : Bool) : T
 
 pub flow_goes : (node : Node) {line : List ℕ} {place : ℕ} {at_first at_last : Bool} (from to : ℕ)
     → IsPlace line place at_first at_last → LeadsOn node at_first at_last from to ↔ Leads node line from place to place
-flow_goes (Take bytes) from to p = (λ h. absurd h, λ h. absurd (omega (arith, h.1)))
+flow_goes (Take bytes) from to p = (λ h. absurd h, λ h. absurd (omega arith))
 flow_goes First from to p = (λ h. (h.1, refl, p.first.0 h.0), λ h. (p.first.1 h.2, h.0))
 flow_goes Last from to p = (λ h. (h.1, refl, p.last.0 h.0), λ h. (p.last.1 h.2, h.0))
 flow_goes (Choose skip) from to p = (λ h. (h, refl), λ h. h.0)
@@ -56,10 +56,10 @@ leads_place (Back by) line from h = inl h.1
 
 walk_forward : (code : List Node) (line : List ℕ) (count at : ℕ) {place : ℕ} (to : ℕ) {stop : ℕ}
     → Walks code line count at place to stop → place ≤ stop
-walk_forward code line zero at to w = omega (arith, w.1)
+walk_forward code line zero at to w = omega arith
 walk_forward code line (suc count) at to w =
     let h = walk_forward code line count w.0 to w.3 in
-    elim (leads_place w.2.0 line at w.2.2) [ inl e ↦ omega (arith, e, h) | inr e ↦ omega (arith, e.0, h) ]
+    elim (leads_place w.2.0 line at w.2.2) [ inl e ↦ omega arith | inr e ↦ omega arith ]
 
 pub entered_on : (code : List Node) {line : List ℕ} {at place to stop : ℕ} → Entered code line at place
     → Goes code line at place to stop → Entered code line to stop
@@ -83,11 +83,11 @@ reaches_exact code {line} {place} {at_first} {at_last} p number = (there number,
         → from' ≡ place → Reaches code line place at_first at_last at'
     step at from at' from' l e h g q = elim (leads_place _ _ _ g.2) [
       | inl same ↦
-          let here : from ≡ place = omega (arith, same, q) in
+          let here : from ≡ place = omega arith in
           let was = h here in
           let led = subst (λ n. Leads g.0 line at n at' place) here (rw q at g.2) in
           (was.0, was.1, (suc was.2.0, (at, was.2.1, (g.0, g.1, (flow_goes _ _ _ p).1 led))))
-      | inr more ↦ (at', inl (from, omega (arith, more.0, q), at, e, rw q at g), (0, refl))
+      | inr more ↦ (at', inl (from, omega arith, at, e, rw q at g), (0, refl))
     ]
 
     arrive : (count at from number : ℕ) → from ≤ place → Walks code line count at from number place
@@ -110,19 +110,19 @@ inner h f = search rules
 more_positions : (code : List Node) (sets : List (List Bool)) (set : List Bool)
     → positions_in_all code (sets ++ set ∷ []) ≡ positions_in_all code sets + positions_among code set
 more_positions code [] set = omega arith
-more_positions code (other ∷ sets) set = let r = more_positions code sets set in omega (arith, r)
+more_positions code (other ∷ sets) set = let r = more_positions code sets set in omega arith
 
 one_counted : {code : List Node} {line : List ℕ} {place steps steps' : ℕ} (set : List Bool)
     → AreSteps code line place steps → ((number : ℕ) → IsMarked set number ↔ Entered code line number place)
     → steps' ≡ steps + positions_among code set → AreSteps code line (place + 1) steps'
 one_counted {code} {line} {place} set a x e = record {
   sets = a.sets ++ set ∷ [];
-  all = let l = length-append a.sets (set ∷ []) in omega (arith, l, a.all);
+  all = let l = length-append a.sets (set ∷ []) in omega arith;
   exact = λ p number h. elim (cases_eq p place) [
-    | inl same ↦ rw (← get_or_push a.sets set [] p (omega (arith, same, a.all))) at (subst (λ q. IsMarked set number ↔ Entered code line number q) (sym same) (x number))
-    | inr other ↦ let l : p < place = omega (arith, h, other) in rw (← get_or_append_left a.sets (set ∷ []) [] p (omega (arith, l, a.all))) at (a.exact p number l)
+    | inl same ↦ rw (← get_or_push a.sets set [] p (omega arith)) at (subst (λ q. IsMarked set number ↔ Entered code line number q) (sym same) (x number))
+    | inr other ↦ let l : p < place = omega arith in rw (← get_or_append_left a.sets (set ∷ []) [] p (omega arith)) at (a.exact p number l)
   ];
-  total = let m = more_positions code a.sets set in let t = a.total in omega (arith, m, t, e);
+  total = let m = more_positions code a.sets set in let t = a.total in omega arith;
 }
 
 pub final : {line : List ℕ} {place : ℕ} {at_first : Bool} → place ≡ length line → at_first ≡ (length line == 0)
@@ -138,7 +138,7 @@ came_exact code a h e number = search rules
 -- one place more
 pub steps_more : (place : ℕ) {steps count size : ℕ} → steps ≤ place * size → count ≤ size
     → steps + count ≤ (place + 1) * size
-steps_more place {size} h k = let e : (place + 1) * size ≡ place * size + size = grind arith in omega (arith, h, k, e)
+steps_more place {size} h k = let e : (place + 1) * size ≡ place * size + size = grind arith in omega arith
 
 pub steps_wider : {place most steps : ℕ} (size : ℕ) → steps ≤ place * size → place ≤ most → steps ≤ most * size
 steps_wider size h k = search rules
@@ -149,7 +149,7 @@ pub counted_more : {code : List Node} {line : List ℕ} {place steps : ℕ} (set
 counted_more {place} set s here never = record {
   none = λ before l k. elim (cases_eq before place) [
     | inl same ↦ never ((here _).1 (rw same at k))
-    | inr other ↦ s.none before (omega (arith, l, other)) k
+    | inr other ↦ s.none before (omega arith) k
   ];
   counted = one_counted _ s.counted here refl;
   bound = let m = positions_most _ _ in steps_more _ s.bound m;
@@ -168,14 +168,14 @@ pub counted_ends : {code : List Node} {line : List ℕ} {place steps : ℕ} {fou
     → IsOutcome code line (record { found = found; steps = steps + positions_among code set })
 counted_ends {code} {line} {place} {steps} set s here e test = record {
   exact = (
-    λ t. (place, omega (arith, e), (here _).0 (test.0 t)),
+    λ t. (place, omega arith, (here _).0 (test.0 t)),
     λ k. elim (cases_eq k.0 place) [
       | inl same ↦ test.1 ((here _).1 (rw same at k.2))
-      | inr other ↦ absurd (s.none k.0 (omega (arith, k.1, e, other)) k.2)
+      | inr other ↦ absurd (s.none k.0 (omega arith) k.2)
     ],
   );
   counted = λ absent. rw e at (one_counted _ s.counted here refl);
-  least = λ t. (counted_found s (omega (arith, e)) ((here _).0 (test.0 t)) (omega arith) all).least refl;
+  least = λ t. (counted_found s (omega arith) ((here _).0 (test.0 t)) (omega arith) all).least refl;
   bound = all;
 }
   where
@@ -188,13 +188,13 @@ counted_ends {code} {line} {place} {steps} set s here e test = record {
 pub inner_entered : (code : List Node) {line : List ℕ} (place : ℕ) → place < length line → {number : ℕ}
     → Inner code line place number ↔ Entered code line number place
 inner_entered code zero h = reaches_exact _ (inner h refl) _
-inner_entered code (suc place) h = reaches_exact _ (inner h (sym (ne_eqb (suc place) 0 (λ e. omega (arith, e))))) _
+inner_entered code (suc place) h = reaches_exact _ (inner h (sym (ne_eqb (suc place) 0 (λ e. omega arith)))) _
 
 -- at the last place, after a byte
 pub last_entered : (code : List Node) {line : List ℕ} {place : ℕ} → suc place ≡ length line → {number : ℕ}
     → Entered code line number (suc place) ↔ ((from : ℕ) × Inner code line (suc place) from
     × FlowsOn code false true from number)
-last_entered code {line} h = let exact = reaches_exact _ (final h (sym (ne_eqb (length line) 0 (λ e. omega (arith, e, h))))) _ in (
+last_entered code {line} h = let exact = reaches_exact _ (final h (sym (ne_eqb (length line) 0 (λ e. omega arith)))) _ in (
   λ e. let f = exact.1 e in (f.0, (f.0, f.1, (0, refl)), f.2),
   λ k.
       let before = parts_anywhere _ _ _ _ _ _ k.1.2.1 in
@@ -227,7 +227,7 @@ pub walked_more : {code : List Node} {sets : List (List Bool)} {table : Table} {
     → next ≡ entry table.rows.items state (slice_index line place) → next < 65534
     → steps' ≡ steps + positions_among code (set_at sets state) → Walked code sets line (suc place) next steps'
 walked_more {code} {sets} {table} {line} {place} {state} t w h b e k p = record {
-  within = omega (arith, h);
+  within = omega arith;
   known = omega (arith, e, step.0);
   exact = λ number.
       let n = next_inner w h in
@@ -241,7 +241,7 @@ walked_more {code} {sets} {table} {line} {place} {state} t w h b e k p = record 
         × ((number : ℕ)
         → InSets sets (entry table.rows.items state (slice_index line place)) number ↔ Next code
         (slice_index line place) (InSets sets state) number)
-    step = (t.told state (slice_index line place) w.known b).next (omega (arith, e, k))
+    step = (t.told state (slice_index line place) w.known b).next (omega arith)
 
 walked_stay : {code : List Node} {sets : List (List Bool)} {table : Table} {line : List ℕ} (more : ℕ)
     {place state steps : ℕ} → IsTableOf code sets table → Walked code sets line place state steps
@@ -253,8 +253,8 @@ walked_stay {code} {sets} (suc more) {place} {state} t w h b s =
     let before = walked_stay _ t w (omega (arith, h)) b (λ k l u. s k l (omega (arith, u))) in
     let m = t.most in
     let z : positions_among code (set_at sets state) * suc more ≡ positions_among code (set_at sets state) * more + positions_among code (set_at sets state) = mul-suc (positions_among code (set_at sets state)) more in
-    let last = walked_more t before (omega (arith, h)) (b (place + more) (omega (arith, h)))
-    (sym (s (place + more) (omega arith) (omega arith))) (let l = w.known in omega (arith, m, l)) (omega (arith, z)) in
+    let last = walked_more t before (omega arith) (b (place + more) (omega arith))
+    (sym (s (place + more) (omega arith) (omega arith))) (let l = w.known in omega arith) (omega arith) in
     let e : suc (place + more) ≡ place + suc more = omega arith in
     rw (← e) last
 
@@ -263,18 +263,18 @@ entered_there : (code : List Node) {line : List ℕ} {place number : ℕ} → pl
     → Inner code line (suc place) number → Entered code line number (suc place)
 entered_there code {line} {place} {number} h i = elim (cases_eq (suc place) (length line)) [
   | inl same ↦ (last_entered _ same).1 (number, i, (0, refl))
-  | inr other ↦ (inner_entered _ _ (omega (arith, h, other))).0 i
+  | inr other ↦ (inner_entered _ _ (omega arith)).0 i
 ]
 
 pub entry_read : {table : Table} {code : List Node} {sets : List (List Bool)} {state byte read : ℕ} (d : ℕ)
     → IsTableOf code sets table → state < length sets → byte < 256
     → read ≡ get_or table.rows.items (state * 256 + byte) d → read ≡ entry table.rows.items state byte
-entry_read {table} {state} {byte} d t h b e = e ∙ get_or_default table.rows.items (state * 256 + byte) d 0 (let r = t.rows in omega (arith, h, b, r))
+entry_read {table} {state} {byte} d t h b e = e ∙ get_or_default table.rows.items (state * 256 + byte) d 0 (let r = t.rows in omega arith)
 
 pub noted_read : {table : Table} {code : List Node} {sets : List (List Bool)} {state : ℕ} {read : State} (d : State)
     → IsTableOf code sets table → state < length sets → read ≡ get_or table.states.items state d
     → IsState code sets table.rows.items state read
-noted_read {state} d t h e = rw (← (e ∙ get_or_default _ state d no_state (let s = t.states in omega (arith, h, s)))) at (t.noted state h)
+noted_read {state} d t h e = rw (← (e ∙ get_or_default _ state d no_state (let s = t.states in omega arith))) at (t.noted state h)
 
 -- along a line, by some table's sets
 abbrev pub WalkedOf : List Node → Table → List ℕ → ℕ → ℕ → ℕ → Type 0
@@ -290,7 +290,7 @@ pub walk_run : {code : List Node} {table : Table} {line : List ℕ} {from to sta
 walk_run {code} {line} {from} {to} {state} {steps} {added} d w l h b s e a =
     let n = noted_read d w.1 w.2.known e in
     let more : steps + positions_among code (set_at w.0 state) * (to - from) ≡ steps + added = ap (λ p. steps + p * (to - from)) (sym n.positions) ∙ ap (λ p. steps + p) (sym a) in
-    let there : from + (to - from) ≡ to = omega (arith, l) in
+    let there : from + (to - from) ≡ to = omega arith in
     let stays = walked_stay _ w.1 w.2 (omega (arith, l, h)) b (λ k m u. s k m (omega (arith, u, l))) in
     (w.0, w.1, rw more at (subst (λ p. Walked code w.0 line p state (steps + positions_among code (set_at w.0 state) * (to - from))) there stays))
 
@@ -311,7 +311,7 @@ pub walk_one : {code : List Node} {table : Table} {line : List ℕ} {place state
 walk_one {code} {place} {state} d w f =
     let n = noted_read d w.1 w.2.known f in
     let m = positions_most code (set_at w.0 state) in
-    steps_more place w.2.so_far.bound (let p = n.positions in omega (arith, m, p))
+    steps_more place w.2.so_far.bound (let p = n.positions in omega arith)
 
 -- a byte leads to the end
 pub walk_stops : {code : List Node} {table : Table} {line : List ℕ} {place state next steps : ℕ} (d' : ℕ)
@@ -325,15 +325,15 @@ walk_stops {code} {line} {place} {state} {steps} d' d w h b e k f =
     let next = (next_inner w.2 h).0 ((w.1.told state (slice_index line place) w.2.known b).stop (sym r ∙ k)) in
     let one : suc place ≡ place + 1 = omega arith in
     let counted = subst (λ p. IsCounted code line (place + 1) (steps + p)) (sym n.positions) (counted_more _ w.2.so_far (walked_here w.2 h) (w.1.none state w.2.known)) in
-    counted_found counted (omega (arith, h)) (rw one at (entered_there _ h next)) (omega arith)
-    (steps_wider _ (walk_one d w f) (omega (arith, h)))
+    counted_found counted (omega arith) (rw one at (entered_there _ h next)) (omega arith)
+    (steps_wider _ (walk_one d w f) (omega arith))
 
 -- the line's end
 pub walk_ends : {code : List Node} {table : Table} {line : List ℕ} (place : ℕ) {state steps : ℕ} {noted : State}
     (d : State) → WalkedOf code table line place state steps → place ≡ length line → 0 < length line
     → noted ≡ get_or table.states.items state d
     → IsOutcome code line (record { found = noted.ends; steps = steps + noted.last_positions })
-walk_ends zero d w h some e = absurd (omega (arith, h, some))
+walk_ends zero d w h some e = absurd (omega arith)
 walk_ends {code} {table} {line} (suc place) {state} {noted} d w h some e =
     rw (← n.last_positions) at (counted_ends _ w.2.so_far last h n.ends)
   where
@@ -353,7 +353,7 @@ bound_fits code few h p = search (rules, weight_length, mul-le-mul)
 pub walk_fits : {code : List Node} {table : Table} {line : List ℕ} {place state steps : ℕ}
     → WalkedOf code table line place state steps → place ≤ 18446744073709551616
     → steps < 340282366920938463463374607431768211456
-walk_fits w p = bound_fits _ w.1.few w.2.so_far.bound (omega (arith, p))
+walk_fits w p = bound_fits _ w.1.few w.2.so_far.bound (omega arith)
 
 -- a state that no byte changes
 pub fixed_stays : {code : List Node} {table : Table} (line : List ℕ) {state : ℕ} {noted : State} (d : State)
@@ -362,7 +362,7 @@ pub fixed_stays : {code : List Node} {table : Table} (line : List ℕ) {state : 
     → (place : ℕ) → slice_index line place < 256 → entry table.rows.items state (slice_index line place) ≡ state
 fixed_stays line d t h e f place b =
     let s = t.1.states in
-    (noted_read d t.1 (omega (arith, h, s)) e).is_fixed f (slice_index line place) b
+    (noted_read d t.1 (omega arith) e).is_fixed f (slice_index line place) b
 
 -- a word's six bits after one state more was put before them
 pub six_more : (word offset state : ℕ) → offset < 64 → six_bits (word * 64 + offset) (suc state) ≡ six_bits word state
@@ -373,7 +373,7 @@ six_more word offset state h =
     ap (λ k. k % 64) (a ∙ ap (λ k. k / 2 ^ (6 * state)) b)
 
 pub six_first : (word : ℕ) {offset : ℕ} → offset < 64 → six_bits (word * 64 + offset) 0 ≡ offset
-six_first word h = omega (arith, h)
+six_first word h = omega arith
 
 -- the last states of a word are there
 pub record IsBegun (rows : List ℕ) (count byte done word : ℕ) : Type 0 where
@@ -389,25 +389,25 @@ word_more {rows} {count} {byte} {done} {word} {offset} b h o i = record {
       let e : 6 * (done + 1) ≡ 6 + 6 * done = omega arith in
       let p : 2 ^ (6 * (done + 1)) ≡ 2 ^ 6 * 2 ^ (6 * done) = ap (λ k. 2 ^ k) e ∙ pow-add 2 6 _ in
       let s = b.small in
-      omega (arith, p, s, o);
+      omega arith;
   told = told;
 }
   where
     told : (state place : ℕ) → state ≤ count → state + (done + 1) ≡ count + 1 + place
         → IsOffset rows count state byte (six_bits (word * 64 + offset) place)
     told state zero l e =
-        let same : count - done ≡ state = omega (arith, l, e, h) in
+        let same : count - done ≡ state = omega arith in
         rw (← six_first word o) at (subst (λ s. IsOffset rows count s byte offset) same i)
-    told state (suc place) l e = rw (← six_more _ _ _ o) at (b.told state place l (omega (arith, e)))
+    told state (suc place) l e = rw (← six_more _ _ _ o) at (b.told state place l (omega arith))
 
 pub word_fits : {rows : List ℕ} {count byte done word : ℕ} → IsBegun rows count byte done word → done ≤ 9
     → word < 18014398509481984
 word_fits {done} b h =
     let two : 0 < 2 = omega arith in
-    let most : 6 * done ≤ 54 = omega (arith, h) in
+    let most : 6 * done ≤ 54 = omega arith in
     let p : 2 ^ (6 * done) ≤ 2 ^ 54 = pow-le-pow_right two most in
     let s = b.small in
-    omega (arith, p, s)
+    omega arith
 
 pub states_are_light : {code : List Node} {table : Table} → IsTable code table → AreLight table.states.items
 states_are_light t state h = search (rules, positions_most, weight_length)
@@ -427,7 +427,7 @@ at_starts {code} {line} t =
       within = omega arith;
       known = omega arith;
       going = λ h. (t.1.0, t.1.1, walked_starts t.1.1);
-      over = λ e. absurd (let s = t.1.1.states in let m = t.1.1.some in omega (arith, e, s, m));
+      over = λ e. absurd (let s = t.1.1.states in let m = t.1.1.some in omega arith);
       bound = omega arith;
     } in
     (t.0, t.1, t.2, (0, refl, starts))
@@ -442,14 +442,14 @@ weight_small : {code : List Node} {table : Table} {state low added : ℕ} → Is
     → added ≤ weight code + 1
 weight_small {code} {state} t w l h =
     let e = w.exact state h l in
-    let p = (t.1.noted state (let s = t.1.states in omega (arith, s, h))).positions in
+    let p = (t.1.noted state (let s = t.1.states in omega arith)).positions in
     let m = positions_most code (set_at t.0 state) in
-    omega (arith, e, p, m)
+    omega arith
 
 -- the end that was entered stays entered, whatever steps come
 more_steps : {code : List Node} {line : List ℕ} {steps : ℕ} (added : ℕ) → HasStepsBefore code line steps
     → HasStepsBefore code line (steps + added)
-more_steps added has = record { place = has.place; within = has.within; ends = has.ends; first = has.first; before = has.before; counted = has.counted; least = let l = has.least in omega (arith, l) }
+more_steps added has = record { place = has.place; within = has.within; ends = has.ends; first = has.first; before = has.before; counted = has.counted; least = let l = has.least in omega arith }
 
 state_over : {code : List Node} {table : Table} {line : List ℕ} {place state steps added : ℕ} → IsTable code table
     → IsStateAt code table line place state steps → place < length line → HasStepsBefore code line (steps + added)
@@ -463,14 +463,14 @@ state_going : {code : List Node} {table : Table} {line : List ℕ} {place state 
     → added ≡ (get_or table.states.items state no_state).positions → added ≤ weight code + 1
     → IsStateAt code table line (place + 1) (entry table.rows.items state (slice_index line place)) (steps + added)
 state_going {steps} t a h b k n e w = record {
-  within = omega (arith, h);
-  known = omega (arith, n);
+  within = omega arith;
+  known = omega arith;
   going = λ l.
       let g = a.going k in
       let m = g.1.most in
       let s = g.1.states in
-      rw (ap (λ p. steps + p) (sym e)) at (walk_next 0 no_state g h b refl (omega (arith, n, m, s)) refl);
-  over = λ q. absurd (omega (arith, q, n));
+      rw (ap (λ p. steps + p) (sym e)) at (walk_next 0 no_state g h b refl (omega arith) refl);
+  over = λ q. absurd (omega arith);
   bound = steps_more _ a.bound w;
 }
 
@@ -485,10 +485,10 @@ state_ends {table} {line} {place} {state} same c a h b k n =
     let s = g.1.states in
     let r = g.1.rows in
     let high : 65534 ≤ entry table.rows.items state (slice_index line place) = elim (cases_lt (entry table.rows.items state (slice_index line place)) 65534) [
-      | inl less ↦ absurd (let m = ((g.1.told state (slice_index line place) g.2.known b).next less).0 in omega (arith, m, n, s))
+      | inl less ↦ absurd (let m = ((g.1.told state (slice_index line place) g.2.known b).next less).0 in omega arith)
       | inr more ↦ more
     ] in
-    let o = walk_stops 0 no_state g h b refl (c (state * 256 + slice_index line place) (omega (arith, k, b, r, s)) high) refl in
+    let o = walk_stops 0 no_state g h b refl (c (state * 256 + slice_index line place) (omega arith) high) refl in
     rw (← same) at (o.least refl)
 
 state_more : {code : List Node} {table : Table} {line : List ℕ} {place state steps added six : ℕ} → IsTable code table
@@ -499,8 +499,8 @@ state_more : {code : List Node} {table : Table} {line : List ℕ} {place state s
 state_more {table} {line} {place} {state} t c a h b w o = elim (cases_lt state (length table.states.items)) [
   | inr over ↦
       let k = a.known in
-      let same : state ≡ length table.states.items = omega (arith, over, k) in
-      (length table.states.items, o.stop (λ l. absurd (omega (arith, l, over))), state_over t a h (more_steps _ (a.over same)) (let z = w.stop (ap (λ n. 6 * n) same) in omega (arith, z)))
+      let same : state ≡ length table.states.items = omega arith in
+      (length table.states.items, o.stop (λ l. absurd (omega arith)), state_over t a h (more_steps _ (a.over same)) (let z = w.stop (ap (λ n. 6 * n) same) in omega arith))
   | inl below ↦ elim (cases_lt (entry table.rows.items state (slice_index line place)) (length table.states.items)) [
     | inl less ↦ (entry table.rows.items state (slice_index line place), o.next below less, state_going t a h b below less (w.exact state below refl) (weight_small t w refl below))
     | inr more ↦ (length table.states.items, o.stop (λ l. more), state_over t a h (state_ends (w.exact state below refl) c a h b below more) (weight_small t w refl below))
@@ -519,7 +519,7 @@ pub at_more : {code : List Node} {shifts : ShiftTable} {line : List ℕ} {place 
     → read ≡ get_or shifts.words.items (slice_index line place) d → word' ≡ read / 2 ^ (word % 64)
     → added ≡ get_or shifts.weights.items (word % 256) e → IsAt code shifts line (place + 1) word' (steps + added)
 at_more {line} {place} word {read} d {added} e a h b r w g =
-    let o = subst (λ n. IsOffset a.0.rows.items (length a.0.states.items) a.3.0 (slice_index line place) (six_bits n a.3.0)) (get_or_default _ (slice_index line place) 0 d (let s = a.2.words.size in omega (arith, s, b)) ∙ sym r)
+    let o = subst (λ n. IsOffset a.0.rows.items (length a.0.states.items) a.3.0 (slice_index line place) (six_bits n a.3.0)) (get_or_default _ (slice_index line place) 0 d (let s = a.2.words.size in omega arith) ∙ sym r)
     (a.2.words.each (slice_index line place) b a.3.0 a.3.2.known) in
     let i = subst (λ n. IsWeight a.0.states.items n added) a.3.1 (weight_read _ e a.2 g) in
     let m = state_more a.1 a.2.complete a.3.2 h b i o in
@@ -537,7 +537,7 @@ state_here word a n = search rules
 
 state_number : {code : List Node} {shifts : ShiftTable} {line : List ℕ} {place : ℕ} (word : ℕ) {steps : ℕ}
     (a : IsAt code shifts line place word steps) → word % 64 / 6 ≡ a.3.0
-state_number word a = let q = a.3.1 in omega (arith, q)
+state_number word a = let q = a.3.1 in omega arith
 
 pub at_known : {code : List Node} {shifts : ShiftTable} {line : List ℕ} {place : ℕ} (word : ℕ) {steps : ℕ}
     → IsAt code shifts line place word steps → (word % 64 ≡ shifts.stop → ⊥)
@@ -572,9 +572,9 @@ at_fixed {line} word d a n some b e f r =
 pub at_fits : {code : List Node} {shifts : ShiftTable} {line : List ℕ} {place : ℕ} (word : ℕ) {steps : ℕ}
     → IsAt code shifts line place word steps → place ≤ 18446744073709551616
     → steps < 340282366920938463463374607431768211456
-at_fits word a p = bound_fits _ a.1.1.few a.3.2.bound (omega (arith, p))
+at_fits word a p = bound_fits _ a.1.1.few a.3.2.bound (omega arith)
 
 pub outcome_fits : {code : List Node} {shifts : ShiftTable} {line : List ℕ} {found : Bool} {steps : ℕ}
     → IsShiftTable code shifts → IsOutcome code line (record { found = found; steps = steps })
     → length line ≤ 18446744073709551615 → steps < 340282366920938463463374607431768211456
-outcome_fits t o p = bound_fits _ t.1.1.few o.bound (omega (arith, p))
+outcome_fits t o p = bound_fits _ t.1.1.few o.bound (omega arith)

@@ -26,7 +26,7 @@ pub complete_grow : (x y : List ℕ) → (more : List Line) × (complete_lines (
 complete_grow x y =
     let less : delimiters newline x ≤ delimiters newline (x ++ y) =
     (let sum : delimiters newline (x ++ y)
-    ≡ delimiters newline x + delimiters newline y = delimiters-append newline x y in omega (arith, sum)) in
+    ≡ delimiters newline x + delimiters newline y = delimiters-append newline x y in omega arith) in
     let rest = take_begins (delimiters newline x) (delimiters newline (x ++ y)) (lines_of newline (x ++ y)) less in (
       map marked rest.0,
       ap (map marked) (rest.1 ∙ ap (λ those. those ++ rest.0) (same_lines x y))

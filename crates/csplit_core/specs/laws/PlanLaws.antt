@@ -28,21 +28,21 @@ among : (operand : Operand) (front rest : List Line) {from : ℕ} → from ≡ l
 among operand front [] is = grind (arith, common_steps)
 among operand front (line ∷ rest) {from} is = matched_on operand (front ++ line ∷ rest) (line.marks operand)
     (ap (λ n. (get_or (front ++ line ∷ rest) n unmarked).marks operand)
-    (let e : from - 1 ≡ length front = omega (arith, is) in e)
+    (let e : from - 1 ≡ length front = omega arith in e)
     ∙ ap (λ (l : Line). l.marks operand) (get_or-append_seam front line rest unmarked))
-    (omega (arith, length-append front (line ∷ rest), is)) (first_among operand (suc from) rest)
+    (omega (arith, length-append front (line ∷ rest))) (first_among operand (suc from) rest)
     (rw (← append_assoc front (line ∷ []) rest) (among operand (front ++ line ∷ []) rest
-    (omega (arith, length-append front (line ∷ []), is))))
+    (omega (arith, length-append front (line ∷ [])))))
 
 pub first_match_as : (operand : Operand) (lines : List Line) (from : ℕ) → 1 ≤ from
     → MatchesAs operand lines from (first_match operand lines from)
 first_match_as operand lines from some = elim (cases_lt (length lines) (from - 1)) [
-  | inl beyond ↦ rw (drop_all (from - 1) lines (omega (arith, beyond)))
-      (λ line from_on within. absurd (omega (arith, beyond, from_on, within)))
+  | inl beyond ↦ rw (drop_all (from - 1) lines (omega arith))
+      (λ line from_on within. absurd (omega arith))
   | inr on ↦ subst (λ those. MatchesAs operand those from (first_match operand lines from))
       (take-append-drop (from - 1) lines)
       (among operand (take (from - 1) lines) (drop (from - 1) lines)
-      (omega (arith, length-take-le (from - 1) lines on, some)))
+      (omega (arith, length-take-le (from - 1) lines on)))
 ]
 
 pub search_some : (suppress : Bool) (state : State) → 1 ≤ search_line suppress state
@@ -97,7 +97,7 @@ pub fewer_left : (total : ℕ) (state next : State) (target : Target) {matched :
     → left_of total next target < left_of total state target
 fewer_left total state next (Number zero) cut at some within again same = grind (arith, common_steps)
 fewer_left total state next (Number (suc n)) cut at some within again same = grind (arith, common_steps)
-fewer_left total state next (Search pattern kept offset) cut at some within again same = omega (arith, at.0, at.1, same)
+fewer_left total state next (Search pattern kept offset) cut at some within again same = omega arith
 
 fewer_by : (total : ℕ) (state : State) (operand : Operand) (operands : List Operand) {matched : ℕ} (cut : ℕ)
     → Moves total state operand.target matched cut → 1 ≤ cut → cut ≤ total → (more : Bool) (next : State)
@@ -107,11 +107,11 @@ fewer_by : (total : ℕ) (state : State) (operand : Operand) (operands : List Op
 fewer_by total state operand operands cut at some within true next left again same =
     let fewer : left_of total next operand.target < left_of total state operand.target =
     fewer_left total state next operand.target cut at some within again same in
-    omega (arith, fewer, ap (needed_by total next) left)
+    omega (arith, ap (needed_by total next) left)
 fewer_by total state operand operands cut at some within false next left again same =
     let fewer : needed_by total next operands < length operands * (total + 1) + 1 =
     fewer_operands total next operands in
-    omega (arith, fewer, ap (needed_by total next) left)
+    omega (arith, ap (needed_by total next) left)
 
 pub fewer_moves : (suppress : Bool) (total : ℕ) (state : State) {operand : Operand} {operands : List Operand}
     (matched cut : ℕ) → state.operands ≡ operand ∷ operands → Moves total state operand.target matched cut → 1 ≤ cut
@@ -177,9 +177,8 @@ computed {suppress} {lines} all end (cuts state operand operands matched cut ste
     ))
     ∙ ap (with_step (step_of state operand matched cut)) (computed steps last rest bound
     (let less : needed (length lines) (state_after suppress operand operands state.repetition matched cut) < needed
-    (length lines) state = fewer suppress lines state matched cut is at (omega (arith, some, from)) within in omega
-    (arith, less, enough))
-    (omega (arith, line_some suppress cut, some, from)))
+    (length lines) state = fewer suppress lines state matched cut is at (omega arith) within in omega arith)
+    (omega (arith, line_some suppress cut)))
 
 -- an operand is left, and a plan goes on after its cuts
 module _ (bound : ℕ) (suppress : Bool) (lines : List Line)
@@ -241,9 +240,9 @@ runs zero suppress lines state enough some = none_by suppress lines state state.
 runs (suc bound) suppress lines state enough some =
     mutual_runs bound suppress lines state state.operands refl (λ operand operands is matched cut at from within.
     let less : needed (length lines) (state_after suppress operand operands state.repetition matched cut) < needed
-    (length lines) state = fewer suppress lines state matched cut is at (omega (arith, some, from)) within in
+    (length lines) state = fewer suppress lines state matched cut is at (omega arith) within in
     runs bound suppress lines (state_after suppress operand operands state.repetition matched cut)
-    (omega (arith, less, enough)) (omega (arith, line_some suppress cut, some, from)))
+    (omega arith) (omega (arith, line_some suppress cut)))
 
 pub runs_on : (suppress : Bool) (lines : List Line) (state : State) → 1 ≤ state.current
     → RunsAs suppress lines state (plan_within (needed (length lines) state) suppress lines state)
@@ -277,6 +276,6 @@ goes_on {suppress} {a} b more end {how}
     (cuts state operand operands matched cut steps' last' ending' is at from within rest') rest =
     cuts state operand operands matched cut (steps' ++ more) end how is
     (cuts_still suppress a b state operand operand.target matched cut at) from
-    (omega (arith, length-append a b, within))
+    (omega (arith, length-append a b))
     (goes_on b more end rest' rest)
 goes_on b more end run rest = rest

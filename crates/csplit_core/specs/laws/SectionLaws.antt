@@ -43,10 +43,10 @@ between_still first past a b some within = grind (arith, common_steps)
 pub between_grows : (first past more : ℕ) (a b : List Line) → 1 ≤ first → past ≤ length a + 1 → (past ≤ more)
     ⊎ (past ≤ first) → (rest : List Line) × (lines_between first more (a ++ b) ≡ lines_between first past a ++ rest)
 between_grows first past more a b some within (inl less) =
-    let grown = take_begins (past - first) (more - first) (drop (first - 1) (a ++ b)) (omega (arith, less)) in
+    let grown = take_begins (past - first) (more - first) (drop (first - 1) (a ++ b)) (omega arith) in
     (grown.0, grown.1 ∙ ap (λ those. those ++ grown.0) (between_still first past a b some within))
 between_grows first past more a b some within (inr less) =
-    let none : past - first ≡ 0 = omega (arith, less) in (
+    let none : past - first ≡ 0 = omega arith in (
       lines_between first more (a ++ b),
       sym (ap (λ n. take n (drop (first - 1) a) ++ lines_between first more (a ++ b)) none),
     )
@@ -63,7 +63,7 @@ pub are_within : {suppress : Bool} {lines : List Line} {first : State} {steps : 
     {ending : Ending} → Runs suppress lines first steps last ending → 1 ≤ first.current
     → AreWithin (length lines) steps × (1 ≤ last.current)
 are_within {suppress} (cuts state operand operands matched cut steps' last' ending' is at from within rest) some =
-    let those = are_within rest (omega (arith, line_some suppress cut, some, from)) in
+    let those = are_within rest (omega (arith, line_some suppress cut)) in
     ((some, from, within, those.0), those.1)
 are_within run some = (tt, some)
 
@@ -73,7 +73,7 @@ closed_still a b [] within = refl
 closed_still a b (step ∷ steps) within =
     ap (λ lines. section (is_kept step.operand.target) true lines ∷ map (section_of (a ++ b)) steps)
     (between_still step.current step.cut a b within.0
-    (omega (arith, within.2))) ∙ ap (λ those. section_of a step ∷ those)
+    (omega arith)) ∙ ap (λ those. section_of a step ∷ those)
     (closed_still a b steps within.3)
 
 next_by : (a b : List Line) (current past more : ℕ) {kept : Bool}
@@ -116,14 +116,14 @@ next_of {suppress} closed end_of covers a b ending some ends more end
     covers (length (a ++ b)) (above operand state.repetition matched cut) in
     next_by a b state.current (settled_end (length a) ending)
     (end_of (length (a ++ b)) (above operand state.repetition matched cut)) closed some
-    (settled_most (length a) ending) (inl (omega (arith, most, settled_most (length a) ending, length-append a b)))
+    (settled_most (length a) ending) (inl (omega (arith, settled_most (length a) ending, length-append a b)))
     (let so = cuts_from suppress a b state ending ends are in so.0)
 next_of {suppress} closed end_of covers a b ending some ends more end
     (is_below state operand operands matched cut are at in_lines low) =
     let so = cuts_from suppress a b state ending ends are in
     next_by a b state.current (settled_end (length a) ending)
     (end_of (length (a ++ b)) (below operand state.repetition)) closed some
-    (settled_most (length a) ending) (inr (omega (arith, so.1 matched cut at, low))) so.0
+    (settled_most (length a) ending) (inr (omega (arith, so.1 matched cut at))) so.0
 next_of {suppress} closed end_of covers a b ending some ends more end
     (cuts state operand operands matched cut steps' last' ending' are at from in_lines rest) =
     let so = cuts_from suppress a b state ending ends are in

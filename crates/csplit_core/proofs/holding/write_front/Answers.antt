@@ -12,29 +12,29 @@ pub put-requires-clause-ready : goal.put-requires-clause-ready
 put-requires-clause-ready g c = c.loop-left.invariant.went.leaves.ready
 
 pub put-requires-clause-fits : goal.put-requires-clause-fits
-put-requires-clause-fits g c = can_count _ _ _ (fits_front c.loop-left.invariant c.min-bytes.result c.front-front.result.now _ c.front-front.ensures.front.1 (omega (arith, c.min-bytes.ensures)) (2 ^ 64) c.requires.fits)
+put-requires-clause-fits g c = can_count _ _ _ (fits_front c.loop-left.invariant c.min-bytes.result c.front-front.result.now _ c.front-front.ensures.front.1 (omega arith) (2 ^ 64) c.requires.fits)
 
 pub returns-in_err-put-clause-goes : goal.returns-in_err-put-clause-goes
 returns-in_err-put-clause-goes g c = rw (handed_on _ _ c.from_residual.ensures.1)
-    (empties_short c.loop-left.invariant c.min-bytes.result c.front-front.result.now _ c.front-front.ensures.front.1 (omega (arith, c.min-bytes.ensures)) (omega (arith, c.min-bytes.ensures)) c.in_err-put.ensures.goes)
+    (empties_short c.loop-left.invariant c.min-bytes.result c.front-front.result.now _ c.front-front.ensures.front.1 (omega arith) (omega arith) c.in_err-put.ensures.goes)
 
 pub drop_front-requires : goal.drop_front-requires
 drop_front-requires g c = grind (arith, common_steps)
 
 pub loop-left-smaller : goal.loop-left-smaller
 loop-left-smaller g c =
-    let some : 0 < length c.front-front.result.now = c.front-front.ensures.some (omega (arith, c.loop-left-test.true, left_within c.loop-left.invariant c.requires.held)) in
-    omega (arith, some, c.min-bytes.ensures, c.loop-left-test.true)
+    let some : 0 < length c.front-front.result.now = c.front-front.ensures.some (omega (arith, left_within c.loop-left.invariant c.requires.held)) in
+    omega arith
 
 pub loop-left-preserved : goal.loop-left-preserved
 loop-left-preserved g c =
-    empties c.loop-left.invariant c.min-bytes.result c.front-front.result.now _ c.front-front.ensures.front.1 (omega (arith, c.min-bytes.ensures)) (omega (arith, c.min-bytes.ensures)) c.drop_front.ensures c.in_ok-put.ensures.goes c.in_ok-put.ensures.size
+    empties c.loop-left.invariant c.min-bytes.result c.front-front.result.now _ c.front-front.ensures.front.1 (omega arith) (omega arith) c.drop_front.ensures c.in_ok-put.ensures.goes c.in_ok-put.ensures.size
 
 pub returns-clause-goes : goal.returns-clause-goes
-returns-clause-goes g c = emptied_went c.loop-left.invariant (omega (arith, c.loop-left-test.false))
+returns-clause-goes g c = emptied_went c.loop-left.invariant (omega arith)
 
 pub returns-clause-window : goal.returns-clause-window
-returns-clause-window g c = emptied_window c.loop-left.invariant (omega (arith, c.loop-left-test.false))
+returns-clause-window g c = emptied_window c.loop-left.invariant (omega arith)
 
 pub returns-clause-size : goal.returns-clause-size
 returns-clause-size g c = c.loop-left.invariant.size

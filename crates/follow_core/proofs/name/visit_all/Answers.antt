@@ -35,11 +35,11 @@ returns-in-Err-clause-visits g c =
     record {
       visited = tt;
       stopped = λ from looks stood. visited_short test
-          (rw (l.invariant.seen, get_or_default l.names l.place c.index-names-place.result no_state test, stood.numbered (omega (arith, many, test))) at (c.in-Err.ensures.visits from))
+          (rw (l.invariant.seen, get_or_default l.names l.place c.index-names-place.result no_state test, stood.numbered (omega arith)) at (c.in-Err.ensures.visits from))
           (l.invariant.visited from looks stood) (others.count ∙ l.invariant.count ∙ stood.many);
       ready = tt;
       count = others.count ∙ l.invariant.count;
-      others = λ number other. others.others number (other l.place (omega (arith, many, test))) ∙ l.invariant.others number other;
+      others = λ number other. others.others number (other l.place (omega arith)) ∙ l.invariant.others number other;
       can = tt;
       error = c.in-Err.ensures.can;
     }
@@ -56,10 +56,10 @@ loop-place-preserved g c =
       same = texts_set l.names c.index-names-place.result c.visit.new.self test c.visit.ensures.same ∙ l.invariant.same;
       ready = next_ready c.args.first l.names c.visit.new.self test l.invariant.ready visits.others (rw c.visit.ensures.same visits.ready);
       visited = λ from looks stood. visited_more test
-          (rw (l.invariant.seen, here, stood.numbered (omega (arith, many, test))) at (c.in-Ok.ensures.visits from)) (rw here at c.visit.ensures.same)
+          (rw (l.invariant.seen, here, stood.numbered (omega arith)) at (c.in-Ok.ensures.visits from)) (rw here at c.visit.ensures.same)
           (l.invariant.visited from looks stood);
       count = visits.others.count ∙ l.invariant.count;
-      others = λ number other. visits.others.others number (other l.place (omega (arith, many, test))) ∙ l.invariant.others number other;
+      others = λ number other. visits.others.others number (other l.place (omega arith)) ∙ l.invariant.others number other;
       can = c.in-Ok.ensures.can;
       seen = c.visit.ensures.seen ∙ l.invariant.seen;
       shows = c.visit.ensures.shows ∙ l.invariant.shows;
@@ -68,7 +68,7 @@ loop-place-preserved g c =
 pub returns-clause-visits : goal.returns-clause-visits
 returns-clause-visits g c =
     let l = c.loop-place in
-    let end : l.place ≡ length c.args.names.now = (let many = same_length c.args.names.now l.names l.invariant.same in let past = c.loop-place-test.false in let within = l.invariant.within in omega (arith, many, past, within)) in
+    let end : l.place ≡ length c.args.names.now = (let many = same_length c.args.names.now l.names l.invariant.same in let past = c.loop-place-test.false in let within = l.invariant.within in omega arith) in
     record {
       visited = λ from looks stood. rw end at (l.invariant.visited from looks stood);
       stopped = tt;

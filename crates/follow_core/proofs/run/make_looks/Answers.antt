@@ -19,15 +19,15 @@ pub returns-in-Err-clause-stopped : goal.returns-in-Err-clause-stopped
 returns-in-Err-clause-stopped g c =
     let l = c.loop-made in
     let below = c.loop-made-test.true in
-    let (most, are, above) = most_made g.W.Watch.told c.args.limits.process (g.W.Watch.shows c.args.watch.now) c.args.limits.looks (l.made + 1) (omega (arith, below))
+    let (most, are, above) = most_made g.W.Watch.told c.args.limits.process (g.W.Watch.shows c.args.watch.now) c.args.limits.looks (l.made + 1) (omega arith)
     (λ t. until_some c.args.limits.process (g.W.Watch.shows c.args.watch.now) (l.invariant.left t) below) in
-    (most, are, (λ calling ways headers names first holds. one_stopped (c.has_ended-is_last.ensures.shows ∙ l.invariant.shows) (still_made c.has_ended-is_last.ensures.watched c.has_ended-is_last.ensures.seen (l.invariant.progress calling ways headers names first holds)) c.in-Err.ensures.saw (omega (arith, above)) c.in-Err.ensures.stopped))
+    (most, are, (λ calling ways headers names first holds. one_stopped (c.has_ended-is_last.ensures.shows ∙ l.invariant.shows) (still_made c.has_ended-is_last.ensures.watched c.has_ended-is_last.ensures.seen (l.invariant.progress calling ways headers names first holds)) c.in-Err.ensures.saw (omega arith) c.in-Err.ensures.stopped))
 
 pub returns-then-not-alive-clause-looked : goal.returns-then-not-alive-clause-looked
 returns-then-not-alive-clause-looked g c =
     let l = c.loop-made in
     let below = c.loop-made-test.true in
-    let (most, are, above) = most_made g.W.Watch.told c.args.limits.process (g.W.Watch.shows c.args.watch.now) c.args.limits.looks (l.made + 1) (omega (arith, below))
+    let (most, are, above) = most_made g.W.Watch.told c.args.limits.process (g.W.Watch.shows c.args.watch.now) c.args.limits.looks (l.made + 1) (omega arith)
     (λ t. until_some c.args.limits.process (g.W.Watch.shows c.args.watch.now) (l.invariant.left t) below) in (
       most,
       are,
@@ -41,7 +41,7 @@ returns-then-is_last-clause-looked g c =
     let are = until_last {process = c.args.limits.process} l.invariant.left c.loop-made-test.true c.has_ended-is_last.ensures.found c.if-is_last.true l.invariant.shows l.invariant.count in (
       l.made + 1,
       are,
-      (λ calling ways headers names first holds. ended (omega arith) (λ fewer. absurd (omega (arith, fewer)))
+      (λ calling ways headers names first holds. ended (omega arith) (λ fewer. absurd (omega arith))
           (rw c.if-not-alive.false at (one_more {next = l.made + 1} (c.has_ended-is_last.ensures.shows ∙ l.invariant.shows) (still_made c.has_ended-is_last.ensures.watched c.has_ended-is_last.ensures.seen (l.invariant.progress calling ways headers names first holds)) c.in_default.ensures.looked c.in_default.ensures.seen c.alive.ensures.alive c.alive.ensures.none (omega arith)))),
     )
 
@@ -49,9 +49,9 @@ pub loop-made-preserved : goal.loop-made-preserved
 loop-made-preserved g c =
     let l = c.loop-made in
     record {
-      within = let below = c.loop-made-test.true in omega (arith, below);
+      within = let below = c.loop-made-test.true in omega arith;
       count = let one = length-append (g.W.Watch.seen c.has_ended-is_last.new.watch) (g.W.Watch.shows c.has_ended-is_last.new.watch (length (g.W.Watch.seen c.has_ended-is_last.new.watch)) ∷ []) in
-          let before = ap length c.has_ended-is_last.ensures.seen in let count = l.invariant.count in ap length c.in_default.ensures.seen ∙ omega (arith, one, before, count);
+          let before = ap length c.has_ended-is_last.ensures.seen in let count = l.invariant.count in ap length c.in_default.ensures.seen ∙ omega arith;
       left = λ t. until_more c.args.limits.process (l.invariant.left t) c.loop-made-test.true (c.has_ended-is_last.ensures.told t) c.if-is_last.false l.invariant.shows l.invariant.count;
       can = c.in_default.ensures.can;
       error = c.look.ensures.error l.invariant.error;
@@ -66,6 +66,6 @@ returns-clause-looked g c =
     let past = c.loop-made-test.false in
     let within = l.invariant.within in
     let (most, are, above) = most_made g.W.Watch.told c.args.limits.process (g.W.Watch.shows c.args.watch.now) c.args.limits.looks l.made within
-    (λ t. let is = l.invariant.left t in omega (arith, is)) in
+    (λ t. let is = l.invariant.left t in omega arith) in
     let most_within = are.within in
-    (most, are, (λ calling ways headers names first holds. ended above (λ fewer. absurd (omega (arith, past, fewer, most_within))) (l.invariant.progress calling ways headers names first holds)))
+    (most, are, (λ calling ways headers names first holds. ended above (λ fewer. absurd (omega arith)) (l.invariant.progress calling ways headers names first holds)))

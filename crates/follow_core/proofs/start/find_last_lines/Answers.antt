@@ -14,8 +14,8 @@ returns-in-Begins-clause-part g c told =
     let more = c.loop-end-test.true in
     let within = c.loop-end.invariant.within in
     let size : c.min-size.result ≡ min c.loop-end.end (length c.loop-end.buffer) = c.min-size.ensures in
-    begins_last contents (omega (arith, more, within, long)) (begins_in (c.loop-end.end - c.min-size.result) c.min-size.result contents
-    (c.loop-end.invariant.lines told) (omega (arith, size)) (omega (arith, within, long))
+    begins_last contents (omega arith) (begins_in (c.loop-end.end - c.min-size.result) c.min-size.result contents
+    (c.loop-end.invariant.lines told) (omega arith) (omega arith)
     (block_read c.loop-end.buffer c.read_block.new.block (c.loop-end.end - c.min-size.result) c.loop-end.end c.min-size.ensures c.in_ok-n.ensures.bound c.read_block.ensures.length (contents_same c.args.place c.loop-end.invariant.seen c.loop-end.invariant.watched) (c.in_ok-n.ensures.bytes told))
     c.in-Begins.ensures)
 
@@ -25,4 +25,4 @@ loop-end-preserved g c = search (rules, wanted_before, block_read, contents_same
 pub returns-clause-part : goal.returns-clause-part
 returns-clause-part g c told =
     let front = c.loop-end-test.false in
-    all_wanted c.args.delim c.loop-end.end (c.loop-end.invariant.lines told) (omega (arith, front)) c.loop-end.invariant.some
+    all_wanted c.args.delim c.loop-end.end (c.loop-end.invariant.lines told) (omega arith) c.loop-end.invariant.some

@@ -18,7 +18,7 @@ loop-at-preserved g c =
           c.in-Ok.ensures.bound c.read_at.ensures.length c.in-Ok.ensures.bytes (found_at c.args.place _ _ l.invariant.seen l.invariant.watched (c.in-Ok.ensures.found (grind (arith, common_steps)))) l.invariant.copied c.in-Ok-put.ensures.puts;
       writable = c.in-Ok-put.ensures.writable;
       within = grind (arith, common_steps);
-      past = omega (arith, past);
+      past = omega arith;
       seen = c.read_at.ensures.seen ∙ l.invariant.seen;
       watched = c.in-Ok.ensures.same ∙ l.invariant.watched;
       shows = c.read_at.ensures.shows ∙ l.invariant.shows;
@@ -37,8 +37,8 @@ returns-in-Err-put-clause-copies g c =
 pub returns-clause-copies : goal.returns-clause-copies
 returns-clause-copies g c =
     let l = c.loop-at in let past = c.loop-at-test.false in
-    copies_all l.at (λ t. all_taken _ c.args.from l.at (c.requires.whole t) (omega (arith, past))) l.invariant.copied
-    (inl (c.args.len, held_many false (latest (g.W.Watch.seen c.args.watch.now)) (watched_at (g.W.Watch.watched c.args.watch.now) c.args.place).name c.args.len (watched_at (g.W.Watch.watched c.args.watch.now) c.args.place).opened (opened_is (g.W.Watch.watched c.args.watch.now) c.args.place c.requires.readable) c.requires.found, omega (arith, past))) l.invariant.watched
+    copies_all l.at (λ t. all_taken _ c.args.from l.at (c.requires.whole t) (omega arith)) l.invariant.copied
+    (inl (c.args.len, held_many false (latest (g.W.Watch.seen c.args.watch.now)) (watched_at (g.W.Watch.watched c.args.watch.now) c.args.place).name c.args.len (watched_at (g.W.Watch.watched c.args.watch.now) c.args.place).opened (opened_is (g.W.Watch.watched c.args.watch.now) c.args.place c.requires.readable) c.requires.found, omega arith)) l.invariant.watched
 
 pub returns-in-Ok-eq0-clause-copies : goal.returns-in-Ok-eq0-clause-copies
 returns-in-Ok-eq0-clause-copies g c =

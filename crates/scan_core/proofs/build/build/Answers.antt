@@ -21,6 +21,6 @@ pub returns-clause-ok : goal.returns-clause-ok
 returns-clause-ok c =
     let i = c.loop-place.invariant in
     let all : c.loop-place.place ≡ length c.loop-place.building.sets.items * 256 =
-    elim c.loop-place-test.branch [ else-loop-place-test w ↦ omega (arith, i.room, i.order) | then-loop-place-test+then-place-len w ↦ omega (arith, i.order) ] in
-    table_is (rw all at i.built) (omega arith) (omega (arith, i.room))
+    elim c.loop-place-test.branch [ else-loop-place-test w ↦ omega arith | then-loop-place-test+then-place-len w ↦ omega arith ] in
+    table_is (rw all at i.built) (omega arith) (omega arith)
     (rw c.deref-2.ensures.value at (subst (λ sets. AreEach no_state (IsState c.args.nodes.now sets c.deref-2.result.now) (length sets) c.in_ok-states.states.items) c.deref.ensures.value c.in_ok-states.ensures.ok))

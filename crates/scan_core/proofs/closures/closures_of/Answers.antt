@@ -8,7 +8,7 @@ loop-at-preserved c = (each_more c.loop-at.invariant.0 c.leading.ensures c.in_ok
 pub returns-clause-ok : goal.returns-clause-ok
 returns-clause-ok c =
     let nodes = c.args.nodes.now in
-    let all : c.loop-at.at ≡ width nodes = omega (arith, c.loop-at-test.false, c.loop-at.auto) in
+    let all : c.loop-at.at ≡ width nodes = omega arith in
     let value = c.as_slice-begun.ensures.value in
     record {
       base = c.in_ok-base.ensures.ok;

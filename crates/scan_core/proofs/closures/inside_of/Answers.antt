@@ -9,14 +9,14 @@ pub bits-smaller : goal.bits-smaller
 bits-smaller c =
     let all : c.bits.all < 2 ^ 64 = search rules in
     let l = and_le_l c.bits.all (bit_not w64 c.bits.done) in
-    let lowest = bit_at-trailing_zeros w64 (bit_and c.bits.all (bit_not w64 c.bits.done)) (omega (arith, c.bits-test.true)) (omega (arith, l, all)) in
+    let lowest = bit_at-trailing_zeros w64 (bit_and c.bits.all (bit_not w64 c.bits.done)) (omega arith) (omega arith) in
     inside_smaller _ lowest.0 (search rules) lowest.1
 
 pub bits-preserved : goal.bits-preserved
 bits-preserved c =
     let all : c.bits.all < 2 ^ 64 = search rules in
     let l = and_le_l c.bits.all (bit_not w64 c.bits.done) in
-    let lowest = bit_at-trailing_zeros w64 (bit_and c.bits.all (bit_not w64 c.bits.done)) (omega (arith, c.bits-test.true)) (omega (arith, l, all)) in
+    let lowest = bit_at-trailing_zeros w64 (bit_and c.bits.all (bit_not w64 c.bits.done)) (omega arith) (omega arith) in
     inside_more _ c.bits.invariant lowest.0 (search rules) lowest.1 c.targets-all.ensures
 
 pub returns : goal.returns

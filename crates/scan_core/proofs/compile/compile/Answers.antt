@@ -5,7 +5,7 @@ use Rattle.scan_core.proofs.compile.compile.Goals as goal
 pub loop-place-init : goal.loop-place-init
 loop-place-init c = let first = c.new-compiling.result in record {
   begun = search rules;
-  depth = let d = ap depth_in c.new-compiling.ensures.passing in omega (arith, d);
+  depth = let d = ap depth_in c.new-compiling.ensures.passing in omega arith;
   way = (
     first,
     record { nodes = c.new-compiling.ensures.nodes; pending = c.new-compiling.ensures.pending; passing = c.new-compiling.ensures.passing },
@@ -15,7 +15,7 @@ loop-place-init c = let first = c.new-compiling.result in record {
 
 pub take-requires-clause-order : goal.take-requires-clause-order
 take-requires-clause-order c =
-    bounded_at _ _ c.tokens-tokens.ensures.order (omega (arith, c.loop-place.auto, c.loop-place-test.true)) c.index-tokens-place.is
+    bounded_at _ _ c.tokens-tokens.ensures.order (omega arith) c.index-tokens-place.is
 
 pub loop-place-preserved : goal.loop-place-preserved
 loop-place-preserved c = let w = c.loop-place.invariant.way in record {
@@ -24,15 +24,15 @@ loop-place-preserved c = let w = c.loop-place.invariant.way in record {
   way = (
     w.0,
     w.1,
-    way_more c.tokens-tokens.result.now w.0 c.loop-place.compiling c.take.new.self (omega (arith, c.loop-place-test.true))
-        (omega (arith, c.loop-place.auto, c.loop-place-test.true)) c.index-tokens-place.is w.2 c.in_ok-take.ensures.ok,
+    way_more c.tokens-tokens.result.now w.0 c.loop-place.compiling c.take.new.self (omega arith)
+        (omega arith) c.index-tokens-place.is w.2 c.in_ok-take.ensures.ok,
   );
 }
 
 pub returns-clause-ok : goal.returns-clause-ok
 returns-clause-ok c =
     let w = c.loop-place.invariant.way in
-    let front : c.loop-place.place ≡ 0 = omega (arith, c.loop-place-test.false) in
+    let front : c.loop-place.place ≡ 0 = omega arith in
     c.reverse.ensures.items ∙ compiled c.args.expression.now c.loop-place.compiling c.tokens-tokens.ensures.written c.tokens-tokens.ensures.order w.1
     (rw front at w.2)
 

@@ -14,7 +14,7 @@ loop-place-preserved c =
     let base = c.args.base.now in
     let all = c.in_ok-all.all.items in
     let place = c.loop-place.place in
-    let inside : place < length all = omega (arith, c.loop-place-test.true) in
+    let inside : place < length all = omega arith in
     let eh = c.index-hop.ensures ∙ get_or_default all place _ no_hop inside in
     let is = subst (IsHop nodes) (sym eh) (c.in_ok-all.ensures.sound.each place inside) in
     elim c.if-is_within.branch [

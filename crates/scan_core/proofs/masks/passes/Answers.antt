@@ -12,4 +12,4 @@ pub returns-in_default-clause-no : goal.returns-in_default-clause-no
 returns-in_default-clause-no c = λ to p. absurd (c.in_default.not-Take p.0 (at_once c.args.nodes.now c.args.number (node_here c.args.nodes.now c.if-number-nodes.true refl c.index-nodes-number.is) p.1))
 
 pub returns-else-number-nodes-clause-no : goal.returns-else-number-nodes-clause-no
-returns-else-number-nodes-clause-no c = λ to p. let l = pass_least c.args.nodes.now p in absurd (omega (arith, l, c.if-number-nodes.false))
+returns-else-number-nodes-clause-no c = λ to p. let l = pass_least c.args.nodes.now p in absurd (omega arith)

@@ -8,6 +8,6 @@ loop-at-preserved c =
     let items = c.in_ok-push.ensures.items in
     let long = ap length items ∙ length-append c.loop-at.text.items (c.in-Some.byte ∷ []) in
     record {
-      all = omega (arith, long, c.loop-at.invariant.all);
+      all = omega arith;
       literal = rw (← items) at (literal_more _ _ _ _ _ c.loop-at.invariant.all c.loop-at.invariant.literal here c.in-Some.ensures);
     }

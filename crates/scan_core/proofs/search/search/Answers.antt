@@ -8,7 +8,7 @@ use Rattle.scan_core.proofs.search.search.Goals as goal
 pub overflow_add-steps : goal.overflow_add-steps
 overflow_add-steps c =
     let n : length c.args.nodes.now < 9223372036854775808 = search rules in
-    let f = search_fits _ c.loop-place.invariant c.positions.ensures n (omega (arith, c.loop-place-test.true)) in
+    let f = search_fits _ c.loop-place.invariant c.positions.ensures n (omega arith) in
     search (rules, f)
 
 pub overflow_add-steps-2 : goal.overflow_add-steps-2
@@ -21,7 +21,7 @@ pub spread-requires-clause-front : goal.spread-requires-clause-front
 spread-requires-clause-front c = λ t. front_is c.loop-place.invariant c.requires.closures.base (eqb-true _ 0 t)
 
 pub spread-requires-2-clause-front : goal.spread-requires-2-clause-front
-spread-requires-2-clause-front c = λ t. let z = eqb-true _ 0 (sym c.is_empty.ensures ∙ t) in front_is c.loop-place.invariant c.requires.closures.base (omega (arith, z))
+spread-requires-2-clause-front c = λ t. let z = eqb-true _ 0 (sym c.is_empty.ensures ∙ t) in front_is c.loop-place.invariant c.requires.closures.base (omega arith)
 
 pub returns-then-has-clause-outcome : goal.returns-then-has-clause-outcome
 returns-then-has-clause-outcome c =

@@ -18,6 +18,6 @@ pub returns-clause-ok : goal.returns-clause-ok
 returns-clause-ok c = (
   c.in-Some.table,
   rw c.in-Some.is at c.requires,
-  shifted_is c.as_slice-rows.ensures.value c.as_slice-noted.ensures.value (omega (arith, c.if-count-gt-MOST_STATES.false)) (c.if-not-is_complete.ensures.yes refl)
+  shifted_is c.as_slice-rows.ensures.value c.as_slice-noted.ensures.value (omega arith) (c.if-not-is_complete.ensures.yes refl)
       (each_to c.loop-byte.invariant.words (omega arith)) (each_to c.loop-byte.invariant.weights (omega arith)) c.in_ok-states.ensures.items refl,
 )

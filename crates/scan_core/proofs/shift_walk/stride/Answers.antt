@@ -8,20 +8,20 @@ loop-done-init c = record { small = omega arith; at = λ before a. at_moved _ (o
 pub overflow_add-steps : goal.overflow_add-steps
 overflow_add-steps c =
     let l = c.requires.sized.light (c.loop-done.word % 256) (omega arith) in
-    let e = c.index.ensures ∙ get_or_default c.args.table.now.weights.items (c.loop-done.word % 256) _ 0 (omega (arith, c.requires.sized.weights)) in
-    let f : c.loop-done.steps + c.index.result.now < 18446744073709551616 = omega (arith, l, e, c.loop-done.invariant.small, c.loop-done-test.true, c.requires.count) in
+    let e = c.index.ensures ∙ get_or_default c.args.table.now.weights.items (c.loop-done.word % 256) _ 0 (omega arith) in
+    let f : c.loop-done.steps + c.index.result.now < 18446744073709551616 = omega arith in
     search (rules, f)
 
 pub loop-done-preserved : goal.loop-done-preserved
 loop-done-preserved c =
     let l = c.requires.sized.light (c.loop-done.word % 256) (omega arith) in
-    let e = c.index.ensures ∙ get_or_default c.args.table.now.weights.items (c.loop-done.word % 256) _ 0 (omega (arith, c.requires.sized.weights)) in
+    let e = c.index.ensures ∙ get_or_default c.args.table.now.weights.items (c.loop-done.word % 256) _ 0 (omega arith) in
     let b : slice_index c.args.line.now (c.args.from + c.loop-done.done) < 256 = search (rules, c.type_inv.line) in
     record {
-      small = omega (arith, l, e, c.loop-done.invariant.small);
+      small = omega arith;
       at = λ before a. at_moved _ (omega arith) (omega arith) (at_more _ _ _ (c.loop-done.invariant.at before a)
-          (omega (arith, c.loop-done-test.true, c.requires.within)) b c.index-in-loop-done.ensures refl c.index.ensures);
+          (omega arith) b c.index-in-loop-done.ensures refl c.index.ensures);
     }
 
 pub returns-clause-at : goal.returns-clause-at
-returns-clause-at c = λ before a. at_moved _ (omega (arith, c.loop-done-test.false, c.loop-done.auto.done-end)) (omega arith) (c.loop-done.invariant.at before a)
+returns-clause-at c = λ before a. at_moved _ (omega arith) (omega arith) (c.loop-done.invariant.at before a)

@@ -43,11 +43,11 @@ loop-place-preserved c =
 pub overflow_add-result : goal.overflow_add-result
 overflow_add-result c =
     let v = c.loop-place.invariant in
-    let o = walk_ends _ _ v (let h = v.2.within in omega (arith, h, c.loop-place-test.false)) c.requires.some c.index-last.ensures in
-    let f = bound_fits _ v.1.few o.bound (let h = v.2.within in omega (arith, h, c.loop-place-test.false)) in
+    let o = walk_ends _ _ v (let h = v.2.within in omega arith) c.requires.some c.index-last.ensures in
+    let f = bound_fits _ v.1.few o.bound (let h = v.2.within in omega arith) in
     search (rules, f)
 
 pub returns : goal.returns
 returns c =
     let v = c.loop-place.invariant in
-    record { exact = walk_ends _ _ v (let h = v.2.within in omega (arith, h, c.loop-place-test.false)) c.requires.some c.index-last.ensures }
+    record { exact = walk_ends _ _ v (let h = v.2.within in omega arith) c.requires.some c.index-last.ensures }

@@ -20,4 +20,4 @@ pub returns-clause-ok : goal.returns-clause-ok
 returns-clause-ok g c =
     cut_done c.split_lines.result.1.now c.requires.fit c.requires.cuts c.saturating_sub.ensures c.split_lines.ensures.first c.split_lines.ensures.rest
     (λ is. c.skip_line.ensures.first (ap (λ (s : Style). s.suppress) (c.style.view_is ∙ c.style-style.ensures) ∙ is)) (λ is. c.skip_line.ensures.none (ap (λ (s : Style). s.suppress) (c.style.view_is ∙ c.style-style.ensures) ∙ is))
-    c.in_ok-put.ensures.goes c.in_ok-pass.ensures (c.opening_of-opening.ensures ∙ ap (λ (s : Style). opening_of s c.is_kept-is_kept.result) c.style-style.ensures ∙ ap (opening_of c.pass.new.self.style) (c.is_kept-is_kept.ensures ∙ ap kept_next c.next_operand.ensures)) c.in_ok-next.ensures.goes c.in_ok-next.ensures.size (omega (arith, c.skip_line.ensures.shorter, c.split_lines.ensures.shorter))
+    c.in_ok-put.ensures.goes c.in_ok-pass.ensures (c.opening_of-opening.ensures ∙ ap (λ (s : Style). opening_of s c.is_kept-is_kept.result) c.style-style.ensures ∙ ap (opening_of c.pass.new.self.style) (c.is_kept-is_kept.ensures ∙ ap kept_next c.next_operand.ensures)) c.in_ok-next.ensures.goes c.in_ok-next.ensures.size (omega arith)

@@ -13,15 +13,15 @@ pub loop-cut-init : goal.loop-cut-init
 loop-cut-init g c = c.in_ok-left.ensures.ok.spreading c.args.line.now
 
 pub try_last-requires-clause-few : goal.try_last-requires-clause-few
-try_last-requires-clause-few g c = omega (arith, c.loop-cut.invariant.lines, c.requires.few)
+try_last-requires-clause-few g c = omega arith
 
 pub try_last-requires-clause-fit : goal.try_last-requires-clause-fit
 try_last-requires-clause-fit g c = c.loop-cut.invariant.fit
 
 pub cut_at-requires-in-Some : goal.cut_at-requires-in-Some
 cut_at-requires-in-Some g c = let same = c.try_last.ensures.same in record {
-  few = omega (arith, ap (λ (cutter : CutterState). cutter.lines) same, c.loop-cut.invariant.lines, c.requires.few);
-  fits = omega (arith, ap (λ (cutter : CutterState). size_of cutter.writer.current) same, c.loop-cut.invariant.size, c.requires.fits);
+  few = omega (arith, ap (λ (cutter : CutterState). cutter.lines) same);
+  fits = omega (arith, ap (λ (cutter : CutterState). size_of cutter.writer.current) same);
   fit = spread_fit same c.loop-cut.invariant.fit;
   none = ap (λ (cutter : CutterState). cutter.window.held) same ∙ c.loop-cut.invariant.held;
   cuts = search rules;

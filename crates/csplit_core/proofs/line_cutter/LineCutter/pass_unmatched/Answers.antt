@@ -27,15 +27,15 @@ pub returns : goal.returns
 returns c = stops_unfound c.unfound.result (all_passed_at c.requires.sound c.requires.aim c.loop-end.invariant refl) c.unfound.ensures.size c.unfound.ensures.found
 
 pub overflow_add-self : goal.overflow_add-self
-overflow_add-self c = omega (arith, few_counted c.loop-end.invariant, c.requires.fits)
+overflow_add-self c = omega (arith, few_counted c.loop-end.invariant)
 
 pub overflow_add-self-in-Some : goal.overflow_add-self-in-Some
-overflow_add-self-in-Some c = omega (arith, few_counted c.loop-end.invariant, ap (λ (cutter : CutterState). cutter.lines) c.is_match.ensures.same, c.requires.fits)
+overflow_add-self-in-Some c = omega (arith, few_counted c.loop-end.invariant, ap (λ (cutter : CutterState). cutter.lines) c.is_match.ensures.same)
 
 pub pass_clear-clear-requires-in-Some : goal.pass_clear-clear-requires-in-Some
 pass_clear-clear-requires-in-Some c =
     let so = one_more c.in-Some.end c.loop-end.invariant c.is_match.ensures.same (first_at c.in-Some.end c.in-Some.ensures) c.is_match.ensures.found c.if-is_match.false in
-    record { whole = left_whole c.requires.whole so; fits = (omega (arith, few_counted so, c.requires.fits)) }
+    record { whole = left_whole c.requires.whole so; fits = (omega (arith, few_counted so)) }
 
 pub overflow_add-left : goal.overflow_add-left
 overflow_add-left c = grind (arith, common_steps)

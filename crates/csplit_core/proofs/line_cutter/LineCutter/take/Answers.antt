@@ -16,7 +16,7 @@ stretch-requires g c = let so_far = c.stretches.invariant.0 in record {
     within = c.first_size-size.ensures.within;
     line = c.first_size-size.ensures.line;
     rest = whole_drop c.first_size-size.result so_far.rest;
-    complete = inr (ends_by (take c.first_size-size.result c.stretches.left.now) c.first_size-size.ensures.whole (omega (arith, length-take-le c.first_size-size.result c.stretches.left.now c.first_size-size.ensures.within, c.first_size-size.ensures.some)));
+    complete = inr (ends_by (take c.first_size-size.result c.stretches.left.now) c.first_size-size.ensures.whole (omega (arith, length-take-le c.first_size-size.result c.stretches.left.now c.first_size-size.ensures.within)));
   };
   found = λ given. found_first c.stretches.left.now c.stretches.found c.stretches.invariant.1 c.first_size-size.ensures.known (sym c.is_some.ensures ∙ given);
   fits = takes_fit so_far (2 ^ 63) c.requires.fits;

@@ -12,7 +12,7 @@ returns-in_default-clause-says c lines seen =
 pub returns-then-total-search_line-clause-says : goal.returns-then-total-search_line-clause-says
 returns-then-total-search_line-clause-says c lines seen =
     misses_search lines (left_is c.args.operands.now c.args.self.now.done c.in-Some.ensures.lookup.3.0 c.in-Some.ensures.lookup.1) seen c.in-Search.is
-    (λ near. absurd (omega (arith, near, c.search_line.ensures c.args.operands.now, c.if-total-search_line.true)))
+    (λ near. absurd (omega (arith, c.search_line.ensures c.args.operands.now)))
 
 pub returns-then-not-found-clause-says : goal.returns-then-not-found-clause-says
 returns-then-not-found-clause-says c lines seen =
@@ -25,5 +25,5 @@ returns-in-Number-clause-says c lines seen = falls_number lines (left_is c.args.
 pub returns-else-not-found-clause-says : goal.returns-else-not-found-clause-says
 returns-else-not-found-clause-says c lines seen = falls_search lines (left_is c.args.operands.now c.args.self.now.done c.in-Some.ensures.lookup.3.0 c.in-Some.ensures.lookup.1) seen
     c.in-Search.offset c.in-Search.is
-    (omega (arith, c.search_line.ensures c.args.operands.now, c.if-total-search_line.false)) c.if-not-found.false
+    (omega (arith, c.search_line.ensures c.args.operands.now)) c.if-not-found.false
     c.line_at.ensures c.requires.few c.fall-in-Search.result c.fall-in-Search.ensures

@@ -8,14 +8,14 @@ slice_bounds-search-end c =
     let e = enough_room _ c.self.invariant.1 in
     let l = ap length c.self.invariant.0 in
     let p = ap positions_of c.self.view_is in
-    omega (arith, e, l, p, c.requires)
+    omega arith
 
 pub slice_bounds-search-end-2 : goal.slice_bounds-search-end-2
 slice_bounds-search-end-2 c =
     let e = enough_room _ c.self.invariant.1 in
     let l = ap length c.self.invariant.0 in
     let p = ap positions_of c.self.view_is in
-    let h : c.len.result / 64 + 1 ≤ length c.args.words.now = omega (arith, e, l, p, c.requires) in
+    let h : c.len.result / 64 + 1 ≤ length c.args.words.now = omega arith in
     search (rules, h)
 
 pub search-requires-clause-code : goal.search-requires-clause-code
@@ -26,5 +26,5 @@ search-requires-clause-room c =
     let e = enough_room _ c.self.invariant.1 in
     let l = ap length c.self.invariant.0 in
     let p = ap positions_of c.self.view_is in
-    let h : c.len.result / 64 + 1 ≤ length c.args.words.now = omega (arith, e, l, p, c.requires) in
+    let h : c.len.result / 64 + 1 ≤ length c.args.words.now = omega arith in
     search (rules, length-take, h)

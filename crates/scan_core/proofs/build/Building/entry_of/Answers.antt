@@ -20,7 +20,7 @@ copy_from_slice-requires c =
     let set = c.set.view_is ∙ c.index-set.ensures ∙ get_or_default _ _ _ [] c.requires.known in
     let size = set_size _ f.built.going c.requires.known set in
     let l = ap length c.deref.ensures.value in
-    omega (arith, size, l, f.size, c.args.self.now.words.ok.0)
+    omega arith
 
 pub returns-clause-ok : goal.returns-clause-ok
 returns-clause-ok c =

@@ -9,4 +9,4 @@ pub returns-in-Some-clause-lacks : goal.returns-in-Some-clause-lacks
 returns-in-Some-clause-lacks c = rw c.in-Text.is (lacks_text c.in-Some.ensures.0.before)
 
 pub returns-in-None-clause-lacks : goal.returns-in-None-clause-lacks
-returns-in-None-clause-lacks c = rw c.in-Text.is (lacks_text (λ k low high. c.in-None.ensures k low (omega (arith, high))))
+returns-in-None-clause-lacks c = rw c.in-Text.is (lacks_text (λ k low high. c.in-None.ensures k low (omega arith)))
