@@ -178,7 +178,9 @@ place_after : {suppress : Bool} {lines : List Line} {first : State} {steps : Lis
     ≡ place_from suppress total (index + length steps) more how line
 place_after {suppress} (cuts state operand operands matched cut steps' last' ending' is at least within rest) total index line more how from =
     let on : line_after suppress cut ≤ last'.current = current_grows rest in
-    ap (λ b. cond b (in_section index) (cond (suppress && nat_le line cut) (left_out index) (place_from suppress total (index + 1) (steps' ++ more) how line))) (not_less_test line cut (omega (arith, line_some suppress cut)))
+    ap (λ b. cond b (in_section index) (cond (suppress && nat_le line cut) (left_out index)
+    (place_from suppress total (index + 1) (steps' ++ more) how line)))
+    (not_less_test line cut (omega (arith, line_some suppress cut)))
     ∙ ap (λ b. cond b (left_out index) (place_from suppress total (index + 1) (steps' ++ more) how line)) (not_left suppress line cut (omega arith))
     ∙ place_after rest total (index + 1) line more how from
     ∙ ap (λ i. place_from suppress total i more how line) (let e : index + 1 + length steps' ≡ index + suc (length steps') = omega arith in e)
@@ -194,7 +196,9 @@ settled_place a b ending ends more end (is_used_up state none) line from before 
 settled_place a b ending ends more end (misses state operand operands are none) line from before = grind (arith, common_steps)
 settled_place a b ending ends more end (is_above state operand operands matched cut are at far) line from before = grind (arith, common_steps)
 settled_place a b ending ends more end (is_below state operand operands matched cut are at in_lines low) line from before = grind (arith, common_steps)
-settled_place a b ending ends more end (cuts state operand operands matched cut steps' last' ending' are at least in_lines rest) line from before = grind (arith, common_steps)
+settled_place a b ending ends more end
+    (cuts state operand operands matched cut steps' last' ending' are at least in_lines rest) line from before =
+    grind (arith, common_steps)
 
 -- where the cut is below the current line all lines go nowhere
 
@@ -215,7 +219,8 @@ decided_by : (suppress : Bool) (a b : List Line) {last : State} (ending : Ending
 decided_by suppress a b (missed operand repetition) some is line from within not index more end rest = settled_place a b (missed operand repetition) is more end rest line from
     (elim (cases_lt line (suc (length a) - most_held operand.target)) [ inl less ↦ less | inr beyond ↦ absurd (not refl beyond) ])
 decided_by suppress a b {last} (below operand repetition) some (operands, matched, cut, is, at, in_lines, low, often) line from within not index more end rest =
-    nowhere_by matched cut is (cuts_still suppress a b last operand operand.target matched cut at) (omega (arith, length-append a b)) low more end rest index line
+    nowhere_by matched cut is (cuts_still suppress a b last operand operand.target matched cut at)
+    (omega (arith, length-append a b)) low more end rest index line
 decided_by suppress a b ending some is line from within not index more end rest = settled_place a b ending is more end rest line from (omega arith)
 
 -- Two places for each that does
@@ -229,7 +234,8 @@ pub in_later : (suppress : Bool) (total : ℕ) {index : ℕ} (other line : ℕ) 
     → index < other → place_from suppress total other steps how line ≡ in_section index → ⊥
 in_later suppress total other line [] how less is = grind (arith, common_steps)
 in_later suppress total other line (step ∷ steps) how less is =
-    step_later other less (λ same. in_later suppress total (other + 1) line steps how (omega arith) same) (nat_lt line step.cut) (suppress && nat_le line step.cut) is
+    step_later other less (λ same. in_later suppress total (other + 1) line steps how (omega arith) same)
+    (nat_lt line step.cut) (suppress && nat_le line step.cut) is
 
 -- a line after the cut isn't in the section
 
@@ -309,8 +315,12 @@ step_parts suppress lines current cut index s later some least within =
     let next = line_after suppress cut in
     let least_next : cut ≤ next = line_some suppress cut in
     let most_next : next ≤ suc cut = after_within suppress cut cut (omega arith) in
-    let front : length (lines_between current cut lines) ≡ cut - current = length-take-le (cut - current) (drop (current - 1) lines) (let long : length (drop (current - 1) lines) ≡ length lines - (current - 1) = length-drop (current - 1) lines in omega arith) in
-    let middle : length (lines_between cut next lines) ≡ next - cut = length-take-le (next - cut) (drop (cut - 1) lines) (let long : length (drop (cut - 1) lines) ≡ length lines - (cut - 1) = length-drop (cut - 1) lines in omega arith) in
+    let front : length (lines_between current cut lines) ≡ cut - current = length-take-le (cut - current)
+    (drop (current - 1) lines) (let long : length (drop (current - 1) lines) ≡ length lines - (current - 1) =
+    length-drop (current - 1) lines in omega arith) in
+    let middle : length (lines_between cut next lines) ≡ next - cut = length-take-le (next - cut)
+    (drop (cut - 1) lines) (let long : length (drop (cut - 1) lines) ≡ length lines - (cut - 1) = length-drop
+    (cut - 1) lines in omega arith) in
     ap (lines_into s places current) (sym (between_rest current cut lines some least))
     ∙ into-append s places current (lines_between current cut lines) (drop (cut - 1) lines)
     ∙ ap (λ those. lines_into s places current (lines_between current cut lines) ++ those)
@@ -348,14 +358,17 @@ placed_from {suppress} {lines} (cuts state operand operands matched cut steps' l
           (λ line from before. goes_elsewhere (later line) (in_later suppress (length lines) (index + 1) line steps' ending' (omega arith)))),
     ))
     ∙ into_all (place_from suppress (length lines) index (step_of state operand matched cut ∷ steps') ending') state.current (lines_between state.current cut lines)
-    (λ line from before. step_before suppress lines state.current cut later line some least within before ∙ ap in_section (let e : index ≡ s = omega arith in e)))
+    (λ line from before. step_before suppress lines state.current cut later line some least within before
+    ∙ ap in_section (let e : index ≡ s = omega arith in e)))
 placed_from {suppress} {lines} (cuts state operand operands matched cut steps' last' ending' is cuts_at least within rest) some index (suc k) {s} at =
     let later = place_from suppress (length lines) (index + 1) steps' ending' in
     placed_from rest (omega (arith, line_some suppress cut)) (index + 1) k (omega arith)
     ∙ sym (step_parts suppress lines state.current cut index s later some least within
     ∙ ap (λ those. those ++ lines_into s later (line_after suppress cut) (drop (line_after suppress cut - 1) lines))
     (into_none s (place_from suppress (length lines) index (step_of state operand matched cut ∷ steps') ending') state.current (lines_between state.current cut lines)
-    (λ line from before. ap (is_in s) (step_before suppress lines state.current cut later line some least within before) ∙ ne_eqb s index (λ same. omega arith))))
+    (λ line from before. ap (is_in s)
+    (step_before suppress lines state.current cut later line some least within before) ∙ ne_eqb s index
+    (λ same. omega arith))))
 placed_from {lines} {first} {ending} run some index k at = rest_placed lines first.current (whole_end (length lines) ending) index some (end_is ending) k at
 
 -- Lines in no section
@@ -467,14 +480,16 @@ module _ (suppress : Bool) (operands : List Operand) (x : List Line) where
   decides (some_wait k kept past (turns from steps end how rest)) =
       decides_by matching _ _ matching_comes rest refl kept
       (let e : length (lines_between made.last.current (suc (length x) - k) (x ++ matching)) ≡ length open_lines
-      = ap length (between_still made.last.current (suc (length x) - k) x matching inside.1 (omega arith) ∙ ap (λ p. lines_between made.last.current p x) (sym past)) in omega arith)
+      = ap length (between_still made.last.current (suc (length x) - k) x matching inside.1 (omega arith)
+      ∙ ap (λ p. lines_between made.last.current p x) (sym past)) in omega arith)
 
   pub settled_is_agreed : IsAgreed (whole_outputs suppress operands) x (settled_outputs suppress operands x)
   settled_is_agreed =
       let decides = decides end_waits in
       agreed_as [] decides.y (λ y comes. (grind (arith, common_steps, kept_grow, (plan_grows suppress true whole_end whole_covers operands x y))))
       none_comes decides.comes fewest
-      (λ place less. rw decides.are (no_longer (map (section_of x) made.steps) (section (is_last_kept made.ending) false open_lines) decides.next decides.more place decides.kept decides.short less))
+      (λ place less. rw decides.are (no_longer (map (section_of x) made.steps)
+      (section (is_last_kept made.ending) false open_lines) decides.next decides.more place decides.kept decides.short less))
 
   -- The lines that wait are those that two continuations put into different places.
 
@@ -492,7 +507,8 @@ module _ (suppress : Bool) (operands : List Operand) (x : List Line) where
   place_there y line from within not =
       ap (λ (p : Plan). place_from suppress (length (x ++ y)) 0 p.steps p.ending line) (goes y).is
       ∙ place_after here (length (x ++ y)) 0 line (goes y).more (goes y).how from
-      ∙ decided_by suppress x y _ inside.1 (ends_as here) line from within (λ live past. not (live, from, past, within)) _ (goes y).more (goes y).end (goes y).rest
+      ∙ decided_by suppress x y _ inside.1 (ends_as here) line from within
+      (λ live past. not (live, from, past, within)) _ (goes y).more (goes y).end (goes y).rest
 
   same_line : (y z : List Line) (line : ℕ) → 1 ≤ line → line ≤ length x → (WaitsAt line → ⊥)
       → place_of suppress operands (x ++ y) line ≡ place_of suppress operands (x ++ z) line
@@ -519,7 +535,8 @@ module _ (suppress : Bool) (operands : List Operand) (x : List Line) where
             (plan_once (goes_on matching _ _ here away.3))
             ∙ place_after here (length (x ++ matching)) 0 line away.0 away.2 from)
             ∙ sym same ∙ ap (λ those. place_of suppress operands those line) (append-nil x)
-            ∙ (ap (λ those. place_from suppress (length x) 0 those made.ending line) (sym (append-nil made.steps)) ∙ place_after here (length x) 0 line [] made.ending from ∙ (grind (arith, common_steps)))),
+            ∙ (ap (λ those. place_from suppress (length x) 0 those made.ending line) (sym (append-nil made.steps))
+            ∙ place_after here (length x) 0 line [] made.ending from ∙ (grind (arith, common_steps)))),
       )
 
   undecided_by : (final : Bool) → is_final made.ending ≡ final → IsUndecided (place_of suppress operands) x
@@ -531,7 +548,8 @@ module _ (suppress : Bool) (operands : List Operand) (x : List Line) where
       let some : 1 ≤ made.last.current = inside.1 in
       let count : length (take n x) ≡ min n (length x) = length-take n x in record {
         before = take n x;
-        are_last = sym (take-append-drop n x) ∙ ap (λ rest. take n x ++ rest) (sym (drop-drop (settled_end (length x) made.ending - made.last.current) (made.last.current - 1) x));
+        are_last = sym (take-append-drop n x) ∙ ap (λ rest. take n x ++ rest)
+            (sym (drop-drop (settled_end (length x) made.ending - made.last.current) (made.last.current - 1) x));
         differ = λ i past within. differ_line (i + 1) (live, omega arith, omega arith, omega arith) end_waits;
         decided = λ i within y z y_comes z_comes. same_line y z (i + 1) (omega arith) (omega arith) (λ waits. omega arith);
       }

@@ -303,7 +303,8 @@ module _ {told : Bool} {writer now : WriterState} {window left_in : Window} {n l
       → Goes told writer (with_bytes (take n window.held)) old new next (Some fault)
   empties_short few stopped =
       let count : n - left + bytes + (left - bytes) ≡ n = (let all = so_far.few in omega arith) in
-      goes_as (ap (λ those. those ++ take (left - bytes) (drop (n - left + bytes) window.held)) taken_more ∙ sym (take-add (n - left + bytes) (left - bytes) window.held) ∙ ap (λ k. take k window.held) count)
+      goes_as (ap (λ those. those ++ take (left - bytes) (drop (n - left + bytes) window.held)) taken_more ∙ sym
+      (take-add (n - left + bytes) (left - bytes) window.held) ∙ ap (λ k. take k window.held) count)
       (stops_among (take (n - left) window.held ++ take bytes front) (take (left - bytes) (drop (n - left + bytes) window.held)) (goes_more (take (n - left) window.held) (take bytes front) so_far.went stopped))
 
 -- What leaves of the lines that wait and of a text after them, and what stays: of the text only where all that waited leaves.
@@ -372,7 +373,8 @@ taken_is : {cutter : CutterState} {x left : List ℕ} {at : IsAt (bare cutter) x
     → IsFit cutter → is_final arrives.ends.ending ≡ false
     → at.taken + over_of cutter left ≡ cutter.lines + 1 - cutter.progress.current - most_waiting arrives.ends.ending
 taken_is {cutter} {x} {at} arrives fit live =
-    let most : cutter.window.most ≡ most_waiting arrives.ends.ending = fit.most ∙ most_is (suppress_in cutter) (all_lines x) (state_in cutter) arrives.ends.ending (ends_as arrives.ends.runs) live in
+    let most : cutter.window.most ≡ most_waiting arrives.ends.ending = fit.most ∙ most_is (suppress_in cutter)
+    (all_lines x) (state_in cutter) arrives.ends.ending (ends_as arrives.ends.runs) live in
     (grind (arith, common_steps, fit.fits.some, (few_taken at), (left_count at), arrives.enough))
     ∙ ap (λ n. cutter.lines + 1 - cutter.progress.current - n) most
 
@@ -398,7 +400,9 @@ module _ {cutter : CutterState} {x left bytes : List ℕ} {at : IsAt (bare cutte
       written = at.written ++ bytes;
       few = omega (arith, few_taken at, left_count at);
       written_is = written_on over some at bytes_is;
-      left_is = held_is ∙ left_on over some at ∙ ap (λ k. text_from k x) (let e : cutter.progress.current + at.taken + over ≡ cutter.progress.current + (at.taken + over) = omega arith in e);
+      left_is = held_is ∙ left_on over some at ∙ ap (λ k. text_from k x)
+          (let e : cutter.progress.current + at.taken + over ≡ cutter.progress.current + (at.taken + over) =
+          omega arith in e);
       writes = writes (draft_at at) at.writes;
     };
     ends = grind (arith, common_steps);
@@ -422,7 +426,10 @@ hold_goes {cutter = cutter} {writer} {window} {left} {fault = fault} fit differs
       let window_is : window ≡ record cutter.window { held = window.held } = kept ∙ ap (λ held. record cutter.window { held = held }) (sym (ap (λ (w : Window). w.held) kept)) in record {
         same = refl;
         window = window_is;
-        stands = λ x at arrives. rw window_is (inl (held_live arrives fit (aims_live cutter.aim arrives.ends.ending arrives.ends.aims differs) bytes_is (ap (λ (w : Window). w.held) kept ∙ ap (λ d. last_lines d cutter.window.most left) fit.delim) (writes (manner_of cutter.style))));
+        stands = λ x at arrives. rw window_is (inl
+            (held_live arrives fit (aims_live cutter.aim arrives.ends.ending arrives.ends.aims differs) bytes_is
+            (ap (λ (w : Window). w.held) kept ∙ ap (λ d. last_lines d cutter.window.most left) fit.delim)
+            (writes (manner_of cutter.style))));
         size = size;
       });
 } where
@@ -497,7 +504,13 @@ begun_by : (style : Style) (operands : List Operand) {lines : List Line} (steps 
     → Begins (draft_part (manner_of style) (draft_by style lines steps (kept_by state.operands) []))
     (settled_of style operands lines)
 begun_by style operands {lines} steps {state} more {last} {ending} rest all =
-    rw (settled_by_plan style operands all, map-append (section_of lines) steps more, append_assoc (map (section_of lines) steps) (map (section_of lines) more) (open_at lines last ending ∷ [])) (by state more last ending rest) where
+    rw (
+      settled_by_plan style operands all,
+      map-append (section_of lines) steps more,
+      append_assoc
+          (map (section_of lines) steps) (map (section_of lines) more) (open_at lines last ending ∷ []),
+    )
+    (by state more last ending rest) where
       at_end : (state last : State) (ending : Ending) → Runs style.suppress lines state [] last ending
           → kept_by state.operands ≡ is_last_kept ending
       at_end state last ending (is_used_up state' none) = ap kept_by none
@@ -528,7 +541,9 @@ cut_draft : {cutter : CutterState} {x left before : List ℕ} (at : IsAt cutter 
 cut_draft {cutter} {x} {before} at cut {operand} kept are some on before_is =
     let bytes : at.written ++ before ≡ bytes_of (lines_between cutter.progress.current cut.line (all_lines x)) =
     written_on (cut.line - (cutter.progress.current + at.taken)) some at before_is
-    ∙ ap (λ n. first_lines newline n (text_from cutter.progress.current x)) (let e : at.taken + (cut.line - (cutter.progress.current + at.taken)) ≡ cut.line - cutter.progress.current = omega arith in e)
+    ∙ ap (λ n. first_lines newline n (text_from cutter.progress.current x))
+    (let e : at.taken + (cut.line - (cutter.progress.current + at.taken)) ≡ cut.line - cutter.progress.current =
+    omega arith in e)
     ∙ sym (bytes_between cutter.progress.current cut.line x) in
     let ended = flat_map (file_in cutter.style) (map (section_of (all_lines x)) at.steps) in
     let next = section_of (all_lines x) (step_at cutter operand cut) in
@@ -563,7 +578,8 @@ cut_begins {cutter} {x} {left} line {at} cut now fit will before_is =
     let some : 1 ≤ state.current = (let least = line_some (suppress_in cutter) cut.line in omega arith) in
     subst (λ draft. Begins (draft_part (manner_of cutter.style) draft) (settled_part cutter x))
     (sym (cut_draft at cut (kept_by state.operands) now.goes.are fit.fits.some on (before_is ∙ ap (λ n. first_lines newline (cut.line - n) left) now.place_is)))
-    (let rest = runs_on cutter.style.suppress (all_lines x) state some in begun_by cutter.style cutter.operands (at.steps ++ step_at cutter now.goes.operand cut ∷ []) _ rest (leads_on at cut now.goes _ _ _ rest))
+    (let rest = runs_on cutter.style.suppress (all_lines x) state some in begun_by cutter.style cutter.operands
+    (at.steps ++ step_at cutter now.goes.operand cut ∷ []) _ rest (leads_on at cut now.goes _ _ _ rest))
 
 -- What `cut_at` owes, by how far it came. First the lines before the cut are written; then the run goes on; then the next section begins.
 
@@ -600,8 +616,10 @@ module _ {cutter : CutterState} {cut : Cut} {place n : ℕ} {left before : List 
       → next.operands ≡ cutter.operands → next.style ≡ cutter.style
       → Goes told cutter.writer (with_bytes before) old new next.writer (Some fault)
       → CutsAll told cutter cut place left line [] old new next (Some fault)
-  cut_put_stopped line operands style goes = cut_stopped operands style goes.leaves (λ x at now. stops_wider (goes.reaches (manner_of cutter.style) (draft_at at) at.writes)
-      (part_trans _ _ _ (next_begins (manner_of cutter.style) _ (with_bytes before (draft_at at))) (cut_begins line cut now fit will (first ∙ ap (λ n. first_lines newline n left) n_is))))
+  cut_put_stopped line operands style goes = cut_stopped operands style goes.leaves
+      (λ x at now. stops_wider (goes.reaches (manner_of cutter.style) (draft_at at) at.writes)
+      (part_trans _ _ _ (next_begins (manner_of cutter.style) _ (with_bytes before (draft_at at)))
+      (cut_begins line cut now fit will (first ∙ ap (λ n. first_lines newline n left) n_is))))
 
   pub cut_pass_stopped : {told : Bool} {mid : CutterState} {writer : WriterState} {old new : List Slot} {fault : Fault}
       (line : List ℕ) → Goes told cutter.writer (with_bytes before) old new writer None
@@ -625,7 +643,9 @@ module _ {cutter : CutterState} {cut : Cut} {place n : ℕ} {left before : List 
       let draft = draft_at at in
       reaches_again (bytes_begin manner before draft) (went.reaches manner draft at.writes)
       (stops_wider (stopped.reaches manner (with_bytes before draft) (went.writes manner draft at.writes))
-      (rw (← (ap (λ (s : State). kept_by s.operands) (passed_state went passed due.goes.are))) at (cut_begins line cut due fit will (first ∙ ap (λ n. first_lines newline n left) n_is)))))
+      (rw (← (ap (λ (s : State). kept_by s.operands)
+      (passed_state went passed due.goes.are))) at (cut_begins line cut due fit will
+      (first ∙ ap (λ n. first_lines newline n left) n_is)))))
 
 -- the next section began
 
@@ -700,7 +720,8 @@ module _ {told : Bool} {cutter mid : CutterState} {writer next : WriterState} {c
         near = near;
         none = refl;
         grows = subst (Begins (part_at at)) (ap (draft_part manner) draft_is ∙ now_part)
-            (part_trans (part_at at) (draft_part manner (with_bytes before draft)) _ (bytes_begin manner before draft) (next_begins manner (opening_of cutter.style kept) (with_bytes before draft)));
+            (part_trans (part_at at) (draft_part manner (with_bytes before draft)) _ (bytes_begin manner before draft)
+            (next_begins manner (opening_of cutter.style kept) (with_bytes before draft)));
         reaches = reaches_again (bytes_begin manner before draft) (went.reaches manner draft at.writes)
             (reaches_as refl (sym (ap (draft_part manner) draft_is ∙ now_part)) (second.reaches manner (with_bytes before draft) (went.writes manner draft at.writes)));
       }

@@ -61,7 +61,8 @@ whole-append t whole other = grind (arith, common_steps, ends_with-append)
 pub whole_drop : (n : ℕ) {text : List ℕ} → IsWhole text → IsWhole (drop n text)
 whole_drop n (inl none) = inl (ap (drop n) none ∙ drop_all n [] (omega arith))
 whole_drop n {text} (inr ends) = elim (cases_lt n (length text)) [
-  | inl within ↦ inr (sym (ends_with-append newline (take n text) (drop n text) (omega (arith, length-drop n text))) ∙ ap (ends_with newline) (take-append-drop n text) ∙ ends)
+  | inl within ↦ inr (sym (ends_with-append newline (take n text) (drop n text) (omega (arith, length-drop n text)))
+      ∙ ap (ends_with newline) (take-append-drop n text) ∙ ends)
   | inr past ↦ inl (drop_all n text past)
 ]
 
@@ -139,7 +140,14 @@ lines_then_open {x} = first_lines_then_rest newline (delimiters newline x) x
 
 pub open_unbroken : (x : List ℕ) → delimiters newline (open_line x) ≡ 0
 open_unbroken x =
-    let all : delimiters newline (whole_lines x) ≡ delimiters newline x = delimiters-first_lines newline (delimiters newline x) x (omega arith) in omega (arith, delimiters-append newline (whole_lines x) (open_line x), ap (delimiters newline) (lines_then_open {x = x}))
+    let all : delimiters newline (whole_lines x) ≡ delimiters newline x = delimiters-first_lines newline
+    (delimiters newline x) x (omega arith) in
+    omega (
+      arith,
+      delimiters-append newline (whole_lines x) (open_line x),
+      ap (delimiters newline)
+          (lines_then_open {x = x}),
+    )
 
 pub all_complete : (x : List ℕ) → all_lines (whole_lines x) ≡ complete_lines x
 all_complete x = ap (map marked) (lines_of-first_lines newline (delimiters newline x) x)

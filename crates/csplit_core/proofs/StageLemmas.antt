@@ -183,7 +183,9 @@ pub opened_at : (told : Bool) {style : Style} {suppress : Bool} {operands : List
     → (progress.matched ≤ 0 → MovesOn operands 0 progress aim)
     → Opened told style operands old new (opened operands style writer progress aim window sought)
 opened_at told next_is window_is sought_is opening_is suppress_is made two begun none start_is says moves =
-    rw (start_is, window_is, sought_is, next_is) (first_opened told _ two (rw (opening_is, next_is, made) at begun) none (rw (suppress_is, start_is) at says) ((rw start_is at moves) (omega arith)))
+    rw (start_is, window_is, sought_is, next_is)
+    (first_opened told _ two (rw (opening_is, next_is, made) at begun) none (rw (suppress_is, start_is) at says)
+    ((rw start_is at moves) (omega arith)))
 
 begun_not : {told : Bool} {style : Style} {opening : Opening} {old new : List Slot} {next : WriterState} {f : Fault}
     → 2 ≤ length old → Goes told (writer_for style) (with_next opening) old new next (Some f) → next.files ≡ []
@@ -228,7 +230,8 @@ live_draft {cutter} {x} fit live =
       draft = draft_at live.at;
       writes = live.at.writes;
       settled = live_part live;
-      whole = ap (λ draft. draft_part (manner_of cutter.style) (with_next Never draft)) (draft_is whole_end cutter.style cutter.operands x (live.at.taken + n) (runs_to live.at live.ends)
+      whole = ap (λ draft. draft_part (manner_of cutter.style) (with_next Never draft))
+          (draft_is whole_end cutter.style cutter.operands x (live.at.taken + n) (runs_to live.at live.ends)
           (omega (arith, left_count live.at, few_taken live.at, ends_after_all (line_count newline x) live.ends.ending live.live))
           (written_on n some live.at (sym (first_lines-all newline n (omega arith)))))
           ∙ whole_part_is cutter.style cutter.operands (all_lines x);
@@ -332,10 +335,16 @@ held_is {stage} {x} {result} holds few is = by holds.stands where
       let rest_is = holds.live (λ below. (grind (arith, common_steps))) in
       let all : length (whole_lines x) + length (open_line x) ≡ length x = sym (length-append (whole_lines x) (open_line x)) ∙ ap length (lines_then_open) in
       let rest_long : length stage.rest ≡ length (open_line x) = ap length rest_is in
-      let long : length (waiting stage.cutter.style stage.cutter.operands x) ≡ length stage.cutter.window.held + length stage.rest = ap length (live_waiting stage x live rest_is) ∙ length-append stage.cutter.window.held stage.rest in
+      let long : length (waiting stage.cutter.style stage.cutter.operands x)
+      ≡ length stage.cutter.window.held + length stage.rest = ap length (live_waiting stage x live rest_is)
+      ∙ length-append stage.cutter.window.held stage.rest in
       omega (arith, held_within live)
   by (inr past) =
-      let long : length (waiting stage.cutter.style stage.cutter.operands x) ≡ 0 = ap length (ap (λ lines. waiting_of lines (plan (suppress_in stage.cutter) stage.cutter.operands lines) (open_line x)) (sym (all_complete x)) ∙ ap (λ final. cond final [] (bytes_of (waiting_lines (all_lines (whole_lines x)) (plan_in stage.cutter (whole_lines x))) ++ open_line x)) past.past) in
+      let long : length (waiting stage.cutter.style stage.cutter.operands x) ≡ 0 = ap length
+      (ap (λ lines. waiting_of lines (plan (suppress_in stage.cutter) stage.cutter.operands lines) (open_line x))
+      (sym (all_complete x)) ∙ ap (λ final. cond final []
+      (bytes_of (waiting_lines (all_lines (whole_lines x)) (plan_in stage.cutter (whole_lines x)))
+      ++ open_line x)) past.past) in
       omega (arith, ap length past.none, ap length (holds.past past.aim))
 
 -- What the stage that takes in bytes does with the cutter of lines.
@@ -481,7 +490,12 @@ passes_on {view = view} next {mid} {piece} result is differs took cutter past li
         past = λ is_below was. past (sym aim_is ∙ is_below);
         still = λ is_below. absurd (differs is_below);
         unbroken = rest.0;
-        size = omega (arith, sym (length-append view.rest piece) ∙ ap length (sym lines_then_open) ∙ length-append (whole_lines text) (open_line text), ap load cutter);
+        size = omega (
+          arith,
+          sym (length-append view.rest piece) ∙ ap length (sym lines_then_open) ∙ length-append
+              (whole_lines text) (open_line text),
+          ap load cutter,
+        );
       });
 })
 
@@ -493,7 +507,8 @@ pub none_passes : {told : Bool} {view stage : CsplitState} (next : CsplitState) 
     → OnOk result ((view.cutter.aim ≡ Below → ⊥) → next.rest ≡ view.rest ++ piece)
     → IfErr result (λ fault. fault ≡ Memory) → Passes told stage piece slots slots next result
 none_passes {view = view} next {piece} result is differs none ready sound unbroken cutter rest =
-    let here : delimiters newline (view.rest ++ piece) ≡ 0 = no_newline view.rest piece (ap (λ (s : CsplitState). delimiters newline s.rest) is ∙ unbroken) none in
+    let here : delimiters newline (view.rest ++ piece) ≡ 0 = no_newline view.rest piece
+    (ap (λ (s : CsplitState). delimiters newline s.rest) is ∙ unbroken) none in
     passes_on next result is differs (rw (front_is [] (view.rest ++ piece) (inl refl) here) (takes_none (rw (← is) at sound) (rw (← is) at ready))) cutter
     (on_both result rest rest (λ rest same is_below. absurd (differs is_below)))
     (on_both result rest rest (λ rest same also. rest also ∙ sym (tail_is [] (inl refl) here)))
@@ -515,7 +530,8 @@ pub some_stopped : {told : Bool} {view stage : CsplitState} (next : CsplitState)
     {old new : List Slot} {fault : Fault} → view ≡ stage → LastEndsAt newline piece end → lines ≡ take end piece
     → Takes told view.cutter (view.rest ++ lines) old new next.cutter (Some fault)
     → Passes told stage piece old new next (Err fault)
-some_stopped {view = view} next end is last lines_is stopped = rw (← is) (record { took = rw (piece_lines view.rest end last, ← lines_is) stopped; passed = tt })
+some_stopped {view = view} next end is last lines_is stopped = rw (← is)
+    (record { took = rw (piece_lines view.rest end last, ← lines_is) stopped; passed = tt })
 
 -- The last line
 
@@ -585,7 +601,8 @@ holds_by : {told : Bool} {stage next : CsplitState} {piece : List ℕ} {old new 
     → Passes told stage piece old new next (Ok tt) → Holds stage x
     → (stage.cutter.aim ≡ Below) ⊎ (stage.cutter.aim ≡ Below → ⊥) → Holds next (x ++ piece)
 holds_by {piece = piece} {x} passed holds (inl is_below) = record {
-  stands = inr (rw (passed.passed.still is_below, lines_more x piece) (still_past (whole_lines (open_line x ++ piece)) (lines_whole x) (is_past is_below holds.stands)));
+  stands = inr (rw (passed.passed.still is_below, lines_more x piece)
+      (still_past (whole_lines (open_line x ++ piece)) (lines_whole x) (is_past is_below holds.stands)));
   live = λ differs. absurd (differs (ap (λ (c : CutterState). c.aim) (passed.passed.still is_below) ∙ is_below));
   past = λ still. passed.passed.past still holds.past;
 }
@@ -635,7 +652,8 @@ passes_by told stage next piece old new (Err fault) stopped is_ready taken fits 
   there = stopped.took.keeps.writer.owns.there;
   cut = λ before x at. engine.cut (not_verdict stage.cutter.style old new fault is_ready.manner stopped.took.keeps.writer.slots)
       (rw (settled_then piece at.holds, settled_is stage x) at
-      (stopped_in_turn (work stage).means.output told before _ _ fault new (has_settled stage (whole_lines x)) ((stopped.took.reaches (whole_lines x) (lines_whole x) at.holds.stands).there before (stands_so told at))));
+      (stopped_in_turn (work stage).means.output told before _ _ fault new (has_settled stage (whole_lines x))
+      ((stopped.took.reaches (whole_lines x) (lines_whole x) at.holds.stands).there before (stands_so told at))));
   met = met_by refl (EndsWith terms piece stage) stage.cutter.style old new fault is_ready.manner stopped.took.keeps.writer.slots;
 }
 
@@ -678,7 +696,8 @@ module _ (told : Bool) (stage next : CsplitState) (old new : List Slot) where
       → CutsOff terms stage (work stage).whole told old new fault
   ends_short {fault} stopped ready before x at = engine.cut (not_verdict stage.cutter.style old new fault ready.manner stopped.keeps.writer.slots)
       (rw (whole_then stage x at.holds, settled_is stage x) at
-      (stopped_in_turn (work stage).means.output told before _ _ fault new (has_settled stage (whole_lines x)) ((stopped.reaches (whole_lines x) (lines_whole x) at.holds.stands).there before (stands_so told at))))
+      (stopped_in_turn (work stage).means.output told before _ _ fault new (has_settled stage (whole_lines x))
+      ((stopped.reaches (whole_lines x) (lines_whole x) at.holds.stands).there before (stands_so told at))))
 
   -- the work ends with a verdict, and the files were cleared away after it
   pub ends_judged : Closed told stage old new next None → {verdict : Verdict} → (cleared : List Slot)

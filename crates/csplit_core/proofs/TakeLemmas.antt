@@ -81,7 +81,8 @@ pub arrives_more : {cutter : CutterState} {lines : ℕ} {aim : Turn} {x : List �
 unfolding at_more
 arrives_more {cutter} {x} t live whole fit count ends =
     let few = few_taken live.at in
-    let most : cutter.window.most ≡ most_waiting live.ends.ending = fit.most ∙ most_is (suppress_in cutter) (all_lines x) (state_in cutter) live.ends.ending (ends_as live.ends.runs) live.live in
+    let most : cutter.window.most ≡ most_waiting live.ends.ending = fit.most ∙ most_is (suppress_in cutter)
+    (all_lines x) (state_in cutter) live.ends.ending (ends_as live.ends.runs) live.live in
     let either = enough_left cutter.lines cutter.progress.current live.at.taken (most_waiting live.ends.ending) fit.fits.some few live.settled (left_count live.at) in record {
       ends = ends;
       low = λ past. (grind (arith, common_steps, ends_as, live_before, all_lines-append, live_taken, false≢true, whole, ends.runs, past));
@@ -125,7 +126,10 @@ took_held {cutter = cutter} {next} {lines} {aim} {t} {fault = fault} sound fit d
   went = where_well fault held.went (λ went. record {
     stands = λ x whole stands. let there = reached x whole stands in went.stands (x ++ t) there.at there.arrives;
     sound = sound_held went sound;
-    size = (most_load cutter.lines (size_of next.writer.current + length next.window.held) (size_of cutter.writer.current + length cutter.window.held) next.lines (length t) 0 (omega (arith, ap (λ (c : CutterState). c.lines) went.same)) (omega (arith, length-append cutter.window.held t)));
+    size = (most_load cutter.lines (size_of next.writer.current + length next.window.held)
+        (size_of cutter.writer.current + length cutter.window.held) next.lines (length t) 0
+        (omega (arith, ap (λ (c : CutterState). c.lines) went.same))
+        (omega (arith, length-append cutter.window.held t)));
   });
 } where
   reached : (x : List ℕ) → IsWhole x → Stands cutter x
@@ -147,7 +151,14 @@ cuts_there : {cutter : CutterState} {lines : ℕ} {x : List ℕ} (line : List �
 unfolding at_more
 cuts_there {cutter} {lines} {x} line cut live whole fit one count from goes near =
     let more : lines ≡ cutter.lines + 1 = (let l = count-line line whole one in omega arith) in
-    let place : lines - delimiters newline cutter.window.held ≡ cutter.progress.current + live.at.taken = (let s = fit.fits.some in omega (arith, left_count live.at, whole_count (subst IsWhole (sym live.at.left_is) (whole_from (cutter.progress.current + live.at.taken) whole)), few_taken live.at)) in record {
+    let place : lines - delimiters newline cutter.window.held ≡ cutter.progress.current + live.at.taken =
+    (let s = fit.fits.some in omega (
+      arith,
+      left_count live.at,
+      whole_count
+          (subst IsWhole (sym live.at.left_is) (whole_from (cutter.progress.current + live.at.taken) whole)),
+      few_taken live.at,
+    )) in record {
       last = (all_lines x, all_lines-line line whole one, λ ends. whole-append line whole (inr ends));
       near = near;
       place_is = place;
@@ -166,12 +177,15 @@ take_cut : {told : Bool} {cutter mid next : CutterState} (line more : List ℕ) 
     next fault → Takes told cutter (line ++ more) old new next fault
 take_cut {told} {cutter} {mid} {next} line more {cut} {old} {new} {fault} fit differs one is will tries cuts = record {
   keeps = all.keeps;
-  reaches = λ x whole stands. let there = reached x whole stands in reaches_as there.2 (ap (settled_part cutter) (sym (append_assoc x line more))) (all.reaches (x ++ line) there.0 there.1);
+  reaches = λ x whole stands. let there = reached x whole stands in reaches_as there.2
+      (ap (settled_part cutter) (sym (append_assoc x line more))) (all.reaches (x ++ line) there.0 there.1);
   went = where_well fault all.went (λ went. record {
     stands = λ x whole stands. let there = reached x whole stands in subst (Stands next) (append_assoc x line more) (went.stands (x ++ line) there.0 there.1);
     sound = went.sound;
     size = let both : length (line ++ more) ≡ length line + length more = length-append line more in
-        most_load cutter.lines (size_of next.writer.current + length next.window.held) (size_of cutter.writer.current + length cutter.window.held) next.lines (length (line ++ more)) 0 (omega (arith, line_has line one)) (omega (arith, length-append cutter.window.held line));
+        most_load cutter.lines (size_of next.writer.current + length next.window.held)
+        (size_of cutter.writer.current + length cutter.window.held) next.lines (length (line ++ more)) 0
+        (omega (arith, line_has line one)) (omega (arith, length-append cutter.window.held line));
   });
 } where
   all : CutsAll told (more_lines cutter (cutter.lines + 1) mid.aim) cut
@@ -288,7 +302,9 @@ module _ {told : Bool} {cutter now : CutterState} {text left : List ℕ} {old mi
       → Taking told cutter next text (take (length left - passed.size) (drop passed.size left)) old new
   takes_more {size = size} passed first more =
       let front = take size left ++ take more.on.n (drop size left) in
-      let rest : take (length left - passed.size) (drop passed.size left) ≡ drop more.on.n (drop size left) = rest_all passed.size left ∙ ap (λ n. drop n left) more.on.size_is ∙ sym (drop-drop more.on.n size left) in record {
+      let rest : take (length left - passed.size) (drop passed.size left) ≡ drop more.on.n (drop size left) =
+      rest_all passed.size left ∙ ap (λ n. drop n left) more.on.size_is ∙ sym (drop-drop more.on.n size left) in
+      record {
         front = so_far.front ++ front;
         whole = grind (arith, common_steps, so_far.whole, rest);
         complete = whole-append front so_far.complete (whole-append _ first more.on.whole);
@@ -300,7 +316,8 @@ module _ {told : Bool} {cutter now : CutterState} {text left : List ℕ} {old mi
       → Stretches told now left size mid new next (Err fault) → Takes told cutter text old new next (Some fault)
   takes_stopped {size = size} first more =
       let all : (take size left ++ take more.on.n (drop size left)) ++ drop more.on.n (drop size left) ≡ left = (grind (arith, common_steps)) in
-      rw (← so_far.whole) at (takes_again so_far.complete so_far.took (rw all at (takes_wider (drop more.on.n (drop size left)) (whole-append _ first more.on.whole) more.took)))
+      rw (← so_far.whole) at (takes_again so_far.complete so_far.took
+      (rw all at (takes_wider (drop more.on.n (drop size left)) (whole-append _ first more.on.whole) more.took)))
 
   pub takes_end : left ≡ [] → Takes told cutter text old mid now None
   takes_end none = grind (arith, common_steps)
@@ -439,8 +456,12 @@ found_held rest size found (Err fault) held is are = tt
 piece_from : (text : List ℕ) (first size n : ℕ) → first ≤ size → size ≤ length text
     → take (size + n - first) (drop first text) ≡ drop first (take size text) ++ take n (drop size text)
 piece_from text first size n low within =
-    let parts : drop first text ≡ drop first (take size text) ++ drop size text = ap (drop first) (sym (take-append-drop size text)) ∙ drop-append-le first (take size text) (drop size text) (let e = length-take-le size text within in omega arith) in
-    ap (take (size + n - first)) parts ∙ ap (λ k. take k (drop first (take size text) ++ drop size text)) (let e : size + n - first ≡ length (drop first (take size text)) + n = omega (arith, length-drop first (take size text) ∙ ap (λ k. k - first) (length-take-le size text within)) in e)
+    let parts : drop first text ≡ drop first (take size text) ++ drop size text = ap (drop first)
+    (sym (take-append-drop size text)) ∙ drop-append-le first (take size text) (drop size text)
+    (let e = length-take-le size text within in omega arith) in
+    ap (take (size + n - first)) parts ∙ ap (λ k. take k (drop first (take size text) ++ drop size text))
+    (let e : size + n - first ≡ length (drop first (take size text)) + n =
+    omega (arith, length-drop first (take size text) ∙ ap (λ k. k - first) (length-take-le size text within)) in e)
     ∙ take-append-add (drop first (take size text)) (drop size text) n
 
 pub gone_on : {told : Bool} {cutter mid next : CutterState} (text : List ℕ) {rest : List ℕ} (first size : ℕ)
@@ -494,9 +515,11 @@ pub spread_passes : {told : Bool} {cutter mid end next : CutterState} {cut : Cut
 spread_passes {told} {cutter} {mid} {end} {next} {cut} {place} {waiting} {line} {left} {rest} {n} {between = between} {new} {fault} spread complete over held = record {
   keeps = keeps_on spread.so_far.keeps held_now.keeps;
   reaches = λ x at here. let after = spread.so_far.after x at here in let there = reached x at here in
-      reaches_then spread.so_far.keeps.style after.grows after.reaches (reaches_as there.same (sym (settled_same (x ++ take n rest) spread.so_far.keeps)) (held_now.reaches (x ++ take n rest) there.at there.arrives));
+      reaches_then spread.so_far.keeps.style after.grows after.reaches
+      (reaches_as there.same (sym (settled_same (x ++ take n rest) spread.so_far.keeps))
+      (held_now.reaches (x ++ take n rest) there.at there.arrives));
   went = where_well fault held_now.went (λ went. record {
-    lines = omega (arith, ap (λ (c : CutterState). c.lines) went.same, length-take-le n rest over.within);
+    lines = omega (arith, ap (λ (c : CutterState). c.lines) went.same, over_now.few, length-take-le n rest over.within);
     sound = sound_held went (subst IsSound over_now.same over.sound);
     stands = λ x at here. let there = reached x at here in went.stands (x ++ take n rest) there.at there.arrives;
     size = omega (arith, length-append left (take n rest));
@@ -506,7 +529,8 @@ spread_passes {told} {cutter} {mid} {end} {next} {cut} {place} {waiting} {line} 
   over_now = rw spread.is at over
 
   held_now : Holds told (more_lines spread.now end.lines mid.aim) (left ++ take n rest) between new next fault
-  held_now = subst (λ those. Holds told (more_lines spread.now end.lines mid.aim) (those ++ (left ++ take n rest)) between new next fault) spread.so_far.held (rw over_now.same at held)
+  held_now = subst (λ those. Holds told (more_lines spread.now end.lines mid.aim)
+      (those ++ (left ++ take n rest)) between new next fault) spread.so_far.held (rw over_now.same at held)
 
   reached : (x : List ℕ) (at : IsAt (bare cutter) x waiting) (here : CutsNow line cut place at)
       → Reached (part_at (spread.so_far.after x at here).now) (more_lines spread.now end.lines mid.aim)
@@ -534,7 +558,8 @@ spread_held {left = left} spread held = spread_passes {rest = []} {n = 0} spread
 from_left : (text left : List ℕ) (size : ℕ) → size ≤ length text → IsEnd left (take size text)
     → drop (size - length left) (take size text) ≡ left
 from_left text left size within (front, is) =
-    ap (drop (size - length left)) is ∙ drop_at front left (size - length left) (omega (arith, ap length is ∙ length-append front left, length-take-le size text within))
+    ap (drop (size - length left)) is ∙ drop_at front left (size - length left)
+    (omega (arith, ap length is ∙ length-append front left, length-take-le size text within))
 
 pub cut_on : {told : Bool} {cutter mid next : CutterState} {cut : Cut} {text left : List ℕ} {size : ℕ}
     {old between new : List Slot} {result : Result Passed Fault} → Starts text size
@@ -574,7 +599,15 @@ module _ {told : Bool} {cutter mid next : CutterState} {text : List ℕ} {size :
       let end_is : end ≡ more_lines cutter end.lines mid.aim = gone.over.same ∙ ap (λ (c : CutterState). record c { lines = end.lines }) mid_is in
       record {
         on = gone.on;
-        took = took_held (subst IsSound end_is gone.over.sound) fit differs (omega (arith, length-append line (take gone.on.n (drop size text)), length-take-le gone.on.n (drop size text) gone.over.within, ap (λ (c : CutterState). c.lines) mid_is, line_has line start.line))
+        took = took_held (subst IsSound end_is gone.over.sound) fit differs
+            (omega (
+              arith,
+              length-append line (take gone.on.n (drop size text)),
+              length-take-le gone.on.n
+                  (drop size text) gone.over.within,
+              ap (λ (c : CutterState). c.lines) mid_is,
+              line_has line start.line,
+            ))
             (ends_on line start.line start.complete mid_is tries gone.over end_is) (rw end_is at gone.held);
       }
 
@@ -584,7 +617,9 @@ module _ {told : Bool} {cutter mid next : CutterState} {text : List ℕ} {size :
       → Stretches told cutter text size old new next result
   stretch_cut {cut} none will tries on = let line = take size text in let more = take on.on.n (drop size text) in record {
     on = on.on;
-    took = take_cut line more fit differs start.line mid_is will tries (alone (λ place those. CutsAll told mid cut place those line more old new next (fault_in result)) mid line none on.all);
+    took = take_cut line more fit differs start.line mid_is will tries
+        (alone (λ place those. CutsAll told mid cut place those line more old new next
+        (fault_in result)) mid line none on.all);
   }
 
   -- It is cut, and some wait.

@@ -281,7 +281,8 @@ pub next_stays : {cutter : CutterState} {x : List ℕ} (line : List ℕ) {turn :
     → IsWhole x → IsLine line → cutter.aim ≡ turn → StaysOver cutter line (cutter.lines + 1) turn
     → EndsNow (record cutter { lines = cutter.lines + 1 }) (x ++ line)
 next_stays {cutter} {x} line fit live whole one aim stays =
-    (ends_over line fit (omega (arith, ap length one)) (subst (StaysOver cutter line (cutter.lines + 1)) (sym aim) stays) x (inl whole) live.at.counted live.ends).1
+    (ends_over line fit (omega (arith, ap length one))
+    (subst (StaysOver cutter line (cutter.lines + 1)) (sym aim) stays) x (inl whole) live.at.counted live.ends).1
 
 -- the lines as they are counted
 lines_are : {cutter : CutterState} {x : List ℕ} (live : IsLive cutter x) → length (all_lines x) ≡ cutter.lines
@@ -445,8 +446,10 @@ unmatched_on {cutter} {after = after} more rest so parts whole same count others
   whole = whole-append more so.whole whole;
   same = same ∙ ap (λ (those : CutterState). record those { lines = after.lines }) so.same;
   count = omega (arith, count-append more (inl so.whole));
-  none = λ operand is. rw (← all_lines-append more (inl so.whole)) at (none_more operand cutter.lines (all_lines so.front) (all_lines more) (search_line (suppress_in cutter) (state_in cutter)) (so.none operand is)
-      (subst (λ n. NoneFrom operand n (all_lines more) (search_line (suppress_in cutter) (state_in cutter))) (so.count ∙ ap (λ n. cutter.lines + n) (sym (length-all_lines so.front))) (others operand is)));
+  none = λ operand is. rw (← all_lines-append more (inl so.whole)) at (none_more operand cutter.lines
+      (all_lines so.front) (all_lines more) (search_line (suppress_in cutter) (state_in cutter)) (so.none operand is)
+      (subst (λ n. NoneFrom operand n (all_lines more) (search_line (suppress_in cutter) (state_in cutter)))
+      (so.count ∙ ap (λ n. cutter.lines + n) (sym (length-all_lines so.front))) (others operand is)));
 }
 
 -- one more line, at which the cutter looked
@@ -458,9 +461,13 @@ pub one_more : {cutter : CutterState} {text left : List ℕ} {next now : CutterS
 one_more {cutter} {left = left} {next} {now} end so is first finds not =
     let line = take (suc end) left in
     let found_at : IsFound (record cutter { lines = next.lines }) (take end left) (next.lines + 1) false = rw (so.same, not) at finds in
-    unmatched_on line _ so (sym (take-append-drop (suc end) left) ∙ ap (λ those. line ++ those) ((let e : suc end ≡ end + 1 = omega arith in ap (λ n. drop n left) e) ∙ sym (rest_all (end + 1) left)))
-    (inr first.ends) (ap (λ (those : CutterState). record those { lines = now.lines + 1 }) is) (omega (arith, ap (λ (those : CutterState). those.lines) is, ap length first.line))
-    (λ operand same. rw (ap (map marked) first.line) (none_one operand next.lines (marked line) _ (λ near. found_is line (next.lines + 1) operand.target first.without same found_at near)))
+    unmatched_on line _ so (sym (take-append-drop (suc end) left) ∙ ap (λ those. line ++ those)
+    ((let e : suc end ≡ end + 1 = omega arith in ap (λ n. drop n left) e) ∙ sym (rest_all (end + 1) left)))
+    (inr first.ends) (ap (λ (those : CutterState). record those { lines = now.lines + 1 }) is)
+    (omega (arith, ap (λ (those : CutterState). those.lines) is, ap length first.line))
+    (λ operand same. rw (ap (map marked) first.line)
+    (none_one operand next.lines (marked line) _
+    (λ near. found_is line (next.lines + 1) operand.target first.without same found_at near)))
 
 -- the numbers are small
 
@@ -524,7 +531,9 @@ pub next_found : {cutter : CutterState} {text left : List ℕ} {next now : Cutte
     → IsFound next (take end left) (next.lines + 1) found → found ≡ true
     → IsNextFound now (drop (length text - length left) text) (end + 1)
 next_found {text = text} {left} end aim so now_is first finds sure =
-    let left_is : drop (length text - length left) text ≡ left = ap (drop (length text - length left)) so.all ∙ drop_at so.front left (length text - length left) (omega (arith, ap length so.all ∙ length-append so.front left)) in
+    let left_is : drop (length text - length left) text ≡ left = ap (drop (length text - length left)) so.all
+    ∙ drop_at so.front left (length text - length left)
+    (omega (arith, ap length so.all ∙ length-append so.front left)) in
     let one : suc end ≡ end + 1 = omega arith in
     rw (now_is, left_is, ← one) (record {
       some = omega arith;
@@ -557,7 +566,8 @@ line_clear pattern {text} place front line more rest clear all within (bytes, is
     let parts : text ≡ front ++ bytes ++ after = all ∙ append_assoc front (line ++ more) rest
     ∙ ap (λ those. front ++ those) (append_assoc line more rest ∙ ap (λ those. those ++ (more ++ rest)) is ∙ append_assoc bytes (newline ∷ []) (more ++ rest))
     ∙ sym (append_assoc front bytes after) in
-    ap (contains pattern) (ap without_newline is ∙ without_last bytes none) ∙ clear front bytes after parts (omega (arith, ap length is ∙ length-append bytes (newline ∷ []), length-append line more))
+    ap (contains pattern) (ap without_newline is ∙ without_last bytes none) ∙ clear front bytes after parts
+    (omega (arith, ap length is ∙ length-append bytes (newline ∷ []), length-append line more))
 
 each_clear : (pattern : Pattern) {text : List ℕ} (place : ℕ) (front : List ℕ) (lines : List (List ℕ)) (rest : List ℕ)
     → IsClear pattern text place → text ≡ front ++ joined lines ++ rest → length front + length (joined lines) ≤ place
@@ -571,7 +581,8 @@ each_clear pattern place front (line ∷ []) rest clear all within are ends (suc
 each_clear pattern place front (line ∷ next ∷ lines) rest clear all within are ends zero less = line_clear pattern place front line (joined (next ∷ lines)) rest clear all within are.0
 each_clear pattern place front (line ∷ next ∷ lines) rest clear all within are ends (suc k) less =
     each_clear pattern place (front ++ line) (next ∷ lines) rest clear
-    (all ∙ ap (λ those. those ++ rest) (sym (append_assoc front line (joined (next ∷ lines))))) (omega (arith, length-append front line, length-append line (joined (next ∷ lines)))) are.1
+    (all ∙ ap (λ those. those ++ rest) (sym (append_assoc front line (joined (next ∷ lines)))))
+    (omega (arith, length-append front line, length-append line (joined (next ∷ lines)))) are.1
     (λ some. sym (ends_with-append newline line (joined (next ∷ lines)) (grind (arith, common_steps))) ∙ ends (omega arith)) k (omega arith)
 
 whole_ends : {x : List ℕ} → IsWhole x → 0 < length (lines_of newline x)

@@ -33,7 +33,9 @@ lines_in-append (one ∷ a) b = ap (λ those. one.lines ++ those) (lines_in-appe
 pub between_rest : (first cut : ℕ) (lines : List Line) → 1 ≤ first → first ≤ cut
     → lines_between first cut lines ++ drop (cut - 1) lines ≡ drop (first - 1) lines
 between_rest first cut lines some least =
-    ap (λ those. lines_between first cut lines ++ those) (ap (λ n. drop n lines) (let e : cut - 1 ≡ first - 1 + (cut - first) = omega arith in e) ∙ sym (drop-drop (cut - first) (first - 1) lines))
+    ap (λ those. lines_between first cut lines ++ those)
+    (ap (λ n. drop n lines) (let e : cut - 1 ≡ first - 1 + (cut - first) = omega arith in e) ∙ sym
+    (drop-drop (cut - first) (first - 1) lines))
     ∙ take-append-drop (cut - first) (drop (first - 1) lines)
 
 steps_and_rest : {lines : List Line} {first : State} {steps : List Step} {last : State} {ending : Ending}

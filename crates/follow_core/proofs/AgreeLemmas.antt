@@ -105,8 +105,12 @@ sound_replace {world} {name} bytes sound = record { known = λ a file is. knows 
       → (if test then Some (length world.files) else led_to world.links a) ≡ Some file
       → (if other then Some (length world.files) else led_to world.links b) ≡ Some file → a ≡ b
   ones a b file true true same also is one = sym ((bytes_eq-Decides name a).0 same) ∙ (bytes_eq-Decides name b).0 also
-  ones a b file true false same also is one = absurd (let e : length world.files ≡ file = cc in let k : file < length world.files = sound.known b file one in omega arith)
-  ones a b file false true same also is one = absurd (let e : length world.files ≡ file = cc in let k : file < length world.files = sound.known a file is in omega arith)
+  ones a b file true false same also is one = absurd
+      (let e : length world.files ≡ file = cc in let k : file < length world.files = sound.known b file one in
+      omega arith)
+  ones a b file false true same also is one = absurd
+      (let e : length world.files ≡ file = cc in let k : file < length world.files = sound.known a file is in
+      omega arith)
   ones a b file false false same also is one = sound.one a b file is one
 
 sound_remove : {world : World} {name : List ℕ} → Sound world → Sound (edited (remove name) world)

@@ -279,7 +279,9 @@ next_bytes : (contents : List ℕ) {read_old read_new : List ℕ} (tail : List �
 next_bytes contents {read_new} tail {from} {at} {n} past few long gave =
     let count : (at + n) - from ≡ (at - from) + n = omega arith in
     let place : from + (at - from) ≡ at = omega arith in
-    ap (λ piece. take (at - from) (drop from contents) ++ piece) (take-append-le n read_new tail (omega arith) ∙ gave.front ∙ ap (λ k. take n (drop k contents)) (sym place) ∙ ap (take n) (sym (drop_drop (at - from) from contents)))
+    ap (λ piece. take (at - from) (drop from contents) ++ piece)
+    (take-append-le n read_new tail (omega arith) ∙ gave.front ∙ ap (λ k. take n (drop k contents)) (sym place)
+    ∙ ap (take n) (sym (drop_drop (at - from) from contents)))
     ∙ sym (ap (λ k. take k (drop from contents)) count ∙ take-add (at - from) n (drop from contents))
 
 -- What was copied so far, or a beginning of it where following ends.

@@ -189,7 +189,10 @@ visited_more {told_in} {told} {ways} {looks} {snapshot} {names} {now} {one} {pla
   -- another name
   stays : (looks : List Look) (other : ℕ) → (other ≡ place → ⊥) → StandsAmong told_in ways looks now watched other
       → StandsAmong told_in ways looks (set now place one) watched_new other
-  stays looks other elsewhere stands = rw (get_or-set_other now place other one no_state elsewhere, visits.others.others (ways.first + other) (λ at. elsewhere (omega arith))) stands
+  stays looks other elsewhere stands = rw (
+    get_or-set_other now place other one no_state elsewhere,
+    visits.others.others (ways.first + other) (λ at. elsewhere (omega arith)),
+  ) stands
 
   there : (all : List Fate) → IsFront (sofar.fates ++ visited.fate ∷ []) all → (other : ℕ) → other < place + 1
       → (other ≡ place) ⊎ (other ≡ place → ⊥)

@@ -187,7 +187,8 @@ none_before : (by_name : Bool) (names : List NameState) (place : ℕ) → place 
     → any_goes_on by_name names ≡ false → goes_on_as by_name (state_at names place).standing ≡ false
 none_before by_name [] place within none = absurd (omega arith)
 none_before by_name (name ∷ names) zero within none = (or_parts (goes_on_as by_name name.standing) (any_goes_on by_name names) none).0
-none_before by_name (name ∷ names) (suc place) within none = none_before by_name names place (omega arith) (or_parts (goes_on_as by_name name.standing) (any_goes_on by_name names) none).1
+none_before by_name (name ∷ names) (suc place) within none = none_before by_name names place (omega arith)
+    (or_parts (goes_on_as by_name name.standing) (any_goes_on by_name names) none).1
 
 no_more_of : (told : Bool) (ways : Ways) (looks : List Look) (place : ℕ) (name : List ℕ) (watched : Watched)
     (standing : Standing) → Stands told ways looks place name watched standing → 0 < length looks
@@ -538,7 +539,8 @@ module _ {told_in told : Bool} {calling : Calling} {ways : Ways} {headers : Bool
         is_made = made_more look (next_is same p) p.is_made p.alive;
         alive = λ t above. sym (alive told calling ways headers names (p.looks ++ look ∷ []) first slots_new watched_new
             (rw t at holds));
-        ends = none told_in told calling ways headers names (p.looks ++ look ∷ []) first slots_new watched_new holds (let long = length-append p.looks (look ∷ []) in omega arith);
+        ends = none told_in told calling ways headers names (p.looks ++ look ∷ []) first slots_new watched_new holds
+            (let long = length-append p.looks (look ∷ []) in omega arith);
         holds = holds;
       }
 
@@ -569,7 +571,8 @@ module _ {told_in told : Bool} {calling : Calling} {ways : Ways} {headers : Bool
     observed = p.observed;
     made = p.is_made;
     within = omega arith;
-    over = λ fewer. let (some, stops) = over (omega arith) in let above : 0 < length p.looks = omega arith in (above, (λ t. p.alive t above ∙ stops), p.ends stops);
+    over = λ fewer. let (some, stops) = over (omega arith) in let above : 0 < length p.looks = omega arith in
+        (above, (λ t. p.alive t above ∙ stops), p.ends stops);
     holds = p.holds;
   }
 
@@ -636,9 +639,16 @@ until_found process shows from (suc left) fewer = by (is_over process (shows fro
 pub most_made : (told : Bool) (process : Option ℕ) (shows : ℕ → Snapshot) (count made : ℕ) → made ≤ count
     → (told ≡ true → made ≤ until_over process shows 0 count)
     → (most : ℕ) × AreMost told process shows count most × (made ≤ most)
-most_made false process shows count made within left = (count, record { are = λ t. absurd (false≢true t); within = omega arith; found = λ fewer. absurd (omega arith) }, within)
-most_made true process shows count made within left =
-    (until_over process shows 0 count, record { are = λ t. refl; within = until_within process shows 0 count; found = λ fewer. let (last, at, over) = until_found process shows 0 count fewer in (last, omega arith, over) }, left refl)
+most_made false process shows count made within left = (
+  count,
+  record { are = λ t. absurd (false≢true t); within = omega arith; found = λ fewer. absurd (omega arith) },
+  within,
+)
+most_made true process shows count made within left = (
+  until_over process shows 0 count,
+  record { are = λ t. refl; within = until_within process shows 0 count; found = λ fewer. let (last, at, over) = until_found process shows 0 count fewer in (last, omega arith, over) },
+  left refl,
+)
 
 pub until_some : (process : Option ℕ) (shows : ℕ → Snapshot) {made count : ℕ}
     → until_over process shows 0 count ≡ made + until_over process shows made (count - made) → made < count

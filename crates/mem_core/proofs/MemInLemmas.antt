@@ -66,7 +66,9 @@ module _ (shown : Option (List ℕ)) (why : Reason) where
       ≡ gives size n (seen_as bytes given breaks_off is_open is_broken asked reached last ended reads)
   read_on bytes given n size {most} {now} reached asked last breaks_off is_open is_broken ended {ends} reads {count} within greatest is ending once =
       goes_on bytes given n now most n count breaks_off is_open is_broken ends ∙ ap (λ asks. record (skips n (seen_as bytes given breaks_off is_open is_broken asks now n ends count)) { last = n }) greatest
-      ∙ ap (λ those. record (skips n (seen_as bytes given breaks_off is_open is_broken (max asked size) now n ends count)) { last = those }) (sym (omega (arith, length-take n (drop given bytes), length-drop given bytes)))
+      ∙ ap (λ those. record (skips n (seen_as bytes given breaks_off is_open is_broken
+      (max asked size) now n ends count)) { last = those })
+      (sym (omega (arith, length-take n (drop given bytes), length-drop given bytes)))
       ∙ ap (λ far. record (gives size n (seen_as bytes given breaks_off is_open is_broken asked reached last ended reads)) { reached = far; ended = ends; reads = count })
       (is ∙ ap (max reached) (sym (ap length (sym (both_taken bytes given n)) ∙ omega (arith, length-take (given + n) bytes))))
       ∙ ap (λ ends. record (gives size n (seen_as bytes given breaks_off is_open is_broken asked reached last ended reads)) { ended = ends; reads = count }) ending

@@ -147,7 +147,9 @@ pub forgives_none : {watch : MemWatchState} {worlds : List World} (turns : ℕ) 
     ≡ watch
     → seen watch ≡ [] → seen_by now within worlds turns ≡ seen watch
 forgives_none zero now is unseen = sym unseen
-forgives_none {watch} {worlds} (suc turns) {forgives} {within} now is unseen = absurd (let count : length (seen watch) ≡ suc turns = ap (λ (those : MemWatchState). length (seen those)) (sym is) ∙ length-seen forgives within worlds (suc turns) in let none = ap length unseen in omega arith)
+forgives_none {watch} {worlds} (suc turns) {forgives} {within} now is unseen = absurd
+    (let count : length (seen watch) ≡ suc turns = ap (λ (those : MemWatchState). length (seen those)) (sym is)
+    ∙ length-seen forgives within worlds (suc turns) in let none = ap length unseen in omega arith)
 
 -- what is so of the files of the last turn is so of the last look
 module _ {watch : MemWatchState} {worlds : List World} (turns : ℕ) {names : List Watched} {world : World}

@@ -139,7 +139,8 @@ parting_ends {all} {onward} {landings} p h met number to f = elim (met number to
   | inl near ↦ inl near
   | inr other ↦ inr (elim other [
     | inl based ↦ inl based
-    | inr hop ↦ inr (rw hop.3 at (subst (λ at. PartsTo onward landings at (end_of (get_or all hop.0 no_hop))) hop.2 (p.parted hop.0 (let l = hop.1 in omega arith))))
+    | inr hop ↦ inr (rw hop.3 at (subst (λ at. PartsTo onward landings at (end_of (get_or all hop.0 no_hop))) hop.2
+        (p.parted hop.0 (let l = hop.1 in omega arith))))
   ])
 ]
 
@@ -199,7 +200,9 @@ close_word {code} {at} {word} {all} {old} {now} h ew c fits small es = record {
   adds = record {
     size = ap length en ∙ length-set old at _;
     kept = λ number k. elim (cases_eq (number / 64) at) [
-      | inl same ↦ let e : number ≡ at * 64 + number % 64 = omega arith in rw (← e) at ((is_in_word now at (number % 64) (omega arith)).0 (bit_now _ (left_bit word all (number % 64) (bit_old _ (omega arith) (subst (IsIn old) e k)))))
+      | inl same ↦ let e : number ≡ at * 64 + number % 64 = omega arith in
+          rw (← e) at ((is_in_word now at (number % 64) (omega arith)).0
+          (bit_now _ (left_bit word all (number % 64) (bit_old _ (omega arith) (subst (IsIn old) e k)))))
       | inr other ↦ rw (← en) at ((set_elsewhere old (bit_or word all) number other).1 k)
     ];
     from = λ number k. elim (cases_eq (number / 64) at) [

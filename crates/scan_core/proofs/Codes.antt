@@ -416,7 +416,8 @@ mutual
 
   pub item_exact : (item : Item) (line : List ℕ) → IsOrderedItem item
       → Exact (code_of_item item) line (MatchesItem item line)
-  item_exact (set bytes) line o = exact_one {node = Take bytes} (λ at place at' place' h. (h.0, (h.1, h.2, h.3))) (λ place place' h. (omega arith, h.0, h.1, h.2)) tt
+  item_exact (set bytes) line o = exact_one {node = Take bytes} (λ at place at' place' h. (h.0, (h.1, h.2, h.3)))
+      (λ place place' h. (omega arith, h.0, h.1, h.2)) tt
   item_exact front line o = exact_one {node = First} (λ at place at' place' h. (h.0, (h.2, h.1 ∙ h.2))) (λ place place' h. (omega arith, h.1 ∙ sym h.0, h.0)) tt
   item_exact end line o = exact_one {node = Last} (λ at place at' place' h. (h.0, (h.2, h.1 ∙ h.2))) (λ place place' h. (omega arith, h.1 ∙ sym h.0, h.0)) tt
   item_exact (group pattern) line o = code_exact pattern line o
@@ -451,7 +452,8 @@ weighs_both {a} {b} v w = let e = weight-append a b in let l = length-append a b
 
 weighs_copies : (count : ℕ) {code : List Node} {n : ℕ} → Weighs code n → Weighs (copies count code) (count * n)
 weighs_copies zero {n} w = let z : 0 ≡ 0 * n = grind arith in record { exact = z; most = omega arith }
-weighs_copies (suc count) {n} w = let t : suc count * n ≡ count * n + n = grind (arith, suc-mul count n) in subst (Weighs _) (omega arith) (weighs_both (weighs_copies count w) w)
+weighs_copies (suc count) {n} w = let t : suc count * n ≡ count * n + n = grind (arith, suc-mul count n) in subst
+    (Weighs _) (omega arith) (weighs_both (weighs_copies count w) w)
 
 weighs_up_to : (count : ℕ) {code : List Node} {n : ℕ} → Weighs code n → Weighs (up_to count code) (count * n + count)
 weighs_up_to zero {n} w = let z : 0 ≡ 0 * n + 0 = grind arith in record { exact = z; most = omega arith }
@@ -497,7 +499,8 @@ is_code pattern o = (code_exact pattern [] o).fits
 pub found_contains : (pattern : Pattern) {line : List ℕ} {found : Bool} → IsOrdered pattern
     → (IsTrue found ↔ EndsIn (code_of pattern) line) → found ≡ contains pattern line
 found_contains pattern {line} {found} o f =
-    one_truth found (contains pattern line) (Contains pattern line) ((λ t. (contained _ o).1 (f.0 t), λ c. f.1 ((contained _ o).0 c))) (contains_tells pattern line)
+    one_truth found (contains pattern line) (Contains pattern line)
+    ((λ t. (contained _ o).1 (f.0 t), λ c. f.1 ((contained _ o).0 c))) (contains_tells pattern line)
 
 -- twice the positions are room enough
 pub enough_room : (pattern : Pattern) → IsOrdered pattern → length (code_of pattern) < 2 * positions_of pattern

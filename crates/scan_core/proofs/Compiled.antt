@@ -174,7 +174,8 @@ mutual
   write_item (repeat item low (Some zero)) old new o e s =
       let p = last_taken (written_item item) (Repeat low (Some zero)) old new s in
       let begins : Begins low (Some zero) old p.0 = takes_writing old p.0 (Repeat low (Some zero)) e p.1 in
-      rw (← (begins.nodes ∙ none_of (code_of_item item) o.1)) (subst (λ l. Finishes p.0.nodes.items l new) begins.pending (pass_item item p.0 new begins.passing p.2))
+      rw (← (begins.nodes ∙ none_of (code_of_item item) o.1))
+      (subst (λ l. Finishes p.0.nodes.items l new) begins.pending (pass_item item p.0 new begins.passing p.2))
   write_item (repeat item low (Some (suc high))) old new o e s =
       let p = last_taken (written_item item) (Repeat low (Some (suc high))) old new s in
       let begins : Begins low (Some (suc high)) old p.0 = takes_writing old p.0 (Repeat low (Some (suc high))) e p.1 in

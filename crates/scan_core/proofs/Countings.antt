@@ -256,7 +256,8 @@ ones_sum weight (word ∷ words) [] size fits exact = absurd (omega arith)
 ones_sum weight (word ∷ words) (other ∷ counts) size fits exact =
     let z : (bit : ℕ) → bit < 64 → bit_at other bit ≡ weight bit = λ bit l. exact 0 bit (omega arith) l ∙ ap weight (omega arith) in
     let b = sum_bits 64 other (flags_of words) (fits 0 (omega arith)) z in
-    let r = ones_sum (λ n. weight (64 + n)) words counts (omega arith) (λ n h. fits (suc n) (omega arith)) (λ n bit h l. exact (suc n) bit (omega arith) l ∙ ap weight (omega arith)) in
+    let r = ones_sum (λ n. weight (64 + n)) words counts (omega arith) (λ n h. fits (suc n) (omega arith))
+    (λ n bit h l. exact (suc n) bit (omega arith) l ∙ ap weight (omega arith)) in
     let f = ones_front word other words counts (length words) in
     omega arith
 

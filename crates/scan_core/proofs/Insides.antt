@@ -307,7 +307,9 @@ pub inside_ends : {code : List Node} {at word all done : ℕ} → Insiding code 
 inside_ends {all} {done} i fits none = record {
   kept = i.kept;
   from_chosen = i.from_word;
-  closed = λ n to h l k f. i.looked n to h l (let e = fresh_bit all fits h in let z = ap (λ w. bit_at w n) none ∙ bit_at-zero n in let b = bit_at-lt done n in omega arith) f;
+  closed = λ n to h l k f. i.looked n to h l
+      (let e = fresh_bit all fits h in let z = ap (λ w. bit_at w n) none ∙ bit_at-zero n in let b = bit_at-lt done n
+      in omega arith) f;
 }
 
 -- one more was looked at

@@ -66,7 +66,8 @@ taken code line zero number place stop (suc count) w high takes =
 taken code line (suc k) number place {to} stop (suc count) w high takes =
     let first = takes 0 (omega arith) in
     let led = led_on code count to stop first.0 w (at_at code (Take first.0) (omega arith) first.1) in
-    let more = taken code line k (number + 1) (place + 1) stop count led.2 (omega arith) (λ j low. let next = takes (suc j) (omega arith) in (next.0, at_at code (Take next.0) (omega arith) next.1)) in
+    let more = taken code line k (number + 1) (place + 1) stop count led.2 (omega arith)
+    (λ j low. let next = takes (suc j) (omega arith) in (next.0, at_at code (Take next.0) (omega arith) next.1)) in
     let there : place + 1 + k ≡ place + suc k = omega arith in (
       omega arith,
       λ bytes at. rw there at (more.1 bytes (at_at code (Take bytes) (omega arith) at)),
@@ -137,7 +138,9 @@ pub lacks_text : {needle text : List ℕ} {place : ℕ} → Nowhere (OccursAt te
 lacks_text none before part after all ends has =
     let fits = has.1.fits in
     none (length before + has.0) (omega arith) (omega arith) (rw all (record {
-      fits = (let one : length (before ++ part) ≡ length before + length part = length-append before part in let two : length (before ++ part ++ after) ≡ length (before ++ part) + length after = length-append _ after in omega arith);
+      fits = (let one : length (before ++ part) ≡ length before + length part = length-append before part in
+          let two : length (before ++ part ++ after) ≡ length (before ++ part) + length after = length-append _ after
+          in omega arith);
       reads = λ j within.
           let there : length before + has.0 + j ≡ length before + (has.0 + j) = omega arith in
           ap (λ n. slice_index (before ++ part ++ after) n) there ∙ part_at before part after (omega arith) ∙ has.1.reads j within;
@@ -154,7 +157,8 @@ clear_of pattern needle ordered are is lacks before line after all ends = by (co
   where
     by : (found : Bool) → contains pattern line ≡ found → found ≡ false
     by false same = refl
-    by true same = absurd (lacks before line after all ends (is line (part_bytes _ _ _ (rw all at are)) ((contained _ ordered).0 ((contains_tells pattern line).0 same))))
+    by true same = absurd (lacks before line after all ends
+        (is line (part_bytes _ _ _ (rw all at are)) ((contained _ ordered).0 ((contains_tells pattern line).0 same))))
 
 -- Choosing the rarest nodes
 

@@ -158,7 +158,8 @@ twin_entry {code} {place} {twin} {read} d {building} f a less e = record {
     t : Tells code building.sets.items (place / 256) twin read
     t =
         let here : place / 256 * 256 + twin < place = omega arith in
-        rw (← (e ∙ get_or_default building.rows.items (place / 256 * 256 + twin) d 0 (omega arith))) at (subst (λ t. t) (sym (tells_at refl (omega arith))) (f.built.told.each (place / 256 * 256 + twin) here))
+        rw (← (e ∙ get_or_default building.rows.items (place / 256 * 256 + twin) d 0 (omega arith))) at (subst
+        (λ t. t) (sym (tells_at refl (omega arith))) (f.built.told.each (place / 256 * 256 + twin) here))
 
 -- the sets stay, or one is added
 record Grown (code : List Node) (place : ℕ) (sets sets' : List (List Bool)) (rows : List ℕ) : Type 0 where

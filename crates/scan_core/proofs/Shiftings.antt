@@ -324,7 +324,8 @@ walk_stops {code} {line} {place} {state} {steps} d' d w h b e k f =
     let n = noted_read d w.1 w.2.known f in
     let next = (next_inner w.2 h).0 ((w.1.told state (slice_index line place) w.2.known b).stop (sym r ∙ k)) in
     let one : suc place ≡ place + 1 = omega arith in
-    let counted = subst (λ p. IsCounted code line (place + 1) (steps + p)) (sym n.positions) (counted_more _ w.2.so_far (walked_here w.2 h) (w.1.none state w.2.known)) in
+    let counted = subst (λ p. IsCounted code line (place + 1) (steps + p)) (sym n.positions)
+    (counted_more _ w.2.so_far (walked_here w.2 h) (w.1.none state w.2.known)) in
     counted_found counted (omega arith) (rw one at (entered_there _ h next)) (omega arith)
     (steps_wider _ (walk_one d w f) (omega arith))
 
@@ -368,7 +369,8 @@ fixed_stays line d t h e f place b =
 pub six_more : (word offset state : ℕ) → offset < 64 → six_bits (word * 64 + offset) (suc state) ≡ six_bits word state
 six_more word offset state h =
     let e : 6 * suc state ≡ 6 + 6 * state = omega arith in
-    let a : (word * 64 + offset) / 2 ^ (6 * suc state) ≡ (word * 64 + offset) / 2 ^ 6 / 2 ^ (6 * state) = ap (λ k. (word * 64 + offset) / 2 ^ k) e ∙ sym (shr-shr _ 6 _) in
+    let a : (word * 64 + offset) / 2 ^ (6 * suc state) ≡ (word * 64 + offset) / 2 ^ 6 / 2 ^ (6 * state) =
+    ap (λ k. (word * 64 + offset) / 2 ^ k) e ∙ sym (shr-shr _ 6 _) in
     let b : (word * 64 + offset) / 2 ^ 6 ≡ word = shr_high word 6 offset h in
     ap (λ k. k % 64) (a ∙ ap (λ k. k / 2 ^ (6 * state)) b)
 
@@ -449,7 +451,8 @@ weight_small {code} {state} t w l h =
 -- the end that was entered stays entered, whatever steps come
 more_steps : {code : List Node} {line : List ℕ} {steps : ℕ} (added : ℕ) → HasStepsBefore code line steps
     → HasStepsBefore code line (steps + added)
-more_steps added has = record { place = has.place; within = has.within; ends = has.ends; first = has.first; before = has.before; counted = has.counted; least = let l = has.least in omega arith }
+more_steps added has =
+    record { place = has.place; within = has.within; ends = has.ends; first = has.first; before = has.before; counted = has.counted; least = let l = has.least in omega arith }
 
 state_over : {code : List Node} {table : Table} {line : List ℕ} {place state steps added : ℕ} → IsTable code table
     → IsStateAt code table line place state steps → place < length line → HasStepsBefore code line (steps + added)
@@ -499,11 +502,24 @@ state_more : {code : List Node} {table : Table} {line : List ℕ} {place state s
 state_more {table} {line} {place} {state} t c a h b w o = elim (cases_lt state (length table.states.items)) [
   | inr over ↦
       let k = a.known in
-      let same : state ≡ length table.states.items = omega arith in
-      (length table.states.items, o.stop (λ l. absurd (omega arith)), state_over t a h (more_steps _ (a.over same)) (let z = w.stop (ap (λ n. 6 * n) same) in omega arith))
+      let same : state ≡ length table.states.items = omega arith in (
+        length table.states.items,
+        o.stop (λ l. absurd (omega arith)),
+        state_over t a h (more_steps _ (a.over same))
+            (let z = w.stop (ap (λ n. 6 * n) same) in omega arith),
+      )
   | inl below ↦ elim (cases_lt (entry table.rows.items state (slice_index line place)) (length table.states.items)) [
-    | inl less ↦ (entry table.rows.items state (slice_index line place), o.next below less, state_going t a h b below less (w.exact state below refl) (weight_small t w refl below))
-    | inr more ↦ (length table.states.items, o.stop (λ l. more), state_over t a h (state_ends (w.exact state below refl) c a h b below more) (weight_small t w refl below))
+    | inl less ↦ (
+      entry table.rows.items state (slice_index line place),
+      o.next below less,
+      state_going t a h b below less (w.exact state below refl) (weight_small t w refl below),
+    )
+    | inr more ↦ (
+      length table.states.items,
+      o.stop (λ l. more),
+      state_over t a h
+          (state_ends (w.exact state below refl) c a h b below more) (weight_small t w refl below),
+    )
   ]
 ]
 
@@ -519,7 +535,9 @@ pub at_more : {code : List Node} {shifts : ShiftTable} {line : List ℕ} {place 
     → read ≡ get_or shifts.words.items (slice_index line place) d → word' ≡ read / 2 ^ (word % 64)
     → added ≡ get_or shifts.weights.items (word % 256) e → IsAt code shifts line (place + 1) word' (steps + added)
 at_more {line} {place} word {read} d {added} e a h b r w g =
-    let o = subst (λ n. IsOffset a.0.rows.items (length a.0.states.items) a.3.0 (slice_index line place) (six_bits n a.3.0)) (get_or_default _ (slice_index line place) 0 d (let s = a.2.words.size in omega arith) ∙ sym r)
+    let o = subst (λ n. IsOffset a.0.rows.items (length a.0.states.items) a.3.0 (slice_index line place)
+    (six_bits n a.3.0)) (get_or_default _ (slice_index line place) 0 d (let s = a.2.words.size in omega arith)
+    ∙ sym r)
     (a.2.words.each (slice_index line place) b a.3.0 a.3.2.known) in
     let i = subst (λ n. IsWeight a.0.states.items n added) a.3.1 (weight_read _ e a.2 g) in
     let m = state_more a.1 a.2.complete a.3.2 h b i o in

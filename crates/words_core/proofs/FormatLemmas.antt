@@ -184,7 +184,9 @@ pub is_format : (text : List ℕ) {bytes conversion rest front back : List ℕ} 
 is_format text {bytes} {conversion} {rest} {front} {back} {form} same is ends read none first last =
     let conv : conversion ≡ after_text text = is ∙ ap after_text same in
     let size : length bytes ≡ length text = ap length same in
-    let before : front ≡ before_it text = first ∙ ap (λ n. take n text) (let n : length bytes - length conversion - 0 ≡ length text - length (after_text text) = omega (arith, ap length conv) in n) in
+    let before : front ≡ before_it text = first ∙ ap (λ n. take n text)
+    (let n : length bytes - length conversion - 0 ≡ length text - length (after_text text) =
+    omega (arith, ap length conv) in n) in
     let after : back ≡ rest = last ∙ ap (λ n. drop n text) (let n : length bytes - length rest ≡ length text - length rest = omega arith in n) ∙ ends.2 in
     let made : List ℕ → List ℕ → Format = λ front back. record { before = plain_text front; form = form; after = plain_text back } in
     ap (λ front. Some (made front back)) before ∙ ap (λ back. Some (made (before_it text) back)) after
@@ -230,7 +232,8 @@ percent_at (byte ∷ text) some = by (is_percent byte) refl some (percent_at tex
   by false is some more =
       let next : suc at ≡ 1 + at = omega arith in
       let after : suc (at + 1) ≡ suc at + 1 = omega arith in
-      subst Is next (plain_other byte text is ∙ ap (λ rest. byte ∷ rest) (more (omega arith)) ∙ ap (λ n. byte ∷ take at text ++ 37 ∷ plain_text (without_percent (drop n (byte ∷ text)))) after)
+      subst Is next (plain_other byte text is ∙ ap (λ rest. byte ∷ rest) (more (omega arith))
+      ∙ ap (λ n. byte ∷ take at text ++ 37 ∷ plain_text (without_percent (drop n (byte ∷ text)))) after)
 
 pub no_percent : (text : List ℕ) → position_or_len is_percent text ≡ length text → plain_text text ≡ text
 no_percent [] none = refl

@@ -12,11 +12,14 @@ pub put-requires-clause-ready : goal.put-requires-clause-ready
 put-requires-clause-ready g c = c.loop-left.invariant.went.leaves.ready
 
 pub put-requires-clause-fits : goal.put-requires-clause-fits
-put-requires-clause-fits g c = can_count _ _ _ (fits_front c.loop-left.invariant c.min-bytes.result c.front-front.result.now _ c.front-front.ensures.front.1 (omega arith) (2 ^ 64) c.requires.fits)
+put-requires-clause-fits g c = can_count _ _ _
+    (fits_front c.loop-left.invariant c.min-bytes.result c.front-front.result.now _ c.front-front.ensures.front.1
+    (omega arith) (2 ^ 64) c.requires.fits)
 
 pub returns-in_err-put-clause-goes : goal.returns-in_err-put-clause-goes
 returns-in_err-put-clause-goes g c = rw (handed_on _ _ c.from_residual.ensures.1)
-    (empties_short c.loop-left.invariant c.min-bytes.result c.front-front.result.now _ c.front-front.ensures.front.1 (omega arith) (omega arith) c.in_err-put.ensures.goes)
+    (empties_short c.loop-left.invariant c.min-bytes.result c.front-front.result.now _ c.front-front.ensures.front.1
+    (omega arith) (omega arith) c.in_err-put.ensures.goes)
 
 pub drop_front-requires : goal.drop_front-requires
 drop_front-requires g c = grind (arith, common_steps)
@@ -28,7 +31,8 @@ loop-left-smaller g c =
 
 pub loop-left-preserved : goal.loop-left-preserved
 loop-left-preserved g c =
-    empties c.loop-left.invariant c.min-bytes.result c.front-front.result.now _ c.front-front.ensures.front.1 (omega arith) (omega arith) c.drop_front.ensures c.in_ok-put.ensures.goes c.in_ok-put.ensures.size
+    empties c.loop-left.invariant c.min-bytes.result c.front-front.result.now _ c.front-front.ensures.front.1
+    (omega arith) (omega arith) c.drop_front.ensures c.in_ok-put.ensures.goes c.in_ok-put.ensures.size
 
 pub returns-clause-goes : goal.returns-clause-goes
 returns-clause-goes g c = emptied_went c.loop-left.invariant (omega arith)

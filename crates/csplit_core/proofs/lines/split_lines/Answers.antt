@@ -7,7 +7,7 @@ pub returns-in-Ends-clause-rest : goal.returns-in-Ends-clause-rest
 returns-in-Ends-clause-rest c = c.split_at.ensures.back ∙ rest_is c.in-Ends.end c.in-Ends.ensures
 
 pub returns-in-Short-clause-first : goal.returns-in-Short-clause-first
-returns-in-Short-clause-first c = c.split_at-in-Short.ensures.front ∙ take_all (length c.args.text.now) c.args.text.now (omega arith) ∙ sym (first_lines-short newline c.args.lines c.args.text.now (omega arith))
+returns-in-Short-clause-first c = c.split_at-in-Short.ensures.front ∙ take_all (length c.args.text.now) c.args.text.now (omega arith) ∙ sym (first_lines-short newline c.args.lines c.args.text.now (omega (arith, c.in-Short.ensures.counted, c.in-Short.ensures.fewer)))
 
 pub returns-in-Short-clause-rest : goal.returns-in-Short-clause-rest
-returns-in-Short-clause-rest c = c.split_at-in-Short.ensures.back ∙ drop_all (length c.args.text.now) c.args.text.now (omega arith) ∙ sym (after_lines-past newline c.args.lines c.args.text.now (omega arith))
+returns-in-Short-clause-rest c = c.split_at-in-Short.ensures.back ∙ drop_all (length c.args.text.now) c.args.text.now (omega arith) ∙ sym (after_lines-past newline c.args.lines c.args.text.now (omega (arith, c.in-Short.ensures.counted, c.in-Short.ensures.fewer)))

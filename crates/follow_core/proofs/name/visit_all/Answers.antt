@@ -35,7 +35,11 @@ returns-in-Err-clause-visits g c =
     record {
       visited = tt;
       stopped = λ from looks stood. visited_short test
-          (rw (l.invariant.seen, get_or_default l.names l.place c.index-names-place.result no_state test, stood.numbered (omega arith)) at (c.in-Err.ensures.visits from))
+          (rw (
+            l.invariant.seen,
+            get_or_default l.names l.place c.index-names-place.result no_state test,
+            stood.numbered (omega arith),
+          ) at (c.in-Err.ensures.visits from))
           (l.invariant.visited from looks stood) (others.count ∙ l.invariant.count ∙ stood.many);
       ready = tt;
       count = others.count ∙ l.invariant.count;
@@ -68,7 +72,9 @@ loop-place-preserved g c =
 pub returns-clause-visits : goal.returns-clause-visits
 returns-clause-visits g c =
     let l = c.loop-place in
-    let end : l.place ≡ length c.args.names.now = (let many = same_length c.args.names.now l.names l.invariant.same in let past = c.loop-place-test.false in let within = l.invariant.within in omega arith) in
+    let end : l.place ≡ length c.args.names.now =
+    (let many = same_length c.args.names.now l.names l.invariant.same in let past = c.loop-place-test.false in
+    let within = l.invariant.within in omega arith) in
     record {
       visited = λ from looks stood. rw end at (l.invariant.visited from looks stood);
       stopped = tt;

@@ -20,8 +20,15 @@ returns-in-Err-clause-stopped g c =
     let l = c.loop-made in
     let below = c.loop-made-test.true in
     let (most, are, above) = most_made g.W.Watch.told c.args.limits.process (g.W.Watch.shows c.args.watch.now) c.args.limits.looks (l.made + 1) (omega arith)
-    (λ t. until_some c.args.limits.process (g.W.Watch.shows c.args.watch.now) (l.invariant.left t) below) in
-    (most, are, (λ calling ways headers names first holds. one_stopped (c.has_ended-is_last.ensures.shows ∙ l.invariant.shows) (still_made c.has_ended-is_last.ensures.watched c.has_ended-is_last.ensures.seen (l.invariant.progress calling ways headers names first holds)) c.in-Err.ensures.saw (omega arith) c.in-Err.ensures.stopped))
+    (λ t. until_some c.args.limits.process (g.W.Watch.shows c.args.watch.now) (l.invariant.left t) below) in (
+      most,
+      are,
+      (λ calling ways headers names first holds. one_stopped
+          (c.has_ended-is_last.ensures.shows ∙ l.invariant.shows)
+          (still_made c.has_ended-is_last.ensures.watched c.has_ended-is_last.ensures.seen
+          (l.invariant.progress calling ways headers names first holds)) c.in-Err.ensures.saw
+          (omega arith) c.in-Err.ensures.stopped),
+    )
 
 pub returns-then-not-alive-clause-looked : goal.returns-then-not-alive-clause-looked
 returns-then-not-alive-clause-looked g c =
@@ -67,5 +74,9 @@ returns-clause-looked g c =
     let within = l.invariant.within in
     let (most, are, above) = most_made g.W.Watch.told c.args.limits.process (g.W.Watch.shows c.args.watch.now) c.args.limits.looks l.made within
     (λ t. let is = l.invariant.left t in omega arith) in
-    let most_within = are.within in
-    (most, are, (λ calling ways headers names first holds. ended above (λ fewer. absurd (omega arith)) (l.invariant.progress calling ways headers names first holds)))
+    let most_within = are.within in (
+      most,
+      are,
+      (λ calling ways headers names first holds. ended above (λ fewer. absurd (omega arith))
+          (l.invariant.progress calling ways headers names first holds)),
+    )

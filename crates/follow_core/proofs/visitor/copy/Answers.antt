@@ -38,7 +38,14 @@ pub returns-clause-copies : goal.returns-clause-copies
 returns-clause-copies g c =
     let l = c.loop-at in let past = c.loop-at-test.false in
     copies_all l.at (λ t. all_taken _ c.args.from l.at (c.requires.whole t) (omega arith)) l.invariant.copied
-    (inl (c.args.len, held_many false (latest (g.W.Watch.seen c.args.watch.now)) (watched_at (g.W.Watch.watched c.args.watch.now) c.args.place).name c.args.len (watched_at (g.W.Watch.watched c.args.watch.now) c.args.place).opened (opened_is (g.W.Watch.watched c.args.watch.now) c.args.place c.requires.readable) c.requires.found, omega arith)) l.invariant.watched
+    (inl (
+      c.args.len,
+      held_many false (latest (g.W.Watch.seen c.args.watch.now))
+          (watched_at (g.W.Watch.watched c.args.watch.now) c.args.place).name c.args.len
+          (watched_at (g.W.Watch.watched c.args.watch.now) c.args.place).opened
+          (opened_is (g.W.Watch.watched c.args.watch.now) c.args.place c.requires.readable) c.requires.found,
+      omega arith,
+    )) l.invariant.watched
 
 pub returns-in-Ok-eq0-clause-copies : goal.returns-in-Ok-eq0-clause-copies
 returns-in-Ok-eq0-clause-copies g c =

@@ -8,7 +8,8 @@ loop-at-preserved c =
     let anchors = c.args.closures.now.anchors.items in
     let inside : at < width c.args.nodes.now = (let s = c.requires.size in let t = c.loop-at-test.true in omega arith) in
     let read = c.index.ensures ∙ get_or_default anchors at _ 0 (let s = c.requires.closures.anchors.size in omega arith) in
-    none_more _ _ _ _ c.loop-at.invariant (c.requires.closures.anchors.each at inside) (ap (bit_and (get_or c.args.words.now at 0)) (sym read) ∙ c.if-words-at-ne0.false)
+    none_more _ _ _ _ c.loop-at.invariant (c.requires.closures.anchors.each at inside)
+    (ap (bit_and (get_or c.args.words.now at 0)) (sym read) ∙ c.if-words-at-ne0.false)
 
 pub returns : goal.returns
 returns c = λ none number k. c.loop-at.invariant number (let w = is_within _ k in let t = c.loop-at-test.false in omega arith) k

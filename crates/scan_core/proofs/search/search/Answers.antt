@@ -21,7 +21,8 @@ pub spread-requires-clause-front : goal.spread-requires-clause-front
 spread-requires-clause-front c = λ t. front_is c.loop-place.invariant c.requires.closures.base (eqb-true _ 0 t)
 
 pub spread-requires-2-clause-front : goal.spread-requires-2-clause-front
-spread-requires-2-clause-front c = λ t. let z = eqb-true _ 0 (sym c.is_empty.ensures ∙ t) in front_is c.loop-place.invariant c.requires.closures.base (omega arith)
+spread-requires-2-clause-front c = λ t. let z = eqb-true _ 0 (sym c.is_empty.ensures ∙ t) in
+    front_is c.loop-place.invariant c.requires.closures.base (omega arith)
 
 pub returns-then-has-clause-outcome : goal.returns-then-has-clause-outcome
 returns-then-has-clause-outcome c =

@@ -6,7 +6,8 @@ use Rattle.scan_core.{
 use Rattle.scan_core.proofs.shift_table.shifts_of.Goals as goal
 
 pub weight_of-requires : goal.weight_of-requires
-weight_of-requires c = rw (← c.as_slice-noted.ensures.value) at (states_are_light (subst (λ table. IfSome table (IsTable c.args.nodes.now)) c.in-Some.is c.requires))
+weight_of-requires c = rw (← c.as_slice-noted.ensures.value) at (states_are_light
+    (subst (λ table. IfSome table (IsTable c.args.nodes.now)) c.in-Some.is c.requires))
 
 pub loop-byte-preserved : goal.loop-byte-preserved
 loop-byte-preserved c = record {

@@ -24,7 +24,9 @@ overflow_add-result c =
     let a = c.stride-strode.ensures.at c.loop-place.steps c.loop-place.invariant.at in
     let o = at_fixed _ _ a c.if-word-table.false c.requires.some (λ k h. search (rules, c.type_inv.line)) c.index-state.ensures c.if-state.true refl in
     let f = outcome_fits c.requires.table o (omega arith) in
-    let g : c.loop-place.steps + c.stride-strode.result.steps + (c.index-state.result.now.positions * (length c.args.line.now - (c.loop-place.place + 16))) < 340282366920938463463374607431768211456 = omega arith in
+    let g : c.loop-place.steps + c.stride-strode.result.steps +
+    (c.index-state.result.now.positions * (length c.args.line.now -
+    (c.loop-place.place + 16))) < 340282366920938463463374607431768211456 = omega arith in
     search (rules, g)
 
 pub overflow_add-result-then-state : goal.overflow_add-result-then-state

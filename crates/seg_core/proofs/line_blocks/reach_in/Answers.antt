@@ -26,7 +26,9 @@ pub returns-then-left-delimiters : goal.returns-then-left-delimiters
 returns-then-left-delimiters c =
     let items = c.args.queue.now.items in
     let here : c.loop-i.i < length items = let t = c.loop-i-test.true in let e = c.len-i-end.ensures in omega arith in
-    let enough : c.loop-i.left ≤ delimiters c.args.delim c.index-block.result.now.bytes = let counted = counted_at c.args.delim items c.loop-i.i here c.index-block.ensures c.requires.each in let t = c.if-left-delimiters.true in omega arith in
+    let enough : c.loop-i.left ≤ delimiters c.args.delim c.index-block.result.now.bytes = let counted =
+    counted_at c.args.delim items c.loop-i.i here c.index-block.ensures c.requires.each in let t =
+    c.if-left-delimiters.true in omega arith in
     ends_here c.args.delim c.loop-i.passed c.loop-i.left c.end_of.result c.index-block.result.now.bytes (text_of (drop (c.loop-i.i + 1) items))
     (text_from items c.loop-i.i c.index-block.result.now here c.index-block.ensures) c.loop-i.invariant.place enough c.end_of.ensures
 

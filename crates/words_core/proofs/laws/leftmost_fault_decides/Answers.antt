@@ -65,7 +65,8 @@ module _ (rows : List OptionRow) (kind : UsageKind) (word : ℕ) where
       → place + length first ≤ word
   stands_later [] more place state given well is = let least = fault_after more place place state (omega arith) (well_end state place well) is in omega arith
   stands_later (front ∷ first) more place state given well is =
-      let least = later_by first more place (meaning_of rows state place front) (λ next rest. stands_later first more (place + 1) next rest) well is in omega arith
+      let least = later_by first more place (meaning_of rows state place front)
+      (λ next rest. stands_later first more (place + 1) next rest) well is in omega arith
 
 pub returns : goal.returns
 returns c = record {

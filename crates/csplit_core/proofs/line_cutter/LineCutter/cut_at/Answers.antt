@@ -7,17 +7,24 @@ use Rattle.csplit_core.{
 use Rattle.csplit_core.proofs.line_cutter.LineCutter.cut_at.Goals as goal
 
 pub returns-in_err-put-clause-err : goal.returns-in_err-put-clause-err
-returns-in_err-put-clause-err g c = fault_is _ _ _ c.from_residual.ensures.1 (λ line. cut_put_stopped c.requires.fit c.requires.cuts c.saturating_sub.ensures c.split_lines.ensures.first line refl refl c.in_err-put.ensures.goes)
+returns-in_err-put-clause-err g c = fault_is _ _ _ c.from_residual.ensures.1
+    (λ line. cut_put_stopped c.requires.fit c.requires.cuts c.saturating_sub.ensures c.split_lines.ensures.first line refl refl c.in_err-put.ensures.goes)
 
 pub returns-in_err-pass-clause-err : goal.returns-in_err-pass-clause-err
-returns-in_err-pass-clause-err g c = fault_is _ _ _ c.from_residual-in_err-pass.ensures.1 (λ line. cut_pass_stopped c.requires.fit c.requires.cuts c.saturating_sub.ensures c.split_lines.ensures.first line c.in_ok-put.ensures.goes c.in_err-pass.ensures)
+returns-in_err-pass-clause-err g c = fault_is _ _ _ c.from_residual-in_err-pass.ensures.1
+    (λ line. cut_pass_stopped c.requires.fit c.requires.cuts c.saturating_sub.ensures c.split_lines.ensures.first line c.in_ok-put.ensures.goes c.in_err-pass.ensures)
 
 pub returns-in_err-next-clause-err : goal.returns-in_err-next-clause-err
-returns-in_err-next-clause-err g c = fault_is _ _ _ c.from_residual-in_err-next.ensures.1 (λ line. cut_next_stopped c.requires.fit c.requires.cuts c.saturating_sub.ensures c.split_lines.ensures.first line
+returns-in_err-next-clause-err g c = fault_is _ _ _ c.from_residual-in_err-next.ensures.1
+    (λ line. cut_next_stopped c.requires.fit c.requires.cuts c.saturating_sub.ensures c.split_lines.ensures.first line
     c.in_ok-put.ensures.goes c.in_ok-pass.ensures (c.opening_of-opening.ensures ∙ ap (λ (s : Style). opening_of s c.is_kept-is_kept.result) c.style-style.ensures ∙ ap (opening_of c.pass.new.self.style) (c.is_kept-is_kept.ensures ∙ ap kept_next c.next_operand.ensures)) c.in_err-next.ensures.goes)
 
 pub returns-clause-ok : goal.returns-clause-ok
 returns-clause-ok g c =
     cut_done c.split_lines.result.1.now c.requires.fit c.requires.cuts c.saturating_sub.ensures c.split_lines.ensures.first c.split_lines.ensures.rest
     (λ is. c.skip_line.ensures.first (ap (λ (s : Style). s.suppress) (c.style.view_is ∙ c.style-style.ensures) ∙ is)) (λ is. c.skip_line.ensures.none (ap (λ (s : Style). s.suppress) (c.style.view_is ∙ c.style-style.ensures) ∙ is))
-    c.in_ok-put.ensures.goes c.in_ok-pass.ensures (c.opening_of-opening.ensures ∙ ap (λ (s : Style). opening_of s c.is_kept-is_kept.result) c.style-style.ensures ∙ ap (opening_of c.pass.new.self.style) (c.is_kept-is_kept.ensures ∙ ap kept_next c.next_operand.ensures)) c.in_ok-next.ensures.goes c.in_ok-next.ensures.size (omega arith)
+    c.in_ok-put.ensures.goes c.in_ok-pass.ensures
+    (c.opening_of-opening.ensures
+    ∙ ap (λ (s : Style). opening_of s c.is_kept-is_kept.result) c.style-style.ensures
+    ∙ ap (opening_of c.pass.new.self.style) (c.is_kept-is_kept.ensures
+    ∙ ap kept_next c.next_operand.ensures)) c.in_ok-next.ensures.goes c.in_ok-next.ensures.size (omega arith)

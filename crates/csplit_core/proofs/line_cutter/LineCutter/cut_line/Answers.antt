@@ -7,13 +7,18 @@ use Rattle.csplit_core.{
 use Rattle.csplit_core.proofs.line_cutter.LineCutter.cut_line.Goals as goal
 
 pub returns-in_err-waiting : goal.returns-in_err-waiting
-returns-in_err-waiting g c = rw (handed_on _ _ c.from_residual.ensures.1) (cut_put_stopped c.requires.fit c.requires.cuts refl refl c.args.line.now refl refl (goes_lacking c.requires.ready c.in_err-waiting.ensures.err))
+returns-in_err-waiting g c = rw (handed_on _ _ c.from_residual.ensures.1)
+    (cut_put_stopped c.requires.fit c.requires.cuts refl refl c.args.line.now refl refl
+    (goes_lacking c.requires.ready c.in_err-waiting.ensures.err))
 
 pub slice_bounds-count_delimiters-count : goal.slice_bounds-count_delimiters-count
 slice_bounds-count_delimiters-count g c = grind (arith, common_steps)
 
 pub returns-in_err-left : goal.returns-in_err-left
-returns-in_err-left g c = rw (handed_on _ _ c.from_residual-in_err-left.ensures.1) (cut_drained (c.deref-2.ensures.value ∙ c.in_ok-waiting.ensures.ok) (c.deref.ensures.value ∙ c.in_ok-waiting.ensures.ok) (c.len.ensures ∙ sym c.deref.ensures.len) c.count_delimiters-lines.ensures c.saturating_sub-place.ensures c.in_err-left.ensures.err)
+returns-in_err-left g c = rw (handed_on _ _ c.from_residual-in_err-left.ensures.1)
+    (cut_drained (c.deref-2.ensures.value ∙ c.in_ok-waiting.ensures.ok)
+    (c.deref.ensures.value ∙ c.in_ok-waiting.ensures.ok)
+    (c.len.ensures ∙ sym c.deref.ensures.len) c.count_delimiters-lines.ensures c.saturating_sub-place.ensures c.in_err-left.ensures.err)
 
 pub hold-requires : goal.hold-requires
 hold-requires g c =
@@ -25,4 +30,7 @@ hold-requires g c =
     }
 
 pub returns : goal.returns
-returns g c = cut_drained (c.deref-2.ensures.value ∙ c.in_ok-waiting.ensures.ok) (c.deref.ensures.value ∙ c.in_ok-waiting.ensures.ok) (c.len.ensures ∙ sym c.deref.ensures.len) c.count_delimiters-lines.ensures c.saturating_sub-place.ensures (spread_held c.in_ok-left.ensures.ok c.hold.ensures)
+returns g c = cut_drained (c.deref-2.ensures.value ∙ c.in_ok-waiting.ensures.ok)
+    (c.deref.ensures.value ∙ c.in_ok-waiting.ensures.ok)
+    (c.len.ensures ∙ sym c.deref.ensures.len) c.count_delimiters-lines.ensures c.saturating_sub-place.ensures
+    (spread_held c.in_ok-left.ensures.ok c.hold.ensures)

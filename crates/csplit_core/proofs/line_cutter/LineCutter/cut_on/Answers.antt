@@ -4,7 +4,8 @@ use Rattle.csplit_core.proofs.TakeLemmas.{cut_on, spread_fit, spread_ready}
 use Rattle.csplit_core.proofs.line_cutter.LineCutter.cut_on.Goals as goal
 
 pub returns-in_err-left : goal.returns-in_err-left
-returns-in_err-left g c = rw (handed_on _ _ c.from_residual.ensures.1) (record { on = record { n = 0; within = omega arith; whole = inl refl; size_is = tt; found = tt }; all = c.in_err-left.ensures.err })
+returns-in_err-left g c = rw (handed_on _ _ c.from_residual.ensures.1)
+    (record { on = record { n = 0; within = omega arith; whole = inl refl; size_is = tt; found = tt }; all = c.in_err-left.ensures.err })
 
 pub overflow_sub-size : goal.overflow_sub-size
 overflow_sub-size g c = grind (arith, common_steps)

@@ -20,7 +20,8 @@ overflow_add-result c = grind (arith, common_steps)
 pub returns-then-is_match : goal.returns-then-is_match
 returns-then-is_match c = record {
   over = all_passed_at c.requires.sound c.requires.aim c.loop-end.invariant c.is_match.ensures.same;
-  found = next_found c.in-Some.end c.requires.aim c.loop-end.invariant c.is_match.ensures.same (first_at c.in-Some.end c.in-Some.ensures) c.is_match.ensures.found c.if-is_match.true;
+  found = next_found c.in-Some.end c.requires.aim c.loop-end.invariant c.is_match.ensures.same
+      (first_at c.in-Some.end c.in-Some.ensures) c.is_match.ensures.found c.if-is_match.true;
 }
 
 pub returns : goal.returns
@@ -34,7 +35,8 @@ overflow_add-self-in-Some c = omega (arith, few_counted c.loop-end.invariant, ap
 
 pub pass_clear-clear-requires-in-Some : goal.pass_clear-clear-requires-in-Some
 pass_clear-clear-requires-in-Some c =
-    let so = one_more c.in-Some.end c.loop-end.invariant c.is_match.ensures.same (first_at c.in-Some.end c.in-Some.ensures) c.is_match.ensures.found c.if-is_match.false in
+    let so = one_more c.in-Some.end c.loop-end.invariant c.is_match.ensures.same
+    (first_at c.in-Some.end c.in-Some.ensures) c.is_match.ensures.found c.if-is_match.false in
     record { whole = left_whole c.requires.whole so; fits = (omega (arith, few_counted so)) }
 
 pub overflow_add-left : goal.overflow_add-left
@@ -42,4 +44,5 @@ overflow_add-left c = grind (arith, common_steps)
 
 pub loop-end-preserved : goal.loop-end-preserved
 loop-end-preserved c =
-    more_clear (one_more c.in-Some.end c.loop-end.invariant c.is_match.ensures.same (first_at c.in-Some.end c.in-Some.ensures) c.is_match.ensures.found c.if-is_match.false) c.pass_clear-clear-in-Some.ensures (rest_all c.pass_clear-clear-in-Some.result _)
+    more_clear (one_more c.in-Some.end c.loop-end.invariant c.is_match.ensures.same
+    (first_at c.in-Some.end c.in-Some.ensures) c.is_match.ensures.found c.if-is_match.false) c.pass_clear-clear-in-Some.ensures (rest_all c.pass_clear-clear-in-Some.result _)

@@ -16,7 +16,8 @@ stretch-requires g c = let so_far = c.stretches.invariant.0 in record {
     within = c.first_size-size.ensures.within;
     line = c.first_size-size.ensures.line;
     rest = whole_drop c.first_size-size.result so_far.rest;
-    complete = inr (ends_by (take c.first_size-size.result c.stretches.left.now) c.first_size-size.ensures.whole (omega (arith, length-take-le c.first_size-size.result c.stretches.left.now c.first_size-size.ensures.within)));
+    complete = inr (ends_by (take c.first_size-size.result c.stretches.left.now) c.first_size-size.ensures.whole
+        (omega (arith, length-take-le c.first_size-size.result c.stretches.left.now c.first_size-size.ensures.within)));
   };
   found = λ given. found_first c.stretches.left.now c.stretches.found c.stretches.invariant.1 c.first_size-size.ensures.known (sym c.is_some.ensures ∙ given);
   fits = takes_fit so_far (2 ^ 63) c.requires.fits;
@@ -25,13 +26,17 @@ stretch-requires g c = let so_far = c.stretches.invariant.0 in record {
 }
 
 pub returns-in_err-passed : goal.returns-in_err-passed
-returns-in_err-passed g c = rw (handed_on _ _ c.from_residual.ensures.1) (takes_stopped c.stretches.invariant.0 c.first_size-size.ensures.whole c.in_err-passed.ensures)
+returns-in_err-passed g c = rw (handed_on _ _ c.from_residual.ensures.1)
+    (takes_stopped c.stretches.invariant.0 c.first_size-size.ensures.whole c.in_err-passed.ensures)
 
 pub stretches-smaller : goal.stretches-smaller
 stretches-smaller g c = takes_fewer c.in_ok-passed.passed c.first_size-size.ensures.some c.first_size-size.ensures.within c.in_ok-passed.ensures
 
 pub stretches-preserved : goal.stretches-preserved
-stretches-preserved g c = (takes_more c.stretches.invariant.0 c.in_ok-passed.passed c.first_size-size.ensures.whole c.in_ok-passed.ensures, found_next c.in_ok-passed.passed c.in_ok-passed.ensures)
+stretches-preserved g c = (
+  takes_more c.stretches.invariant.0 c.in_ok-passed.passed c.first_size-size.ensures.whole c.in_ok-passed.ensures,
+  found_next c.in_ok-passed.passed c.in_ok-passed.ensures,
+)
 
 pub returns : goal.returns
 returns g c = takes_end c.stretches.invariant.0 (none_there c.is_empty.ensures c.stretches-test.false)

@@ -19,11 +19,13 @@ returns-then-not-found-clause-says c lines seen =
     misses_search lines (left_is c.args.operands.now c.args.self.now.done c.in-Some.ensures.lookup.3.0 c.in-Some.ensures.lookup.1) seen c.in-Search.is (λ near. c.if-not-found.true)
 
 pub returns-in-Number-clause-says : goal.returns-in-Number-clause-says
-returns-in-Number-clause-says c lines seen = falls_number lines (left_is c.args.operands.now c.args.self.now.done c.in-Some.ensures.lookup.3.0 c.in-Some.ensures.lookup.1) seen
+returns-in-Number-clause-says c lines seen = falls_number lines
+    (left_is c.args.operands.now c.args.self.now.done c.in-Some.ensures.lookup.3.0 c.in-Some.ensures.lookup.1) seen
     c.in-Number.number c.in-Number.is c.saturating_mul-cut.ensures c.requires.few c.fall.result c.fall.ensures
 
 pub returns-else-not-found-clause-says : goal.returns-else-not-found-clause-says
-returns-else-not-found-clause-says c lines seen = falls_search lines (left_is c.args.operands.now c.args.self.now.done c.in-Some.ensures.lookup.3.0 c.in-Some.ensures.lookup.1) seen
+returns-else-not-found-clause-says c lines seen = falls_search lines
+    (left_is c.args.operands.now c.args.self.now.done c.in-Some.ensures.lookup.3.0 c.in-Some.ensures.lookup.1) seen
     c.in-Search.offset c.in-Search.is
     (omega (arith, c.search_line.ensures c.args.operands.now)) c.if-not-found.false
     c.line_at.ensures c.requires.few c.fall-in-Search.result c.fall-in-Search.ensures

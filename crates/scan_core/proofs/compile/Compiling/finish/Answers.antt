@@ -7,7 +7,8 @@ write_out-requires c = (popped_begun c.loop-duplication.self c.next_duplication.
 
 pub loop-duplication-preserved : goal.loop-duplication-preserved
 loop-duplication-preserved c = record {
-  so_far = λ final f. c.loop-duplication.invariant.so_far final (rw c.in-Some.ensures.0 at (finish_more _ _ _ c.in-Some.ensures.2 c.in_ok-write_out.ensures.ok f));
+  so_far = λ final f. c.loop-duplication.invariant.so_far final
+      (rw c.in-Some.ensures.0 at (finish_more _ _ _ c.in-Some.ensures.2 c.in_ok-write_out.ensures.ok f));
   begun = begun_wider c.next_duplication.new.self.pending.items c.in_ok-write_out.ensures.more (popped_begun c.loop-duplication.self c.next_duplication.new.self c.in-Some.duplication c.in-Some.ensures c.loop-duplication.invariant.begun).1;
   passing = c.in-Some.ensures.1 ∙ c.loop-duplication.invariant.passing;
 }
