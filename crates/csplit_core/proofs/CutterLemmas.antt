@@ -521,7 +521,8 @@ begun_by style operands {lines} steps {state} more {last} {ending} rest all =
       by : (state : State) (more : List Step) (last : State) (ending : Ending)
           → Runs style.suppress lines state more last ending
           → Begins (draft_part (manner_of style) (draft_by style lines steps (kept_by state.operands) []))
-          (part_of style (map (section_of lines) steps ++ (map (section_of lines) more ++ open_at lines last ending ∷ [])))
+          (part_of style
+          (map (section_of lines) steps ++ (map (section_of lines) more ++ open_at lines last ending ∷ [])))
       by state [] last ending rest = begins_with style lines steps (open_at lines last ending) [] (kept_by state.operands) (at_end state last ending rest)
       by state (step ∷ more) last ending rest = begins_with style lines steps (section_of lines step) _ (kept_by state.operands) (first_kept rest)
 
