@@ -74,26 +74,24 @@ unmade_count {draft = draft} none writes = writes.made ∙ unmade_shares draft n
 -- its name
 due_name : {manner : Manner} {writer : WriterState} {draft : Draft} → made_of draft.opening draft.bytes ≡ []
     → Writes manner writer draft → next_name writer.names ≡ name_after manner draft
-due_name {manner} {writer} {draft} none writes = ap (λ name. name writer.names.drawn) writes.same.name ∙ ap manner.name (unmade_count none writes)
+due_name {manner} {writer} {draft} none writes = grind (arith, common_steps, unmade_count)
 
 -- whether it has one
 due_has : {manner : Manner} {writer : WriterState} {draft : Draft} → writer.names.drawn < 2 ^ 64
     → made_of draft.opening draft.bytes ≡ [] → Writes manner writer draft
     → has_next writer.names ≡ manner.has_name (length draft.ended)
-due_has {manner} {writer} {draft} few none writes = writes.same.has writer.names.drawn few ∙ ap manner.has_name (unmade_count none writes)
+due_has {manner} {writer} {draft} few none writes = grind (arith, common_steps, unmade_count)
 
 -- all files up to it have names then
 due_named : {manner : Manner} {writer : WriterState} {draft : Draft} (next : Draft) → writer.names.drawn < 2 ^ 64
     → Unwritten draft next → Writes manner writer draft → IsTrue (has_next writer.names)
     → AreNamed manner (suc (length next.ended))
-due_named {manner} {writer} {draft} next few so writes has = subst (λ ended. AreNamed manner (suc (length ended))) (sym so.same) (λ place less. elim (cases_lt place (length draft.ended)) [
-  | inl before ↦ writes.named place (omega (arith, unmade_shares draft so.none))
-  | inr past ↦ (let e : place ≡ length draft.ended = omega arith in ap manner.has_name e ∙ sym (due_has few so.none writes) ∙ has)
-])
+due_named {manner} {writer} {draft} next few so writes has =
+    grind (arith, common_steps, cases_lt, unmade_shares, due_has)
 
 made_size : {writer next : WriterState} {slot : ℕ} {old new : List Slot} → Made writer old new next slot
     → length new ≡ length old + 1
-made_size {writer} {old = old} made = ap length made.added ∙ length-append old (opened (next_name writer.names) Fresh ∷ [])
+made_size {writer} {old = old} made = grind (arith, common_steps, length-append)
 
 made_ready : {writer next : WriterState} {slot : ℕ} {old new : List Slot} → IsReady writer old
     → Made writer old new next slot → IsReady next new
@@ -154,7 +152,7 @@ line_leaves told {writer} {old} ready = wrote_leaves told 0 (line_next writer.te
 line_told : {manner : Manner} {writer : WriterState} {draft : Draft} → made_of draft.opening draft.bytes ≡ []
     → Writes manner writer draft
     → line_next writer.tells writer.names ≡ told_before manner.output (name_after manner draft)
-line_told {manner} {writer} none writes = ap (λ output. told_before output (next_name writer.names)) writes.same.output ∙ ap (told_before manner.output) (due_name none writes)
+line_told {manner} {writer} none writes = grind (arith, common_steps, due_name)
 
 -- the part with the file that is due
 due_part : {manner : Manner} {writer : WriterState} {draft : Draft} (next : Draft) → writer.names.drawn < 2 ^ 64
@@ -266,7 +264,7 @@ first_bytes tells bytes is some draft now = search rules
 -- What is begun where nothing is
 
 paused_ready : {writer : WriterState} {slots : List Slot} → IsReady writer slots → IsReady (paused writer) slots
-paused_ready ready = record { streams = ready.streams; output = ready.output; files = ready.files; current = tt }
+paused_ready ready = grind (arith, common_steps)
 
 -- what was begun had no file
 ended_none : (draft : Draft) → made_of draft.opening draft.bytes ≡ []
@@ -280,17 +278,14 @@ pub begins_none : {told : Bool} {writer : WriterState} {opening : Opening} (curr
     → made_of opening [] ≡ [] → IsCurrent writer.tells opening [] current → IsOpenAt current slots
     → ((first : ℕ) → IsLast current first slots) → IsReady writer slots
     → Goes told writer (with_next opening) slots slots (record writer { current = current }) None
-begins_none {opening = opening} current before none is_current at last ready = goes_still current ready at (λ first was. last first) (λ draft now.
-    let had = before draft now in (
-      ap (λ made. map (share state.Closed) draft.ended ++ map (share state.Open) made) (had ∙ sym none) ∙ ap (λ ended. map (share state.Closed) ended ++ map (share state.Open) (made_of opening [])) (sym (ended_none draft had)),
-      is_current,
-    ))
+begins_none {opening = opening} current before none is_current at last ready =
+    grind (arith, common_steps, goes_still, ended_none)
 
 pub begin_none : {told : Bool} {writer : WriterState} {opening : Opening} (current : Current) {slots : List Slot}
     → made_of opening [] ≡ [] → IsCurrent writer.tells opening [] current → IsOpenAt current slots
     → ((first : ℕ) → IsLast current first slots) → IsReady writer slots
     → Goes told (paused writer) (with_next opening) slots slots (record writer { current = current }) None
-begin_none current none is_current at last ready = begins_none current never_made none is_current at last (paused_ready ready)
+begin_none current none is_current at last ready = grind (arith, common_steps, begins_none, never_made, paused_ready)
 
 -- what has one at once is begun
 pub at_once : {opening : Opening} → opening ≡ AtOnce → (draft : Draft) → draft.opening ≡ Never
@@ -326,7 +321,7 @@ pub end_none : {told : Bool} {writer : WriterState} {current : Current} {slots :
     → ((draft : Draft) → IsCurrent writer.tells draft.opening draft.bytes writer.current
     → made_of draft.opening draft.bytes ≡ []) → IsReady writer slots
     → Goes told writer (with_next Never) slots slots (record writer { current = current }) None
-end_none {writer = writer} {current} {slots} is none ready = begins_none current none refl (subst (IsCurrent writer.tells Never []) (sym is) refl) (subst (λ now. IsOpenAt now slots) (sym is) tt) (λ first. subst (λ now. IsLast now first slots) (sym is) tt) ready
+end_none {writer = writer} {current} {slots} is none ready = grind (arith, common_steps, begins_none)
 
 -- it has one
 
@@ -429,7 +424,7 @@ told_leaves told writer size {old} {new} fault Sizes is ready wrote =
       slots : (fault : Option Fault) → IsTrue (is_writable old 0) → Wrote told 0 (decimal size ++ 10 ∷ []) old new fault
           → KeepsOrBreaks (manner_by writer.names.naming (output_of Sizes)) old new fault
       slots None can wrote = keeps_write 0 _ old new wrote
-      slots (Some f) can wrote = line_breaks told writer.names.naming (decimal size ++ 10 ∷ []) can wrote
+      slots (Some f) can wrote = grind (arith, common_steps, line_breaks)
 
 -- what can go wrong there is a write
 pub tells_write : (told : Bool) (tells : Tells) (size : ℕ) (old new : List Slot) (result : Result (Unit {0}) Fault)
@@ -445,7 +440,7 @@ is_size : (tells : Tells) (bytes : List ℕ) (size : ℕ) → IsCounted tells by
     → TellsSize told tells (length bytes) old new fault
 is_size Nothing bytes size is told old new fault tells = tells
 is_size Openings bytes size is told old new fault tells = tells
-is_size Sizes bytes size is told old new fault tells = subst (λ n. Wrote told 0 (decimal n ++ 10 ∷ []) old new fault) is tells
+is_size Sizes bytes size is told old new fault tells = grind (arith, common_steps)
 
 -- telling a size wants no names
 told_short : (P : Type 0) (told : Bool) (tells : Tells) (size : ℕ) (old new : List Slot) (fault : Option Fault)

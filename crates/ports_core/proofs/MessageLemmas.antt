@@ -61,7 +61,8 @@ said_state told speaker message old new (why, says) = printed_open told says.sai
 pub all_said_state : (told : Bool) (speaker : Speaker) (messages : List Message) (old new : Slot)
     → SaysAll told speaker messages old new → new.state ≡ old.state
 all_said_state told speaker [] old new is = cc
-all_said_state told speaker (message ∷ messages) old new says = all_said_state told speaker messages says.0 new says.2 ∙ said_state told speaker message old says.0 says.1
+all_said_state told speaker (message ∷ messages) old new says =
+    grind (arith, common_steps, said_state, all_said_state told speaker messages says.0 new says.2)
 
 pub says_after : (told : Bool) (speaker : Speaker) (messages more : List Message) (old mid new : Slot)
     → SaysAll told speaker messages old mid → SaysAll told speaker more mid new

@@ -60,7 +60,7 @@ kept_has : {one : ℕ} {change : Slot → Slot} {kept : List ℕ} (left : List �
     → is_among one left ≡ false
     → has_file (change slot).state ≡ is_among one (kept ++ left)
 kept_has left slot goes apart = sym apart
-kept_has {one} left slot (stays why) apart = sym (ap (λ b. b || is_among one left) (eq-eqb one one refl))
+kept_has {one} left slot (stays why) apart = grind (arith, common_steps, eq-eqb)
 
 kept_apart : {one : ℕ} {change : Slot → Slot} {kept : List ℕ} (left : List ℕ) (place : ℕ) → Tries one change kept
     → eqb place one ≡ false
