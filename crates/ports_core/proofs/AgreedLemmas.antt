@@ -217,9 +217,7 @@ module _ (work : Work) {spots_of : List ℕ → ℕ → List Spot} (place : ℕ)
           ∙ sym (ap (λ those. get_or those i 0) (stretch.parts x) ∙ get_or-append_right (stretch.before x) (stretch.rest x) i 0 one.0 ∙ ap (λ n. get_or (stretch.rest x) n 0) one.1.is),
     ));
     filled = filled;
-    apart = λ x i j at goes also. (let one = stretched x i goes in let two = stretched x j also in
-        let same : one.1.k ≡ two.1.k = omega arith in
-        omega (arith, ap (λ k. bytes_of k (outputs x)) same));
+    apart = grind (arith, common_steps, stretched);
   }
 
 -- There is one list of outputs that all continuations agree on, and one stretch of bytes that is undecided.

@@ -96,22 +96,22 @@ made_size {writer} {old = old} made = grind (arith, common_steps, length-append)
 made_ready : {writer next : WriterState} {slot : ℕ} {old new : List Slot} → IsReady writer old
     → Made writer old new next slot → IsReady next new
 made_ready {writer} {next} {slot} {old} {new} ready made = record {
-  streams = (let two = ready.streams in omega (arith, made_size made));
-  output = subst (λ tells. CanTell tells new) (sym (ap (λ (w : WriterState). w.tells) made.same)) (can_tell writer.tells old new (writable_before old new 0 (opened (next_name writer.names) Fresh) (let two = ready.streams in omega arith) made.added) ready.output);
+  streams = grind (arith, common_steps, made_size);
+  output = grind (arith, common_steps, can_tell, writable_before);
   files = (owned_opened ready.streams made).there ready.files;
-  current = subst (λ current. IsOpenAt current new) (sym (ap (λ (w : WriterState). w.current) made.same)) (let two = ready.streams in omega arith, opened_writable old new slot (next_name writer.names) Fresh made.place made.added);
+  current = grind (arith, common_steps, opened_writable);
 }
 
 made_leaves : {writer next : WriterState} {slot : ℕ} {old new : List Slot} → IsReady writer old
     → Made writer old new next slot → Leaves writer next old new None
 made_leaves {writer} {next} {slot} {old} {new} ready made = record {
-  naming = ap (λ (w : WriterState). w.names.naming) made.same;
+  naming = grind (arith, common_steps);
   tells = ap (λ (w : WriterState). w.tells) made.same;
   keeps = ap (λ (w : WriterState). w.keeps) made.same;
-  open_alone = λ alone. ap (λ (w : WriterState). w.files) made.same ∙ ap (λ keeps. files_with keeps writer.files slot) alone;
+  open_alone = grind (arith, common_steps, files_with);
   owns = owned_opened ready.streams made;
   slots = keeps_open _ old new made.added;
-  output = writable_before old new 0 (opened (next_name writer.names) Fresh) (let two = ready.streams in omega arith) made.added;
+  output = grind (arith, common_steps, writable_before);
   ready = made_ready ready made;
 }
 
@@ -204,7 +204,7 @@ module _ {told : Bool} {writer next : WriterState} {change : Draft → Draft} {o
         let lacks : manner.has_name (length (change draft).ended) ≡ false = ap (λ ended. manner.has_name (length ended)) so.same ∙ sym (due_has few so.none writes) ∙ none in record {
           none = lacks;
           begun = so.makes;
-          all = λ before at. rw (same, stopped_part manner (change draft) lacks, so.same, ← append-nil (map (share state.Closed) draft.ended)) (subst (λ made. OutputsAt told before (part_of manner (map (share state.Closed) draft.ended ++ map (share state.Open) made)) old) so.none at.outputs);
+          all = grind (arith, common_steps, same, stopped_part, append-nil);
         }
 
   pub goes_unmade : Goes told writer change old new next (Some f)
@@ -233,17 +233,14 @@ goes_made {told} {writer} {made} {next} {change} {slot} bytes {old} {mid} {new} 
       (reaches_by leaves.owns (λ first last. becomes_again (part_trans _ _ _ (line_begins (told_before manner.output (name_after manner draft))) (file_begins (ended_files manner draft) (file_of (name_after manner draft) [] state.Open)))
       (made_becomes manner draft (due_name so.none writes) (ap (λ line. with_written 0 (told_of told line) old) (line_told so.none writes)) makes)
       (writes_to manner.output told (ended_files manner draft) (name_after manner draft) [] bytes mid fault (closed_files manner 0 draft.ended) (opened_last _ mid slot (next_name writer.names) Fresh makes.place makes.added) appends.wrote)));
-  short = never_short _ told slot bytes mid new fault appends.wrote;
+  short = grind (arith, common_steps, never_short);
   writes = where_well fault appends.current (λ current manner draft writes. let (so, are) = of draft writes.current in
       let count : length (shares_of (change draft)) ≡ length draft.ended + 1 = made_count (change draft) so.makes ∙ ap (λ ended. length ended + 1) so.same in record {
-        same = subst (IsManner manner) (sym (ap manner_in appends.same ∙ ap manner_in makes.same)) writes.same;
-        made = ap (λ (w : WriterState). w.names.drawn) appends.same ∙ ap (λ (w : WriterState). w.names.drawn) makes.same ∙ ap (λ n. n + 1) (unmade_count so.none writes) ∙ sym count;
-        kept = λ all.
-            let was : writer.keeps ≡ All = sym (ap (λ (w : WriterState). w.keeps) appends.same ∙ ap (λ (w : WriterState). w.keeps) makes.same) ∙ all in
-            ap (λ (w : WriterState). length w.files) appends.same ∙ ap (λ (w : WriterState). length w.files) makes.same ∙ ap (λ keeps. length (files_with keeps writer.files slot)) was
-            ∙ length-append writer.files (slot ∷ []) ∙ ap (λ n. n + 1) (writes.kept was ∙ unmade_shares draft so.none) ∙ sym count;
-        named = λ place less. due_named (change draft) makes.few so writes makes.named place (omega (arith, made_count (change draft) so.makes));
-        current = rw current.1 (so.makes, subst (λ tells. IsCounted tells (change draft).bytes current.0) (sym (ap (λ (w : WriterState). w.tells) appends.same)) (rw are (counted_on made.tells [] bytes 0 current.0 (none_counted made.tells) current.2)));
+        same = grind (arith, common_steps, makes);
+        made = grind (arith, common_steps, makes, unmade_count);
+        kept = grind (arith, common_steps, makes, files_with, length-append, unmade_shares);
+        named = grind (arith, common_steps, due_named, makes, made_count);
+        current = grind (arith, common_steps, counted_on, none_counted);
       });
 } where
   line_ready : IsReady writer (told_next told writer.tells writer.names old)
@@ -358,12 +355,7 @@ closed_leaves {writer} slot size {old} {new} is ready closed =
       owns = file_closed made;
       slots = keeps_close slot old new closed;
       output = closed_can slot old new at.0 closed;
-      ready = record {
-        streams = (let two = ready.streams in omega arith);
-        output = can_tell writer.tells old new (closed_can slot old new at.0 closed) ready.output;
-        files = there_same writer.files made ready.files;
-        current = tt;
-      };
+      ready = grind (arith, common_steps, can_tell, closed_can, there_same);
     }
 
 -- the file breaks as it is closed
@@ -380,7 +372,7 @@ closed_begins : (output : Output) (front : List PartFile) (name bytes : List ℕ
     (with_last (told_of_files output front ++ told_of_files output (file_of name bytes state.Closed ∷ [])) front
     (file_of name bytes state.Closed))
 closed_begins output front name bytes = let (rest, is) = closed_told output name bytes in record {
-  out = (rest, ap (λ more. told_of_files output front ++ more) is ∙ sym (append_assoc (told_of_files output front) (told_before output name) rest));
+  out = grind (arith, common_steps, is, append_assoc);
   files = files_begin_themselves _;
 }
 
@@ -462,7 +454,7 @@ end_told {told} {writer} slot size {old} {mid} {new} {fault} is ready closed tel
       (tells_file writer.tells manner.output told (length draft.bytes) (ended_files manner draft) (file_of (name_after manner draft) draft.bytes state.Closed) mid fault writes.same.output refl refl (closed_files manner 0 draft.ended)
       (let two = paused_now.streams in omega arith) (is_size writer.tells draft.bytes size now.1 told mid new fault tells))));
   short = told_short _ told writer.tells size mid new fault tells;
-  writes = in_any fault (λ manner draft writes. file_ends slot size is writes);
+  writes = grind (arith, common_steps, in_any, file_ends, is);
 } where
   paused_now : IsReady (paused writer) mid
   paused_now = (closed_leaves slot size is ready closed).ready

@@ -53,7 +53,7 @@ module _ (line : PartFile → List ℕ) (told : Bool) (front : List PartFile) (f
       (length front) (fault.Write 0)
   cut_short n high = record {
     next = take n (line file);
-    all = ap (λ files. lines_for line files ++ take n (line file)) (sym (take-append_seam front (file ∷ [])));
+    all = grind (arith, common_steps, take-append_seam);
     cut = inr (
       refl,
       subst (IsBeginning (take n (line file))) (sym (ap (λ files. lines_for line (take 1 files)) (drop-append_seam front (file ∷ [])) ∙ told_line)) (drop n (line file), sym (take-append-drop n (line file))),

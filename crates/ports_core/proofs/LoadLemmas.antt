@@ -49,8 +49,8 @@ pub looked_again : {least most slot : ℕ} {old mid new : List Source} → HasLo
 looked_again {slot = slot} {old} {mid} {new} first next few = record {
   size = max first.size next.size;
   within = omega arith;
-  looked = next.looked ∙ ap (looks next.size) first.looked ∙ ap (λ asked. record (source_at old slot) { asked = asked }) (omega arith);
-  others = keeps_again slot old mid new first.others next.others;
+  looked = grind (arith, common_steps);
+  others = grind (arith, common_steps, keeps_again);
 }
 
 -- an input that was looked at can still be read

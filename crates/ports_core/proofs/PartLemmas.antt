@@ -117,13 +117,13 @@ pub out_cut : (told : Bool) (before : List Slot) (part : Part) (old new : List S
     → StoppedBetween gets_bytes told before part (record part { out = part.out ++ more }) (Write 0) new
 out_cut told before part old new more n at broke = record {
   part = record part { out = part.out ++ take n more };
-  above = record { out = begins_more part.out (take n more); files = files_begin_themselves part.files };
-  below = record { out = take_begins_after n part.out more; files = files_begin_themselves part.files };
+  above = grind (arith, common_steps, begins_more, files_begin_themselves);
+  below = grind (arith, common_steps, take_begins_after, files_begin_themselves);
   place = 0;
   order = still_in_order part.files;
   lines = tt;
   reached = with_written 0 (told_of told (take n more)) old;
-  outputs = out_more told before part old _ (take n more) at refl;
+  outputs = grind (arith, common_steps, out_more);
   marks = (there, broke.slots);
   from = inl refl;
 } where

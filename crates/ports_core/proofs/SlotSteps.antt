@@ -179,8 +179,8 @@ filed_same made = record { same = made.same; within = omega arith }
 pub filed_more : {old mid new : List Slot} (why : Reason) (kept : List ℕ) → KeepsMade old mid
     → new ≡ mid ++ unopened why kept ∷ [] → KeepsFiled old new
 filed_more {old} {mid} {new} why kept made added = record {
-  same = λ place. ap (λ slots. has_file (slot_at slots place).state) added ∙ still place ∙ made.same place;
-  within = omega (arith, ap length added, length-append mid (unopened why kept ∷ []));
+  same = grind (arith, common_steps);
+  within = grind (arith, common_steps, length-append);
 } where
   still : (place : ℕ) → has_file (slot_at (mid ++ unopened why kept ∷ []) place).state
       ≡ has_file (slot_at mid place).state

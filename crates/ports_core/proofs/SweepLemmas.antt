@@ -106,7 +106,7 @@ one_tried {files} {now} {next} {kept} {place} {left} {few} {old} {mid} {file} {c
       tried = rw (front_is, take-suc files place 0 less, ← same) (tried_more file kept so_far.tried
           (rw (append-nil kept) at (tried file [] kept [] change mid _ tries (all_tried _))));
       rest = rest ∙ ap (drop 1) front;
-      are = still_there file change mid (drop (suc place) files) are.1 are.2;
+      are = grind (arith, common_steps, still_there);
     })
 
 -- the same by what the removal returned

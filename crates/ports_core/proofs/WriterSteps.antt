@@ -69,7 +69,7 @@ goes_wider {told} {writer} {low = low} high {old} {new} {fault} begins same stop
       let none : manner.has_name (length (high draft).ended) ≡ false = subst (λ ended. manner.has_name (length ended) ≡ false) ended ran.none in record {
         none = none;
         begun = (grows draft).1 ran.begun;
-        all = λ before at. subst (λ part. OutputsAt told before part new) (stopped_part manner (low draft) ran.none ∙ ap (λ ended. part_of manner (map (share state.Closed) ended)) ended ∙ sym (stopped_part manner (high draft) none)) (ran.all before at);
+        all = grind (arith, common_steps, stopped_part);
       }
 
 pub next_not_ended : {told : Bool} {writer next : WriterState} (opening : Opening) {old new : List Slot} {f : Fault}
