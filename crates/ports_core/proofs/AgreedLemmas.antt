@@ -56,13 +56,13 @@ pub agreed_as : {A W : Type 0} {comes : List A → Type 0} {begins : W → W →
     → ((place : ℕ) → place < length (outputs agreed)
     → length (get_or (outputs (whole (x ++ y))) place []) ≤ length (get_or (outputs agreed) place []))
     → AgreeOn comes begins outputs whole x agreed
-agreed_as {outputs = outputs} {whole} {x} few y begin few_come come no_more short =
+agreed_as few y begin few_come come no_more short =
     grind (arith, common_steps, beginning_short)
 
 -- Nothing waits, where what follows decides nothing of what came in.
 pub nothing_waits : {A G : Type 0} {comes : List A → Type 0} {goes : List A → ℕ → G} {x : List A}
     → ((i : ℕ) → i < length x → (y z : List A) → goes (x ++ y) i ≡ goes (x ++ z) i) → DifferOn comes goes x []
-nothing_waits {x = x} same = grind (arith, common_steps, append-nil)
+nothing_waits same = grind (arith, common_steps, append-nil)
 
 -- what is settled begins the whole of every continuation
 pub common : (work : Work) → IsLawful work → (x y : List ℕ) → Begins (work.settled x) (work.whole (x ++ y))
@@ -188,10 +188,10 @@ module _ (work : Work) {spots_of : List ℕ → ℕ → List Spot} (place : ℕ)
     (stretch : IsStretch work.whole spots_of place outputs) where
   stretched : (x : List ℕ) (i : ℕ) {at : Spot} → GoesTo at (spots_of x i)
       → (length (stretch.before x) ≤ i) × IsIn place (outputs x) (i - length (stretch.before x)) at
-  stretched x i {at} goes = grind (arith, common_steps, cases_lt, goes_in)
+  stretched x i goes = grind (arith, common_steps, cases_lt, goes_in)
 
   output_is : (x : List ℕ) {n : ℕ} (k : ℕ) → n ≡ place + k → output_at (work.whole x) n ≡ get_or (outputs x) k []
-  output_is x {n} k there = grind (arith, common_steps, past_empty)
+  output_is x k there = grind (arith, common_steps, past_empty)
 
   filled : (x : List ℕ) (at : Spot) → at.offset < length (output_at (work.whole x) at.place)
       → (i : ℕ) × (i < length x) × GoesTo at (spots_of x i)
@@ -244,7 +244,7 @@ files_at (file ∷ low) (whole ∷ high) zero begins less = begins.4
 files_at (file ∷ low) (whole ∷ high) (suc place) begins less = files_at low high place begins.5 (omega arith)
 
 outputs_fewer : {low high : Part} → Begins low high → length (outputs_of low) ≤ length (outputs_of high)
-outputs_fewer {low} {high} begins = grind (arith, common_steps, no_fewer, length-map)
+outputs_fewer begins = grind (arith, common_steps, no_fewer, length-map)
 
 begins_at : {low high : Part} (place : ℕ) → Begins low high → place < length (outputs_of low)
     → IsBeginning (output_at low place) (output_at high place)

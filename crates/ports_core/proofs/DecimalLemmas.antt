@@ -22,7 +22,7 @@ zeros zero = refl
 zeros (suc width) = grind (arith, common_steps, zeros width)
 
 front_digits : (width : ℕ) {n : ℕ} → n < 10 ^ suc width → n / 10 < 10 ^ width
-front_digits width {n} small = grind (arith, common_steps)
+front_digits width small = grind (arith, common_steps)
 
 last_digit : (width : ℕ) {n : ℕ} → n < 10 ^ suc width
     → written Digits (suc width) n ≡ written Digits width (n / 10) ++ (48 + n % 10) ∷ []

@@ -74,28 +74,28 @@ unmade_count {draft = draft} none writes = writes.made ∙ unmade_shares draft n
 -- its name
 due_name : {manner : Manner} {writer : WriterState} {draft : Draft} → made_of draft.opening draft.bytes ≡ []
     → Writes manner writer draft → next_name writer.names ≡ name_after manner draft
-due_name {manner} {writer} {draft} none writes = grind (arith, common_steps, unmade_count)
+due_name none writes = grind (arith, common_steps, unmade_count)
 
 -- whether it has one
 due_has : {manner : Manner} {writer : WriterState} {draft : Draft} → writer.names.drawn < 2 ^ 64
     → made_of draft.opening draft.bytes ≡ [] → Writes manner writer draft
     → has_next writer.names ≡ manner.has_name (length draft.ended)
-due_has {manner} {writer} {draft} few none writes = grind (arith, common_steps, unmade_count)
+due_has few none writes = grind (arith, common_steps, unmade_count)
 
 -- all files up to it have names then
 due_named : {manner : Manner} {writer : WriterState} {draft : Draft} (next : Draft) → writer.names.drawn < 2 ^ 64
     → Unwritten draft next → Writes manner writer draft → IsTrue (has_next writer.names)
     → AreNamed manner (suc (length next.ended))
-due_named {manner} {writer} {draft} next few so writes has =
+due_named next few so writes has =
     grind (arith, common_steps, cases_lt, unmade_shares, due_has)
 
 made_size : {writer next : WriterState} {slot : ℕ} {old new : List Slot} → Made writer old new next slot
     → length new ≡ length old + 1
-made_size {writer} {old = old} made = grind (arith, common_steps, length-append)
+made_size made = grind (arith, common_steps, length-append)
 
 made_ready : {writer next : WriterState} {slot : ℕ} {old new : List Slot} → IsReady writer old
     → Made writer old new next slot → IsReady next new
-made_ready {writer} {next} {slot} {old} {new} ready made = record {
+made_ready ready made = record {
   streams = grind (arith, common_steps, made_size);
   output = grind (arith, common_steps, can_tell, writable_before);
   files = (owned_opened ready.streams made).there ready.files;
@@ -104,7 +104,7 @@ made_ready {writer} {next} {slot} {old} {new} ready made = record {
 
 made_leaves : {writer next : WriterState} {slot : ℕ} {old new : List Slot} → IsReady writer old
     → Made writer old new next slot → Leaves writer next old new None
-made_leaves {writer} {next} {slot} {old} {new} ready made = record {
+made_leaves {old = old} {new = new} ready made = record {
   naming = grind (arith, common_steps);
   tells = ap (λ (w : WriterState). w.tells) made.same;
   keeps = ap (λ (w : WriterState). w.keeps) made.same;
@@ -275,7 +275,7 @@ pub begins_none : {told : Bool} {writer : WriterState} {opening : Opening} (curr
     → made_of opening [] ≡ [] → IsCurrent writer.tells opening [] current → IsOpenAt current slots
     → ((first : ℕ) → IsLast current first slots) → IsReady writer slots
     → Goes told writer (with_next opening) slots slots (record writer { current = current }) None
-begins_none {opening = opening} current before none is_current at last ready =
+begins_none current before none is_current at last ready =
     grind (arith, common_steps, goes_still, ended_none)
 
 pub begin_none : {told : Bool} {writer : WriterState} {opening : Opening} (current : Current) {slots : List Slot}
@@ -287,7 +287,7 @@ begin_none current none is_current at last ready = grind (arith, common_steps, b
 -- what has one at once is begun
 pub at_once : {opening : Opening} → opening ≡ AtOnce → (draft : Draft) → draft.opening ≡ Never
     → Unwritten draft (with_next opening draft)
-at_once {opening} is draft never = record {
+at_once is draft never = record {
   same = ended_none draft (never_made draft never);
   none = never_made draft never;
   makes = ap (λ those. made_of those []) is;
@@ -307,7 +307,7 @@ counts_none Openings = omega arith
 pub begin_made : {told : Bool} {writer next : WriterState} {opening : Opening} {slot : ℕ} {old new : List Slot}
     → opening ≡ AtOnce → IsReady writer old → Made writer (told_next told writer.tells writer.names old) new next slot
     → Goes told (paused writer) (with_next opening) old new next None
-begin_made {told} {writer} {next} {opening} {slot} {old} {new} is ready made =
+begin_made {told} {next = next} {slot = slot} is ready made =
     goes_made [] (λ draft never. (at_once is draft never, refl)) (paused_ready ready) (record { few = made.few; named = made.named; place = made.place; added = made.added; same = made.same })
     (record { same = refl; current = (0, ap (λ (w : WriterState). w.current) made.same, counts_none next.tells); still = tt; wrote = none_written told slot })
 
@@ -318,13 +318,13 @@ pub end_none : {told : Bool} {writer : WriterState} {current : Current} {slots :
     → ((draft : Draft) → IsCurrent writer.tells draft.opening draft.bytes writer.current
     → made_of draft.opening draft.bytes ≡ []) → IsReady writer slots
     → Goes told writer (with_next Never) slots slots (record writer { current = current }) None
-end_none {writer = writer} {current} {slots} is none ready = grind (arith, common_steps, begins_none)
+end_none is none ready = grind (arith, common_steps, begins_none)
 
 -- it has one
 
 file_ends : {manner : Manner} {writer : WriterState} {draft : Draft} (slot size : ℕ) → writer.current ≡ File slot size
     → Writes manner writer draft → Writes manner (paused writer) (with_next Never draft)
-file_ends {manner} {writer} {draft} slot size is writes =
+file_ends {manner} {draft = draft} slot size is writes =
     let makes = (now_is is writes).0 in
     let count : length (shares_of draft) ≡ length (shares_of (with_next Never draft)) = made_count draft makes
     ∙ sym (length-append (map (share state.Closed) (draft.ended ++ made_of draft.opening draft.bytes)) [] ∙ (grind (arith, common_steps, length-map, length-append, makes))) in record {
@@ -345,7 +345,7 @@ closed_can slot old new two closed can = writable_elsewhere old new 0 slot close
 
 closed_leaves : {writer : WriterState} (slot size : ℕ) {old new : List Slot} → writer.current ≡ File slot size
     → IsReady writer old → new ≡ changed_at slot closes old → Leaves writer (paused writer) old new None
-closed_leaves {writer} slot size {old} {new} is ready closed =
+closed_leaves slot size {old} {new} is ready closed =
     let at = at_file is ready in
     let made = made_close slot old new at.1 closed in record {
       naming = refl;

@@ -107,18 +107,18 @@ reaches_by {output} {told} {low} {high} {old} {new} {fault} {writer} {next} keep
 pub reaches_as : {output : Output} {told : Bool} {low low' high high' : Part} {old new : List Slot}
     {fault : Option Fault} {writer next : WriterState} → low ≡ low' → high ≡ high'
     → Reaches output told writer next low' high' old new fault → Reaches output told writer next low high old new fault
-reaches_as {output} {told} {low} {high' = high'} {old} {new} {fault} is_low is_high reaches = grind (arith, common_steps)
+reaches_as is_low is_high reaches = grind (arith, common_steps)
 
 pub reaches_still : {output : Output} {told : Bool} {low high : Part} {slots : List Slot} {writer next : WriterState}
     → KeepsFiles writer next slots slots → low ≡ high → Reaches output told writer next low high slots slots None
-reaches_still {told = told} {slots = slots} {next = next} keeps is = grind (arith, common_steps)
+reaches_still keeps is = grind (arith, common_steps)
 
 -- want of memory leaves the outputs as they are
 
 pub in_turn : {output : Output} {told : Bool} {part : Part} (place : ℕ) {slots : List Slot} {writer next : WriterState}
     → InTurn part.files place → LinesTo output part part place Memory
     → Reaches output told writer next part part slots slots (Some Memory)
-in_turn {part = part} place {slots} turn lines = search (rules, part_begins_itself)
+in_turn place turn lines = search (rules, part_begins_itself)
 
 pub made_count : (draft : Draft) → made_of draft.opening draft.bytes ≡ draft.bytes ∷ []
     → length (shares_of draft) ≡ length draft.ended + 1
@@ -133,7 +133,7 @@ pub lacks_memory : {told : Bool} (manner : Manner) (draft : Draft) {slots : List
     → AreNamed manner (length (shares_of draft))
     → Reaches manner.output told writer next (draft_part manner draft) (draft_part manner draft) slots slots
     (Some Memory)
-lacks_memory {told} manner draft named = elim (made_or draft.opening draft.bytes) [
+lacks_memory manner draft named = elim (made_or draft.opening draft.bytes) [
   | inl none ↦
       let is = none_part manner draft none in
       reaches_as is is (in_turn (length (ended_files manner draft)) (turn_next (ended_files manner draft) (closed_files manner 0 draft.ended)) (lines_all manner.output (ended_files manner draft) _ Memory tt))
@@ -187,7 +187,7 @@ same_manner leaves = cc (leaves.naming, leaves.tells)
 
 pub leaves_again : {one two three : WriterState} {old mid new : List Slot} {fault : Option Fault}
     → Leaves one two old mid None → Leaves two three mid new fault → Leaves one three old new fault
-leaves_again {old = old} {mid} {new} {fault} first second =
+leaves_again first second =
     grind (arith, common_steps, owns_again, slots_again, same_manner, where_well)
 
 pub keeps_files : {writer : WriterState} {slots : List Slot} → KeepsFiles writer writer slots slots
@@ -232,7 +232,7 @@ there_same files {old} {new} keeps are = there_still files old new keeps.same ar
 pub owned_same : {writer next : WriterState} {old new : List Slot} → next.files ≡ writer.files
     → next.keeps ≡ writer.keeps → ((first : ℕ) → IsLast writer.current first old → IsLast next.current first new)
     → KeepsMade old new → KeepsFiles writer next old new
-owned_same {writer} {old = old} {new} same keeps_as last keeps = search (rules, there_same)
+owned_same same keeps_as last keeps = search (rules, there_same)
 
 -- one file more
 
@@ -245,34 +245,34 @@ among_more place slot files = or_push (is_among place) (eqb place) refl (λ one 
 there_more : (files : List ℕ) (slots : List Slot) (name : List ℕ) {slot : ℕ} → slot ≡ length slots → 2 ≤ length slots
     → AreThere files slots → AreThere (files ++ slot ∷ []) (slots ++ opened name Fresh ∷ [])
 there_more [] slots name at two are = grind (arith, common_steps)
-there_more (place ∷ files) slots name {slot} at two are =
+there_more (place ∷ files) slots name at two are =
     grind (arith, common_steps, file_before, among_more, ne_eqb, there_more files slots name)
 
 there_before : (files : List ℕ) (old : List Slot) (one : Slot) {new : List Slot} → new ≡ old ++ one ∷ []
     → AreThere files old → AreThere files new
 there_before [] old one added are = tt
-there_before (place ∷ files) old one {new} added are =
+there_before (place ∷ files) old one added are =
     grind (arith, common_steps, file_before, there_before files old one added are.2)
 
 opened_by : (keeps : Keeps) {writer : WriterState} {slot : ℕ} {old new : List Slot} (name : List ℕ) {names : Names}
     → 2 ≤ length old → writer.keeps ≡ keeps → slot ≡ length old → new ≡ old ++ opened name Fresh ∷ []
     → KeepsFiles writer
     (record writer { names = names; files = files_with keeps writer.files slot; current = File slot 0 }) old new
-opened_by OpenOne {writer} {slot} {old} {new} name two is at added =
+opened_by OpenOne name two is at added =
     grind (arith, common_steps, length-append, there_before)
-opened_by All {writer} {slot} {old} {new} name two is at added = grind (arith, common_steps, by_place, or-false, among_more, there_more, cases_lt, none_past, file_before, at_end, eq-eqb, false≢true)
+opened_by All name two is at added = grind (arith, common_steps, by_place, or-false, among_more, there_more, cases_lt, none_past, file_before, at_end, eq-eqb, false≢true)
 
 pub owned_opened : {writer next : WriterState} {slot : ℕ} {old new : List Slot} → 2 ≤ length old
     → Made writer old new next slot → KeepsFiles writer next old new
-owned_opened {writer} {old = old} {new} two made = grind (arith, common_steps, opened_by)
+owned_opened two made = grind (arith, common_steps, opened_by)
 
 unmade_keeps : {told : Bool} {tells : Tells} {names next : Names} {old new : List Slot} {f : Fault}
     → OpensNone told tells names next old new f → KeepsFiled old new
 unmade_keeps (no_memory same) = rw same (record { same = λ place. refl; within = omega arith })
 unmade_keeps {told} {old = old} (no_line n few has cut) = filed_same (made_short told 0 _ old _ _ (short.broke n cut))
-unmade_keeps {told} {tells} {names} {old = old} (no_file slot kept why number few has drew is added) =
+unmade_keeps (no_file slot kept why number few has drew is added) =
     grind (arith, common_steps, filed_more, made_write)
-unmade_keeps {told} {tells} {names} {old = old} (no_number few has same) =
+unmade_keeps (no_number few has same) =
     grind (arith, common_steps, filed_same, made_write)
 unmade_keeps (no_name few none same) = rw same (record { same = λ place. refl; within = omega arith })
 
@@ -298,14 +298,14 @@ line_rose : (told : Bool) (tells : Tells) (names : Names) (n : ℕ) {old new : L
     → BrokeAfter told old new 0 (line_next tells names) n → (writes (output_of tells) ≡ true) × Rose 0 old new
 line_rose told Nothing names n can cut = absurd (omega arith)
 line_rose told Sizes names n can cut = absurd (omega arith)
-line_rose told Openings names n {old} {new} can cut = grind (arith, common_steps, write_rose)
+line_rose told Openings names n can cut = grind (arith, common_steps, write_rose)
 
 pub make_breaks : (told : Bool) (tells : Tells) {names next : Names} {old new : List Slot} {f : Fault}
     → CanTell tells old → OpensNone told tells names next old new f
     → Breaks (manner_by names.naming (output_of tells)) old new f
 make_breaks told tells can (no_memory same) = tt
-make_breaks told tells {names} can (no_line n few has cut) = grind (arith, common_steps, line_rose)
-make_breaks told tells {names} {old = old} {new} can (no_file slot kept why number few has drew is added) =
+make_breaks told tells can (no_line n few has cut) = grind (arith, common_steps, line_rose)
+make_breaks told tells can (no_file slot kept why number few has drew is added) =
     grind (arith, common_steps, length-changed_at, rose_later, keeps_write, open_rose)
 make_breaks told tells can (no_number few has same) = tt
 make_breaks told tells {names} can (no_name few none same) = (names.drawn, few, none)
@@ -313,7 +313,7 @@ make_breaks told tells {names} can (no_name few none same) = (names.drawn, few, 
 pub line_breaks : (told : Bool) (naming : Naming) (line : List ℕ) {old new : List Slot} {f : Fault}
     → IsTrue (is_writable old 0) → WritesShort told 0 line old new f
     → Breaks (manner_by naming (output_of Sizes)) old new f
-line_breaks told naming line {old} {new} can (short.broke n cut) = grind (arith, common_steps)
+line_breaks told naming line can (short.broke n cut) = grind (arith, common_steps)
 
 -- The line with a file's size.
 
@@ -326,13 +326,13 @@ one_left n all less = absurd (omega arith)
 pub line_is : (size all : ℕ) {digits : List ℕ} (copied : List ℕ) → copied ≡ digits → digits ≡ decimal size
     → length digits < all
     → take (length digits + 1) (copied ++ drop (length digits) (replicate all 10)) ≡ decimal size ++ 10 ∷ []
-line_is size all {digits} copied same is fits = search (rules, take-append-add, one_left)
+line_is size all copied same is fits = search (rules, take-append-add, one_left)
 
 -- What is begun
 
 pub now_is : {manner : Manner} {writer : WriterState} {draft : Draft} {current : Current} → writer.current ≡ current
     → Writes manner writer draft → IsCurrent writer.tells draft.opening draft.bytes current
-now_is {writer = writer} {draft} is writes = grind (arith, common_steps)
+now_is is writes = grind (arith, common_steps)
 
 -- all its files have names, the open one too
 pub file_named : {manner : Manner} {writer : WriterState} {draft : Draft}
@@ -349,18 +349,18 @@ pub goes_still : {told : Bool} {writer : WriterState} {change : Draft → Draft}
     → (shares_of draft ≡ shares_of (change draft))
     × IsCurrent writer.tells (change draft).opening (change draft).bytes current)
     → Goes told writer change slots slots (record writer { current = current }) None
-goes_still {writer = writer} {change} current {slots} ready at last stays = grind (arith, common_steps, reaches_still) where
+goes_still {writer = writer} current {slots} ready at last stays = grind (arith, common_steps, reaches_still) where
   keeps : KeepsFiles writer (record writer { current = current }) slots slots
   keeps = grind (arith, common_steps)
 
 pub put_skipped : {told : Bool} {writer : WriterState} (bytes : List ℕ) {slots : List Slot} → writer.current ≡ Skipped
     → IsReady writer slots → Goes told writer (with_bytes bytes) slots slots writer None
-put_skipped {writer = writer} bytes is ready = grind (arith, common_steps, goes_still)
+put_skipped bytes is ready = grind (arith, common_steps, goes_still)
 
 -- nothing more is written
 pub put_nothing : {told : Bool} {writer : WriterState} {bytes : List ℕ} {slots : List Slot} → bytes ≡ []
     → IsReady writer slots → Goes told writer (with_bytes bytes) slots slots writer None
-put_nothing {writer = writer} {bytes} none ready = grind (arith, common_steps, goes_still, append-nil)
+put_nothing none ready = grind (arith, common_steps, goes_still, append-nil)
 
 -- The open file gets more bytes, or breaks.
 

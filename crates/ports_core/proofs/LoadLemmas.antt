@@ -46,7 +46,7 @@ looked_once {slot = slot} {size} {old} {new} can few is = record { size = size; 
 -- more of them
 pub looked_again : {least most slot : ℕ} {old mid new : List Source} → HasLooked most slot old mid
     → HasLooked least slot mid new → least ≤ most → HasLooked most slot old new
-looked_again {slot = slot} {old} {mid} {new} first next few = record {
+looked_again first next few = record {
   size = max first.size next.size;
   within = omega arith;
   looked = grind (arith, common_steps);
@@ -61,7 +61,7 @@ looked_readable looked can = grind (arith, common_steps)
 -- where none is passed over, what holds of nothing holds
 pub passes_none : (told : Bool) {slot : ℕ} (Keeps : List ℕ → Type 0) {sources : List Source} → Keeps []
     → PassesOver told slot 0 Keeps sources sources
-passes_none told {slot} Keeps {sources} keeps = grind (arith, common_steps, none_passed)
+passes_none told Keeps keeps = grind (arith, common_steps, none_passed)
 
 -- a front of the bytes that are left was passed over
 passes_front : (told : Bool) {slot count : ℕ} {old new : List Source} → IsTrue (is_readable old slot)
@@ -100,7 +100,7 @@ pub passes_by : {told : Bool} {slot : ℕ} {Keeps : List ℕ → Type 0} {old ne
     {is : Bool} → done ≡ is
     → PassesOver told slot (if done then count else 0) Keeps old new
     → PassesOver told slot (if is then count else 0) Keeps old new
-passes_by {told} {slot} {Keeps} {old} {new} count done is passes = grind (arith, common_steps)
+passes_by count done is passes = grind (arith, common_steps)
 
 -- what holds of the bytes that were passed over
 pub passes_so : {told : Bool} {slot count : ℕ} {Before : List ℕ → Type 0} (Keeps : List ℕ → Type 0)
@@ -124,4 +124,4 @@ module _ {S : Type 0} (terms : Terms S) where
   pub loads_still : {told : Bool} {slot : ℕ} {Before : List ℕ → Type 0} {stage : S} {old new : List Source}
       → terms.Holds stage []
       → terms.size stage ≡ 0 → PassesOver told slot 0 Before old new → Loads terms told slot 0 stage stage old new
-  loads_still {stage = stage} fresh none passes = grind (arith, common_steps, passes_so, took_none)
+  loads_still fresh none passes = grind (arith, common_steps, passes_so, took_none)

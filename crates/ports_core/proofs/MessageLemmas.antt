@@ -19,7 +19,7 @@ use Rattle.ports_core.specs.{
 pub prints_on : (told : Bool) {text : List ℕ} {old new : List Slot} (result : Result (Unit {0}) WriteCut)
     → (slot_at old 1).is_broken ≡ false → OnOk result (new ≡ with_written 1 (told_of told text) old)
     → IfErr result (λ at. BrokeAfter told old new 1 text at.written) → PrintsOn told text old new
-prints_on told {text} (Ok u) sound out broke output error since is = grind (arith, common_steps)
+prints_on told (Ok u) sound out broke output error since is = grind (arith, common_steps)
 prints_on told {text} (Err at) sound out broke output error since is =
     let (why, slots) = broke.slots in
     let part = told_of told (take at.written text) in

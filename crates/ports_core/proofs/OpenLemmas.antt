@@ -2,7 +2,7 @@
 use Rattle.std.proofs.{
   Common.{◌≡◌, ℕ, ◌<◌, ◌^◌, Bool, List, [], ◌∷◌, ◌++◌, ◌⊎◌, length, take, drop, None, Some, inl, inr, refl, sym, subst},
   Common.{ap, ◌∙◌, IsTrue, arith, append_assoc},
-  lemmas.List.{append-nil, take-append-drop},
+  lemmas.{Grind.common_steps, List.{append-nil, take-append-drop}},
 }
 use Rattle.ports_core.specs.{
   Names.{next_name, has_next, with_one_drawn, told_next, line_next, OpensNone, no_memory, no_line, no_file, no_number},
@@ -47,7 +47,7 @@ untold told tells names old new named few has (inr (short.broke n cut)) = no_lin
 pub told_so : (told : Bool) (tells : Tells) (names : Names) {name : List ℕ} (old mid : List Slot)
     → name ≡ next_name names → TellsOpening told (told_before (output_of tells) name) old mid None
     → mid ≡ told_next told tells names old
-told_so told tells names old mid named tells_it = tells_it ∙ ap (λ name. with_written 0 (told_of told (told_before (output_of tells) name)) old) named
+told_so told tells names old mid named tells_it = grind (arith, common_steps)
 
 -- the name that is due
 abbrev pub IsNextName : Names → List ℕ → Type 0

@@ -220,7 +220,7 @@ no_fewer (file ∷ low) (whole ∷ part) begins = omega (arith, no_fewer low par
 -- in turn is in order
 pub in_order : {low part high : List File} {place : ℕ} → FilesBegin low part → FilesBegin part high → InTurn part place
     → InOrder low part high place
-in_order {low} {part} {high} {place} above below turn = grind (arith, common_steps, done_by, drop_all, no_fewer)
+in_order above below turn = grind (arith, common_steps, done_by, drop_all, no_fewer)
 
 pub openings-append : (line : List ℕ → List ℕ) (some more : List File)
     → openings_for line (some ++ more) ≡ openings_for line some ++ openings_for line more

@@ -151,7 +151,7 @@ file_stays change place other slots same = refl
 made_change : (change : Slot → Slot) (slot : ℕ) {old new : List Slot}
     → has_file (change (slot_at old slot)).state ≡ has_file (slot_at old slot).state → new ≡ changed_at slot change old
     → KeepsMade old new
-made_change change slot {old} same is = grind (arith, common_steps, length-changed_at, file_stays)
+made_change change slot same is = grind (arith, common_steps, length-changed_at, file_stays)
 
 pub made_write : (slot : ℕ) (bytes : List ℕ) (old new : List Slot) → new ≡ with_written slot bytes old
     → KeepsMade old new
@@ -178,7 +178,7 @@ filed_same made = record { same = made.same; within = omega arith }
 
 pub filed_more : {old mid new : List Slot} (why : Reason) (kept : List ℕ) → KeepsMade old mid
     → new ≡ mid ++ unopened why kept ∷ [] → KeepsFiled old new
-filed_more {old} {mid} {new} why kept made added = record {
+filed_more {mid = mid} why kept made added = record {
   same = grind (arith, common_steps);
   within = grind (arith, common_steps, length-append);
 } where

@@ -17,11 +17,11 @@ use Rattle.ports_core.specs.declared.fault.Fault.TheVariants as fault
 -- Among others
 
 differs : {place : ℕ} (one : ℕ) → eqb place one ≡ false → place ≡ one → ⊥
-differs {place} one is same = grind (arith, common_steps)
+differs one is same = grind (arith, common_steps)
 
 -- a place, and whether it is the first of these
 pub by_place : {A : Type 0} (place one : ℕ) → (place ≡ one → A) → (eqb place one ≡ false → A) → A
-by_place {A = A} place one same other = grind (arith, common_steps)
+by_place place one same other = grind (arith, common_steps)
 
 -- What a change of one slot leaves
 
@@ -60,7 +60,7 @@ kept_has : {one : ℕ} {change : Slot → Slot} {kept : List ℕ} (left : List �
     → is_among one left ≡ false
     → has_file (change slot).state ≡ is_among one (kept ++ left)
 kept_has left slot goes apart = sym apart
-kept_has {one} left slot (stays why) apart = grind (arith, common_steps, eq-eqb)
+kept_has left slot (stays why) apart = grind (arith, common_steps, eq-eqb)
 
 kept_apart : {one : ℕ} {change : Slot → Slot} {kept : List ℕ} (left : List ℕ) (place : ℕ) → Tries one change kept
     → eqb place one ≡ false

@@ -33,7 +33,7 @@ pub goes_again : {told : Bool} {one two three : WriterState} {first second : Dra
     → ((manner : Manner) (draft : Draft) → Begins (draft_part manner draft) (draft_part manner (first draft)))
     → Goes told one first old mid two None → Goes told two second mid new three fault
     → Goes told one both old new three fault
-goes_again {told} {three = three} {first} {second} both {new = new} {fault} is begins before after = record {
+goes_again {told} {three = three} {first} both {new = new} {fault} is begins before after = record {
   leaves = leaves_again before.leaves after.leaves;
   reaches = λ manner draft writes. reaches_again (begins manner draft) (before.reaches manner draft writes) (reaches_as refl (ap (draft_part manner) (sym (is draft))) (after.reaches manner (first draft) (before.writes manner draft writes)));
   short = where_short fault after.short (λ short manner draft writes. let ran = short manner (first draft) (before.writes manner draft writes) in record {
@@ -106,7 +106,7 @@ stops_among a b stopped = goes_wider (with_bytes (a ++ b)) (λ manner draft. sub
 
 pub goes_as : {told : Bool} {writer next : WriterState} {a b : List ℕ} {old new : List Slot} {fault : Option Fault}
     → a ≡ b → Goes told writer (with_bytes a) old new next fault → Goes told writer (with_bytes b) old new next fault
-goes_as {told} {writer} {next} {old = old} {new} {fault} is goes = search rules
+goes_as is goes = search rules
 
 -- the last call only wants memory
 pub goes_or_lacks : {told : Bool} {writer next : WriterState} {bytes : List ℕ} {old new : List Slot}
@@ -129,4 +129,4 @@ goes_lacking {bytes = bytes} {fault = fault} ready lacks = stops_among [] bytes 
 
 pub files_left : {writer next : WriterState} {old new : List Slot} → next.keeps ≡ writer.keeps
     → next.current ≡ writer.current → Removes writer.files old next.files new → KeepsFiles writer next old new
-files_left {writer} {next} {old} {new} same_keeps same removes = search (rules, same_size, left_has, left_there, false≢true, left_apart)
+files_left same_keeps same removes = search (rules, same_size, left_has, left_there, false≢true, left_apart)
