@@ -201,7 +201,7 @@ module _ {told : Bool} {writer next : WriterState} {change : Draft → Draft} {o
     ran : OpensNone told writer.tells writer.names next.names old new (Verdict Suffixes)
         → RunsShort told writer change manner draft old new
     ran (no_name few none same) =
-        let lacks : manner.has_name (length (change draft).ended) ≡ false = ap (λ ended. manner.has_name (length ended)) so.same ∙ sym (due_has few so.none writes) ∙ none in record {
+        let lacks : manner.has_name (length (change draft).ended) ≡ false = (grind (arith, common_steps, due_has, none)) in record {
           none = lacks;
           begun = so.makes;
           all = grind (arith, common_steps, same, stopped_part, append-nil);
@@ -235,7 +235,7 @@ goes_made {told} {writer} {made} {next} {change} {slot} bytes {old} {mid} {new} 
       (writes_to manner.output told (ended_files manner draft) (name_after manner draft) [] bytes mid fault (closed_files manner 0 draft.ended) (opened_last _ mid slot (next_name writer.names) Fresh makes.place makes.added) appends.wrote)));
   short = grind (arith, common_steps, never_short);
   writes = where_well fault appends.current (λ current manner draft writes. let (so, are) = of draft writes.current in
-      let count : length (shares_of (change draft)) ≡ length draft.ended + 1 = made_count (change draft) so.makes ∙ ap (λ ended. length ended + 1) so.same in record {
+      let count : length (shares_of (change draft)) ≡ length draft.ended + 1 = (grind (arith, common_steps, made_count)) in record {
         same = grind (arith, common_steps, makes);
         made = grind (arith, common_steps, makes, unmade_count);
         kept = grind (arith, common_steps, makes, files_with, length-append, unmade_shares);
@@ -326,8 +326,7 @@ file_ends : {manner : Manner} {writer : WriterState} {draft : Draft} (slot size 
     → Writes manner writer draft → Writes manner (paused writer) (with_next Never draft)
 file_ends {manner} {draft = draft} slot size is writes =
     let makes = (now_is is writes).0 in
-    let count : length (shares_of draft) ≡ length (shares_of (with_next Never draft)) = made_count draft makes
-    ∙ sym (length-append (map (share state.Closed) (draft.ended ++ made_of draft.opening draft.bytes)) [] ∙ (grind (arith, common_steps, length-map, length-append, makes))) in record {
+    let count : length (shares_of draft) ≡ length (shares_of (with_next Never draft)) = (grind (arith, common_steps, made_count, makes, length-append, length-map)) in record {
       same = writes.same;
       made = writes.made ∙ count;
       kept = λ all. writes.kept all ∙ count;
@@ -411,7 +410,7 @@ told_leaves : (told : Bool) (writer : WriterState) (size : ℕ) {old new : List 
 told_leaves told writer size fault Nothing is ready (well, same) = rw (well, same) (leaves_still ready)
 told_leaves told writer size fault Openings is ready (well, same) = rw (well, same) (leaves_still ready)
 told_leaves told writer size {old} {new} fault Sizes is ready wrote =
-    let can : IsTrue (is_writable old 0) = subst (λ tells. CanTell tells old) is ready.output in
+    let can : IsTrue (is_writable old 0) = (grind (arith, common_steps, is)) in
     wrote_leaves told 0 (decimal size ++ 10 ∷ []) fault refl (λ first last. tt) (rw is (slots fault can wrote)) (in_any fault tt) ready wrote where
       slots : (fault : Option Fault) → IsTrue (is_writable old 0) → Wrote told 0 (decimal size ++ 10 ∷ []) old new fault
           → KeepsOrBreaks (manner_by writer.names.naming (output_of Sizes)) old new fault

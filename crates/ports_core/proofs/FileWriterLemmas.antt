@@ -127,7 +127,7 @@ made_count draft makes = grind (arith, common_steps, length-append, length-map)
 -- with an open file, those that ended and this one have names
 named_last : (manner : Manner) (draft : Draft) → AreNamed manner (length (shares_of draft))
     → made_of draft.opening draft.bytes ≡ draft.bytes ∷ [] → AreNamed manner (suc (length draft.ended))
-named_last manner draft named makes place less = named place (omega (arith, made_count draft makes))
+named_last manner draft named makes place less = named place (omega (arith, made_count))
 
 pub lacks_memory : {told : Bool} (manner : Manner) (draft : Draft) {slots : List Slot} {writer next : WriterState}
     → AreNamed manner (length (shares_of draft))
@@ -464,7 +464,7 @@ put_file {told} {writer} {next} {slot} {size} bytes {old} {new} {fault} is ready
       draft.bytes bytes old fault (closed_files manner 0 draft.ended) (last_file writer old is last).1 appends.wrote));
   short = never_short _ told slot bytes old new fault appends.wrote;
   writes = where_well fault appends.current (λ current manner draft writes. let now = now_is is writes in let grown = still_made draft.opening draft.bytes bytes now.0 in
-      let count : length (shares_of draft) ≡ length (shares_of (with_bytes bytes draft)) = made_count draft now.0 ∙ sym (made_count (with_bytes bytes draft) grown) in record {
+      let count : length (shares_of draft) ≡ length (shares_of (with_bytes bytes draft)) = (grind (arith, common_steps, made_count)) in record {
         same = subst (IsManner manner) (sym (ap manner_in appends.same)) writes.same;
         made = ap (λ (w : WriterState). w.names.drawn) appends.same ∙ writes.made ∙ count;
         kept = λ all. ap (λ (w : WriterState). length w.files) appends.same ∙ writes.kept (sym (ap (λ (w : WriterState). w.keeps) appends.same) ∙ all) ∙ count;

@@ -38,7 +38,7 @@ least_up_to alphabet number (suc bound) count small =
     (λ more. elim (cases_lt bound count) [
       | inl less ↦ less
       | inr reached ↦
-          let some : 0 < radix alphabet = omega (arith, many_characters alphabet) in
+          let some : 0 < radix alphabet = omega (arith, many_characters) in
           absurd (omega (arith, ltb-false _ _ more, pow-le-pow_right some reached))
     ])
 
@@ -59,7 +59,7 @@ digits_needed alphabet number count small = grind (arith, common_steps, least_up
 pub counted : (alphabet : Alphabet) {number log count : ℕ} → radix alphabet ^ log ≤ number
     → number < radix alphabet * radix alphabet ^ log → count ≡ suc log → count ≡ digit_count alphabet number
 counted alphabet {number} {log} least most is =
-    let some : 0 < radix alphabet = omega (arith, many_characters alphabet) in
+    let some : 0 < radix alphabet = omega (arith, many_characters) in
     let few : digit_count alphabet number ≤ suc log = digits_needed alphabet number (suc log) (rw (pow-succ' (radix alphabet) log) most) in
     elim (cases_lt log (digit_count alphabet number)) [
       | inl less ↦ omega arith
@@ -134,7 +134,7 @@ written_value alphabet digits (suc width) number front small =
     let rest = written_value alphabet digits width (number % p) (front * r + digit_value (character alphabet top)) (mod-lt number (power_positive alphabet width)) in
     ap (λ shown. digits_value_after r front (cond shown (character alphabet top ∷ filter is_shown (written alphabet width (number % p))) (filter is_shown (written alphabet width (number % p))))) digit.0
     ∙ rest ∙ ap (λ value. (front * r + value) * p + number % p) digit.1
-    ∙ omega (arith, add-mul (front * r) top p, mul_assoc front r p, ap (λ n. front * n) (pow-succ' r width), div-add-mod' number p)
+    ∙ omega (arith, add-mul, mul_assoc, ap (λ n. front * n) (pow-succ' r width), div-add-mod')
 
 mark_value : (base : Base) (is_marked : Bool) (text : List ℕ)
     → value_in base (cond is_marked (hex_mark base) [] ++ text) ≡ value_in base text

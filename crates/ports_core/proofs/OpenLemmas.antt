@@ -75,7 +75,7 @@ stops_opening {told} {tells} {names} {old = old} some (no_line n few has cut) = 
   wrote = refl;
   begins = inr ((few, has, refl), begins);
   due = λ line is. inr (refl, (next_name names, (few, has, refl), subst (IsBeginning (take n (line_next tells names))) is begins));
-  marks = (omega (arith, length-changed_at 0 (adds (told_of told (take n (line_next tells names)))) old), cut.slots);
+  marks = (omega (arith, length-changed_at), cut.slots);
   at = λ first place. inl refl;
 } where
   begins : IsBeginning (take n (line_next tells names)) (line_next tells names)
