@@ -2,16 +2,16 @@
 use Rattle.std.proofs.{
   lemmas.{Grind.common_steps, Bool.cases_lt, List.length-map},
   Common.{◌≡◌, ℕ, ◌+◌, ◌<◌, ◌≤◌, ◌^◌, suc, eqb, Bool, false, IsTrue, List, [], ◌∷◌, ◌++◌, length, map, decimal, Option},
-  Common.{Some, None, IfSome, Result, Ok, Err, IfErr, inl, inr, refl, sym, ◌∙◌, ap, subst, arith, rules, append-nil},
+  Common.{Some, None, IfSome, Result, Ok, Err, IfErr, refl, sym, ◌∙◌, ap, subst, arith, rules, append-nil},
   Common.{append_assoc, length-append},
 }
 use Rattle.ports_core.specs.{
   Draft.{Manner, AreNamed, Draft, share, files_from, told_before, told_of_files, part_with, part_of, opening_line},
   Draft.{size_of_file, output_of, made_of, shares_of, draft_part, with_bytes, with_next, manner_by},
-  FileWriter.{WriterState, Writes, IsCounted, IsCurrent, IsLast, IsOpenAt, IsReady, IsManner, IsWrite, CanTell},
-  FileWriter.{RunsShort, manner_in, KeepsFiles, KeepsOrBreaks, Leaves, Goes, paused},
+  FileWriter.{WriterState, Writes, IsCounted, IsCurrent, IsLast, IsOpenAt, IsReady, IsWrite, CanTell},
+  FileWriter.{RunsShort, KeepsFiles, KeepsOrBreaks, Leaves, Goes, paused},
   Names.{next_name, has_next, line_next, told_next, OpensNone, no_name},
-  Part.{File as PartFile, OutputsAt, Begins, IsBeginning, Output, gets_none, gets_bytes, gets_lines, gets_openings},
+  Part.{File as PartFile, Begins, IsBeginning, Output, gets_none, gets_bytes, gets_lines, gets_openings},
   Part.{lines_for, writes},
   Slot.{SlotBreaks, Slot, with_written, told_of, changed_at, opened, closes, is_writable},
   inner.{FileWriter.{MakesNone, Made, Appends, TellsSize, CountsOn, files_with}, Write.Wrote},
@@ -19,7 +19,6 @@ use Rattle.ports_core.specs.{
   declared.fault.Fault.{Fault, TheVariants.Verdict},
   declared.verdict.Verdict.TheVariants.Suffixes,
   declared.file_writer.Current.{Current, TheVariants.{File, Unopened, Skipped, Due}},
-  declared.file_writer.Keeps.TheVariants.All,
   declared.file_writer.Opening.{Opening, TheVariants.{Never, AtOnce}},
   declared.file_writer.Tells.{Tells, TheVariants.{Nothing, Sizes, Openings}},
   declared.slot.Mode.TheVariants.Fresh,
@@ -201,7 +200,7 @@ module _ {told : Bool} {writer next : WriterState} {change : Draft → Draft} {o
     ran : OpensNone told writer.tells writer.names next.names old new (Verdict Suffixes)
         → RunsShort told writer change manner draft old new
     ran (no_name few none same) =
-        let lacks : manner.has_name (length (change draft).ended) ≡ false = (grind (arith, common_steps, due_has, none)) in record {
+        let lacks : manner.has_name (length (change draft).ended) ≡ false = grind (arith, common_steps, due_has, none) in record {
           none = lacks;
           begun = so.makes;
           all = grind (arith, common_steps, same, stopped_part, append-nil);
@@ -235,7 +234,7 @@ goes_made {told} {writer} {made} {next} {change} {slot} bytes {old} {mid} {new} 
       (writes_to manner.output told (ended_files manner draft) (name_after manner draft) [] bytes mid fault (closed_files manner 0 draft.ended) (opened_last _ mid slot (next_name writer.names) Fresh makes.place makes.added) appends.wrote)));
   short = grind (arith, common_steps, never_short);
   writes = where_well fault appends.current (λ current manner draft writes. let (so, are) = of draft writes.current in
-      let count : length (shares_of (change draft)) ≡ length draft.ended + 1 = (grind (arith, common_steps, made_count)) in record {
+      let count : length (shares_of (change draft)) ≡ length draft.ended + 1 = grind (arith, common_steps, made_count) in record {
         same = grind (arith, common_steps, makes);
         made = grind (arith, common_steps, makes, unmade_count);
         kept = grind (arith, common_steps, makes, files_with, length-append, unmade_shares);
@@ -326,7 +325,7 @@ file_ends : {manner : Manner} {writer : WriterState} {draft : Draft} (slot size 
     → Writes manner writer draft → Writes manner (paused writer) (with_next Never draft)
 file_ends {manner} {draft = draft} slot size is writes =
     let makes = (now_is is writes).0 in
-    let count : length (shares_of draft) ≡ length (shares_of (with_next Never draft)) = (grind (arith, common_steps, made_count, makes, length-append, length-map)) in record {
+    let count : length (shares_of draft) ≡ length (shares_of (with_next Never draft)) = grind (arith, common_steps, made_count, makes, length-append, length-map) in record {
       same = writes.same;
       made = writes.made ∙ count;
       kept = λ all. writes.kept all ∙ count;
@@ -410,7 +409,7 @@ told_leaves : (told : Bool) (writer : WriterState) (size : ℕ) {old new : List 
 told_leaves told writer size fault Nothing is ready (well, same) = rw (well, same) (leaves_still ready)
 told_leaves told writer size fault Openings is ready (well, same) = rw (well, same) (leaves_still ready)
 told_leaves told writer size {old} {new} fault Sizes is ready wrote =
-    let can : IsTrue (is_writable old 0) = (grind (arith, common_steps, is)) in
+    let can : IsTrue (is_writable old 0) = grind (arith, common_steps, is) in
     wrote_leaves told 0 (decimal size ++ 10 ∷ []) fault refl (λ first last. tt) (rw is (slots fault can wrote)) (in_any fault tt) ready wrote where
       slots : (fault : Option Fault) → IsTrue (is_writable old 0) → Wrote told 0 (decimal size ++ 10 ∷ []) old new fault
           → KeepsOrBreaks (manner_by writer.names.naming (output_of Sizes)) old new fault

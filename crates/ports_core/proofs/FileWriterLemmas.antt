@@ -1,17 +1,11 @@
 -- What the writer of files does: what it writes, whose the outputs are, and which faults come.
-use Rattle.std.proofs.{
-  lemmas.{Grind.common_steps, Bool.{false≢true, cases_lt}, List.{length-map, take-append-drop, Recursion.or_push}},
-  Common.{◌≡◌, ℕ, ◌+◌, ◌<◌, ◌≤◌, ◌^◌, zero, suc, eqb, eq-eqb, ne_eqb, Bool, true, ◌||◌, IsTrue, List, [], ◌∷◌, ◌++◌},
-  Common.{length, map, take, drop, replicate, decimal, Option, Some, None, IfNone, IfSome, Result, OnOk, IsErrAnd, inl},
-  Common.{inr, refl, sym, ◌∙◌, ap, subst, arith, rules, append-nil, length-append},
-  Math.{Bool.or-false, Seq.{take-append-add, take-append_seam, drop-append_seam}},
-}
+use Rattle.std.proofs.{lemmas.{Grind.common_steps, Bool.{false≢true, cases_lt}, List.{length-map, take-append-drop, Recursion.or_push}}, Common.{◌≡◌, ℕ, ◌+◌, ◌<◌, ◌≤◌, ◌^◌, zero, suc, eqb, eq-eqb, ne_eqb, Bool, true, ◌||◌, IsTrue, List, [], ◌∷◌, ◌++◌}, Common.{length, take, drop, replicate, decimal, Option, Some, None, IfNone, IfSome, Result, OnOk, IsErrAnd, inl}, Common.{inr, refl, sym, ◌∙◌, ap, subst, arith, rules, append-nil, length-append}, Math.{Bool.or-false, Seq.{take-append-add, take-append_seam, drop-append_seam}}}
 use Rattle.ports_core.specs.{
-  Draft.{Manner, AreNamed, Draft, share, part_of, output_of, made_of, shares_of, draft_part, with_bytes, manner_by},
+  Draft.{Manner, AreNamed, Draft, output_of, made_of, shares_of, draft_part, with_bytes, manner_by},
   FileWriter.{WriterState, Writes, CanCount, IsCounted, IsCurrent, IsLast, IsOpenAt, IsReady, IsManner, CanTell},
   FileWriter.{Breaks, manner_in, At, KeepsFiles, KeepsOrBreaks, Leaves, Reaches, Goes},
   Name.Naming,
-  Names.{next_name, line_next, told_next, OpensNone, no_memory, no_line, no_file, no_number, no_name},
+  Names.{line_next, OpensNone, no_memory, no_line, no_file, no_number, no_name},
   Part.{File as PartFile, Part, OutputsAt, Begins, IsBeginning, Output, gets_lines, lines_for, writes},
   Slot.{Slot, with_written, told_of, Rose, has_file, slot_at, opened, is_writable, KeepsBroken},
   Swept.{AreThere, is_among},
@@ -22,7 +16,6 @@ use Rattle.ports_core.specs.{
   declared.verdict.Verdict.TheVariants.Suffixes,
   declared.file_writer.Current.{Current, TheVariants.{File, Unopened, Skipped}},
   declared.file_writer.Keeps.{Keeps, TheVariants.{Open as OpenOne, All}},
-  declared.file_writer.Opening.TheVariants.Never,
   declared.file_writer.Tells.{Tells, TheVariants.{Nothing, Sizes, Openings}},
   declared.names.Names.Names,
   declared.slot.Mode.TheVariants.Fresh,
@@ -464,7 +457,7 @@ put_file {told} {writer} {next} {slot} {size} bytes {old} {new} {fault} is ready
       draft.bytes bytes old fault (closed_files manner 0 draft.ended) (last_file writer old is last).1 appends.wrote));
   short = never_short _ told slot bytes old new fault appends.wrote;
   writes = where_well fault appends.current (λ current manner draft writes. let now = now_is is writes in let grown = still_made draft.opening draft.bytes bytes now.0 in
-      let count : length (shares_of draft) ≡ length (shares_of (with_bytes bytes draft)) = (grind (arith, common_steps, made_count)) in record {
+      let count : length (shares_of draft) ≡ length (shares_of (with_bytes bytes draft)) = grind (arith, common_steps, made_count) in record {
         same = subst (IsManner manner) (sym (ap manner_in appends.same)) writes.same;
         made = ap (λ (w : WriterState). w.names.drawn) appends.same ∙ writes.made ∙ count;
         kept = λ all. ap (λ (w : WriterState). length w.files) appends.same ∙ writes.kept (sym (ap (λ (w : WriterState). w.keeps) appends.same) ∙ all) ∙ count;

@@ -4,7 +4,8 @@ use Rattle.std.proofs.{
   Common.{cond, List, [], ◌∷◌, ◌++◌, length, filter, replicate, inl, inr, refl, sym, ◌∙◌, ap, arith, add-mul},
   Common.{mul_assoc, append-nil, append_assoc, length-append, mul-le-mul, pow-suc, div-add-mod', mod-lt},
   Math.Nat.{pow-le-pow_right, pow-succ', pow-zero},
-  lemmas.{Grind.common_steps, List.Elements.filter-append, Bool.{cases_lt, cond_both, ltb-false, ltb-true, Decides.nat_tests}},
+  lemmas.{Grind.common_steps, List.Elements.filter-append},
+  lemmas.Bool.{cases_lt, cond_both, ltb-false, ltb-true, Decides.nat_tests},
 }
 use Rattle.std.specs.{Str.Parse.{digits_value, digits_value_after}, Char.digit_value}
 use Rattle.ports_core.{

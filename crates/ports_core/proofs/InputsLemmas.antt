@@ -1,14 +1,14 @@
 -- Lemmas on what reads leave of the inputs of a run.
 use Rattle.std.proofs.{
   lemmas.{Grind.common_steps, Bool.{and_parts, false≢true, not-true}},
-  Common.{◌≡◌, ℕ, ◌≤◌, Bool, true, false, IsTrue, List, [], ◌++◌, take, slice_index_or, arith, sym, refl, ◌<◌, ◌∙◌, ap},
+  Common.{◌≡◌, ℕ, ◌≤◌, Bool, true, false, IsTrue, List, [], ◌++◌, take, slice_index_or, arith, ◌<◌},
   Common.{append-nil, take-append-drop},
 }
 use Rattle.ports_core.{
   specs.{
     Inputs.{AsksAtMost, CameFrom, KeepsOthers, OfContent},
     Slot.changed_at,
-    Source.{Content, ReadFails, Source, source_at, is_readable, gives, fails, Gave, BrokeOff, IsFresh},
+    Source.{Content, ReadFails, Source, source_at, is_readable, gives, Gave, BrokeOff, IsFresh},
   },
   proofs.{SlotLemmas.{changed_there, elsewhere, length-changed_at}, SourceLemmas.readable_within},
 }

@@ -1,12 +1,8 @@
 -- Lemmas on what an engine takes in without a read.
 use Rattle.std.proofs.{
-  lemmas.{
-    Grind.common_steps,
-    Bool.false≢true,
-    List.{length-replicate, length-take-le, nil_from_length, take-append-drop},
-  },
-  Common.{◌≡◌, ℕ, ◌<◌, ◌≤◌, ◌^◌, max, zero, suc, not, ◌&&◌, Bool, true, false, IsTrue, List, [], ◌∷◌, length, take},
-  Common.{replicate, if◌then◌else◌, inl, refl, sym, ◌∙◌, ap, subst, arith},
+  lemmas.{Grind.common_steps, Bool.false≢true, List.{length-replicate, length-take-le, take-append-drop}},
+  Common.{◌≡◌, ℕ, ◌<◌, ◌≤◌, ◌^◌, max, zero, suc, Bool, true, false, IsTrue, List, [], ◌∷◌, length, take},
+  Common.{replicate, if◌then◌else◌, refl, sym, ap, arith},
 }
 use Rattle.ports_core.{
   specs.{

@@ -7,7 +7,7 @@ use Rattle.std.proofs.{
 use Rattle.ports_core.specs.{
   Names.{next_name, has_next, with_one_drawn, told_next, line_next, OpensNone, no_memory, no_line, no_file, no_number},
   Names.no_name,
-  Slot.{Slot, FailsToOpen, broke, numberless, unopened, adds, told_of, with_written},
+  Slot.{Slot, FailsToOpen, broke, numberless, unopened, told_of, with_written},
   Part.{File, Part, Begins, IsAt, IsBeginning, IsDueLine, IsNext, Marks, Output},
   Turn.AllClosed,
   Draft.{output_of, part_with, told_before, told_of_files},

@@ -9,7 +9,7 @@ use Rattle.std.proofs.{
   Common.{inl, inr, refl, sym, ◌∙◌, ap, arith, append_assoc, rules},
 }
 use Rattle.ports_core.specs.{
-  Slot.{Slot, is_open, slot_at, is_writable, with_written, with_broken, told_of},
+  Slot.{Slot, slot_at, is_writable, with_written, with_broken, told_of},
   Write.BrokeAfter,
   Part.{File, Part, nothing, only_out, OutputsAt, IsBeginning, FilesBegin, Begins, IsNext, Marks, IsAt, InOrder},
   Part.{StoppedBetween, Output, gets_none, gets_bytes, gets_lines, gets_openings, openings_for, IsDueLine},

@@ -1,15 +1,14 @@
 -- The files of shares, and what standard output is told of them: what begins what, and the last file.
 use Rattle.std.proofs.{
   lemmas.{Grind.common_steps, Bool.cond_both, List.length-map},
-  Common.{◌≡◌, ℕ, ◌+◌, suc, Bool, true, false, cond, List, [], ◌∷◌, ◌++◌, ◌⊎◌, length, map, inl, inr, refl, sym, ◌∙◌},
-  Common.{ap, subst, arith, append_assoc, append-nil, rules},
+  Common.{◌≡◌, ℕ, ◌+◌, suc, Bool, true, false, cond, List, [], ◌∷◌, ◌++◌, ◌⊎◌, length, map, inl, inr, refl},
+  Common.{subst, arith, append_assoc, append-nil, rules},
 }
 use Rattle.ports_core.specs.{
   Draft.{Manner, AreNamed, Share, share, file_at, files_from, told_of_files, told_before, part_with, part_of, made_of},
   Draft.{Draft, shares_of, draft_part, with_bytes, with_next},
   Part.{File, nothing, Begins, FilesBegin, IsBeginning, Output, gets_none, gets_bytes, gets_lines, gets_openings},
   Part.{lines_for, openings_for},
-  Slot.is_open,
   Turn.AllClosed,
   inner.{Part.HasLines, Shares.SharesBegin},
   declared.{

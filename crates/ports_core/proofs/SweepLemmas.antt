@@ -98,7 +98,7 @@ one_tried : {files now next kept : List ℕ} {place left few : ℕ} {old mid : L
 one_tried {files} {now} {next} {kept} {place} {left} {few} {old} {mid} {file} {change} so_far within file_is size fits rest front_is tries =
     let less : place < length files = omega arith in
     let front = sym (drop-cons now place 0 within) ∙ so_far.rest ∙ drop-cons files place 0 less in
-    let same : file ≡ get_or files place 0 = (grind (arith, common_steps)) in
+    let same : file ≡ get_or files place 0 = grind (arith, common_steps) in
     let are = rw (drop-cons files place 0 less ∙ ap (λ one. one ∷ drop (suc place) files) (sym same)) at so_far.are in
     rw (← (let e : suc place ≡ place + 1 = omega arith in e)) (record {
       size = size ∙ so_far.size;

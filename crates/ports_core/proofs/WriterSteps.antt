@@ -1,11 +1,11 @@
 -- What the writer of files does, one change after another, and where one is stopped.
 use Rattle.std.proofs.{
   lemmas.{Grind.common_steps, Bool.false≢true},
-  Common.{◌≡◌, ℕ, Bool, false, List, [], ◌∷◌, ◌++◌, ◌⊎◌, length, map, Option, Some, None, Result, Ok, Err, IfErr, inl},
+  Common.{◌≡◌, ℕ, Bool, false, List, [], ◌∷◌, ◌++◌, ◌⊎◌, length, Option, Some, None, Result, Ok, Err, IfErr, inl},
   Common.{inr, refl, sym, ◌∙◌, ap, subst, arith, rules, append_assoc},
 }
 use Rattle.ports_core.specs.{
-  Draft.{Manner, Draft, share, part_of, made_of, draft_part, with_bytes, with_next},
+  Draft.{Manner, Draft, made_of, draft_part, with_bytes, with_next},
   FileWriter.{WriterState, Writes, IsReady, IsWrite, RunsShort, KeepsFiles, Goes, paused},
   Part.{OutputsAt, Begins},
   Slot.Slot,
@@ -24,8 +24,6 @@ use Rattle.ports_core.proofs.{
   FileWriterLemmas.{where_short, where_well},
 }
 use Rattle.ports_core.specs.declared.fault.Fault.TheVariants as fault
-use Rattle.ports_core.specs.declared.slot.State.TheVariants as state
-
 -- One change after another
 
 pub goes_again : {told : Bool} {one two three : WriterState} {first second : Draft → Draft} (both : Draft → Draft)
@@ -66,7 +64,7 @@ goes_wider {told} {writer} {low = low} high {old} {new} {fault} begins same stop
   by (inl other) is manner draft ran = absurd (other is)
   by (inr grows) is manner draft ran =
       let ended = (grows draft).0 in
-      let none : manner.has_name (length (high draft).ended) ≡ false = (grind (arith, common_steps)) in record {
+      let none : manner.has_name (length (high draft).ended) ≡ false = grind (arith, common_steps) in record {
         none = none;
         begun = (grows draft).1 ran.begun;
         all = grind (arith, common_steps, stopped_part);
