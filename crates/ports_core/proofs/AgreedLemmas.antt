@@ -74,14 +74,16 @@ pub agreed_by : (work : Work) (x few y : List ℕ) (more : List (List ℕ))
     → length (outputs_of (work.whole (x ++ few))) ≡ length (outputs_of (work.settled x))
     → outputs_of (work.whole (x ++ y)) ≡ outputs_of (work.settled x) ++ more → IsAgreed work x (work.settled x)
 agreed_by work x few y more begin few_bytes bytes no_more same = agreed_as few y (λ z can. begin z) few_bytes bytes no_more
-    (λ place less. (let here : output_at (work.whole (x ++ y)) place ≡ output_at (work.settled x) place = grind (arith, common_steps) in
+    (λ place less. (let here : output_at (work.whole (x ++ y)) place ≡ output_at (work.settled x) place =
+    grind (arith, common_steps) in
     omega (arith, ap length here)))
 
 -- the end shows it, where all that came in is settled
 pub agreed_now : (work : Work) (x : List ℕ) → ((z : List ℕ) → Begins (work.settled x) (work.whole (x ++ z)))
     → outputs_of (work.whole x) ≡ outputs_of (work.settled x) → IsAgreed work x (work.settled x)
 agreed_now work x begin same =
-    let here : outputs_of (work.whole (x ++ [])) ≡ outputs_of (work.settled x) = grind (arith, common_steps, append-nil) in
+    let here : outputs_of (work.whole (x ++ [])) ≡ outputs_of (work.settled x) =
+    grind (arith, common_steps, append-nil) in
     agreed_by work x [] [] [] begin none_comes none_comes (ap length here) (here ∙ sym (append-nil (outputs_of (work.settled x))))
 
 -- Spots

@@ -200,7 +200,8 @@ module _ {told : Bool} {writer next : WriterState} {change : Draft → Draft} {o
     ran : OpensNone told writer.tells writer.names next.names old new (Verdict Suffixes)
         → RunsShort told writer change manner draft old new
     ran (no_name few none same) =
-        let lacks : manner.has_name (length (change draft).ended) ≡ false = grind (arith, common_steps, due_has, none) in record {
+        let lacks : manner.has_name (length (change draft).ended) ≡ false =
+        grind (arith, common_steps, due_has, none) in record {
           none = lacks;
           begun = so.makes;
           all = grind (arith, common_steps, same, stopped_part, append-nil);
@@ -234,7 +235,8 @@ goes_made {told} {writer} {made} {next} {change} {slot} bytes {old} {mid} {new} 
       (writes_to manner.output told (ended_files manner draft) (name_after manner draft) [] bytes mid fault (closed_files manner 0 draft.ended) (opened_last _ mid slot (next_name writer.names) Fresh makes.place makes.added) appends.wrote)));
   short = grind (arith, common_steps, never_short);
   writes = where_well fault appends.current (λ current manner draft writes. let (so, are) = of draft writes.current in
-      let count : length (shares_of (change draft)) ≡ length draft.ended + 1 = grind (arith, common_steps, made_count) in record {
+      let count : length (shares_of (change draft)) ≡ length draft.ended + 1 =
+      grind (arith, common_steps, made_count) in record {
         same = grind (arith, common_steps, makes);
         made = grind (arith, common_steps, makes, unmade_count);
         kept = grind (arith, common_steps, makes, files_with, length-append, unmade_shares);
@@ -325,7 +327,8 @@ file_ends : {manner : Manner} {writer : WriterState} {draft : Draft} (slot size 
     → Writes manner writer draft → Writes manner (paused writer) (with_next Never draft)
 file_ends {manner} {draft = draft} slot size is writes =
     let makes = (now_is is writes).0 in
-    let count : length (shares_of draft) ≡ length (shares_of (with_next Never draft)) = grind (arith, common_steps, made_count, makes, length-append, length-map) in record {
+    let count : length (shares_of draft) ≡ length (shares_of (with_next Never draft)) =
+    grind (arith, common_steps, made_count, makes, length-append, length-map) in record {
       same = writes.same;
       made = writes.made ∙ count;
       kept = λ all. writes.kept all ∙ count;

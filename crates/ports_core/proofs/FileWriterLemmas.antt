@@ -1,5 +1,11 @@
 -- What the writer of files does: what it writes, whose the outputs are, and which faults come.
-use Rattle.std.proofs.{lemmas.{Grind.common_steps, Bool.{false≢true, cases_lt}, List.{length-map, take-append-drop, Recursion.or_push}}, Common.{◌≡◌, ℕ, ◌+◌, ◌<◌, ◌≤◌, ◌^◌, zero, suc, eqb, eq-eqb, ne_eqb, Bool, true, ◌||◌, IsTrue, List, [], ◌∷◌, ◌++◌}, Common.{length, take, drop, replicate, decimal, Option, Some, None, IfNone, IfSome, Result, OnOk, IsErrAnd, inl}, Common.{inr, refl, sym, ◌∙◌, ap, subst, arith, rules, append-nil, length-append}, Math.{Bool.or-false, Seq.{take-append-add, take-append_seam, drop-append_seam}}}
+use Rattle.std.proofs.{
+  lemmas.{Grind.common_steps, Bool.{false≢true, cases_lt}, List.{length-map, take-append-drop, Recursion.or_push}},
+  Common.{◌≡◌, ℕ, ◌+◌, ◌<◌, ◌≤◌, ◌^◌, zero, suc, eqb, eq-eqb, ne_eqb, Bool, true, ◌||◌, IsTrue, List, [], ◌∷◌, ◌++◌},
+  Common.{length, take, drop, replicate, decimal, Option, Some, None, IfNone, IfSome, Result, OnOk, IsErrAnd, inl},
+  Common.{inr, refl, sym, ◌∙◌, ap, subst, arith, rules, append-nil, length-append},
+  Math.{Bool.or-false, Seq.{take-append-add, take-append_seam, drop-append_seam}},
+}
 use Rattle.ports_core.specs.{
   Draft.{Manner, AreNamed, Draft, output_of, made_of, shares_of, draft_part, with_bytes, manner_by},
   FileWriter.{WriterState, Writes, CanCount, IsCounted, IsCurrent, IsLast, IsOpenAt, IsReady, IsManner, CanTell},
@@ -253,7 +259,8 @@ opened_by : (keeps : Keeps) {writer : WriterState} {slot : ℕ} {old new : List 
     (record writer { names = names; files = files_with keeps writer.files slot; current = File slot 0 }) old new
 opened_by OpenOne name two is at added =
     grind (arith, common_steps, length-append, there_before)
-opened_by All name two is at added = grind (arith, common_steps, by_place, or-false, among_more, there_more, cases_lt, none_past, file_before, at_end, eq-eqb, false≢true)
+opened_by All name two is at added =
+    grind (arith, common_steps, by_place, or-false, among_more, there_more, cases_lt, none_past, file_before, at_end, eq-eqb, false≢true)
 
 pub owned_opened : {writer next : WriterState} {slot : ℕ} {old new : List Slot} → 2 ≤ length old
     → Made writer old new next slot → KeepsFiles writer next old new
@@ -457,7 +464,8 @@ put_file {told} {writer} {next} {slot} {size} bytes {old} {new} {fault} is ready
       draft.bytes bytes old fault (closed_files manner 0 draft.ended) (last_file writer old is last).1 appends.wrote));
   short = never_short _ told slot bytes old new fault appends.wrote;
   writes = where_well fault appends.current (λ current manner draft writes. let now = now_is is writes in let grown = still_made draft.opening draft.bytes bytes now.0 in
-      let count : length (shares_of draft) ≡ length (shares_of (with_bytes bytes draft)) = grind (arith, common_steps, made_count) in record {
+      let count : length (shares_of draft) ≡ length (shares_of (with_bytes bytes draft)) =
+      grind (arith, common_steps, made_count) in record {
         same = subst (IsManner manner) (sym (ap manner_in appends.same)) writes.same;
         made = ap (λ (w : WriterState). w.names.drawn) appends.same ∙ writes.made ∙ count;
         kept = λ all. ap (λ (w : WriterState). length w.files) appends.same ∙ writes.kept (sym (ap (λ (w : WriterState). w.keeps) appends.same) ∙ all) ∙ count;

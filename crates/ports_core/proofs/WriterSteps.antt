@@ -24,6 +24,7 @@ use Rattle.ports_core.proofs.{
   FileWriterLemmas.{where_short, where_well},
 }
 use Rattle.ports_core.specs.declared.fault.Fault.TheVariants as fault
+
 -- One change after another
 
 pub goes_again : {told : Bool} {one two three : WriterState} {first second : Draft → Draft} (both : Draft → Draft)
