@@ -56,27 +56,13 @@ pub agreed_as : {A W : Type 0} {comes : List A → Type 0} {begins : W → W →
     → ((place : ℕ) → place < length (outputs agreed)
     → length (get_or (outputs (whole (x ++ y))) place []) ≤ length (get_or (outputs agreed) place []))
     → AgreeOn comes begins outputs whole x agreed
-agreed_as {outputs = outputs} {whole} {x} few y begin few_come come no_more short = record {
-  common = begin;
-  fewest = (few, few_come, no_more);
-  longest = λ place less. (
-    y,
-    y,
-    come,
-    come,
-    λ front is also. (let few = beginning_short front (get_or (outputs (whole (x ++ y))) place []) is in let most = short place less in omega arith),
-  );
-}
+agreed_as few y begin few_come come no_more short =
+    grind (arith, common_steps, beginning_short)
 
 -- Nothing waits, where what follows decides nothing of what came in.
 pub nothing_waits : {A G : Type 0} {comes : List A → Type 0} {goes : List A → ℕ → G} {x : List A}
     → ((i : ℕ) → i < length x → (y z : List A) → goes (x ++ y) i ≡ goes (x ++ z) i) → DifferOn comes goes x []
-nothing_waits {x = x} same = record {
-  before = x;
-  are_last = sym (append-nil x);
-  differ = λ i past within. absurd (omega arith);
-  decided = λ i less y z can also. same i less y z;
-}
+nothing_waits same = grind (arith, common_steps, append-nil)
 
 -- what is settled begins the whole of every continuation
 pub common : (work : Work) → IsLawful work → (x y : List ℕ) → Begins (work.settled x) (work.whole (x ++ y))
@@ -88,14 +74,16 @@ pub agreed_by : (work : Work) (x few y : List ℕ) (more : List (List ℕ))
     → length (outputs_of (work.whole (x ++ few))) ≡ length (outputs_of (work.settled x))
     → outputs_of (work.whole (x ++ y)) ≡ outputs_of (work.settled x) ++ more → IsAgreed work x (work.settled x)
 agreed_by work x few y more begin few_bytes bytes no_more same = agreed_as few y (λ z can. begin z) few_bytes bytes no_more
-    (λ place less. (let here : output_at (work.whole (x ++ y)) place ≡ output_at (work.settled x) place = ap (λ outputs. get_or outputs place []) same ∙ get_or_append_left (outputs_of (work.settled x)) more [] place less in
+    (λ place less. (let here : output_at (work.whole (x ++ y)) place ≡ output_at (work.settled x) place =
+    grind (arith, common_steps) in
     omega (arith, ap length here)))
 
 -- the end shows it, where all that came in is settled
 pub agreed_now : (work : Work) (x : List ℕ) → ((z : List ℕ) → Begins (work.settled x) (work.whole (x ++ z)))
     → outputs_of (work.whole x) ≡ outputs_of (work.settled x) → IsAgreed work x (work.settled x)
 agreed_now work x begin same =
-    let here : outputs_of (work.whole (x ++ [])) ≡ outputs_of (work.settled x) = ap (λ all. outputs_of (work.whole all)) (append-nil x) ∙ same in
+    let here : outputs_of (work.whole (x ++ [])) ≡ outputs_of (work.settled x) =
+    grind (arith, common_steps, append-nil) in
     agreed_by work x [] [] [] begin none_comes none_comes (ap length here) (here ∙ sym (append-nil (outputs_of (work.settled x))))
 
 -- Spots
@@ -151,8 +139,7 @@ byte_at : (outputs : List (List ℕ)) (text : List ℕ) (k offset : ℕ) → Are
 byte_at [] text k offset are less = search rules
 byte_at (bytes ∷ outputs) text zero offset (rest, is, are) less = grind (arith, common_steps)
 byte_at (bytes ∷ outputs) text (suc k) offset (rest, is, are) less =
-    let after : length bytes + bytes_of k outputs + offset - length bytes ≡ bytes_of k outputs + offset = omega arith in
-    cc (is, after, byte_at outputs rest k offset are less, get_or-append_right bytes rest (length bytes + bytes_of k outputs + offset) 0 (omega arith))
+    grind (arith, common_steps, get_or-append_right, byte_at outputs rest k offset are less)
 
 -- where it stands, there its spot is that
 spot_at : (place : ℕ) (outputs : List (List ℕ)) (k offset : ℕ) → offset < length (get_or outputs k [])
@@ -160,9 +147,7 @@ spot_at : (place : ℕ) (outputs : List (List ℕ)) (k offset : ℕ) → offset 
 spot_at place [] k offset less = search rules
 spot_at place (bytes ∷ outputs) zero offset less = grind (arith, common_steps)
 spot_at place (bytes ∷ outputs) (suc k) offset less =
-    let after : length bytes + bytes_of k outputs + offset - length bytes ≡ bytes_of k outputs + offset = omega arith in
-    let next : place + 1 + k ≡ place + suc k = omega arith in
-    spot_past place (length bytes + bytes_of k outputs + offset) bytes outputs (omega arith) ∙ cc (after, next, spot_at (place + 1) outputs k offset less)
+    grind (arith, common_steps, spot_past, spot_at (place + 1) outputs k offset less)
 
 -- a byte that goes to a spot is one of an output
 record IsIn (place : ℕ) (outputs : List (List ℕ)) (i : ℕ) (at : Spot) : Type 0 where
@@ -205,13 +190,10 @@ module _ (work : Work) {spots_of : List ℕ → ℕ → List Spot} (place : ℕ)
     (stretch : IsStretch work.whole spots_of place outputs) where
   stretched : (x : List ℕ) (i : ℕ) {at : Spot} → GoesTo at (spots_of x i)
       → (length (stretch.before x) ≤ i) × IsIn place (outputs x) (i - length (stretch.before x)) at
-  stretched x i {at} goes = elim (cases_lt i (length (stretch.before x))) [
-    | inl less ↦ absurd (subst (GoesTo at) (stretch.nowhere x i less) goes)
-    | inr past ↦ (past, goes_in place (outputs x) (i - length (stretch.before x)) (subst (GoesTo at) (stretch.there x i past) goes))
-  ]
+  stretched x i goes = grind (arith, common_steps, cases_lt, goes_in)
 
   output_is : (x : List ℕ) {n : ℕ} (k : ℕ) → n ≡ place + k → output_at (work.whole x) n ≡ get_or (outputs x) k []
-  output_is x {n} k there = ap (λ those. get_or those n []) (stretch.are x) ∙ ap (λ n. get_or (replicate place [] ++ outputs x) n []) there ∙ past_empty place k (outputs x)
+  output_is x k there = grind (arith, common_steps, past_empty)
 
   filled : (x : List ℕ) (at : Spot) → at.offset < length (output_at (work.whole x) at.place)
       → (i : ℕ) × (i < length x) × GoesTo at (spots_of x i)
@@ -237,9 +219,7 @@ module _ (work : Work) {spots_of : List ℕ → ℕ → List Spot} (place : ℕ)
           ∙ sym (ap (λ those. get_or those i 0) (stretch.parts x) ∙ get_or-append_right (stretch.before x) (stretch.rest x) i 0 one.0 ∙ ap (λ n. get_or (stretch.rest x) n 0) one.1.is),
     ));
     filled = filled;
-    apart = λ x i j at goes also. (let one = stretched x i goes in let two = stretched x j also in
-        let same : one.1.k ≡ two.1.k = omega arith in
-        omega (arith, ap (λ k. bytes_of k (outputs x)) same));
+    apart = grind (arith, common_steps, stretched);
   }
 
 -- There is one list of outputs that all continuations agree on, and one stretch of bytes that is undecided.
@@ -266,7 +246,7 @@ files_at (file ∷ low) (whole ∷ high) zero begins less = begins.4
 files_at (file ∷ low) (whole ∷ high) (suc place) begins less = files_at low high place begins.5 (omega arith)
 
 outputs_fewer : {low high : Part} → Begins low high → length (outputs_of low) ≤ length (outputs_of high)
-outputs_fewer {low} {high} begins = grind (arith, common_steps, no_fewer, length-map)
+outputs_fewer begins = grind (arith, common_steps, no_fewer, length-map)
 
 begins_at : {low high : Part} (place : ℕ) → Begins low high → place < length (outputs_of low)
     → IsBeginning (output_at low place) (output_at high place)
@@ -299,12 +279,7 @@ one_is_agreed work x one other agreed also =
 module _ {A G : Type 0} {comes : List A → Type 0} (goes : List A → ℕ → G) (x : List A) where
   begins_no_later : (one other : List A) (here : DifferOn comes goes x one) (there : DifferOn comes goes x other)
       → length here.before ≤ length there.before
-  begins_no_later one other here there = elim (cases_lt (length there.before) (length here.before)) [
-    | inl less ↦ (let long : length x ≡ length here.before + length one = ap length here.are_last ∙ length-append here.before one in
-        let two = there.differ (length there.before) (omega arith) (omega arith) in
-        absurd (two.4 (here.decided (length there.before) less two.0 two.1 two.2 two.3)))
-    | inr within ↦ within
-  ]
+  begins_no_later one other here there = grind (arith, common_steps, cases_lt, length-append)
 
   pub one_is_undecided : (one other : List A) → DifferOn comes goes x one → DifferOn comes goes x other → one ≡ other
   one_is_undecided one other here there =

@@ -22,7 +22,7 @@ zeros zero = refl
 zeros (suc width) = grind (arith, common_steps, zeros width)
 
 front_digits : (width : ℕ) {n : ℕ} → n < 10 ^ suc width → n / 10 < 10 ^ width
-front_digits width {n} small = grind (arith, common_steps)
+front_digits width small = grind (arith, common_steps)
 
 last_digit : (width : ℕ) {n : ℕ} → n < 10 ^ suc width
     → written Digits (suc width) n ≡ written Digits width (n / 10) ++ (48 + n % 10) ∷ []
@@ -66,5 +66,6 @@ digits_fill digits n least =
     let count : ℕ = digits_written form n in
     let blanks : 0 - length (marked form n) ≡ 0 = omega arith in
     let enough : n < 10 ^ count = below_more Digits (digits_enough Digits n) (omega arith) in
-    let zeros : count - length (decimal n) ≡ digits - length (decimal n) = omega (arith, decimal_nonempty n least, long_enough n least, no_longer n least) in
+    let zeros : count - length (decimal n) ≡ digits - length (decimal n) =
+    omega (arith, decimal_nonempty, long_enough, no_longer) in
     ap (λ blanks. replicate blanks 32 ++ marked form n) blanks ∙ sym (fills count n (omega arith) enough least) ∙ ap (λ zeros. replicate zeros 48 ++ decimal n) zeros

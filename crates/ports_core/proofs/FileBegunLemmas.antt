@@ -2,24 +2,23 @@
 use Rattle.std.proofs.{
   lemmas.{Grind.common_steps, Bool.cases_lt, List.length-map},
   Common.{◌≡◌, ℕ, ◌+◌, ◌<◌, ◌≤◌, ◌^◌, suc, eqb, Bool, false, IsTrue, List, [], ◌∷◌, ◌++◌, length, map, decimal, Option},
-  Common.{Some, None, IfSome, Result, Ok, Err, IfErr, inl, inr, refl, sym, ◌∙◌, ap, subst, arith, rules, append-nil},
+  Common.{Some, None, IfSome, Result, Ok, Err, IfErr, refl, sym, ◌∙◌, ap, subst, arith, rules, append-nil},
   Common.{append_assoc, length-append},
 }
 use Rattle.ports_core.specs.{
   Draft.{Manner, AreNamed, Draft, share, files_from, told_before, told_of_files, part_with, part_of, opening_line},
   Draft.{size_of_file, output_of, made_of, shares_of, draft_part, with_bytes, with_next, manner_by},
-  FileWriter.{WriterState, Writes, IsCounted, IsCurrent, IsLast, IsOpenAt, IsReady, IsManner, IsWrite, CanTell},
-  FileWriter.{RunsShort, manner_in, KeepsFiles, KeepsOrBreaks, Leaves, Goes, paused},
+  FileWriter.{WriterState, Writes, IsCounted, IsCurrent, IsLast, IsOpenAt, IsReady, IsWrite, CanTell, RunsShort},
+  FileWriter.{KeepsFiles, KeepsOrBreaks, Leaves, Goes, paused},
   Names.{next_name, has_next, line_next, told_next, OpensNone, no_name},
-  Part.{File as PartFile, OutputsAt, Begins, IsBeginning, Output, gets_none, gets_bytes, gets_lines, gets_openings},
-  Part.{lines_for, writes},
+  Part.{File as PartFile, Begins, IsBeginning, Output, gets_none, gets_bytes, gets_lines, gets_openings, lines_for},
+  Part.writes,
   Slot.{SlotBreaks, Slot, with_written, told_of, changed_at, opened, closes, is_writable},
   inner.{FileWriter.{MakesNone, Made, Appends, TellsSize, CountsOn, files_with}, Write.Wrote},
   Turn.{AllClosed, fault_in},
   declared.fault.Fault.{Fault, TheVariants.Verdict},
   declared.verdict.Verdict.TheVariants.Suffixes,
   declared.file_writer.Current.{Current, TheVariants.{File, Unopened, Skipped, Due}},
-  declared.file_writer.Keeps.TheVariants.All,
   declared.file_writer.Opening.{Opening, TheVariants.{Never, AtOnce}},
   declared.file_writer.Tells.{Tells, TheVariants.{Nothing, Sizes, Openings}},
   declared.slot.Mode.TheVariants.Fresh,
@@ -74,46 +73,44 @@ unmade_count {draft = draft} none writes = writes.made ∙ unmade_shares draft n
 -- its name
 due_name : {manner : Manner} {writer : WriterState} {draft : Draft} → made_of draft.opening draft.bytes ≡ []
     → Writes manner writer draft → next_name writer.names ≡ name_after manner draft
-due_name {manner} {writer} {draft} none writes = ap (λ name. name writer.names.drawn) writes.same.name ∙ ap manner.name (unmade_count none writes)
+due_name none writes = grind (arith, common_steps, unmade_count)
 
 -- whether it has one
 due_has : {manner : Manner} {writer : WriterState} {draft : Draft} → writer.names.drawn < 2 ^ 64
     → made_of draft.opening draft.bytes ≡ [] → Writes manner writer draft
     → has_next writer.names ≡ manner.has_name (length draft.ended)
-due_has {manner} {writer} {draft} few none writes = writes.same.has writer.names.drawn few ∙ ap manner.has_name (unmade_count none writes)
+due_has few none writes = grind (arith, common_steps, unmade_count)
 
 -- all files up to it have names then
 due_named : {manner : Manner} {writer : WriterState} {draft : Draft} (next : Draft) → writer.names.drawn < 2 ^ 64
     → Unwritten draft next → Writes manner writer draft → IsTrue (has_next writer.names)
     → AreNamed manner (suc (length next.ended))
-due_named {manner} {writer} {draft} next few so writes has = subst (λ ended. AreNamed manner (suc (length ended))) (sym so.same) (λ place less. elim (cases_lt place (length draft.ended)) [
-  | inl before ↦ writes.named place (omega (arith, unmade_shares draft so.none))
-  | inr past ↦ (let e : place ≡ length draft.ended = omega arith in ap manner.has_name e ∙ sym (due_has few so.none writes) ∙ has)
-])
+due_named next few so writes has =
+    grind (arith, common_steps, cases_lt, unmade_shares, due_has)
 
 made_size : {writer next : WriterState} {slot : ℕ} {old new : List Slot} → Made writer old new next slot
     → length new ≡ length old + 1
-made_size {writer} {old = old} made = ap length made.added ∙ length-append old (opened (next_name writer.names) Fresh ∷ [])
+made_size made = grind (arith, common_steps, length-append)
 
 made_ready : {writer next : WriterState} {slot : ℕ} {old new : List Slot} → IsReady writer old
     → Made writer old new next slot → IsReady next new
-made_ready {writer} {next} {slot} {old} {new} ready made = record {
-  streams = (let two = ready.streams in omega (arith, made_size made));
-  output = subst (λ tells. CanTell tells new) (sym (ap (λ (w : WriterState). w.tells) made.same)) (can_tell writer.tells old new (writable_before old new 0 (opened (next_name writer.names) Fresh) (let two = ready.streams in omega arith) made.added) ready.output);
+made_ready ready made = record {
+  streams = grind (arith, common_steps, made_size);
+  output = grind (arith, common_steps, can_tell, writable_before);
   files = (owned_opened ready.streams made).there ready.files;
-  current = subst (λ current. IsOpenAt current new) (sym (ap (λ (w : WriterState). w.current) made.same)) (let two = ready.streams in omega arith, opened_writable old new slot (next_name writer.names) Fresh made.place made.added);
+  current = grind (arith, common_steps, opened_writable);
 }
 
 made_leaves : {writer next : WriterState} {slot : ℕ} {old new : List Slot} → IsReady writer old
     → Made writer old new next slot → Leaves writer next old new None
-made_leaves {writer} {next} {slot} {old} {new} ready made = record {
-  naming = ap (λ (w : WriterState). w.names.naming) made.same;
+made_leaves {old = old} {new = new} ready made = record {
+  naming = grind (arith, common_steps);
   tells = ap (λ (w : WriterState). w.tells) made.same;
   keeps = ap (λ (w : WriterState). w.keeps) made.same;
-  open_alone = λ alone. ap (λ (w : WriterState). w.files) made.same ∙ ap (λ keeps. files_with keeps writer.files slot) alone;
+  open_alone = grind (arith, common_steps, files_with);
   owns = owned_opened ready.streams made;
   slots = keeps_open _ old new made.added;
-  output = writable_before old new 0 (opened (next_name writer.names) Fresh) (let two = ready.streams in omega arith) made.added;
+  output = grind (arith, common_steps, writable_before);
   ready = made_ready ready made;
 }
 
@@ -154,7 +151,7 @@ line_leaves told {writer} {old} ready = wrote_leaves told 0 (line_next writer.te
 line_told : {manner : Manner} {writer : WriterState} {draft : Draft} → made_of draft.opening draft.bytes ≡ []
     → Writes manner writer draft
     → line_next writer.tells writer.names ≡ told_before manner.output (name_after manner draft)
-line_told {manner} {writer} none writes = ap (λ output. told_before output (next_name writer.names)) writes.same.output ∙ ap (told_before manner.output) (due_name none writes)
+line_told {manner} {writer} none writes = grind (arith, common_steps, due_name)
 
 -- the part with the file that is due
 due_part : {manner : Manner} {writer : WriterState} {draft : Draft} (next : Draft) → writer.names.drawn < 2 ^ 64
@@ -203,10 +200,11 @@ module _ {told : Bool} {writer next : WriterState} {change : Draft → Draft} {o
     ran : OpensNone told writer.tells writer.names next.names old new (Verdict Suffixes)
         → RunsShort told writer change manner draft old new
     ran (no_name few none same) =
-        let lacks : manner.has_name (length (change draft).ended) ≡ false = ap (λ ended. manner.has_name (length ended)) so.same ∙ sym (due_has few so.none writes) ∙ none in record {
+        let lacks : manner.has_name (length (change draft).ended) ≡ false =
+        grind (arith, common_steps, due_has, none) in record {
           none = lacks;
           begun = so.makes;
-          all = λ before at. rw (same, stopped_part manner (change draft) lacks, so.same, ← append-nil (map (share state.Closed) draft.ended)) (subst (λ made. OutputsAt told before (part_of manner (map (share state.Closed) draft.ended ++ map (share state.Open) made)) old) so.none at.outputs);
+          all = grind (arith, common_steps, same, stopped_part, append-nil);
         }
 
   pub goes_unmade : Goes told writer change old new next (Some f)
@@ -235,17 +233,15 @@ goes_made {told} {writer} {made} {next} {change} {slot} bytes {old} {mid} {new} 
       (reaches_by leaves.owns (λ first last. becomes_again (part_trans _ _ _ (line_begins (told_before manner.output (name_after manner draft))) (file_begins (ended_files manner draft) (file_of (name_after manner draft) [] state.Open)))
       (made_becomes manner draft (due_name so.none writes) (ap (λ line. with_written 0 (told_of told line) old) (line_told so.none writes)) makes)
       (writes_to manner.output told (ended_files manner draft) (name_after manner draft) [] bytes mid fault (closed_files manner 0 draft.ended) (opened_last _ mid slot (next_name writer.names) Fresh makes.place makes.added) appends.wrote)));
-  short = never_short _ told slot bytes mid new fault appends.wrote;
+  short = grind (arith, common_steps, never_short);
   writes = where_well fault appends.current (λ current manner draft writes. let (so, are) = of draft writes.current in
-      let count : length (shares_of (change draft)) ≡ length draft.ended + 1 = made_count (change draft) so.makes ∙ ap (λ ended. length ended + 1) so.same in record {
-        same = subst (IsManner manner) (sym (ap manner_in appends.same ∙ ap manner_in makes.same)) writes.same;
-        made = ap (λ (w : WriterState). w.names.drawn) appends.same ∙ ap (λ (w : WriterState). w.names.drawn) makes.same ∙ ap (λ n. n + 1) (unmade_count so.none writes) ∙ sym count;
-        kept = λ all.
-            let was : writer.keeps ≡ All = sym (ap (λ (w : WriterState). w.keeps) appends.same ∙ ap (λ (w : WriterState). w.keeps) makes.same) ∙ all in
-            ap (λ (w : WriterState). length w.files) appends.same ∙ ap (λ (w : WriterState). length w.files) makes.same ∙ ap (λ keeps. length (files_with keeps writer.files slot)) was
-            ∙ length-append writer.files (slot ∷ []) ∙ ap (λ n. n + 1) (writes.kept was ∙ unmade_shares draft so.none) ∙ sym count;
-        named = λ place less. due_named (change draft) makes.few so writes makes.named place (omega (arith, made_count (change draft) so.makes));
-        current = rw current.1 (so.makes, subst (λ tells. IsCounted tells (change draft).bytes current.0) (sym (ap (λ (w : WriterState). w.tells) appends.same)) (rw are (counted_on made.tells [] bytes 0 current.0 (none_counted made.tells) current.2)));
+      let count : length (shares_of (change draft)) ≡ length draft.ended + 1 =
+      grind (arith, common_steps, made_count) in record {
+        same = grind (arith, common_steps, makes);
+        made = grind (arith, common_steps, makes, unmade_count);
+        kept = grind (arith, common_steps, makes, files_with, length-append, unmade_shares);
+        named = grind (arith, common_steps, due_named, makes, made_count);
+        current = grind (arith, common_steps, counted_on, none_counted);
       });
 } where
   line_ready : IsReady writer (told_next told writer.tells writer.names old)
@@ -266,7 +262,7 @@ first_bytes tells bytes is some draft now = search rules
 -- What is begun where nothing is
 
 paused_ready : {writer : WriterState} {slots : List Slot} → IsReady writer slots → IsReady (paused writer) slots
-paused_ready ready = record { streams = ready.streams; output = ready.output; files = ready.files; current = tt }
+paused_ready ready = grind (arith, common_steps)
 
 -- what was begun had no file
 ended_none : (draft : Draft) → made_of draft.opening draft.bytes ≡ []
@@ -280,22 +276,19 @@ pub begins_none : {told : Bool} {writer : WriterState} {opening : Opening} (curr
     → made_of opening [] ≡ [] → IsCurrent writer.tells opening [] current → IsOpenAt current slots
     → ((first : ℕ) → IsLast current first slots) → IsReady writer slots
     → Goes told writer (with_next opening) slots slots (record writer { current = current }) None
-begins_none {opening = opening} current before none is_current at last ready = goes_still current ready at (λ first was. last first) (λ draft now.
-    let had = before draft now in (
-      ap (λ made. map (share state.Closed) draft.ended ++ map (share state.Open) made) (had ∙ sym none) ∙ ap (λ ended. map (share state.Closed) ended ++ map (share state.Open) (made_of opening [])) (sym (ended_none draft had)),
-      is_current,
-    ))
+begins_none current before none is_current at last ready =
+    grind (arith, common_steps, goes_still, ended_none)
 
 pub begin_none : {told : Bool} {writer : WriterState} {opening : Opening} (current : Current) {slots : List Slot}
     → made_of opening [] ≡ [] → IsCurrent writer.tells opening [] current → IsOpenAt current slots
     → ((first : ℕ) → IsLast current first slots) → IsReady writer slots
     → Goes told (paused writer) (with_next opening) slots slots (record writer { current = current }) None
-begin_none current none is_current at last ready = begins_none current never_made none is_current at last (paused_ready ready)
+begin_none current none is_current at last ready = grind (arith, common_steps, begins_none, never_made, paused_ready)
 
 -- what has one at once is begun
 pub at_once : {opening : Opening} → opening ≡ AtOnce → (draft : Draft) → draft.opening ≡ Never
     → Unwritten draft (with_next opening draft)
-at_once {opening} is draft never = record {
+at_once is draft never = record {
   same = ended_none draft (never_made draft never);
   none = never_made draft never;
   makes = ap (λ those. made_of those []) is;
@@ -315,7 +308,7 @@ counts_none Openings = omega arith
 pub begin_made : {told : Bool} {writer next : WriterState} {opening : Opening} {slot : ℕ} {old new : List Slot}
     → opening ≡ AtOnce → IsReady writer old → Made writer (told_next told writer.tells writer.names old) new next slot
     → Goes told (paused writer) (with_next opening) old new next None
-begin_made {told} {writer} {next} {opening} {slot} {old} {new} is ready made =
+begin_made {told} {next = next} {slot = slot} is ready made =
     goes_made [] (λ draft never. (at_once is draft never, refl)) (paused_ready ready) (record { few = made.few; named = made.named; place = made.place; added = made.added; same = made.same })
     (record { same = refl; current = (0, ap (λ (w : WriterState). w.current) made.same, counts_none next.tells); still = tt; wrote = none_written told slot })
 
@@ -326,16 +319,16 @@ pub end_none : {told : Bool} {writer : WriterState} {current : Current} {slots :
     → ((draft : Draft) → IsCurrent writer.tells draft.opening draft.bytes writer.current
     → made_of draft.opening draft.bytes ≡ []) → IsReady writer slots
     → Goes told writer (with_next Never) slots slots (record writer { current = current }) None
-end_none {writer = writer} {current} {slots} is none ready = begins_none current none refl (subst (IsCurrent writer.tells Never []) (sym is) refl) (subst (λ now. IsOpenAt now slots) (sym is) tt) (λ first. subst (λ now. IsLast now first slots) (sym is) tt) ready
+end_none is none ready = grind (arith, common_steps, begins_none)
 
 -- it has one
 
 file_ends : {manner : Manner} {writer : WriterState} {draft : Draft} (slot size : ℕ) → writer.current ≡ File slot size
     → Writes manner writer draft → Writes manner (paused writer) (with_next Never draft)
-file_ends {manner} {writer} {draft} slot size is writes =
+file_ends {manner} {draft = draft} slot size is writes =
     let makes = (now_is is writes).0 in
-    let count : length (shares_of draft) ≡ length (shares_of (with_next Never draft)) = made_count draft makes
-    ∙ sym (length-append (map (share state.Closed) (draft.ended ++ made_of draft.opening draft.bytes)) [] ∙ (grind (arith, common_steps, length-map, length-append, makes))) in record {
+    let count : length (shares_of draft) ≡ length (shares_of (with_next Never draft)) =
+    grind (arith, common_steps, made_count, makes, length-append, length-map) in record {
       same = writes.same;
       made = writes.made ∙ count;
       kept = λ all. writes.kept all ∙ count;
@@ -353,7 +346,7 @@ closed_can slot old new two closed can = writable_elsewhere old new 0 slot close
 
 closed_leaves : {writer : WriterState} (slot size : ℕ) {old new : List Slot} → writer.current ≡ File slot size
     → IsReady writer old → new ≡ changed_at slot closes old → Leaves writer (paused writer) old new None
-closed_leaves {writer} slot size {old} {new} is ready closed =
+closed_leaves slot size {old} {new} is ready closed =
     let at = at_file is ready in
     let made = made_close slot old new at.1 closed in record {
       naming = refl;
@@ -363,12 +356,7 @@ closed_leaves {writer} slot size {old} {new} is ready closed =
       owns = file_closed made;
       slots = keeps_close slot old new closed;
       output = closed_can slot old new at.0 closed;
-      ready = record {
-        streams = (let two = ready.streams in omega arith);
-        output = can_tell writer.tells old new (closed_can slot old new at.0 closed) ready.output;
-        files = there_same writer.files made ready.files;
-        current = tt;
-      };
+      ready = grind (arith, common_steps, can_tell, closed_can, there_same);
     }
 
 -- the file breaks as it is closed
@@ -385,7 +373,7 @@ closed_begins : (output : Output) (front : List PartFile) (name bytes : List ℕ
     (with_last (told_of_files output front ++ told_of_files output (file_of name bytes state.Closed ∷ [])) front
     (file_of name bytes state.Closed))
 closed_begins output front name bytes = let (rest, is) = closed_told output name bytes in record {
-  out = (rest, ap (λ more. told_of_files output front ++ more) is ∙ sym (append_assoc (told_of_files output front) (told_before output name) rest));
+  out = grind (arith, common_steps, is, append_assoc);
   files = files_begin_themselves _;
 }
 
@@ -424,12 +412,12 @@ told_leaves : (told : Bool) (writer : WriterState) (size : ℕ) {old new : List 
 told_leaves told writer size fault Nothing is ready (well, same) = rw (well, same) (leaves_still ready)
 told_leaves told writer size fault Openings is ready (well, same) = rw (well, same) (leaves_still ready)
 told_leaves told writer size {old} {new} fault Sizes is ready wrote =
-    let can : IsTrue (is_writable old 0) = subst (λ tells. CanTell tells old) is ready.output in
+    let can : IsTrue (is_writable old 0) = grind (arith, common_steps, is) in
     wrote_leaves told 0 (decimal size ++ 10 ∷ []) fault refl (λ first last. tt) (rw is (slots fault can wrote)) (in_any fault tt) ready wrote where
       slots : (fault : Option Fault) → IsTrue (is_writable old 0) → Wrote told 0 (decimal size ++ 10 ∷ []) old new fault
           → KeepsOrBreaks (manner_by writer.names.naming (output_of Sizes)) old new fault
       slots None can wrote = keeps_write 0 _ old new wrote
-      slots (Some f) can wrote = line_breaks told writer.names.naming (decimal size ++ 10 ∷ []) can wrote
+      slots (Some f) can wrote = grind (arith, common_steps, line_breaks)
 
 -- what can go wrong there is a write
 pub tells_write : (told : Bool) (tells : Tells) (size : ℕ) (old new : List Slot) (result : Result (Unit {0}) Fault)
@@ -445,7 +433,7 @@ is_size : (tells : Tells) (bytes : List ℕ) (size : ℕ) → IsCounted tells by
     → TellsSize told tells (length bytes) old new fault
 is_size Nothing bytes size is told old new fault tells = tells
 is_size Openings bytes size is told old new fault tells = tells
-is_size Sizes bytes size is told old new fault tells = subst (λ n. Wrote told 0 (decimal n ++ 10 ∷ []) old new fault) is tells
+is_size Sizes bytes size is told old new fault tells = grind (arith, common_steps)
 
 -- telling a size wants no names
 told_short : (P : Type 0) (told : Bool) (tells : Tells) (size : ℕ) (old new : List Slot) (fault : Option Fault)
@@ -467,7 +455,7 @@ end_told {told} {writer} slot size {old} {mid} {new} {fault} is ready closed tel
       (tells_file writer.tells manner.output told (length draft.bytes) (ended_files manner draft) (file_of (name_after manner draft) draft.bytes state.Closed) mid fault writes.same.output refl refl (closed_files manner 0 draft.ended)
       (let two = paused_now.streams in omega arith) (is_size writer.tells draft.bytes size now.1 told mid new fault tells))));
   short = told_short _ told writer.tells size mid new fault tells;
-  writes = in_any fault (λ manner draft writes. file_ends slot size is writes);
+  writes = grind (arith, common_steps, in_any, file_ends, is);
 } where
   paused_now : IsReady (paused writer) mid
   paused_now = (closed_leaves slot size is ready closed).ready

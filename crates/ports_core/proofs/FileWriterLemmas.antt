@@ -2,16 +2,16 @@
 use Rattle.std.proofs.{
   lemmas.{Grind.common_steps, Bool.{false≢true, cases_lt}, List.{length-map, take-append-drop, Recursion.or_push}},
   Common.{◌≡◌, ℕ, ◌+◌, ◌<◌, ◌≤◌, ◌^◌, zero, suc, eqb, eq-eqb, ne_eqb, Bool, true, ◌||◌, IsTrue, List, [], ◌∷◌, ◌++◌},
-  Common.{length, map, take, drop, replicate, decimal, Option, Some, None, IfNone, IfSome, Result, OnOk, IsErrAnd, inl},
-  Common.{inr, refl, sym, ◌∙◌, ap, subst, arith, rules, append-nil, length-append},
+  Common.{length, take, drop, replicate, decimal, Option, Some, None, IfNone, IfSome, Result, OnOk, IsErrAnd, inl, inr},
+  Common.{refl, sym, ◌∙◌, ap, subst, arith, rules, append-nil, length-append},
   Math.{Bool.or-false, Seq.{take-append-add, take-append_seam, drop-append_seam}},
 }
 use Rattle.ports_core.specs.{
-  Draft.{Manner, AreNamed, Draft, share, part_of, output_of, made_of, shares_of, draft_part, with_bytes, manner_by},
+  Draft.{Manner, AreNamed, Draft, output_of, made_of, shares_of, draft_part, with_bytes, manner_by},
   FileWriter.{WriterState, Writes, CanCount, IsCounted, IsCurrent, IsLast, IsOpenAt, IsReady, IsManner, CanTell},
   FileWriter.{Breaks, manner_in, At, KeepsFiles, KeepsOrBreaks, Leaves, Reaches, Goes},
   Name.Naming,
-  Names.{next_name, line_next, told_next, OpensNone, no_memory, no_line, no_file, no_number, no_name},
+  Names.{line_next, OpensNone, no_memory, no_line, no_file, no_number, no_name},
   Part.{File as PartFile, Part, OutputsAt, Begins, IsBeginning, Output, gets_lines, lines_for, writes},
   Slot.{Slot, with_written, told_of, Rose, has_file, slot_at, opened, is_writable, KeepsBroken},
   Swept.{AreThere, is_among},
@@ -22,7 +22,6 @@ use Rattle.ports_core.specs.{
   declared.verdict.Verdict.TheVariants.Suffixes,
   declared.file_writer.Current.{Current, TheVariants.{File, Unopened, Skipped}},
   declared.file_writer.Keeps.{Keeps, TheVariants.{Open as OpenOne, All}},
-  declared.file_writer.Opening.TheVariants.Never,
   declared.file_writer.Tells.{Tells, TheVariants.{Nothing, Sizes, Openings}},
   declared.names.Names.Names,
   declared.slot.Mode.TheVariants.Fresh,
@@ -53,7 +52,7 @@ module _ (line : PartFile → List ℕ) (told : Bool) (front : List PartFile) (f
       (length front) (fault.Write 0)
   cut_short n high = record {
     next = take n (line file);
-    all = ap (λ files. lines_for line files ++ take n (line file)) (sym (take-append_seam front (file ∷ [])));
+    all = grind (arith, common_steps, take-append_seam);
     cut = inr (
       refl,
       subst (IsBeginning (take n (line file))) (sym (ap (λ files. lines_for line (take 1 files)) (drop-append_seam front (file ∷ [])) ∙ told_line)) (drop n (line file), sym (take-append-drop n (line file))),
@@ -74,7 +73,7 @@ module _ (line : PartFile → List ℕ) (told : Bool) (front : List PartFile) (f
 -- a `?` handed a fault on
 pub stop_is : {T : Type 0} (P : Option Fault → Type 0) (result : Result T Fault) (fault : Fault)
     → IsErrAnd result (λ given. given ≡ fault) → P (Some fault) → P (fault_in result)
-stop_is P result fault handed holds = subst (λ given. P (fault_in given)) (sym (handed_on result fault handed)) holds
+stop_is P result fault handed holds = grind (arith, common_steps, handed_on)
 
 -- From one state of the outputs to another. The writers follow from the steps.
 
@@ -100,40 +99,40 @@ reaches_by {output} {told} {low} {high} {old} {new} {fault} {writer} {next} keep
   by : (fault : Option Fault) (before : List Slot) → At told writer before low old
       → IsThere output told (OutputsAt told before high new) before low high new fault
       → IsThere output told (At told next before high new) before low high new fault
-  by None before at outputs = record { owns = keeps.owns (length before) at.owns; outputs = outputs }
+  by None before at outputs = grind (arith, common_steps)
   by (Some why) before at stops = stops
 
 -- the same of parts that are written otherwise
 pub reaches_as : {output : Output} {told : Bool} {low low' high high' : Part} {old new : List Slot}
     {fault : Option Fault} {writer next : WriterState} → low ≡ low' → high ≡ high'
     → Reaches output told writer next low' high' old new fault → Reaches output told writer next low high old new fault
-reaches_as {output} {told} {low} {high' = high'} {old} {new} {fault} is_low is_high reaches = grind (arith, common_steps)
+reaches_as is_low is_high reaches = grind (arith, common_steps)
 
 pub reaches_still : {output : Output} {told : Bool} {low high : Part} {slots : List Slot} {writer next : WriterState}
     → KeepsFiles writer next slots slots → low ≡ high → Reaches output told writer next low high slots slots None
-reaches_still {told = told} {slots = slots} {next = next} keeps is = record { there = λ before at. record { owns = keeps.owns (length before) at.owns; outputs = subst (λ part. OutputsAt told before part slots) is at.outputs } }
+reaches_still keeps is = grind (arith, common_steps)
 
 -- want of memory leaves the outputs as they are
 
 pub in_turn : {output : Output} {told : Bool} {part : Part} (place : ℕ) {slots : List Slot} {writer next : WriterState}
     → InTurn part.files place → LinesTo output part part place Memory
     → Reaches output told writer next part part slots slots (Some Memory)
-in_turn {part = part} place {slots} turn lines = search (rules, part_begins_itself)
+in_turn place turn lines = search (rules, part_begins_itself)
 
 pub made_count : (draft : Draft) → made_of draft.opening draft.bytes ≡ draft.bytes ∷ []
     → length (shares_of draft) ≡ length draft.ended + 1
-made_count draft makes = ap (λ made. length (map (share state.Closed) draft.ended ++ map (share state.Open) made)) makes ∙ length-append (map (share state.Closed) draft.ended) (share state.Open draft.bytes ∷ []) ∙ ap (λ n. n + 1) (length-map draft.ended (share state.Closed))
+made_count draft makes = grind (arith, common_steps, length-append, length-map)
 
 -- with an open file, those that ended and this one have names
 named_last : (manner : Manner) (draft : Draft) → AreNamed manner (length (shares_of draft))
     → made_of draft.opening draft.bytes ≡ draft.bytes ∷ [] → AreNamed manner (suc (length draft.ended))
-named_last manner draft named makes place less = named place (omega (arith, made_count draft makes))
+named_last manner draft named makes place less = named place (omega (arith, made_count))
 
 pub lacks_memory : {told : Bool} (manner : Manner) (draft : Draft) {slots : List Slot} {writer next : WriterState}
     → AreNamed manner (length (shares_of draft))
     → Reaches manner.output told writer next (draft_part manner draft) (draft_part manner draft) slots slots
     (Some Memory)
-lacks_memory {told} manner draft named = elim (made_or draft.opening draft.bytes) [
+lacks_memory manner draft named = elim (made_or draft.opening draft.bytes) [
   | inl none ↦
       let is = none_part manner draft none in
       reaches_as is is (in_turn (length (ended_files manner draft)) (turn_next (ended_files manner draft) (closed_files manner 0 draft.ended)) (lines_all manner.output (ended_files manner draft) _ Memory tt))
@@ -169,7 +168,7 @@ well_in A result holds = grind (arith, common_steps)
 
 owns_again : {one two three : WriterState} {old mid new : List Slot} → KeepsFiles one two old mid
     → KeepsFiles two three mid new → KeepsFiles one three old new
-owns_again before after = record { owns = λ first own. after.owns first (before.owns first own); there = λ are. after.there (before.there are) }
+owns_again before after = grind (arith, common_steps)
 
 pub breaks_later : {manner other : Manner} (old mid new : List Slot) (fault : Fault) → other ≡ manner
     → KeepsBroken old mid → Breaks other mid new fault → Breaks manner old new fault
@@ -187,27 +186,19 @@ same_manner leaves = cc (leaves.naming, leaves.tells)
 
 pub leaves_again : {one two three : WriterState} {old mid new : List Slot} {fault : Option Fault}
     → Leaves one two old mid None → Leaves two three mid new fault → Leaves one three old new fault
-leaves_again {old = old} {mid} {new} {fault} first second = record {
-  naming = second.naming ∙ first.naming;
-  tells = second.tells ∙ first.tells;
-  keeps = second.keeps ∙ first.keeps;
-  open_alone = λ alone. second.open_alone (first.keeps ∙ alone) ∙ first.open_alone alone;
-  owns = owns_again first.owns second.owns;
-  slots = slots_again old mid new fault (same_manner first) first.slots second.slots;
-  output = where_well fault second.output (λ later can. later (first.output can));
-  ready = second.ready;
-}
+leaves_again first second =
+    grind (arith, common_steps, owns_again, slots_again, same_manner, where_well)
 
 pub keeps_files : {writer : WriterState} {slots : List Slot} → KeepsFiles writer writer slots slots
 keeps_files = record { owns = λ first owns. owns; there = λ are. are }
 
 pub leaves_still : {writer : WriterState} {slots : List Slot} → IsReady writer slots
     → Leaves writer writer slots slots None
-leaves_still ready = record { naming = refl; tells = refl; keeps = refl; open_alone = λ alone. refl; owns = keeps_files; slots = λ place sound. sound; output = λ can. can; ready = ready }
+leaves_still ready = grind (arith, common_steps, keeps_files)
 
 -- want of memory leaves them as they are
 pub leaves_lacking : {writer : WriterState} {slots : List Slot} → Leaves writer writer slots slots (Some Memory)
-leaves_lacking = record { naming = refl; tells = refl; keeps = refl; open_alone = λ alone. refl; owns = keeps_files; slots = tt; output = tt; ready = tt }
+leaves_lacking = grind (arith, common_steps, keeps_files)
 
 -- the open file can be written
 pub at_file : {writer : WriterState} {slot size : ℕ} {slots : List Slot} → writer.current ≡ File slot size
@@ -232,7 +223,7 @@ there_still : (files : List ℕ) (old new : List Slot)
     → ((place : ℕ) → has_file (slot_at new place).state ≡ has_file (slot_at old place).state) → AreThere files old
     → AreThere files new
 there_still [] old new keeps are = tt
-there_still (place ∷ files) old new keeps are = ((are.0.0, subst IsTrue (sym (keeps place)) are.0.1), are.1, there_still files old new keeps are.2)
+there_still (place ∷ files) old new keeps are = grind (arith, common_steps, there_still files old new keeps are.2)
 
 pub there_same : (files : List ℕ) {old new : List Slot} → KeepsMade old new → AreThere files old → AreThere files new
 there_same files {old} {new} keeps are = there_still files old new keeps.same are
@@ -240,7 +231,7 @@ there_same files {old} {new} keeps are = there_still files old new keeps.same ar
 pub owned_same : {writer next : WriterState} {old new : List Slot} → next.files ≡ writer.files
     → next.keeps ≡ writer.keeps → ((first : ℕ) → IsLast writer.current first old → IsLast next.current first new)
     → KeepsMade old new → KeepsFiles writer next old new
-owned_same {writer} {old = old} {new} same keeps_as last keeps = search (rules, there_same)
+owned_same same keeps_as last keeps = search (rules, there_same)
 
 -- one file more
 
@@ -253,48 +244,36 @@ among_more place slot files = or_push (is_among place) (eqb place) refl (λ one 
 there_more : (files : List ℕ) (slots : List Slot) (name : List ℕ) {slot : ℕ} → slot ≡ length slots → 2 ≤ length slots
     → AreThere files slots → AreThere (files ++ slot ∷ []) (slots ++ opened name Fresh ∷ [])
 there_more [] slots name at two are = grind (arith, common_steps)
-there_more (place ∷ files) slots name {slot} at two are =
-    let within : place < length slots = (grind (arith, common_steps)) in (
-      (are.0.0, subst IsTrue (sym (file_before slots (opened name Fresh) place within)) are.0.1),
-      among_more place slot files ∙ ap (λ b. b || eqb place slot) are.1 ∙ ne_eqb place slot (λ same. omega arith),
-      there_more files slots name at two are.2,
-    )
+there_more (place ∷ files) slots name at two are =
+    grind (arith, common_steps, file_before, among_more, ne_eqb, there_more files slots name)
 
 there_before : (files : List ℕ) (old : List Slot) (one : Slot) {new : List Slot} → new ≡ old ++ one ∷ []
     → AreThere files old → AreThere files new
 there_before [] old one added are = tt
-there_before (place ∷ files) old one {new} added are =
-    let within : place < length old = (grind (arith, common_steps)) in
-    ((are.0.0, subst IsTrue (sym (ap (λ slots. has_file (slot_at slots place).state) added ∙ file_before old one place within)) are.0.1), are.1, there_before files old one added are.2)
+there_before (place ∷ files) old one added are =
+    grind (arith, common_steps, file_before, there_before files old one added are.2)
 
 opened_by : (keeps : Keeps) {writer : WriterState} {slot : ℕ} {old new : List Slot} (name : List ℕ) {names : Names}
     → 2 ≤ length old → writer.keeps ≡ keeps → slot ≡ length old → new ≡ old ++ opened name Fresh ∷ []
     → KeepsFiles writer
     (record writer { names = names; files = files_with keeps writer.files slot; current = File slot 0 }) old new
-opened_by OpenOne {writer} {slot} {old} {new} name two is at added = record {
-  owns = λ first owns. record {
-    streams = owns.streams;
-    within = (let e : length new ≡ length old + 1 = ap length added ∙ length-append old _ in omega arith);
-    from = owns.from;
-    own = λ all. absurd (let same : OpenOne ≡ All = sym is ∙ all in cc);
-    there = there_before writer.files old (opened name Fresh) added owns.there;
-    last = (omega arith, (let e : length new ≡ length old + 1 = ap length added ∙ length-append old _ in omega arith));
-  };
-  there = there_before writer.files old (opened name Fresh) added;
-}
-opened_by All {writer} {slot} {old} {new} name two is at added = grind (arith, common_steps, by_place, or-false, among_more, there_more, cases_lt, none_past, file_before, at_end, eq-eqb, false≢true)
+opened_by OpenOne name two is at added =
+    grind (arith, common_steps, length-append, there_before)
+opened_by All name two is at added =
+    grind (arith, common_steps, by_place, or-false, among_more, there_more, cases_lt, none_past, file_before, at_end, eq-eqb, false≢true)
 
 pub owned_opened : {writer next : WriterState} {slot : ℕ} {old new : List Slot} → 2 ≤ length old
     → Made writer old new next slot → KeepsFiles writer next old new
-owned_opened {writer} {old = old} {new} two made = rw made.same (opened_by writer.keeps (next_name writer.names) two refl made.place made.added)
+owned_opened two made = grind (arith, common_steps, opened_by)
 
 unmade_keeps : {told : Bool} {tells : Tells} {names next : Names} {old new : List Slot} {f : Fault}
     → OpensNone told tells names next old new f → KeepsFiled old new
 unmade_keeps (no_memory same) = rw same (record { same = λ place. refl; within = omega arith })
 unmade_keeps {told} {old = old} (no_line n few has cut) = filed_same (made_short told 0 _ old _ _ (short.broke n cut))
-unmade_keeps {told} {tells} {names} {old = old} (no_file slot kept why number few has drew is added) =
-    filed_more why kept (made_write 0 (told_of told (line_next tells names)) old _ refl) added
-unmade_keeps {told} {tells} {names} {old = old} (no_number few has same) = filed_same (made_write 0 (told_of told (line_next tells names)) old _ same)
+unmade_keeps (no_file slot kept why number few has drew is added) =
+    grind (arith, common_steps, filed_more, made_write)
+unmade_keeps (no_number few has same) =
+    grind (arith, common_steps, filed_same, made_write)
 unmade_keeps (no_name few none same) = rw same (record { same = λ place. refl; within = omega arith })
 
 pub owned_unopened : {told : Bool} {writer : WriterState} {names next : Names} {old new : List Slot} {f : Fault}
@@ -310,7 +289,7 @@ owned_unopened {writer = writer} {next = next} {old = old} {new} none = let kept
 -- the manner in which files are made may be said otherwise
 pub breaks_as : {manner own : Manner} (old new : List Slot) (fault : Fault) → IsManner manner own
     → Breaks own old new fault → Breaks manner old new fault
-breaks_as old new (fault.Write slot) same (out, rose) = (λ none. subst (λ output. writes output ≡ true) same.output (out none), rose)
+breaks_as old new (fault.Write slot) same (out, rose) = grind (arith, common_steps)
 breaks_as old new (Verdict Suffixes) same (place, few, none) = (place, few, sym (same.has place few) ∙ none)
 breaks_as old new fault same breaks = breaks
 
@@ -319,23 +298,22 @@ line_rose : (told : Bool) (tells : Tells) (names : Names) (n : ℕ) {old new : L
     → BrokeAfter told old new 0 (line_next tells names) n → (writes (output_of tells) ≡ true) × Rose 0 old new
 line_rose told Nothing names n can cut = absurd (omega arith)
 line_rose told Sizes names n can cut = absurd (omega arith)
-line_rose told Openings names n {old} {new} can cut = (refl, write_rose told 0 (line_next Openings names) n old new can cut)
+line_rose told Openings names n can cut = grind (arith, common_steps, write_rose)
 
 pub make_breaks : (told : Bool) (tells : Tells) {names next : Names} {old new : List Slot} {f : Fault}
     → CanTell tells old → OpensNone told tells names next old new f
     → Breaks (manner_by names.naming (output_of tells)) old new f
 make_breaks told tells can (no_memory same) = tt
-make_breaks told tells {names} can (no_line n few has cut) = let (out, rose) = line_rose told tells names n can cut in (λ none. out, rose)
-make_breaks told tells {names} {old = old} {new} can (no_file slot kept why number few has drew is added) =
-    let size : length (told_next told tells names old) ≡ length old = length-changed_at 0 _ old in
-    rose_later slot old (told_next told tells names old) new (keeps_write 0 _ old _ refl) (open_rose slot why kept _ new (number ∙ sym size) added)
+make_breaks told tells can (no_line n few has cut) = grind (arith, common_steps, line_rose)
+make_breaks told tells can (no_file slot kept why number few has drew is added) =
+    grind (arith, common_steps, length-changed_at, rose_later, keeps_write, open_rose)
 make_breaks told tells can (no_number few has same) = tt
 make_breaks told tells {names} can (no_name few none same) = (names.drawn, few, none)
 
 pub line_breaks : (told : Bool) (naming : Naming) (line : List ℕ) {old new : List Slot} {f : Fault}
     → IsTrue (is_writable old 0) → WritesShort told 0 line old new f
     → Breaks (manner_by naming (output_of Sizes)) old new f
-line_breaks told naming line {old} {new} can (short.broke n cut) = grind (arith, common_steps)
+line_breaks told naming line can (short.broke n cut) = grind (arith, common_steps)
 
 -- The line with a file's size.
 
@@ -348,13 +326,13 @@ one_left n all less = absurd (omega arith)
 pub line_is : (size all : ℕ) {digits : List ℕ} (copied : List ℕ) → copied ≡ digits → digits ≡ decimal size
     → length digits < all
     → take (length digits + 1) (copied ++ drop (length digits) (replicate all 10)) ≡ decimal size ++ 10 ∷ []
-line_is size all {digits} copied same is fits = search (rules, take-append-add, one_left)
+line_is size all copied same is fits = search (rules, take-append-add, one_left)
 
 -- What is begun
 
 pub now_is : {manner : Manner} {writer : WriterState} {draft : Draft} {current : Current} → writer.current ≡ current
     → Writes manner writer draft → IsCurrent writer.tells draft.opening draft.bytes current
-now_is {writer = writer} {draft} is writes = subst (IsCurrent writer.tells draft.opening draft.bytes) is writes.current
+now_is is writes = grind (arith, common_steps)
 
 -- all its files have names, the open one too
 pub file_named : {manner : Manner} {writer : WriterState} {draft : Draft}
@@ -371,31 +349,18 @@ pub goes_still : {told : Bool} {writer : WriterState} {change : Draft → Draft}
     → (shares_of draft ≡ shares_of (change draft))
     × IsCurrent writer.tells (change draft).opening (change draft).bytes current)
     → Goes told writer change slots slots (record writer { current = current }) None
-goes_still {writer = writer} {change} current {slots} ready at last stays = record {
-  leaves = record { naming = refl; tells = refl; keeps = refl; open_alone = λ alone. refl; owns = keeps; slots = λ place sound. sound; output = λ can. can; ready = record { streams = ready.streams; output = ready.output; files = ready.files; current = at } };
-  reaches = λ manner draft writes. reaches_still keeps (ap (part_of manner) (stays draft writes.current).0);
-  short = tt;
-  writes = λ manner draft writes. let so = stays draft writes.current in record { same = writes.same; made = writes.made ∙ ap length so.0; kept = λ all. writes.kept all ∙ ap length so.0; named = subst (λ shares. AreNamed manner (length shares)) so.0 writes.named; current = so.1 };
-} where
+goes_still {writer = writer} current {slots} ready at last stays = grind (arith, common_steps, reaches_still) where
   keeps : KeepsFiles writer (record writer { current = current }) slots slots
-  keeps = record { owns = λ first owns. record { streams = owns.streams; within = owns.within; from = owns.from; own = owns.own; there = owns.there; last = last first owns.last }; there = λ are. are }
+  keeps = grind (arith, common_steps)
 
 pub put_skipped : {told : Bool} {writer : WriterState} (bytes : List ℕ) {slots : List Slot} → writer.current ≡ Skipped
     → IsReady writer slots → Goes told writer (with_bytes bytes) slots slots writer None
-put_skipped {writer = writer} bytes is ready = goes_still writer.current ready ready.current (λ first last. last) (λ draft now.
-    let never : draft.opening ≡ Never = subst (IsCurrent writer.tells draft.opening draft.bytes) is now in (
-      ap (λ made. map (share state.Closed) draft.ended ++ map (share state.Open) made) (ap (λ opening. made_of opening draft.bytes) never ∙ sym (ap (λ opening. made_of opening (draft.bytes ++ bytes)) never)),
-      subst (IsCurrent writer.tells draft.opening (draft.bytes ++ bytes)) (sym is) never,
-    ))
+put_skipped bytes is ready = grind (arith, common_steps, goes_still)
 
 -- nothing more is written
 pub put_nothing : {told : Bool} {writer : WriterState} {bytes : List ℕ} {slots : List Slot} → bytes ≡ []
     → IsReady writer slots → Goes told writer (with_bytes bytes) slots slots writer None
-put_nothing {writer = writer} {bytes} none ready = goes_still writer.current ready ready.current (λ first last. last) (λ draft now.
-    let same : draft.bytes ++ bytes ≡ draft.bytes = ap (λ those. draft.bytes ++ those) none ∙ append-nil draft.bytes in (
-      ap (λ those. map (share state.Closed) draft.ended ++ map (share state.Open) (made_of draft.opening those)) (sym same),
-      subst (λ those. IsCurrent writer.tells draft.opening those writer.current) (sym same) now,
-    ))
+put_nothing none ready = grind (arith, common_steps, goes_still, append-nil)
 
 -- The open file gets more bytes, or breaks.
 
@@ -454,7 +419,7 @@ wrote_leaves told {writer} {next} slot bytes {old} {new} fault same last slots s
   made = wrote_made told slot bytes old new fault wrote
 
   owns : KeepsFiles writer next old new
-  owns = owned_same (ap (λ (w : WriterState). w.files) same) (ap (λ (w : WriterState). w.keeps) same) last made
+  owns = grind (arith, common_steps, owned_same, made)
 
 pub appends_leaves : {told : Bool} {writer next : WriterState} {slot size : ℕ} {bytes : List ℕ} {old new : List Slot}
     {fault : Option Fault} → writer.current ≡ File slot size → IsReady writer old
@@ -480,7 +445,7 @@ pub counted_on : (tells : Tells) (had bytes : List ℕ) (size more : ℕ) → Is
     → CountsOn tells size bytes more → IsCounted tells (had ++ bytes) more
 counted_on Nothing had bytes size more is on = tt
 counted_on Openings had bytes size more is on = tt
-counted_on Sizes had bytes size more is on = on ∙ ap (λ n. n + length bytes) is ∙ sym (length-append had bytes)
+counted_on Sizes had bytes size more is on = grind (arith, common_steps, length-append)
 
 pub none_counted : (tells : Tells) → IsCounted tells [] 0
 none_counted Nothing = tt
@@ -499,7 +464,8 @@ put_file {told} {writer} {next} {slot} {size} bytes {old} {new} {fault} is ready
       draft.bytes bytes old fault (closed_files manner 0 draft.ended) (last_file writer old is last).1 appends.wrote));
   short = never_short _ told slot bytes old new fault appends.wrote;
   writes = where_well fault appends.current (λ current manner draft writes. let now = now_is is writes in let grown = still_made draft.opening draft.bytes bytes now.0 in
-      let count : length (shares_of draft) ≡ length (shares_of (with_bytes bytes draft)) = made_count draft now.0 ∙ sym (made_count (with_bytes bytes draft) grown) in record {
+      let count : length (shares_of draft) ≡ length (shares_of (with_bytes bytes draft)) =
+      grind (arith, common_steps, made_count) in record {
         same = subst (IsManner manner) (sym (ap manner_in appends.same)) writes.same;
         made = ap (λ (w : WriterState). w.names.drawn) appends.same ∙ writes.made ∙ count;
         kept = λ all. ap (λ (w : WriterState). length w.files) appends.same ∙ writes.kept (sym (ap (λ (w : WriterState). w.keeps) appends.same) ∙ all) ∙ count;

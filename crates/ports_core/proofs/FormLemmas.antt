@@ -4,7 +4,8 @@ use Rattle.std.proofs.{
   Common.{cond, List, [], ◌∷◌, ◌++◌, length, filter, replicate, inl, inr, refl, sym, ◌∙◌, ap, arith, add-mul},
   Common.{mul_assoc, append-nil, append_assoc, length-append, mul-le-mul, pow-suc, div-add-mod', mod-lt},
   Math.Nat.{pow-le-pow_right, pow-succ', pow-zero},
-  lemmas.{List.Elements.filter-append, Bool.{cases_lt, cond_both, ltb-false, ltb-true, Decides.nat_tests}},
+  lemmas.{Grind.common_steps, List.Elements.filter-append},
+  lemmas.Bool.{cases_lt, cond_both, ltb-false, ltb-true, Decides.nat_tests},
 }
 use Rattle.std.specs.{Str.Parse.{digits_value, digits_value_after}, Char.digit_value}
 use Rattle.ports_core.{
@@ -38,7 +39,7 @@ least_up_to alphabet number (suc bound) count small =
     (λ more. elim (cases_lt bound count) [
       | inl less ↦ less
       | inr reached ↦
-          let some : 0 < radix alphabet = omega (arith, many_characters alphabet) in
+          let some : 0 < radix alphabet = omega (arith, many_characters) in
           absurd (omega (arith, ltb-false _ _ more, pow-le-pow_right some reached))
     ])
 
@@ -50,16 +51,16 @@ below_power alphabet (suc number) =
     rw pow-suc (omega arith)
 
 pub digits_enough : (alphabet : Alphabet) (number : ℕ) → number < radix alphabet ^ digit_count alphabet number
-digits_enough alphabet number = enough_up_to alphabet number number (below_power alphabet number)
+digits_enough alphabet number = grind (arith, common_steps, enough_up_to, below_power)
 
 pub digits_needed : (alphabet : Alphabet) (number count : ℕ) → number < radix alphabet ^ count
     → digit_count alphabet number ≤ count
-digits_needed alphabet number count small = least_up_to alphabet number number count small
+digits_needed alphabet number count small = grind (arith, common_steps, least_up_to)
 
 pub counted : (alphabet : Alphabet) {number log count : ℕ} → radix alphabet ^ log ≤ number
     → number < radix alphabet * radix alphabet ^ log → count ≡ suc log → count ≡ digit_count alphabet number
 counted alphabet {number} {log} least most is =
-    let some : 0 < radix alphabet = omega (arith, many_characters alphabet) in
+    let some : 0 < radix alphabet = omega (arith, many_characters) in
     let few : digit_count alphabet number ≤ suc log = digits_needed alphabet number (suc log) (rw (pow-succ' (radix alphabet) log) most) in
     elim (cases_lt log (digit_count alphabet number)) [
       | inl less ↦ omega arith
@@ -69,9 +70,7 @@ counted alphabet {number} {log} least most is =
 -- more digits are enough too
 pub below_more : (alphabet : Alphabet) {number few count : ℕ} → number < radix alphabet ^ few → few ≤ count
     → number < radix alphabet ^ count
-below_more alphabet {number} {few} {count} small more =
-    let some : 0 < radix alphabet = omega (arith, many_characters alphabet) in
-    omega (arith, pow-le-pow_right some more)
+below_more alphabet small more = grind (arith, common_steps, many_characters, pow-le-pow_right)
 
 -- what is written of a number
 
@@ -81,7 +80,7 @@ length_written alphabet (suc width) number = ap suc (length_written alphabet wid
 
 length_marked : (form : Form) (number : ℕ)
     → length (marked form number) ≡ length (mark_of form number) + digits_written form number
-length_marked form number = length-append (mark_of form number) _ ∙ ap (λ n. length (mark_of form number) + n) (length_written (alphabet_of form.base) (digits_written form number) number)
+length_marked form number = grind (arith, common_steps, length-append, length_written)
 
 -- what blanks make of a text
 before : {filling : Filling} (width : ℕ) (text : List ℕ) {blanks : ℕ} → filling ≡ BlanksBefore
@@ -97,17 +96,14 @@ pub blanks_before : (form : Form) (number : ℕ) {size blanks : ℕ} (old : List
     → blanks ≡ form.width - size → middle ≡ old ++ replicate blanks 32 → new ≡ middle ++ marked form number
     → new ≡ old ++ formatted form number
 blanks_before form number old filling size blanks front all =
-    all ∙ ap (λ text. text ++ marked form number) front ∙ append_assoc old _ (marked form number)
-    ∙ ap (λ text. old ++ text) (sym (before form.width (marked form number) filling (omega (arith, length_marked form number))))
+    grind (arith, common_steps, append_assoc, before, length_marked)
 
 pub blanks_after : (form : Form) (number : ℕ) {size blank : ℕ} (old : List ℕ) {middle new : List ℕ}
     → form.filling ≡ BlanksAfter → size ≡ length (mark_of form number) + digits_written form number
     → blank ≡ form.width - size → middle ≡ old ++ marked form number → new ≡ middle ++ replicate blank 32
     → new ≡ old ++ formatted form number
 blanks_after form number {blank} old filling size blanks front all =
-    let count : blank ≡ form.width - length (marked form number) = omega (arith, length_marked form number) in
-    all ∙ ap (λ text. text ++ replicate blank 32) front ∙ append_assoc old (marked form number) _
-    ∙ ap (λ text. old ++ text) (sym (after form.width (marked form number) filling count))
+    grind (arith, common_steps, length_marked, append_assoc, after)
 
 -- what is read of it
 
@@ -132,16 +128,14 @@ are_digits base.Capitals digit small = (grind (arith, nat_tests), grind (arith, 
 written_value : (alphabet : Alphabet) → IsDigit alphabet → (width number front : ℕ) → number < radix alphabet ^ width
     → digits_value_after (radix alphabet) front (filter is_shown (written alphabet width number))
     ≡ front * radix alphabet ^ width + number
-written_value alphabet digits zero number front small =
-    let none : number ≡ 0 = omega (arith, pow-zero (radix alphabet)) in
-    rw (none, pow-zero (radix alphabet)) (omega arith)
+written_value alphabet digits zero number front small = grind (arith, common_steps, pow-zero)
 written_value alphabet digits (suc width) number front small =
     let r : ℕ = radix alphabet in let p : ℕ = r ^ width in let top : ℕ = number / p in
     let digit = digits top (first_digit_small alphabet width number small) in
     let rest = written_value alphabet digits width (number % p) (front * r + digit_value (character alphabet top)) (mod-lt number (power_positive alphabet width)) in
     ap (λ shown. digits_value_after r front (cond shown (character alphabet top ∷ filter is_shown (written alphabet width (number % p))) (filter is_shown (written alphabet width (number % p))))) digit.0
     ∙ rest ∙ ap (λ value. (front * r + value) * p + number % p) digit.1
-    ∙ omega (arith, add-mul (front * r) top p, mul_assoc front r p, ap (λ n. front * n) (pow-succ' r width), div-add-mod' number p)
+    ∙ omega (arith, add-mul, mul_assoc, ap (λ n. front * n) (pow-succ' r width), div-add-mod')
 
 mark_value : (base : Base) (is_marked : Bool) (text : List ℕ)
     → value_in base (cond is_marked (hex_mark base) [] ++ text) ≡ value_in base text
@@ -158,10 +152,8 @@ blanks_hidden (suc count) = blanks_hidden count
 filled_value : (base : Base) (filling : Filling) (width : ℕ) (text : List ℕ)
     → value_in base (filled filling width text) ≡ value_in base text
 filled_value base Zeros width text = refl
-filled_value base BlanksBefore width text =
-    ap (digits_value (radix (alphabet_of base))) (filter-append is_shown (replicate (width - length text) 32) text ∙ ap (λ front. front ++ filter is_shown text) (blanks_hidden (width - length text)))
-filled_value base BlanksAfter width text =
-    ap (digits_value (radix (alphabet_of base))) (filter-append is_shown text (replicate (width - length text) 32) ∙ ap (λ rest. filter is_shown text ++ rest) (blanks_hidden (width - length text)) ∙ append-nil _)
+filled_value base BlanksBefore width text = grind (arith, common_steps, filter-append, blanks_hidden)
+filled_value base BlanksAfter width text = grind (arith, common_steps, filter-append, blanks_hidden, append-nil)
 
 pub formatted_value : (form : Form) (number : ℕ) → value_in form.base (formatted form number) ≡ number
 formatted_value form number =

@@ -1,14 +1,14 @@
 -- Lemmas on what reads leave of the inputs of a run.
 use Rattle.std.proofs.{
   lemmas.{Grind.common_steps, Bool.{and_parts, false≢true, not-true}},
-  Common.{◌≡◌, ℕ, ◌≤◌, Bool, true, false, IsTrue, List, [], ◌++◌, take, slice_index_or, arith, sym, refl, ◌<◌, ◌∙◌, ap},
-  Common.{append-nil, take-append-drop},
+  Common.{◌≡◌, ℕ, ◌≤◌, Bool, true, false, IsTrue, List, [], ◌++◌, take, slice_index_or, arith, ◌<◌, append-nil},
+  Common.take-append-drop,
 }
 use Rattle.ports_core.{
   specs.{
     Inputs.{AsksAtMost, CameFrom, KeepsOthers, OfContent},
     Slot.changed_at,
-    Source.{Content, ReadFails, Source, source_at, is_readable, gives, fails, Gave, BrokeOff, IsFresh},
+    Source.{Content, ReadFails, Source, source_at, is_readable, gives, Gave, BrokeOff, IsFresh},
   },
   proofs.{SlotLemmas.{changed_there, elsewhere, length-changed_at}, SourceLemmas.readable_within},
 }
@@ -42,12 +42,12 @@ keeps_again slot old mid new first second = grind (arith, common_steps)
 pub changed_source : (slot : ℕ) (change : Source → Source) (sources new : List Source)
     → IsTrue (is_readable sources slot) → new ≡ changed_at slot change sources
     → source_at new slot ≡ change (source_at sources slot)
-changed_source slot change sources new can is = ap (λ those. source_at those slot) is ∙ changed_there _ slot change sources (readable_within sources slot can)
+changed_source slot change sources new can is = grind (arith, common_steps, changed_there, readable_within)
 
 -- an input that can be read didn't break
 pub sound_at : (sources : List Source) (slot : ℕ) → IsTrue (is_readable sources slot)
     → (source_at sources slot).is_broken ≡ false
-sound_at sources slot can = not-true _ (and_parts (source_at sources slot).is_open _ can).1
+sound_at sources slot can = grind (arith, common_steps, not-true, and_parts)
 
 -- a read changes no flag
 pub still_readable : (slot : ℕ) (sources new : List Source) (size n : ℕ) → new ≡ changed_at slot (gives size n) sources
@@ -63,11 +63,11 @@ read_more content x slot sources new old_buffer buffer size n read can gave is =
 pub read_to_end : (content : Content) (x : List ℕ) (slot : ℕ) (sources : List Source) → HasRead content x slot sources
     → (source_at sources slot).left.bytes ≡ [] → (source_at sources slot).left.breaks_off ≡ false
     → (content.breaks_off ≡ false) × (content.bytes ≡ x)
-read_to_end content x slot sources read none sound = (sym read.breaks_off ∙ sound, read.bytes ∙ ap (λ rest. x ++ rest) none ∙ append-nil x)
+read_to_end content x slot sources read none sound = grind (arith, common_steps, append-nil)
 
 pub read_broken : (content : Content) (x : List ℕ) (slot : ℕ) (sources : List Source) → HasRead content x slot sources
     → BrokeOff (source_at sources slot).left → (content.bytes ≡ x) × (content.breaks_off ≡ true)
-read_broken content x slot sources read broke = (read.bytes ∙ ap (λ rest. x ++ rest) broke.no_more ∙ append-nil x, sym read.breaks_off ∙ broke.breaks_off)
+read_broken content x slot sources read broke = grind (arith, common_steps, append-nil)
 
 -- an input that can be read is open
 pub open_at : (sources : List Source) (slot : ℕ) → IsTrue (is_readable sources slot)
@@ -78,23 +78,19 @@ open_at sources slot can = (and_parts (source_at sources slot).is_open _ can).0
 pub came_sound : (told : Bool) {content : Content} (sources : List Source) (slot : ℕ)
     → IsTrue (is_readable sources slot) → (told ≡ false → content.breaks_off ≡ false)
     → CameFrom told content (source_at sources slot)
-came_sound told sources slot can sound = record { was_open = open_at sources slot can; breaks = λ untold. sound untold ∙ sym (sound_at sources slot can) }
+came_sound told sources slot can sound = grind (arith, common_steps, open_at, sound_at)
 
 -- one whose read failed came from its source, where it breaks off
 pub came_broken : (told : Bool) {content : Content} (slot size : ℕ) (sources new : List Source)
     → IsTrue (is_readable sources slot) → ReadFails slot size sources new
     → (told ≡ false → content.breaks_off ≡ true) → CameFrom told content (source_at new slot)
-came_broken told slot size sources new can (why, is) broken =
-    let after = changed_source slot (fails why size) sources new can is in record {
-      was_open = ap (λ (source : Source). source.is_open) after ∙ open_at sources slot can;
-      breaks = λ untold. broken untold ∙ sym (ap (λ (source : Source). source.is_broken) after);
-    }
+came_broken told slot size sources new can (why, is) broken = grind (arith, common_steps, changed_source, open_at)
 
 pub of_content : (told : Bool) (there seen : Content) (source : Source) (P : Content → Type 0) → (told ≡ true → P there)
     → (told ≡ false → P seen) → source.is_open ≡ true → seen.breaks_off ≡ source.is_broken
     → OfContent told there (λ content. P content × CameFrom told content source)
-of_content true there seen source P told untold was alike = (there, λ t. refl, (told refl, record { was_open = was; breaks = λ off. absurd (false≢true (sym off)) }))
-of_content false there seen source P told untold was alike = (seen, λ t. absurd (false≢true t), (untold refl, record { was_open = was; breaks = λ off. alike }))
+of_content true there seen source P told untold was alike = grind (arith, common_steps, false≢true)
+of_content false there seen source P told untold was alike = grind (arith, common_steps, false≢true)
 
 pub read_failed : (content : Content) (x : List ℕ) (slot : ℕ) (sources new : List Source) (size : ℕ)
     → HasRead content x slot sources → IsTrue (is_readable sources slot) → ReadFails slot size sources new

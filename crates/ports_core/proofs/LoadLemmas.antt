@@ -1,12 +1,8 @@
 -- Lemmas on what an engine takes in without a read.
 use Rattle.std.proofs.{
-  lemmas.{
-    Grind.common_steps,
-    Bool.false≢true,
-    List.{length-replicate, length-take-le, nil_from_length, take-append-drop},
-  },
-  Common.{◌≡◌, ℕ, ◌<◌, ◌≤◌, ◌^◌, max, zero, suc, not, ◌&&◌, Bool, true, false, IsTrue, List, [], ◌∷◌, length, take},
-  Common.{replicate, if◌then◌else◌, inl, refl, sym, ◌∙◌, ap, subst, arith},
+  lemmas.{Grind.common_steps, Bool.false≢true, List.{length-replicate, length-take-le, take-append-drop}},
+  Common.{◌≡◌, ℕ, ◌<◌, ◌≤◌, ◌^◌, max, zero, suc, Bool, true, false, IsTrue, List, [], ◌∷◌, length, take, replicate},
+  Common.{if◌then◌else◌, refl, sym, ap, arith},
 }
 use Rattle.ports_core.{
   specs.{
@@ -31,12 +27,12 @@ none_passed (suc slot) (source ∷ sources) = ap (λ those. source ∷ those) (n
 -- of an input that can be read a front was passed over
 pub passed_at : (slot count : ℕ) (old new : List Source) → IsTrue (is_readable old slot)
     → new ≡ changed_at slot (skips count) old → source_at new slot ≡ skips count (source_at old slot)
-passed_at slot count old new can is = ap (λ those. source_at those slot) is ∙ changed_there _ slot (skips count) old (readable_within old slot can)
+passed_at slot count old new can is = grind (arith, common_steps, changed_there, readable_within)
 
 -- where no look was made
 
 pub looked_none : (most slot : ℕ) (sources : List Source) → HasLooked most slot sources sources
-looked_none most slot sources = record { size = 0; within = omega arith; looked = ap (λ asked. record (source_at sources slot) { asked = asked }) (omega arith); others = keeps_itself slot sources }
+looked_none most slot sources = grind (arith, common_steps, keeps_itself)
 
 -- one look
 pub looked_once : {most slot size : ℕ} {old new : List Source} → IsTrue (is_readable old slot) → size ≤ most
@@ -46,29 +42,22 @@ looked_once {slot = slot} {size} {old} {new} can few is = record { size = size; 
 -- more of them
 pub looked_again : {least most slot : ℕ} {old mid new : List Source} → HasLooked most slot old mid
     → HasLooked least slot mid new → least ≤ most → HasLooked most slot old new
-looked_again {slot = slot} {old} {mid} {new} first next few = record {
+looked_again first next few = record {
   size = max first.size next.size;
   within = omega arith;
-  looked = next.looked ∙ ap (looks next.size) first.looked ∙ ap (λ asked. record (source_at old slot) { asked = asked }) (omega arith);
-  others = keeps_again slot old mid new first.others next.others;
+  looked = grind (arith, common_steps);
+  others = grind (arith, common_steps, keeps_again);
 }
 
 -- an input that was looked at can still be read
 pub looked_readable : {most slot : ℕ} {old new : List Source} → HasLooked most slot old new
     → IsTrue (is_readable old slot) → IsTrue (is_readable new slot)
-looked_readable looked can = ap (λ (source : Source). source.is_open && not source.is_broken) looked.looked ∙ can
+looked_readable looked can = grind (arith, common_steps)
 
 -- where none is passed over, what holds of nothing holds
 pub passes_none : (told : Bool) {slot : ℕ} (Keeps : List ℕ → Type 0) {sources : List Source} → Keeps []
     → PassesOver told slot 0 Keeps sources sources
-passes_none told {slot} Keeps {sources} keeps = record {
-  few = omega arith;
-  front = [];
-  long = refl;
-  there = λ tells. refl;
-  passed = none_passed slot sources;
-  keeps = keeps;
-}
+passes_none told Keeps keeps = grind (arith, common_steps, none_passed)
 
 -- a front of the bytes that are left was passed over
 passes_front : (told : Bool) {slot count : ℕ} {old new : List Source} → IsTrue (is_readable old slot)
@@ -107,36 +96,20 @@ pub passes_by : {told : Bool} {slot : ℕ} {Keeps : List ℕ → Type 0} {old ne
     {is : Bool} → done ≡ is
     → PassesOver told slot (if done then count else 0) Keeps old new
     → PassesOver told slot (if is then count else 0) Keeps old new
-passes_by {told} {slot} {Keeps} {old} {new} count done is passes =
-    subst (λ done. PassesOver told slot (if done then count else 0) Keeps old new) is passes
+passes_by count done is passes = grind (arith, common_steps)
 
 -- what holds of the bytes that were passed over
 pub passes_so : {told : Bool} {slot count : ℕ} {Before : List ℕ → Type 0} (Keeps : List ℕ → Type 0)
     {old new : List Source}
     → PassesOver told slot count Before old new → ((x : List ℕ) → count ≡ length x → Before x → Keeps x)
     → PassesOver told slot count Keeps old new
-passes_so Keeps passes so = record {
-  few = passes.few;
-  front = passes.front;
-  long = passes.long;
-  there = passes.there;
-  passed = passes.passed;
-  keeps = so passes.front passes.long passes.keeps;
-}
+passes_so Keeps passes so = grind (arith, common_steps)
 
 -- a stage that takes in none stays as it was
 
 module _ {S : Type 0} (terms : Terms S) where
   took_none : {stage : S} → terms.Holds stage [] → terms.size stage ≡ 0 → TookIn terms stage stage []
-  took_none fresh none = record {
-    same = refl;
-    size = omega arith;
-    holds = fresh;
-    ready = λ slots is. is;
-    owns = λ first slots is. is;
-    idle = refl;
-    going = inl refl;
-  }
+  took_none fresh none = grind (arith, common_steps)
 
   pub loads_none : (told : Bool) {slot : ℕ} {stage : S} {sources : List Source} → terms.Holds stage []
       → terms.size stage ≡ 0
@@ -147,5 +120,4 @@ module _ {S : Type 0} (terms : Terms S) where
   pub loads_still : {told : Bool} {slot : ℕ} {Before : List ℕ → Type 0} {stage : S} {old new : List Source}
       → terms.Holds stage []
       → terms.size stage ≡ 0 → PassesOver told slot 0 Before old new → Loads terms told slot 0 stage stage old new
-  loads_still {stage = stage} fresh none passes = passes_so _ passes
-      (λ x long is. subst (TookIn terms stage stage) (sym (nil_from_length x (sym long))) (took_none fresh none))
+  loads_still fresh none passes = grind (arith, common_steps, passes_so, took_none)

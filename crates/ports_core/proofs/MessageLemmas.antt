@@ -19,7 +19,7 @@ use Rattle.ports_core.specs.{
 pub prints_on : (told : Bool) {text : List ℕ} {old new : List Slot} (result : Result (Unit {0}) WriteCut)
     → (slot_at old 1).is_broken ≡ false → OnOk result (new ≡ with_written 1 (told_of told text) old)
     → IfErr result (λ at. BrokeAfter told old new 1 text at.written) → PrintsOn told text old new
-prints_on told {text} (Ok u) sound out broke output error since is = grind (arith, common_steps)
+prints_on told (Ok u) sound out broke output error since is = grind (arith, common_steps)
 prints_on told {text} (Err at) sound out broke output error since is =
     let (why, slots) = broke.slots in
     let part = told_of told (take at.written text) in
@@ -61,7 +61,8 @@ said_state told speaker message old new (why, says) = printed_open told says.sai
 pub all_said_state : (told : Bool) (speaker : Speaker) (messages : List Message) (old new : Slot)
     → SaysAll told speaker messages old new → new.state ≡ old.state
 all_said_state told speaker [] old new is = cc
-all_said_state told speaker (message ∷ messages) old new says = all_said_state told speaker messages says.0 new says.2 ∙ said_state told speaker message old says.0 says.1
+all_said_state told speaker (message ∷ messages) old new says =
+    grind (arith, common_steps, said_state, all_said_state told speaker messages says.0 new says.2)
 
 pub says_after : (told : Bool) (speaker : Speaker) (messages more : List Message) (old mid new : Slot)
     → SaysAll told speaker messages old mid → SaysAll told speaker more mid new

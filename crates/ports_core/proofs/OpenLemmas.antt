@@ -2,12 +2,12 @@
 use Rattle.std.proofs.{
   Common.{◌≡◌, ℕ, ◌<◌, ◌^◌, Bool, List, [], ◌∷◌, ◌++◌, ◌⊎◌, length, take, drop, None, Some, inl, inr, refl, sym, subst},
   Common.{ap, ◌∙◌, IsTrue, arith, append_assoc},
-  lemmas.List.{append-nil, take-append-drop},
+  lemmas.{Grind.common_steps, List.{append-nil, take-append-drop}},
 }
 use Rattle.ports_core.specs.{
   Names.{next_name, has_next, with_one_drawn, told_next, line_next, OpensNone, no_memory, no_line, no_file, no_number},
   Names.no_name,
-  Slot.{Slot, FailsToOpen, broke, numberless, unopened, adds, told_of, with_written},
+  Slot.{Slot, FailsToOpen, broke, numberless, unopened, told_of, with_written},
   Part.{File, Part, Begins, IsAt, IsBeginning, IsDueLine, IsNext, Marks, Output},
   Turn.AllClosed,
   Draft.{output_of, part_with, told_before, told_of_files},
@@ -47,7 +47,7 @@ untold told tells names old new named few has (inr (short.broke n cut)) = no_lin
 pub told_so : (told : Bool) (tells : Tells) (names : Names) {name : List ℕ} (old mid : List Slot)
     → name ≡ next_name names → TellsOpening told (told_before (output_of tells) name) old mid None
     → mid ≡ told_next told tells names old
-told_so told tells names old mid named tells_it = tells_it ∙ ap (λ name. with_written 0 (told_of told (told_before (output_of tells) name)) old) named
+told_so told tells names old mid named tells_it = grind (arith, common_steps)
 
 -- the name that is due
 abbrev pub IsNextName : Names → List ℕ → Type 0
@@ -75,7 +75,7 @@ stops_opening {told} {tells} {names} {old = old} some (no_line n few has cut) = 
   wrote = refl;
   begins = inr ((few, has, refl), begins);
   due = λ line is. inr (refl, (next_name names, (few, has, refl), subst (IsBeginning (take n (line_next tells names))) is begins));
-  marks = (omega (arith, length-changed_at 0 (adds (told_of told (take n (line_next tells names)))) old), cut.slots);
+  marks = (omega (arith, length-changed_at), cut.slots);
   at = λ first place. inl refl;
 } where
   begins : IsBeginning (take n (line_next tells names)) (line_next tells names)

@@ -9,7 +9,7 @@ use Rattle.std.proofs.{
   Common.{inl, inr, refl, sym, ◌∙◌, ap, arith, append_assoc, rules},
 }
 use Rattle.ports_core.specs.{
-  Slot.{Slot, is_open, slot_at, is_writable, with_written, with_broken, told_of},
+  Slot.{Slot, slot_at, is_writable, with_written, with_broken, told_of},
   Write.BrokeAfter,
   Part.{File, Part, nothing, only_out, OutputsAt, IsBeginning, FilesBegin, Begins, IsNext, Marks, IsAt, InOrder},
   Part.{StoppedBetween, Output, gets_none, gets_bytes, gets_lines, gets_openings, openings_for, IsDueLine},
@@ -51,20 +51,20 @@ kept_trans state_of low middle high (inr same) (inr also) = inr (same ∙ also)
 
 pub files_begin_themselves : (files : List File) → FilesBegin files files
 files_begin_themselves [] = tt
-files_begin_themselves (file ∷ files) = (refl, refl, refl, inr refl, begins_itself file.bytes, files_begin_themselves files)
+files_begin_themselves (file ∷ files) = grind (arith, common_steps, begins_itself, files_begin_themselves files)
 
 pub files_trans : (low middle high : List File) → FilesBegin low middle → FilesBegin middle high → FilesBegin low high
 files_trans [] middle high first second = tt
 files_trans (file ∷ files) [] high first second = absurd first
 files_trans (file ∷ files) (mid ∷ middle) [] first second = absurd second
 files_trans (file ∷ files) (mid ∷ middle) (whole ∷ high) first second =
-    (first.0 ∙ second.0, first.1 ∙ second.1, first.2 ∙ second.2, kept_trans (λ (those : File). those.state) file mid whole first.3 second.3, begins_trans _ _ _ first.4 second.4, files_trans files middle high first.5 second.5)
+    grind (arith, common_steps, kept_trans, begins_trans, files_trans files middle high first.5 second.5)
 
 pub part_begins_itself : (part : Part) → Begins part part
-part_begins_itself part = record { out = begins_itself part.out; files = files_begin_themselves part.files }
+part_begins_itself part = grind (arith, common_steps, begins_itself, files_begin_themselves)
 
 pub part_trans : (low middle high : Part) → Begins low middle → Begins middle high → Begins low high
-part_trans low middle high first second = record { out = begins_trans _ _ _ first.out second.out; files = files_trans _ _ _ first.files second.files }
+part_trans low middle high first second = grind (arith, common_steps, begins_trans, files_trans)
 
 -- parts that have bytes on standard output alone
 
@@ -109,11 +109,7 @@ pub lines_still : (output : Output) (part high : Part) (place : ℕ) (fault : Fa
 lines_still gets_none part high place fault other = tt
 lines_still gets_bytes part high place fault other = tt
 lines_still (gets_lines line) part high place fault other = inl refl
-lines_still (gets_openings line) part high place fault other = record {
-  next = [];
-  all = sym (ap (λ files. part.out ++ (openings_for line files ++ [])) (drop_all (length part.files) part.files (omega arith)) ∙ append-nil part.out);
-  due = none_due _ line fault other;
-}
+lines_still (gets_openings line) part high place fault other = grind (arith, common_steps, append-nil, none_due)
 
 -- a write of which the beginning was written before the output broke
 pub out_cut : (told : Bool) (before : List Slot) (part : Part) (old new : List Slot) (more : List ℕ) (n : ℕ)
@@ -121,18 +117,18 @@ pub out_cut : (told : Bool) (before : List Slot) (part : Part) (old new : List S
     → StoppedBetween gets_bytes told before part (record part { out = part.out ++ more }) (Write 0) new
 out_cut told before part old new more n at broke = record {
   part = record part { out = part.out ++ take n more };
-  above = record { out = begins_more part.out (take n more); files = files_begin_themselves part.files };
-  below = record { out = take_begins_after n part.out more; files = files_begin_themselves part.files };
+  above = grind (arith, common_steps, begins_more, files_begin_themselves);
+  below = grind (arith, common_steps, take_begins_after, files_begin_themselves);
   place = 0;
   order = still_in_order part.files;
   lines = tt;
   reached = with_written 0 (told_of told (take n more)) old;
-  outputs = out_more told before part old _ (take n more) at refl;
+  outputs = grind (arith, common_steps, out_more);
   marks = (there, broke.slots);
   from = inl refl;
 } where
   there : 0 < length (with_written 0 (told_of told (take n more)) old)
-  there = rw (length-changed_at 0 _ old) (omega (arith, outputs_count told before part old at))
+  there = grind (arith, common_steps, length-changed_at, outputs_count)
 
 -- a fault that came before anything was written, and from no output
 pub stopped_here : (output : Output) (told : Bool) (before : List Slot) (low high : Part) (fault : Fault)
@@ -150,7 +146,7 @@ broken_at why (suc place) (slot ∷ slots) can = broken_at why place slots can
 
 pub sound_at : (place : ℕ) (slots : List Slot) → IsTrue (is_writable slots place)
     → (slot_at slots place).is_broken ≡ false
-sound_at place slots can = not-true _ (and_parts (is_open (slot_at slots place).state) _ can).1
+sound_at place slots can = grind (arith, common_steps, not-true, and_parts)
 
 pub nothing_begins_part : (part : Part) → Begins nothing part
 nothing_begins_part part = grind (arith, common_steps)
@@ -214,7 +210,7 @@ done_by zero part high begins closed within = refl
 done_by (suc place) [] high begins closed within = absurd (omega arith)
 done_by (suc place) (file ∷ part) [] begins closed within = absurd begins
 done_by (suc place) (file ∷ part) (whole ∷ high) begins closed within =
-    ap (λ one. one ∷ take place part) (closed_stays whole closed.0 begins.3) ∙ ap (λ rest. whole ∷ rest) (done_by place part high begins.5 closed.1 (omega arith))
+    grind (arith, common_steps, closed_stays, done_by place part high begins.5 closed.1 (omega arith))
 
 pub no_fewer : (low part : List File) → FilesBegin low part → length low ≤ length part
 no_fewer [] part begins = omega arith
@@ -224,12 +220,12 @@ no_fewer (file ∷ low) (whole ∷ part) begins = omega (arith, no_fewer low par
 -- in turn is in order
 pub in_order : {low part high : List File} {place : ℕ} → FilesBegin low part → FilesBegin part high → InTurn part place
     → InOrder low part high place
-in_order {low} {part} {high} {place} above below turn = grind (arith, common_steps, done_by, drop_all, no_fewer)
+in_order above below turn = grind (arith, common_steps, done_by, drop_all, no_fewer)
 
 pub openings-append : (line : List ℕ → List ℕ) (some more : List File)
     → openings_for line (some ++ more) ≡ openings_for line some ++ openings_for line more
 openings-append line [] more = refl
-openings-append line (file ∷ some) more = ap (λ rest. line file.name ++ rest) (openings-append line some more) ∙ sym (append_assoc (line file.name) (openings_for line some) (openings_for line more))
+openings-append line (file ∷ some) more = grind (arith, common_steps, append_assoc, openings-append line some more)
 
 -- the lines for files that are there, and for those that were opened since
 pub openings_since : (line : List ℕ → List ℕ) (low part : List File) → FilesBegin low part
@@ -237,8 +233,7 @@ pub openings_since : (line : List ℕ → List ℕ) (low part : List File) → F
 openings_since line [] part begins = refl
 openings_since line (file ∷ low) [] begins = absurd begins
 openings_since line (file ∷ low) (whole ∷ part) begins =
-    ap (λ name. line name ++ openings_for line part) (sym begins.0) ∙ ap (λ rest. line file.name ++ rest) (openings_since line low part begins.5)
-    ∙ sym (append_assoc (line file.name) (openings_for line low) _)
+    grind (arith, common_steps, append_assoc, openings_since line low part begins.5)
 
 -- the lines that standard output had in the lower part, and those that it got since
 lines_in_order : (output : Output) (low part high : Part) (place : ℕ) (fault : Fault) → Begins low part
@@ -252,7 +247,7 @@ lines_in_order (gets_openings line) low part high place fault above has lines = 
       ∙ append_assoc low.out (openings_for line (drop (length low.files) part.files)) lines.next;
   due = lines.due;
 }
-lines_in_order (gets_lines line) low part high place fault above has lines = let (since, is) = above.out in inr (since, is, record { next = lines.next; all = ap (λ had. had ++ since) (sym has) ∙ sym is ∙ lines.all; cut = lines.cut })
+lines_in_order (gets_lines line) low part high place fault above has lines = grind (arith, common_steps)
 
 pub stopped_in_turn : (output : Output) (told : Bool) (before : List Slot) (low high : Part) (fault : Fault)
     (now : List Slot) → HasLines output low.out low.files → StoppedInTurn output told before low high fault now

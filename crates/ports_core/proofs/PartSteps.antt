@@ -2,7 +2,7 @@
 use Rattle.std.proofs.{
   Common.{◌≡◌, ℕ, ◌+◌, suc, Bool, false, List, [], ◌∷◌, ◌++◌, length, take, Option, Some, None, inl, inr, refl, sym},
   Common.{◌∙◌, ap, arith, length-append},
-  lemmas.List.{append-nil, take_all},
+  lemmas.{Grind.common_steps, List.{append-nil, take_all}},
   Math.Seq.take-append_seam,
 }
 use Rattle.ports_core.specs.{
@@ -33,12 +33,14 @@ pub there_from : (output : Output) (told : Bool) (There : Type 0) (before : List
     (new : List Slot) (fault : Option Fault) → Begins low middle
     → IsThere output told There before middle high new fault → IsThere output told There before low high new fault
 there_from output told There before high new None begins at = at
-there_from output told There before {low} {middle} high new (Some fault) begins at = turn_between output told before low middle high high fault new begins at (part_begins_itself high)
+there_from output told There before {low} {middle} high new (Some fault) begins at =
+    grind (arith, common_steps, turn_between, part_begins_itself)
 
 pub becomes_again : {output : Output} {told : Bool} {low middle high : Part} {old mid new : List Slot}
     {fault : Option Fault} → Begins low middle → Becomes output told low middle old mid None
     → Becomes output told middle high mid new fault → Becomes output told low high old new fault
-becomes_again {output} {told} {high = high} {new = new} {fault} begins first second = record { gets = λ before at. there_from output told _ before high new fault begins (second.gets before (first.gets before at)) }
+becomes_again {output} {told} {high = high} {new = new} {fault} begins first second =
+    grind (arith, common_steps, gets, there_from)
 
 pub falls_wider : {output : Output} {told : Bool} {low middle high : Part} {old new : List Slot} {fault : Fault}
     → Becomes output told low middle old new (Some fault) → Begins middle high
@@ -62,7 +64,7 @@ begun_out output front name = told_of_files output front ++ told_before output n
 
 pub line_begins : {out : List ℕ} (line : List ℕ) {files : List File}
     → Begins (record { out = out; files = files }) (record { out = out ++ line; files = files })
-line_begins {out} line {files} = record { out = begins_more out line; files = files_begin_themselves files }
+line_begins {out} line {files} = grind (arith, common_steps, begins_more, files_begin_themselves)
 
 pub more_files : (front more : List File) → FilesBegin front (front ++ more)
 more_files [] more = tt
@@ -192,7 +194,7 @@ module _ (output : Output) (told : Bool) (front : List File) (name bytes : List 
       → AllClosed front → suc slot ≡ length old → Wrote told slot more old new fault
       → Becomes output told (with_last (begun_out output front name) front (file_of name bytes state.Open))
       (with_last (begun_out output front name) front (file_of name (bytes ++ more) state.Open)) old new fault
-  writes_to more old None closed last wrote = bytes_added output told _ front name bytes more old last wrote
+  writes_to more old None closed last wrote = grind (arith, common_steps, bytes_added)
   writes_to more {slot} old (Some _) closed last (short.broke n cut) =
       becomes_again (bytes_more _ front name bytes (take n more)) (bytes_added output told _ front name bytes (take n more) old last refl) (halts_here (taken_more _ front name bytes more n)
       (turn_last front (file_of name (bytes ++ take n more) state.Open) (length front) refl closed) (lines_of_last output front (file_of name (bytes ++ take n more) state.Open) _ (fault.Write slot) tt)
@@ -206,5 +208,5 @@ module _ (output : Output) (told : Bool) (front : List File) (name bytes : List 
       (Some (fault.Write slot))
   closes_not {slot} old closed last is =
       becomes_again (close_begins _ front name bytes) (closes_last output told _ front name bytes old last refl) (halts_here (part_begins_itself _)
-      (turn_last front (file_of name bytes state.Closed) (length front) refl closed) (lines_of_last output front (file_of name bytes state.Closed) _ (fault.Write slot) tt) (omega (arith, length-changed_at slot closes old), is)
+      (turn_last front (file_of name bytes state.Closed) (length front) refl closed) (lines_of_last output front (file_of name bytes state.Closed) _ (fault.Write slot) tt) (omega (arith, length-changed_at), is)
       (λ before at. inr (last_place output told _ front (file_of name bytes state.Closed) (last ∙ sym (length-changed_at slot closes old)) at)))

@@ -1,15 +1,14 @@
 -- The files of shares, and what standard output is told of them: what begins what, and the last file.
 use Rattle.std.proofs.{
   lemmas.{Grind.common_steps, Bool.cond_both, List.length-map},
-  Common.{◌≡◌, ℕ, ◌+◌, suc, Bool, true, false, cond, List, [], ◌∷◌, ◌++◌, ◌⊎◌, length, map, inl, inr, refl, sym, ◌∙◌},
-  Common.{ap, subst, arith, append_assoc, append-nil, rules},
+  Common.{◌≡◌, ℕ, ◌+◌, suc, Bool, true, false, cond, List, [], ◌∷◌, ◌++◌, ◌⊎◌, length, map, inl, inr, refl, subst},
+  Common.{arith, append_assoc, append-nil, rules},
 }
 use Rattle.ports_core.specs.{
   Draft.{Manner, AreNamed, Share, share, file_at, files_from, told_of_files, told_before, part_with, part_of, made_of},
   Draft.{Draft, shares_of, draft_part, with_bytes, with_next},
   Part.{File, nothing, Begins, FilesBegin, IsBeginning, Output, gets_none, gets_bytes, gets_lines, gets_openings},
   Part.{lines_for, openings_for},
-  Slot.is_open,
   Turn.AllClosed,
   inner.{Part.HasLines, Shares.SharesBegin},
   declared.{
@@ -55,7 +54,7 @@ pub files_begin : (manner : Manner) (place : ℕ) (low high : List Share) → Sh
 files_begin manner place [] high begins = tt
 files_begin manner place (share ∷ low) [] begins = absurd begins
 files_begin manner place (share ∷ low) (whole ∷ high) begins =
-    files_by manner (manner.has_name place) place share whole (files_from manner (place + 1) low) (files_from manner (place + 1) high) begins.0 begins.1 (files_begin manner (place + 1) low high begins.2)
+    grind (arith, common_steps, files_by, files_begin manner (place + 1) low high begins.2)
 
 -- What standard output is told of them
 
@@ -65,7 +64,7 @@ told-append gets_none a b = refl
 told-append gets_bytes a b = refl
 told-append (gets_lines line) [] b = refl
 told-append (gets_lines line) (file ∷ a) b =
-    ap (λ rest. cond (is_open file.state) [] (line file) ++ rest) (told-append (gets_lines line) a b) ∙ sym (append_assoc (cond (is_open file.state) [] (line file)) (lines_for line a) (lines_for line b))
+    grind (arith, common_steps, append_assoc, told-append (gets_lines line) a b)
 told-append (gets_openings line) a b = openings-append line a b
 
 pub has_told : (output : Output) (files : List File) → HasLines output (told_of_files output files) files
@@ -91,7 +90,8 @@ nothing_told (gets_openings line) = refl
 open_untold : (line : File → List ℕ) (manner : Manner) (place : ℕ) (bytes : List (List ℕ))
     → lines_for line (files_from manner place (map (share Open) bytes)) ≡ []
 open_untold line manner place [] = refl
-open_untold line manner place (one ∷ bytes) = cond_both (manner.has_name place) _ _ (λ files. lines_for line files ≡ []) (λ is. open_untold line manner (place + 1) bytes) (λ is. refl)
+open_untold line manner place (one ∷ bytes) =
+    grind (arith, common_steps, cond_both, open_untold line manner (place + 1) bytes)
 
 told_by : (line : File → List ℕ) (has : Bool) (file : File) (low high : List File)
     → IsBeginning (lines_for line low) (lines_for line high)
@@ -113,8 +113,9 @@ told_grows gets_none manner place front low high begins = begins_itself []
 told_grows gets_bytes manner place front low high begins = begins_itself []
 told_grows (gets_lines line) manner place [] low high begins = rw (open_untold line manner place low) (_, refl)
 told_grows (gets_lines line) manner place (one ∷ front) low high begins =
-    told_by line (manner.has_name place) (file_at manner place one) (files_from manner (place + 1) (front ++ map (share Open) low)) (files_from manner (place + 1) (front ++ high)) (told_grows (gets_lines line) manner (place + 1) front low high begins)
-told_grows (gets_openings line) manner place front low high begins = openings_begin line _ _ (files_begin manner place _ _ (shares_after front _ _ begins))
+    grind (arith, common_steps, told_by, told_grows (gets_lines line) manner (place + 1) front low high begins)
+told_grows (gets_openings line) manner place front low high begins =
+    grind (arith, common_steps, openings_begin, files_begin, shares_after)
 
 -- what is written of shares whose last ones are open, and go on
 pub part_grows : (manner : Manner) (front : List Share) (low : List (List ℕ)) (high : List Share)
@@ -175,7 +176,8 @@ stopped_part manner draft none = grind (arith, common_steps, files_stop, length-
 pub closed_files : (manner : Manner) (place : ℕ) (ended : List (List ℕ))
     → AllClosed (files_from manner place (map (share Closed) ended))
 closed_files manner place [] = tt
-closed_files manner place (one ∷ ended) = cond_both (manner.has_name place) _ _ AllClosed (λ is. (refl, closed_files manner (place + 1) ended)) (λ is. tt)
+closed_files manner place (one ∷ ended) =
+    grind (arith, common_steps, cond_both, closed_files manner (place + 1) ended)
 
 -- The files that ended, and one more
 

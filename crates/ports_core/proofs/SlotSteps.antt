@@ -34,7 +34,7 @@ keeps_again old mid new first second place sound = search rules
 
 keeps_change : (change : Slot → Slot) → ((slot : Slot) → (change slot).is_broken ≡ slot.is_broken)
     → (slot : ℕ) (old : List Slot) {new : List Slot} → new ≡ changed_at slot change old → KeepsBroken old new
-keeps_change change same slot old is place sound = sym (flag_stays change same slot place old) ∙ ap (λ those. (slot_at those place).is_broken) (sym is) ∙ sound
+keeps_change change same slot old is place sound = grind (arith, common_steps, flag_stays)
 
 pub keeps_write : (slot : ℕ) (bytes : List ℕ) (old new : List Slot) → new ≡ with_written slot bytes old
     → KeepsBroken old new
@@ -84,7 +84,7 @@ short_size told slot bytes old new _ (broke n cut) = grind (arith, common_steps,
 
 pub broken_size : (slot : ℕ) (old new : List Slot) → SlotBreaks slot (changed_at slot closes old) new
     → length new ≡ length old
-broken_size slot old new (why, is) = ap length is ∙ length-changed_at slot (breaks why) _ ∙ length-changed_at slot closes old
+broken_size slot old new (why, is) = grind (arith, common_steps, length-changed_at)
 
 pub opened_last : (old new : List Slot) (slot : ℕ) (name : List ℕ) (mode : Mode) → slot ≡ length old
     → new ≡ old ++ opened name mode ∷ [] → suc slot ≡ length new
@@ -107,7 +107,7 @@ writable_before old new place one within is can = grind (arith, common_steps)
 
 pub written_writable : (old new : List Slot) (slot place : ℕ) (bytes : List ℕ) → IsTrue (is_writable old slot)
     → new ≡ with_written place bytes old → IsTrue (is_writable new slot)
-written_writable old new slot place bytes can is = ap (λ those. is_writable those slot) is ∙ writable-written old place slot bytes ∙ can
+written_writable old new slot place bytes can is = grind (arith, common_steps, writable-written)
 
 pub writable_elsewhere : (old new : List Slot) (slot place : ℕ) (change : Slot → Slot) → (slot ≡ place → ⊥)
     → new ≡ changed_at place change old → IsTrue (is_writable old slot) → IsTrue (is_writable new slot)
@@ -129,7 +129,7 @@ file_before slots one place within = grind (arith, common_steps)
 -- where there is no file, none is removed
 pub swept_none : (clears : Bool) (first : ℕ) (slots : List Slot)
     → ((place : ℕ) → first ≤ place → has_file (slot_at slots place).state ≡ false) → Swept clears first slots slots
-swept_none true first slots no_file = record { size = refl; before = λ place within. refl; cleared = λ place past. none (no_file place past) }
+swept_none true first slots no_file = grind (arith, common_steps, none)
 swept_none false first slots no_file = refl
 
 -- as many outputs, each with a file just where it had one
@@ -151,7 +151,7 @@ file_stays change place other slots same = refl
 made_change : (change : Slot → Slot) (slot : ℕ) {old new : List Slot}
     → has_file (change (slot_at old slot)).state ≡ has_file (slot_at old slot).state → new ≡ changed_at slot change old
     → KeepsMade old new
-made_change change slot {old} same is = grind (arith, common_steps, length-changed_at, file_stays)
+made_change change slot same is = grind (arith, common_steps, length-changed_at, file_stays)
 
 pub made_write : (slot : ℕ) (bytes : List ℕ) (old new : List Slot) → new ≡ with_written slot bytes old
     → KeepsMade old new
@@ -178,9 +178,9 @@ filed_same made = record { same = made.same; within = omega arith }
 
 pub filed_more : {old mid new : List Slot} (why : Reason) (kept : List ℕ) → KeepsMade old mid
     → new ≡ mid ++ unopened why kept ∷ [] → KeepsFiled old new
-filed_more {old} {mid} {new} why kept made added = record {
-  same = λ place. ap (λ slots. has_file (slot_at slots place).state) added ∙ still place ∙ made.same place;
-  within = omega (arith, ap length added, length-append mid (unopened why kept ∷ []));
+filed_more {mid = mid} why kept made added = record {
+  same = grind (arith, common_steps);
+  within = grind (arith, common_steps, length-append);
 } where
   still : (place : ℕ) → has_file (slot_at (mid ++ unopened why kept ∷ []) place).state
       ≡ has_file (slot_at mid place).state

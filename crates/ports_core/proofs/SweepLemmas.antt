@@ -17,11 +17,11 @@ use Rattle.ports_core.specs.declared.fault.Fault.TheVariants as fault
 -- Among others
 
 differs : {place : ℕ} (one : ℕ) → eqb place one ≡ false → place ≡ one → ⊥
-differs {place} one is same = grind (arith, common_steps)
+differs one is same = grind (arith, common_steps)
 
 -- a place, and whether it is the first of these
 pub by_place : {A : Type 0} (place one : ℕ) → (place ≡ one → A) → (eqb place one ≡ false → A) → A
-by_place {A = A} place one same other = grind (arith, common_steps)
+by_place place one same other = grind (arith, common_steps)
 
 -- What a change of one slot leaves
 
@@ -60,7 +60,7 @@ kept_has : {one : ℕ} {change : Slot → Slot} {kept : List ℕ} (left : List �
     → is_among one left ≡ false
     → has_file (change slot).state ≡ is_among one (kept ++ left)
 kept_has left slot goes apart = sym apart
-kept_has {one} left slot (stays why) apart = sym (ap (λ b. b || is_among one left) (eq-eqb one one refl))
+kept_has left slot (stays why) apart = grind (arith, common_steps, eq-eqb)
 
 kept_apart : {one : ℕ} {change : Slot → Slot} {kept : List ℕ} (left : List ℕ) (place : ℕ) → Tries one change kept
     → eqb place one ≡ false
@@ -98,7 +98,7 @@ one_tried : {files now next kept : List ℕ} {place left few : ℕ} {old mid : L
 one_tried {files} {now} {next} {kept} {place} {left} {few} {old} {mid} {file} {change} so_far within file_is size fits rest front_is tries =
     let less : place < length files = omega arith in
     let front = sym (drop-cons now place 0 within) ∙ so_far.rest ∙ drop-cons files place 0 less in
-    let same : file ≡ get_or files place 0 = file_is ∙ ap (λ those. get_or those 0 0) front in
+    let same : file ≡ get_or files place 0 = grind (arith, common_steps) in
     let are = rw (drop-cons files place 0 less ∙ ap (λ one. one ∷ drop (suc place) files) (sym same)) at so_far.are in
     rw (← (let e : suc place ≡ place + 1 = omega arith in e)) (record {
       size = size ∙ so_far.size;
@@ -106,7 +106,7 @@ one_tried {files} {now} {next} {kept} {place} {left} {few} {old} {mid} {file} {c
       tried = rw (front_is, take-suc files place 0 less, ← same) (tried_more file kept so_far.tried
           (rw (append-nil kept) at (tried file [] kept [] change mid _ tries (all_tried _))));
       rest = rest ∙ ap (drop 1) front;
-      are = still_there file change mid (drop (suc place) files) are.1 are.2;
+      are = grind (arith, common_steps, still_there);
     })
 
 -- the same by what the removal returned

@@ -1,11 +1,11 @@
 -- What the writer of files does, one change after another, and where one is stopped.
 use Rattle.std.proofs.{
   lemmas.{Grind.common_steps, Bool.false≢true},
-  Common.{◌≡◌, ℕ, Bool, false, List, [], ◌∷◌, ◌++◌, ◌⊎◌, length, map, Option, Some, None, Result, Ok, Err, IfErr, inl},
-  Common.{inr, refl, sym, ◌∙◌, ap, subst, arith, rules, append_assoc},
+  Common.{◌≡◌, ℕ, Bool, false, List, [], ◌∷◌, ◌++◌, ◌⊎◌, length, Option, Some, None, Result, Ok, Err, IfErr, inl, inr},
+  Common.{refl, sym, ◌∙◌, ap, subst, arith, rules, append_assoc},
 }
 use Rattle.ports_core.specs.{
-  Draft.{Manner, Draft, share, part_of, made_of, draft_part, with_bytes, with_next},
+  Draft.{Manner, Draft, made_of, draft_part, with_bytes, with_next},
   FileWriter.{WriterState, Writes, IsReady, IsWrite, RunsShort, KeepsFiles, Goes, paused},
   Part.{OutputsAt, Begins},
   Slot.Slot,
@@ -24,7 +24,6 @@ use Rattle.ports_core.proofs.{
   FileWriterLemmas.{where_short, where_well},
 }
 use Rattle.ports_core.specs.declared.fault.Fault.TheVariants as fault
-use Rattle.ports_core.specs.declared.slot.State.TheVariants as state
 
 -- One change after another
 
@@ -33,7 +32,7 @@ pub goes_again : {told : Bool} {one two three : WriterState} {first second : Dra
     → ((manner : Manner) (draft : Draft) → Begins (draft_part manner draft) (draft_part manner (first draft)))
     → Goes told one first old mid two None → Goes told two second mid new three fault
     → Goes told one both old new three fault
-goes_again {told} {three = three} {first} {second} both {new = new} {fault} is begins before after = record {
+goes_again {told} {three = three} {first} both {new = new} {fault} is begins before after = record {
   leaves = leaves_again before.leaves after.leaves;
   reaches = λ manner draft writes. reaches_again (begins manner draft) (before.reaches manner draft writes) (reaches_as refl (ap (draft_part manner) (sym (is draft))) (after.reaches manner (first draft) (before.writes manner draft writes)));
   short = where_short fault after.short (λ short manner draft writes. let ran = short manner (first draft) (before.writes manner draft writes) in record {
@@ -66,10 +65,10 @@ goes_wider {told} {writer} {low = low} high {old} {new} {fault} begins same stop
   by (inl other) is manner draft ran = absurd (other is)
   by (inr grows) is manner draft ran =
       let ended = (grows draft).0 in
-      let none : manner.has_name (length (high draft).ended) ≡ false = subst (λ ended. manner.has_name (length ended) ≡ false) ended ran.none in record {
+      let none : manner.has_name (length (high draft).ended) ≡ false = grind (arith, common_steps) in record {
         none = none;
         begun = (grows draft).1 ran.begun;
-        all = λ before at. subst (λ part. OutputsAt told before part new) (stopped_part manner (low draft) ran.none ∙ ap (λ ended. part_of manner (map (share state.Closed) ended)) ended ∙ sym (stopped_part manner (high draft) none)) (ran.all before at);
+        all = grind (arith, common_steps, stopped_part);
       }
 
 pub next_not_ended : {told : Bool} {writer next : WriterState} (opening : Opening) {old new : List Slot} {f : Fault}
@@ -106,7 +105,7 @@ stops_among a b stopped = goes_wider (with_bytes (a ++ b)) (λ manner draft. sub
 
 pub goes_as : {told : Bool} {writer next : WriterState} {a b : List ℕ} {old new : List Slot} {fault : Option Fault}
     → a ≡ b → Goes told writer (with_bytes a) old new next fault → Goes told writer (with_bytes b) old new next fault
-goes_as {told} {writer} {next} {old = old} {new} {fault} is goes = search rules
+goes_as is goes = search rules
 
 -- the last call only wants memory
 pub goes_or_lacks : {told : Bool} {writer next : WriterState} {bytes : List ℕ} {old new : List Slot}
@@ -129,4 +128,4 @@ goes_lacking {bytes = bytes} {fault = fault} ready lacks = stops_among [] bytes 
 
 pub files_left : {writer next : WriterState} {old new : List Slot} → next.keeps ≡ writer.keeps
     → next.current ≡ writer.current → Removes writer.files old next.files new → KeepsFiles writer next old new
-files_left {writer} {next} {old} {new} same_keeps same removes = search (rules, same_size, left_has, left_there, false≢true, left_apart)
+files_left same_keeps same removes = search (rules, same_size, left_has, left_there, false≢true, left_apart)
