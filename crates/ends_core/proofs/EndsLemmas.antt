@@ -61,8 +61,7 @@ same_for f {old} {new} same = grind (arith, common_steps)
 
 pub same_work : {old new : Ends} → SameAsked old new → work new ≡ work old
 same_work {old} {new} same =
-    ap (λ least. record (work_in (stretch_of new) (delim_of new) (unit_of new) (count_of new)) { verdict = changed_below least }) same.least
-    ∙ ap (λ (work : Work). record work { verdict = changed_below (least_of old) }) (same_for work_in same)
+    rw (same.least, same_for work_in same) refl
 
 -- it writes to standard output alone, and may want memory where the last are kept
 pub on_means : (s : Stretch) (delim : ℕ) (unit : Counted) (n : ℕ) → (work_in s delim unit n).means ≡ on_output (keeps s)
@@ -97,13 +96,13 @@ rest_out ends x holds = grind (arith, common_steps)
 module _ (told : Bool) (ends : Ends) (bytes : List ℕ) {whole : List ℕ → Part} (makes : Makes ends bytes whole)
     {old new : List Slot} where
   pub puts_out : new ≡ with_written 0 (told_of told bytes) old → PutsOut terms ends whole told old new
-  puts_out wrote before x at = subst (λ part. OutputsAt told before part new) (makes x at.holds) (out_more told before _ old new bytes at.outputs wrote)
+  puts_out wrote before x at = rw (makes x at.holds) at (out_more told before _ old new bytes at.outputs wrote)
 
   -- what stopped it stopped an output of bytes
   pub cuts_off : {lacks : Bool} {f : Fault} → Stops told lacks bytes old new f → CutsOff terms ends whole told old new f
   cuts_off {f = f} stops before x at = cut (stop.unjudged told stops)
       (subst (λ output. StoppedBetween output told before ((work ends).settled x) (whole x) f new) (sym (ap (λ means. means.output) (on_means (stretch_of ends) (delim_of ends) (unit_of ends) (count_of ends))))
-      (subst (λ part. StoppedBetween gets_bytes told before ((work ends).settled x) part f new) (makes x at.holds) (stop.between told at.outputs stops)))
+      (rw (makes x at.holds) at (stop.between told at.outputs stops)))
 
 minus_both : (n a b : ℕ) → (n - a) - b ≡ n - (a + b)
 minus_both n a b = omega arith
@@ -117,16 +116,15 @@ waits_next ends piece holds = refl
 
 waits_now : (ends : Ends) {next : Ends} {x : List ℕ} (piece : List ℕ) → SameAsked ends next
     → waiting_of next ≡ left_waiting ends piece → Holds ends x → waiting_of next ≡ waiting next (x ++ piece)
-waits_now ends {x} piece same waits holds = waits ∙ waits_next ends piece holds ∙ sym (same_for (λ s d u n. (work_in s d u n).waiting (x ++ piece)) same)
+waits_now ends {x} piece same waits holds = cc (waits, waits_next ends piece holds, same_for (λ s d u n. (work_in s d u n).waiting (x ++ piece)) same)
 
 left_now : (ends : Ends) {next : Ends} {x : List ℕ} (piece : List ℕ) → SameAsked ends next
     → left_of next ≡ left_of ends - measure (delim_of ends) (unit_of ends) piece → Holds ends x
     → keeps (stretch_of next) ≡ false
     → left_of next ≡ front_in (stretch_of next) (count_of next) - measure (delim_of next) (unit_of next) (x ++ piece)
 left_now ends {next} {x} piece same left holds none =
-    left ∙ ap (λ m. m - measure (delim_of ends) (unit_of ends) piece) (holds.left (ap keeps (sym same.stretch) ∙ none)) ∙ minus_both _ _ _
-    ∙ ap (λ m. front_in (stretch_of ends) (count_of ends) - m) (sym (measure-append (delim_of ends) (unit_of ends) x piece))
-    ∙ sym (same_for (λ s d u n. front_in s n - measure d u (x ++ piece)) same)
+    omega (arith, left, holds.left (rw same.stretch at none), measure-append (delim_of ends) (unit_of ends) x piece,
+    same_for (λ s d u n. front_in s n - measure d u (x ++ piece)) same)
 
 missing_now : (ends : Ends) {next : Ends} {x : List ℕ} (piece : List ℕ) → SameAsked ends next
     → missing_of next ≡ missing_of ends - length piece → Holds ends x
@@ -147,7 +145,7 @@ full_lacks ends x waits full bytes enough = refl
 
 pub past_after : (delim : ℕ) (unit : Counted) (n : ℕ) (x : List ℕ)
     → length x - length (first_of delim unit n x) ≡ length (after_of delim unit n x)
-past_after delim unit n x = omega (arith, sym (ap length (first_then_after delim unit n x)) ∙ length-append (first_of delim unit n x) (after_of delim unit n x))
+past_after delim unit n x = omega (arith, ap length (first_then_after delim unit n x), length-append (first_of delim unit n x) (after_of delim unit n x))
 
 past_next : (ends : Ends) {x : List ℕ} (piece : List ℕ) → Holds ends x
     → past_of ends + length (unused_of ends piece)
@@ -209,7 +207,7 @@ pub met : (told : Bool) (ends : Ends) (needs : Means → Needs) (Lacks : Type 0)
     → IsTrue (is_writable old 0) → Stops told lacks bytes old new f
     → IsMet (work ends).means (needs (work ends).means) Lacks Fails old new f
 met told ends needs Lacks Fails {old = old} {new} {f} room can stops =
-    subst (λ means. IsMet means (needs means) Lacks Fails old new f) (sym (on_means (stretch_of ends) (delim_of ends) (unit_of ends) (count_of ends)))
+    rw (on_means (stretch_of ends) (delim_of ends) (unit_of ends) (count_of ends))
     (stop.met (on_output (keeps (stretch_of ends))) (needs (on_output (keeps (stretch_of ends)))) Lacks Fails told refl room can stops)
 
 -- how its end stopped
@@ -221,7 +219,7 @@ ends_changed told are is some = rw is (changed (omega arith) refl)
 pub ends_stopped : (told : Bool) {ends : Ends} {kept : Kept} {n : ℕ} {old new : List Slot} {f : Fault}
     → ends ≡ Last kept → n ≡ length (held_of kept) → Stops told false (take n (held_of kept)) old new f
     → EndsBadly told ends old new f
-ends_stopped told {kept = kept} {n} {old} {new} {f} is all stops = rw is (stopped f (subst (λ bytes. Stops told false bytes old new f) (take_all n (held_of kept) (omega arith)) stops))
+ends_stopped told {kept = kept} {n} {old} {new} {f} is all stops = rw is (stopped f (rw (take_all n (held_of kept) (omega arith)) at stops))
 
 pub ends_cut : (told : Bool) (ends : Ends) {old new : List Slot} {f : Fault} → EndsBadly told ends old new f
     → CutsOff terms ends (work ends).whole told old new f
@@ -261,7 +259,7 @@ pub passed_front : {told : Bool} {slot count n : ℕ} {ends next : Ends} {front 
     ≡ record front
     { left = front.left - measure front.delim front.unit x; missing = front.missing - length x })) old new
     → PassesOver told slot count (λ x. IsSilent ends x × (next ≡ passed ends x)) old new
-passed_front {n = n} is after passes = passes_so _ passes (λ x long keeps. rw (is, after) (keeps.0, ap (FromNth n) keeps.1))
+passed_front {n = n} is after passes = passes_so _ passes (λ x long keeps. rw (is, after, keeps.1) (keeps.0, refl))
 
 took_in : (ends : Ends) {x : List ℕ} → Holds ends [] → terms.size ends ≡ 0 → IsSilent ends x
     → TookIn terms ends (passed ends x) x
@@ -289,7 +287,7 @@ pub loads : (told : Bool) {slot count : ℕ} {ends next : Ends} {old new : List 
     → terms.size ends ≡ 0
     → PassesOver told slot count (λ x. IsSilent ends x × (next ≡ passed ends x)) old new
     → Loads terms told slot count ends next old new
-loads told {ends = ends} {next} fresh none passes = passes_so _ passes (λ x long keeps. subst (λ after. TookIn terms ends after x) (sym keeps.1) (took_in ends fresh none keeps.0))
+loads told {ends = ends} {next} fresh none passes = passes_so _ passes (λ x long keeps. rw keeps.1 (took_in ends fresh none keeps.0))
 
 -- What waits in an engine that was fed a text.
 module _ (engine : GuardState Ends) (x : List ℕ) (holds : HoldsIn Holds engine x) where
@@ -306,7 +304,7 @@ module _ (engine : GuardState Ends) (x : List ℕ) (holds : HoldsIn Holds engine
   loses_nothing is = search (rules, head_waits, ends_together)
 
 first_within : (delim : ℕ) (unit : Counted) (n : ℕ) (x : List ℕ) → length (first_of delim unit n x) ≤ length x
-first_within delim unit n x = omega (arith, sym (length-append (first_of delim unit n x) (after_of delim unit n x)) ∙ ap length (first_then_after delim unit n x))
+first_within delim unit n x = omega (arith, length-append (first_of delim unit n x) (after_of delim unit n x), ap length (first_then_after delim unit n x))
 
 -- the first n of a text are as many, where it has them
 first_measures : (delim : ℕ) (unit : Counted) (n : ℕ) (x : List ℕ) → n ≤ measure delim unit x
@@ -321,7 +319,7 @@ last_needed delim unit n {k} {used} long again = elim (cases_lt (measure delim u
   | inl short ↦ short
   | inr full ↦ absurd (omega (
     arith,
-    ap length (sym again ∙ ap (first_of delim unit n) (sym (take-append-drop k used)) ∙ first_of-full delim unit n (take k used) (drop k used) full),
+    ap length (rw (take-append-drop, again) at (first_of-full delim unit n (take k used) (drop k used) full)),
     first_within delim unit n (take k used),
     length-take k used,
   ))
@@ -343,7 +341,7 @@ first_needed : (delim : ℕ) (unit : Counted) (n : ℕ) (x : List ℕ)
 first_needed delim unit n x = elim (cases_lt (measure delim unit (first_of delim unit n x)) n) [
   | inl short ↦ inr (first_of delim unit n x, [], sym (append-nil (first_of delim unit n x)), omega arith, lt-leb n (measure delim unit (first_of delim unit n x)) short)
   | inr full ↦ needed_by delim unit n (length (first_of delim unit n x)) refl
-      (sym (first_of-full delim unit n (first_of delim unit n x) (after_of delim unit n x) full) ∙ ap (first_of delim unit n) (first_then_after delim unit n x))
+      (rw first_then_after at (sym (first_of-full delim unit n (first_of delim unit n x) (after_of delim unit n x) full)))
 ]
 
 first_enough : (delim : ℕ) (unit : Counted) (n : ℕ) (x : List ℕ)
@@ -361,13 +359,13 @@ first_used delim unit n {x} = search (rules, first_then_after, first_needed, fir
 -- what was needed to the last byte is its own first n
 needed_whole : (delim : ℕ) (unit : Counted) (n : ℕ) {used : List ℕ}
     → IsNeeded (head_work delim unit false n).is_complete 1 used → first_of delim unit n used ≡ used
-needed_whole delim unit n (inl none) = ap (first_of delim unit n) none ∙ first_of-nil delim unit n ∙ sym none
-needed_whole delim unit n (inr (before, piece, is, few, going)) = ap (first_of delim unit n) is ∙ with_piece piece few ∙ sym is where
+needed_whole delim unit n (inl none) = rw none (first_of-nil delim unit n)
+needed_whole delim unit n (inr (before, piece, is, few, going)) = rw is (with_piece piece few) where
   short : measure delim unit before < n
   short = leb-false n (measure delim unit before) going
 
   with_piece : (piece : List ℕ) → length piece ≤ 1 → first_of delim unit n (before ++ piece) ≡ before ++ piece
-  with_piece [] few = ap (first_of delim unit n) (append-nil before) ∙ first_of-short delim unit n short ∙ sym (append-nil before)
+  with_piece [] few = rw append-nil (first_of-short delim unit n short)
   with_piece (byte ∷ []) few = first_of-more delim unit n before byte short
   with_piece (byte ∷ next ∷ piece) few = absurd (omega arith)
 
@@ -383,7 +381,7 @@ pub rest_left : (delim : ℕ) (unit : Counted) (n : ℕ) (used : List ℕ) {rest
     → (rest ≡ []) ⊎ ((head_work delim unit false n).is_complete used ≡ true)
     → after_of delim unit n (used ++ rest) ≡ rest
 rest_left delim unit n used {rest} needed enough =
-    append_cancel_left used _ _ (ap (λ those. those ++ after_of delim unit n (used ++ rest)) (sym (written_used delim unit n needed enough)) ∙ first_then_after delim unit n (used ++ rest))
+    append_cancel_left used _ _ (rw (written_used delim unit n needed enough) at (first_then_after delim unit n (used ++ rest)))
 
 -- which bytes aren't used is decided by when the output is complete
 spare_so : {one other : Work} {x : List ℕ} {n : ℕ} → one.is_complete ≡ other.is_complete → IsSpare one x n
@@ -393,8 +391,8 @@ spare_so same spare = record {
   rest = spare.rest;
   joined = spare.joined;
   long = spare.long;
-  needed = subst (λ is. IsNeeded is 1 spare.used) same spare.needed;
-  enough = subst (λ is. (spare.rest ≡ []) ⊎ (is spare.used ≡ true)) same spare.enough;
+  needed = rw same at spare.needed;
+  enough = rw same at spare.enough;
 }
 
 pub spare_here : (ends : Ends) {x : List ℕ} → Holds ends x → IsSpare (work ends) x (past_of ends)
@@ -409,8 +407,7 @@ goes_past : (delim : ℕ) (x piece used rest : List ℕ) → x ++ piece ≡ used
 goes_past delim x piece used rest is more = elim (cases_lt (length x) (length used)) [
   | inl past ↦ past
   | inr short ↦
-      let front : used ≡ take (length used) x = sym (take_at used rest (length used) refl) ∙ ap (take (length used)) (sym is)
-      ∙ take-append-le (length used) x piece short in
+      let front : used ≡ take (length used) x = rw (← is, take-append-le (length used) x piece short) at (sym (take_at used rest (length used) refl)) in
       absurd (omega (arith, ap (delimiters delim) front, delimiters-take-le delim (length used) x))
 ]
 
@@ -433,11 +430,11 @@ few_spare : (delim : ℕ) (unit : Counted) (count : ℕ) {left n : ℕ} (x piece
     → count ≤ measure delim unit spare.used
     → length piece ≤ piece_for unit left → n ≤ ahead_of unit
 few_spare delim Bytes count x piece spare is going enough within =
-    omega (arith, sym (length-append x piece) ∙ ap length spare.joined ∙ length-append spare.used spare.rest)
+    omega (arith, length-append {A = ℕ}, ap length spare.joined)
 few_spare delim Lines count x piece spare is going enough within =
     let past = goes_past delim x piece spare.used spare.rest spare.joined (omega arith) in
     let few = few_between delim x piece spare.used spare.rest spare.joined past in
-    omega (arith, sym (length-append x piece) ∙ ap length spare.joined ∙ length-append spare.used spare.rest)
+    omega (arith, length-append {A = ℕ}, ap length spare.joined)
 
 pub may_get : (ends : Ends) → MayGet terms ends (wanted_by ends)
 may_get (First count front) x piece after n holds going within same later spare = elim spare.enough [
