@@ -1,5 +1,9 @@
 -- What all continuations agree on, of a copied input.
-use Rattle.std.proofs.{lemmas.{Grind.common_steps, Bool.{cond_both, lt-ltb}}, Common.{◌≡◌, ℕ, ◌+◌, ◌<◌, ◌≤◌, zero, suc, List, [], ◌∷◌, ◌++◌, length, map, get_or, Bool, inl, inr, refl}, Common.{sym, ◌∙◌, ap, arith}}
+use Rattle.std.proofs.{
+  lemmas.{Grind.common_steps, Bool.{cond_both, lt-ltb}},
+  Common.{◌≡◌, ℕ, ◌+◌, ◌<◌, ◌≤◌, zero, suc, List, [], ◌∷◌, ◌++◌, length, map, get_or, Bool, inl, inr, refl, sym, ◌∙◌},
+  Common.{ap, arith},
+}
 use Rattle.ports_core.{
   specs.Agreed.{IsAgreed, IsUndecided, Spot, spot, output_at, GoesTo, ArePlaced},
   specs.Part.{File, FilesBegin, OutputsAt, file_of, told_file},

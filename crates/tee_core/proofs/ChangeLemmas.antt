@@ -1,5 +1,10 @@
 -- Lemmas on outputs of which some are changed, on what they get, and on how many broke.
-use Rattle.std.proofs.{lemmas.{Grind.common_steps, Bool.{cases_eq, cases_lt, Decides.nat_tests}, List.take-append-le}, Common.{◌≡◌, ℕ, ◌+◌, ◌<◌, ◌≤◌, zero, suc, List, [], ◌∷◌, length, Bool, true, false, not, ◌&&◌, if◌then◌else◌, ◌⊎◌}, Common.{inl, inr, refl, sym, ◌∙◌, ap, arith, ◌++◌, take, length-append}, Math.Seq.take-append-add}
+use Rattle.std.proofs.{
+  lemmas.{Grind.common_steps, Bool.{cases_eq, cases_lt, Decides.nat_tests}, List.take-append-le},
+  Common.{◌≡◌, ℕ, ◌+◌, ◌<◌, ◌≤◌, zero, suc, List, [], ◌∷◌, length, Bool, true, false, not, ◌&&◌, if◌then◌else◌, ◌⊎◌},
+  Common.{inl, inr, refl, sym, ◌∙◌, ap, arith, ◌++◌, take, length-append},
+  Math.Seq.take-append-add,
+}
 use Rattle.tee_core.specs.{
   inner.Turns.Turns,
   Outputs.{ChangesEach, newly_broken, Closes, Gets, gets_all, breaks_off, gets_none, is_closed, fails_to_close},

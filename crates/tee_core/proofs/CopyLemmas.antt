@@ -1,6 +1,24 @@
 -- Lemmas on copying: what the outputs have after a piece and at the end, and what is said of those that broke.
-use Rattle.std.{proofs.lemmas.{Grind.common_steps, Bool.{cond_both, Decides.nat_tests}, List.{append-nil, length-map, Folds.concat-append}}, proofs.Common.{◌≡◌, ℕ, ◌+◌, ◌<◌, zero, suc, List, [], ◌∷◌, ◌++◌, length, map, take, codes, get_or, set, Bor, Bool}, proofs.Common.{true, false, if◌then◌else◌, refl, sym, ◌∙◌, ap, arith, ◌≤◌, Option, Some, None, inl}, proofs.Common.{inr, length-append, append-nil}, proofs.Math.ListN.get_or-map, specs.List.concat}
-use Rattle.ports_core.specs.{Slot.{Slot, no_slot, slot_at, is_open, opened, adds, breaks, told_of}, Text.{Message, message_of}, Message.{SaysOn, SaysAll}, declared.{calling.Calling.Calling, reason.Reason.Reason, fault.Fault.Fault, on_broken.OnBroken.OnBroken}, declared.slot.Mode.Mode, Streams.{standard_output, standard_error}}
+use Rattle.std.{
+  proofs.lemmas.{
+    Grind.common_steps,
+    Bool.{cond_both, Decides.nat_tests},
+    List.{append-nil, length-map, Folds.concat-append},
+  },
+  proofs.Common.{◌≡◌, ℕ, ◌+◌, ◌<◌, zero, suc, List, [], ◌∷◌, ◌++◌, length, map, take, codes, get_or, set, Bor, Bool},
+  proofs.Common.{true, false, if◌then◌else◌, refl, sym, ◌∙◌, ap, arith, ◌≤◌, Option, Some, None, inl, inr},
+  proofs.Common.{length-append, append-nil},
+  proofs.Math.ListN.get_or-map,
+  specs.List.concat,
+}
+use Rattle.ports_core.specs.{
+  Slot.{Slot, no_slot, slot_at, is_open, opened, adds, breaks, told_of},
+  Text.{Message, message_of},
+  Message.{SaysOn, SaysAll},
+  declared.{calling.Calling.Calling, reason.Reason.Reason, fault.Fault.Fault, on_broken.OnBroken.OnBroken},
+  declared.slot.Mode.Mode,
+  Streams.{standard_output, standard_error},
+}
 use Rattle.ports_core.proofs.{MessageLemmas.{all_said_state, says_more, says_after}, Runs.adds_both}
 use Rattle.tee_core.specs.{
   Run.{Break, EachFile, no_file, one_file, output_names, OutputLeft, output_whole, output_cut, fault_in, is_done},

@@ -1,5 +1,11 @@
 -- Lemmas on what a run reads of its input, and on how it ends.
-use Rattle.std.{proofs.lemmas.{Grind.common_steps, Bool.{cases_Bool, false≢true}}, proofs.Common.{◌≡◌, ℕ, ◌+◌, ◌<◌, ◌≤◌, ◌^◌, List, [], ◌∷◌, ◌++◌, length, take, Bool, true, false, Option, Some, None}, proofs.Common.{IsTrue, ◌⊎◌, refl, sym, ◌∙◌, ap, subst, arith, length-append, append-nil, inl, inr, All}, proofs.Common.{zero, suc, map, not, ◌&&◌, ◌||◌, if◌then◌else◌, is_none}, specs.List.{concat, list_any}}
+use Rattle.std.{
+  proofs.lemmas.{Grind.common_steps, Bool.{cases_Bool, false≢true}},
+  proofs.Common.{◌≡◌, ℕ, ◌+◌, ◌<◌, ◌≤◌, ◌^◌, List, [], ◌∷◌, ◌++◌, length, take, Bool, true, false, Option, Some, None},
+  proofs.Common.{IsTrue, ◌⊎◌, refl, sym, ◌∙◌, ap, subst, arith, length-append, append-nil, inl, inr, All, zero, suc},
+  proofs.Common.{map, not, ◌&&◌, ◌||◌, if◌then◌else◌, is_none},
+  specs.List.{concat, list_any},
+}
 use Rattle.ports_core.specs.{
   Slot.{Slot, changed_at, slot_at, adds, closes, opened, streams, told_of},
   Source.{ReadFails, Content, Source, counted, source_at, unshown, is_readable, gives, BrokeOff, Gave, IsFresh},

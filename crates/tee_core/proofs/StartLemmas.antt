@@ -1,6 +1,17 @@
 -- Lemmas on a run's start: files that are opened one after another, and the messages for those that could not be.
-use Rattle.std.{proofs.lemmas.{Grind.common_steps, List.{append-nil, get_or-append-add, get_or_append_left, length-map}}, proofs.Common.{◌≡◌, ℕ, ◌+◌, ◌-◌, ◌^◌, ◌<◌, ◌≤◌, zero, suc, List, [], ◌∷◌, ◌++◌, length, map, take, drop, get_or, Bor}, proofs.Common.{true, inl, inr, refl, sym, ◌∙◌, ap, arith, append_assoc, length-append, replicate, Bool, false}, proofs.Common.{Option, Some, None}, specs.List.list_any}
-use Rattle.ports_core.{specs.Slot.{Slot, no_slot, slot_at, opened, unopened, is_open, FailsToOpen, broke, streams}, specs.declared.{on_broken.OnBroken.OnBroken, calling.Calling.Calling, slot.Mode.Mode}, specs.Streams.{standard_output, standard_error}, proofs.Runs.adds-nil}
+use Rattle.std.{
+  proofs.lemmas.{Grind.common_steps, List.{append-nil, get_or-append-add, get_or_append_left, length-map}},
+  proofs.Common.{◌≡◌, ℕ, ◌+◌, ◌-◌, ◌^◌, ◌<◌, ◌≤◌, zero, suc, List, [], ◌∷◌, ◌++◌, length, map, take, drop, get_or, Bor},
+  proofs.Common.{true, inl, inr, refl, sym, ◌∙◌, ap, arith, append_assoc, length-append, replicate, Bool, false},
+  proofs.Common.{Option, Some, None},
+  specs.List.list_any,
+}
+use Rattle.ports_core.{
+  specs.Slot.{Slot, no_slot, slot_at, opened, unopened, is_open, FailsToOpen, broke, streams},
+  specs.declared.{on_broken.OnBroken.OnBroken, calling.Calling.Calling, slot.Mode.Mode},
+  specs.Streams.{standard_output, standard_error},
+  proofs.Runs.adds-nil,
+}
 use Rattle.tee_core.specs.{
   Opening.{OpensAs, is_opened, is_unopened, OpensEach, no_more, one_more, Opens, OpensSome},
   inner.{
