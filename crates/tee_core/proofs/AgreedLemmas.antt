@@ -1,8 +1,8 @@
 -- What all continuations agree on, of a copied input.
 use Rattle.std.proofs.{
   lemmas.{Grind.common_steps, Bool.{cond_both, lt-ltb}},
-  Common.{◌≡◌, ℕ, ◌+◌, ◌<◌, ◌≤◌, nat_lt, zero, suc, List, [], ◌∷◌, ◌++◌, length, map, get_or, Bool, inl, inr, refl},
-  Common.{sym, ◌∙◌, ap, arith},
+  Common.{◌≡◌, ℕ, ◌+◌, ◌<◌, ◌≤◌, zero, suc, List, [], ◌∷◌, ◌++◌, length, map, get_or, Bool, inl, inr, refl, sym, ◌∙◌},
+  Common.{ap, arith},
 }
 use Rattle.ports_core.{
   specs.Agreed.{IsAgreed, IsUndecided, Spot, spot, output_at, GoesTo, ArePlaced},
@@ -16,17 +16,19 @@ use Rattle.tee_core.specs.{Copy.{copy_in, tee_work, spots_each, tee_spots}, Run.
 copies_begin : (mode : Mode) (names : List (List ℕ)) (x y : List ℕ)
     → FilesBegin (map (copy_in mode Open x) names) (map (copy_in mode Closed (x ++ y)) names)
 copies_begin mode [] x y = tt
-copies_begin mode (name ∷ names) x y = (refl, refl, refl, inl refl, (y, refl), copies_begin mode names x y)
+copies_begin mode (name ∷ names) x y = grind (arith, common_steps, copies_begin mode names x y)
 
 same_bytes : (mode : Mode) (one other : State) (names : List (List ℕ)) (x : List ℕ)
     → map (λ (file : File). file.bytes) (map (copy_in mode one x) names)
     ≡ map (λ (file : File). file.bytes) (map (copy_in mode other x) names)
 same_bytes mode one other [] x = refl
-same_bytes mode one other (name ∷ names) x = ap (λ files. x ∷ files) (same_bytes mode one other names x)
+same_bytes mode one other (name ∷ names) x = cc (same_bytes mode one other names x)
 
 pub tee_agreed : (mode : Mode) (names : List (List ℕ)) (x : List ℕ)
     → IsAgreed (tee_work mode names) x ((tee_work mode names).settled x)
-tee_agreed mode names x = agreed_now (tee_work mode names) x (λ y. record { out = (y, refl); files = copies_begin mode names x y }) (ap (λ files. x ∷ files) (same_bytes mode Closed Open names x))
+tee_agreed mode names x =
+    agreed_now (tee_work mode names) x (λ y. record { out = (y, refl); files = copies_begin mode names x y })
+    (cc (same_bytes mode Closed Open names x))
 
 -- a byte that came in goes to all outputs, whatever comes
 goes_there : (names : List (List ℕ)) (x y : List ℕ) (i : ℕ) → i < length x
@@ -41,14 +43,12 @@ tee_undecided names x = nothing_waits (λ i less y z. goes_there names x y i les
 each_goes : (place : ℕ) (names : List (List ℕ)) {i : ℕ} (at : Spot) → GoesTo at (spots_each place names i)
     → (at.offset ≡ i) × (place ≤ at.place) × (at.place < place + length names)
 each_goes place [] at goes = absurd goes
-each_goes place (name ∷ names) at (inl is) = (ap (λ those. those.offset) is, (omega (arith, ap (λ those. those.place) is)), (omega (arith, ap (λ those. those.place) is)))
-each_goes place (name ∷ names) at (inr goes) = (let rest = each_goes (place + 1) names at goes in (rest.0, (omega arith), (omega arith)))
+each_goes place (name ∷ names) at (inl is) = grind (arith, common_steps)
+each_goes place (name ∷ names) at (inr goes) = omega (arith, each_goes (place + 1) names at goes)
 
 tee_goes : (names : List (List ℕ)) (x : List ℕ) {i : ℕ} (at : Spot) → GoesTo at (tee_spots names x i)
     → (at.offset ≡ i) × (at.place < 1 + length names)
-tee_goes names x {i} at goes =
-    cond_both (nat_lt i (length x)) (spots_each 0 ([] ∷ names) i) [] (λ those. GoesTo at those → (at.offset ≡ i) × (at.place < 1 + length names))
-    (λ is goes. let each = each_goes 0 ([] ∷ names) at goes in (each.0, omega arith)) (λ is goes. absurd goes) goes
+tee_goes names x at goes = grind (arith, common_steps, cond_both, each_goes)
 
 file_has : (mode : Mode) (names : List (List ℕ)) {x : List ℕ} (place : ℕ) → place < length names
     → get_or (map (λ (file : File). file.bytes) (map (copy_in mode Closed x) names)) place [] ≡ x
@@ -71,8 +71,9 @@ no_output mode (name ∷ names) x (suc place) offset less = (omega (arith, no_ou
 goes_to_each : (from : ℕ) (names : List (List ℕ)) (i k : ℕ) → k < length names
     → GoesTo (spot (from + k) i) (spots_each from names i)
 goes_to_each from [] i k less = absurd (omega arith)
-goes_to_each from (name ∷ names) i zero less = inl (ap (λ place. spot place i) (let e : from + 0 ≡ from = omega arith in e))
-goes_to_each from (name ∷ names) i (suc k) less = inr (rw (let e : from + 1 + k ≡ from + suc k = omega arith in e) at (goes_to_each (from + 1) names i k (omega arith)))
+goes_to_each from (name ∷ names) i zero less = grind (arith, common_steps)
+goes_to_each from (name ∷ names) i (suc k) less =
+    grind (arith, common_steps, goes_to_each (from + 1) names i k (omega arith))
 
 tee_filled : (mode : Mode) (names : List (List ℕ)) (x : List ℕ) (place offset : ℕ)
     → offset < length (output_at ((tee_work mode names).whole x) place)
@@ -100,7 +101,7 @@ copied_files : (told : Bool) (mode : Mode) (names : List (List ℕ)) (x : List �
     → map file_of (map (λ name. closes (adds (told_of told x) (opened name mode))) names)
     ≡ map (told_file told) (map (copy_in mode Closed x) names)
 copied_files told mode [] x = refl
-copied_files told mode (name ∷ names) x = ap (λ files. copy_in mode Closed (told_of told x) name ∷ files) (copied_files told mode names x)
+copied_files told mode (name ∷ names) x = cc (copied_files told mode names x)
 
 pub copied_whole : (told : Bool) (mode : Mode) (names : List (List ℕ)) (x : List ℕ)
     → OutputsAt told streams ((tee_work mode names).whole x) (all_copied told mode names x)

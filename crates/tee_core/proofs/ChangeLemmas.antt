@@ -1,6 +1,6 @@
 -- Lemmas on outputs of which some are changed, on what they get, and on how many broke.
 use Rattle.std.proofs.{
-  lemmas.{Grind.common_steps, Bool.{false≢true, cases_eq, cases_lt, Decides.nat_tests}, List.take-append-le},
+  lemmas.{Grind.common_steps, Bool.{cases_eq, cases_lt, Decides.nat_tests}, List.take-append-le},
   Common.{◌≡◌, ℕ, ◌+◌, ◌<◌, ◌≤◌, zero, suc, List, [], ◌∷◌, length, Bool, true, false, not, ◌&&◌, if◌then◌else◌, ◌⊎◌},
   Common.{inl, inr, refl, sym, ◌∙◌, ap, arith, ◌++◌, take, length-append},
   Math.Seq.take-append-add,
@@ -21,7 +21,7 @@ use Rattle.ports_core.{
 
 -- an output that is open is there
 pub open_within : (slots : List Slot) (place : ℕ) → is_open (slot_at slots place).state ≡ true → place < length slots
-open_within [] place opened = absurd (false≢true opened)
+open_within [] place opened = absurd (cc)
 open_within (slot ∷ slots) zero opened = omega arith
 open_within (slot ∷ slots) (suc place) opened = omega (arith, open_within slots place opened)
 
@@ -39,8 +39,8 @@ pub stay_broken : {Change : Slot → Slot → Type 0} {IsOne : ℕ → Type 0} {
 stay_broken {Change} {IsOne} {old} {new} stays decides changes = λ place broken. by place (decides place) broken where
   by : (place : ℕ) → IsOne place ⊎ (IsOne place → ⊥) → (slot_at old place).is_broken ≡ true
       → (slot_at new place).is_broken ≡ true
-  by place (inl is) broken = stays (slot_at old place) (slot_at new place) (changes.each place is) broken
-  by place (inr differs) broken = ap (λ (slot : Slot). slot.is_broken) (changes.others place differs) ∙ broken
+  by place (inl is) broken = grind (arith, common_steps)
+  by place (inr differs) broken = grind (arith, common_steps)
 
 pub is_between : (first end place : ℕ) → ((first ≤ place) × (place < end)) ⊎ ((first ≤ place) × (place < end) → ⊥)
 is_between first end place = elim (cases_lt place first) [
@@ -62,7 +62,7 @@ pub newly_one : (place : ℕ) (change : Slot → Slot) (old : List Slot) {flag :
     → (slot_at old place).is_broken ≡ false → (change (slot_at old place)).is_broken ≡ flag
     → newly_broken old (changed_at place change old) ≡ (if flag then 1 else 0)
 newly_one place change [] within sound is = absurd (omega arith)
-newly_one zero change (slot ∷ slots) {flag} within sound is = grind (arith, nat_tests, sound, is, newly_none slots)
+newly_one zero change (slot ∷ slots) within sound is = grind (arith, nat_tests, sound, is, newly_none slots)
 newly_one (suc place) change (slot ∷ slots) within sound is = same_flag slot.is_broken (newly_one place change slots (omega arith) sound is)
 
 in_two : {a b c : Bool} → (a ≡ true → b ≡ true) → (b ≡ true → c ≡ true)
@@ -79,32 +79,18 @@ newly_in_two old mid new count_mid count_new first second = absurd (omega arith)
 
 pub turned_none : {Change : Slot → Slot → Type 0} {IsOne : ℕ → Type 0} {slots : List Slot}
     → ((place : ℕ) → IsOne place → ⊥) → Turns Change IsOne slots slots 0
-turned_none {slots} none =
-    record { changes = record { count = refl; each = λ place is. absurd (none place is); others = λ place differs. refl }; broke_are = sym (newly_none slots) }
+turned_none none = grind (arith, common_steps, newly_none)
 
 pub turned_same : {Change : Slot → Slot → Type 0} (place : ℕ) {slots : List Slot}
     → Change (slot_at slots place) (slot_at slots place) → Turns Change (λ other. other ≡ place) slots slots 0
-turned_same {Change} place {slots} changes = record {
-  changes = record {
-    count = refl;
-    each = λ other here. rw here changes;
-    others = λ other differs. refl;
-  };
-  broke_are = sym (newly_none slots);
-}
+turned_same place changes = grind (arith, common_steps, newly_none)
 
 pub turned_one : {Change : Slot → Slot → Type 0} (place : ℕ) (change : Slot → Slot) {flag : Bool} {old new : List Slot}
     → place < length old → (slot_at old place).is_broken ≡ false → (change (slot_at old place)).is_broken ≡ flag
     → Change (slot_at old place) (change (slot_at old place)) → new ≡ changed_at place change old
     → Turns Change (λ other. other ≡ place) old new (if flag then 1 else 0)
-turned_one {Change} place change {old} {new} within sound breaks changes is = record {
-  changes = record {
-    count = ap length is ∙ length-changed_at place change old;
-    each = λ other here. rw here (rw (ap (λ those. slot_at those place) is ∙ slot_at-changed place change old within) changes);
-    others = λ other differs. ap (λ those. slot_at those other) is ∙ slot_at-elsewhere place other change old differs;
-  };
-  broke_are = sym (ap (newly_broken old) is ∙ newly_one place change old within sound breaks);
-}
+turned_one place change within sound breaks changes is =
+    grind (arith, common_steps, length-changed_at, slot_at-changed, slot_at-elsewhere, newly_one)
 
 pub turned_both : {Change : Slot → Slot → Type 0} {IsOne IsOther IsEither : ℕ → Type 0} {old mid new : List Slot}
     (broke more : ℕ) → ((before after : Slot) → Change before after → before.is_broken ≡ true → after.is_broken ≡ true)
@@ -115,16 +101,16 @@ pub turned_both : {Change : Slot → Slot → Type 0} {IsOne IsOther IsEither : 
     → Turns Change IsEither old new (broke + more)
 turned_both {Change} {IsOne} {IsOther} {old} {mid} {new} broke more stays first_is second_is apart to from first second = record {
   changes = record {
-    count = second.changes.count ∙ first.changes.count;
+    count = cc;
     each = λ place is. by place (from place is);
-    others = λ place differs. second.changes.others place (λ is. differs (to place (inr is))) ∙ first.changes.others place (λ is. differs (to place (inl is)));
+    others = grind (arith, common_steps, to);
   };
   broke_are = sym (newly_in_two old mid new first.changes.count second.changes.count (stay_broken stays first_is first.changes) (stay_broken stays second_is second.changes)
       ∙ ap (λ n. n + newly_broken mid new) (sym first.broke_are) ∙ ap (λ n. broke + n) (sym second.broke_are));
 } where
   by : (place : ℕ) → IsOne place ⊎ IsOther place → Change (slot_at old place) (slot_at new place)
-  by place (inl is) = rw (second.changes.others place (λ other. apart place is other)) (first.changes.each place is)
-  by place (inr is) = rw (first.changes.others place (λ one. apart place one is)) at (second.changes.each place is)
+  by place (inl is) = grind (arith, common_steps)
+  by place (inr is) = grind (arith, common_steps)
 
 -- the loops go over the files from the first on
 
@@ -151,51 +137,48 @@ next_in_turn first n broke more old now new stays so_far turned one = record {
 
   from : (place : ℕ) → (first ≤ place) × (place < first + (n + 1))
       → ((first ≤ place) × (place < first + n)) ⊎ (place ≡ first + n)
-  from place is = elim (cases_lt place (first + n)) [
-    | inl within ↦ inl (is.0, within)
-    | inr past ↦ inr (omega arith)
-  ]
+  from place is = grind (arith, common_steps, cases_lt)
 
 -- one output
 
 pub gets_more : (told : Bool) {x y : List ℕ} {old mid new : Slot} → Gets told x old mid → Gets told y mid new
     → Gets told (x ++ y) old new
-gets_more told {x} {y} {old} (gets_all sound) (gets_all again) = rw (adds_both told x y old) (gets_all sound)
+gets_more told {x} {y} {old} (gets_all sound) (gets_all _) = rw (adds_both told x y old) (gets_all sound)
 gets_more told {x} {y} {old} (gets_all sound) (breaks_off again n why within) =
     rw (← (ap (λ bytes. breaks why (adds (told_of told bytes) old)) (take-append-add x y n) ∙ sym (ap (breaks why) (adds_both told x (take n y) old))))
     (breaks_off sound (length x + n) why (omega (arith, length-append x y)))
-gets_more told (gets_all sound) (gets_none broken) = absurd (false≢true (sym sound ∙ broken))
-gets_more told (breaks_off sound n why within) (gets_all again) = absurd (false≢true (sym again))
-gets_more told (breaks_off sound n why within) (breaks_off again m _ less) = absurd (false≢true (sym again))
+gets_more told (gets_all sound) (gets_none broken) = absurd (cc)
+gets_more told (breaks_off _ n _ _) (gets_all again) = absurd (cc)
+gets_more told (breaks_off _ n _ _) (breaks_off again m _ _) = absurd (cc)
 gets_more told {x} {y} {old} (breaks_off sound n why within) (gets_none broken) =
     rw (← (ap (λ bytes. breaks why (adds (told_of told bytes) old)) (take-append-le n x y (omega arith))))
     (breaks_off sound n why (omega (arith, length-append x y)))
-gets_more told (gets_none broken) (gets_all again) = absurd (false≢true (sym again ∙ broken))
-gets_more told (gets_none broken) (breaks_off again m why less) = absurd (false≢true (sym again ∙ broken))
-gets_more told (gets_none broken) (gets_none again) = gets_none broken
+gets_more told (gets_none broken) (gets_all again) = absurd (cc)
+gets_more told (gets_none broken) (breaks_off again m _ _) = absurd (cc)
+gets_more told (gets_none broken) (gets_none _) = gets_none broken
 
 pub still_broken : (told : Bool) {bytes : List ℕ} (old new : Slot) → Gets told bytes old new → old.is_broken ≡ true
     → new.is_broken ≡ true
-still_broken told old _ (gets_all sound) broken = broken
-still_broken told old _ (breaks_off sound n why within) broken = refl
-still_broken told old _ (gets_none was) broken = broken
+still_broken told old _ (gets_all _) broken = broken
+still_broken told old _ (breaks_off _ n _ _) broken = refl
+still_broken told old _ (gets_none _) broken = broken
 
 pub closed_broken : (old new : Slot) → Closes old new → old.is_broken ≡ true → new.is_broken ≡ true
-closed_broken old _ (is_closed sound) broken = broken
-closed_broken old _ (fails_to_close sound why) broken = refl
+closed_broken old _ (is_closed _) broken = broken
+closed_broken old _ (fails_to_close _ _) broken = refl
 closed_broken old _ (was_broken was) broken = broken
 
 still_usable : (told : Bool) {bytes : List ℕ} {old new : Slot} → Gets told bytes old new → IsUsable old → IsUsable new
-still_usable told (gets_all sound) usable = usable
-still_usable told (breaks_off sound n why within) usable = λ sound. absurd (false≢true (sym sound))
-still_usable told (gets_none was) usable = usable
+still_usable told (gets_all _) usable = usable
+still_usable told (breaks_off sound n _ _) usable = λ sound. absurd (cc)
+still_usable told (gets_none _) usable = usable
 
 -- an output that is sound after it got all
 pub sound_gets : (told : Bool) {bytes : List ℕ} {old new : Slot} → Gets told bytes old new → new.is_broken ≡ false
     → new ≡ adds (told_of told bytes) old
-sound_gets told (gets_all sound) still = refl
-sound_gets told (breaks_off sound n why within) still = absurd (false≢true (sym still))
-sound_gets told (gets_none broken) still = absurd (false≢true (sym still ∙ broken))
+sound_gets told (gets_all _) still = refl
+sound_gets told (breaks_off _ n _ _) still = absurd (cc)
+sound_gets told (gets_none broken) still = absurd (cc)
 
 -- the outputs of a tee
 

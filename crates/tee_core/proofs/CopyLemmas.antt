@@ -2,17 +2,17 @@
 use Rattle.std.{
   proofs.lemmas.{
     Grind.common_steps,
-    Bool.{cond_both, false≢true, Decides.nat_tests},
+    Bool.{cond_both, Decides.nat_tests},
     List.{append-nil, length-map, Folds.concat-append},
   },
   proofs.Common.{◌≡◌, ℕ, ◌+◌, ◌<◌, zero, suc, List, [], ◌∷◌, ◌++◌, length, map, take, codes, get_or, set, Bor, Bool},
-  proofs.Common.{true, false, if◌then◌else◌, refl, sym, ◌∙◌, ap, arith, append_assoc, ◌≤◌, Option, Some, None, inl},
-  proofs.Common.{inr, length-append, append-nil},
+  proofs.Common.{true, false, if◌then◌else◌, refl, sym, ◌∙◌, ap, arith, ◌≤◌, Option, Some, None, inl, inr},
+  proofs.Common.{length-append, append-nil},
   proofs.Math.ListN.get_or-map,
   specs.List.concat,
 }
 use Rattle.ports_core.specs.{
-  Slot.{Slot, no_slot, slot_at, is_open, changed_at, opened, adds, breaks, told_of},
+  Slot.{Slot, no_slot, slot_at, is_open, opened, adds, breaks, told_of},
   Text.{Message, message_of},
   Message.{SaysOn, SaysAll},
   declared.{calling.Calling.Calling, reason.Reason.Reason, fault.Fault.Fault, on_broken.OnBroken.OnBroken},
@@ -83,7 +83,7 @@ get_next n known stand nows other within many so_far = absurd (omega arith)
 pub seen_all : (known : List Standing) (stand : List Standing) (nows : List Standing) → length stand ≡ length known
     → SeenTo (length known) known stand nows → nows ≡ stand
 seen_all [] [] nows many so_far = so_far
-seen_all (was ∷ known) (one ∷ stand) (now ∷ nows) many so_far = cc (so_far.0, seen_all known stand nows (omega arith) so_far.1)
+seen_all (was ∷ known) (one ∷ stand) (now ∷ nows) many so_far = cc (seen_all known stand nows (omega arith) so_far.1)
 seen_all (was ∷ known) (one ∷ stand) [] many so_far = absurd so_far
 seen_all known stand nows many so_far = absurd (omega arith)
 
@@ -94,11 +94,9 @@ said_next : (on_broken : OnBroken) (fault : Fault) (names : List (List ℕ)) (kn
     ≡ said_since on_broken fault names known nows
     ++ said_one on_broken fault (get_or names n []) (get_or known n Sound) now
 said_next on_broken fault (name ∷ names) (was ∷ known) (one ∷ stand) nows zero now within known_many many so_far =
-    rw (so_far, tells_same on_broken was, none_said on_broken fault names known) refl
+    grind (arith, common_steps, tells_same, was, none_said)
 said_next on_broken fault (name ∷ names) (was ∷ known) (one ∷ stand) (first ∷ nows) (suc n) now within known_many many so_far =
-    let rest = said_next on_broken fault names known stand nows n now (omega arith) (omega arith)
-    (omega arith) so_far.1 in
-    grind (arith, nat_tests, rest)
+    grind (arith, common_steps, said_next on_broken fault names known stand nows n now (omega arith) (omega arith))
 said_next on_broken fault (name ∷ names) (was ∷ known) (one ∷ stand) [] (suc n) now within known_many many so_far = absurd so_far
 said_next on_broken fault names known stand nows n now within known_many many so_far = absurd (omega arith)
 
@@ -113,9 +111,7 @@ standing_at output error files (suc n) = sym (get_or-map stands_as files n no_sl
 pub count_standings : {slots : List Slot} {count : ℕ} → HasStreams slots count
     → length (standings_of slots) ≡ count + 1
 count_standings {count} has =
-    let many = length-map has.files stands_as in
-    let next : suc (length (map stands_as has.files)) ≡ count + 1 = omega arith in
-    ap (λ those. length (standings_of those)) has.are ∙ next
+    rw has.are (omega (arith, length-map has.files stands_as))
 
 -- standard error alone is written
 
@@ -130,7 +126,7 @@ stands_still : (told : Bool) (calling : Calling) (messages : List Message) (outp
     (n : ℕ) → SaysTo told calling messages (output ∷ error ∷ files) now
     → stands_as (slot_at now (output_slot n)) ≡ get_or (standings_of (output ∷ error ∷ files)) n Sound
 stands_still told calling messages output error files now n said =
-    ap (λ those. stands_as (slot_at those (output_slot n))) said.2 ∙ standing_at output said.0 files n
+    grind (arith, common_steps, said, standing_at, output, files)
 
 -- the message for the fault that ended the reading
 pub input_told : (told : Bool) (calling : Calling) {fault : Option Fault} {one : Fault} {count : ℕ}
@@ -149,7 +145,7 @@ pub tells_none : (told : Bool) (calling : Calling) (on_broken : OnBroken) (fault
     (known : List Standing) {count : ℕ} {slots : List Slot} → HasStreams slots count
     → Telling told calling on_broken fault names known 0 slots slots known
 tells_none told calling on_broken fault names known has = record {
-  said = rw (none_said on_broken fault names known, has.are) (has.error, refl, refl);
+  said = grind (arith, common_steps, none_said);
   seen = refl;
 }
 
@@ -159,7 +155,7 @@ pub error_open : (told : Bool) {calling : Calling} {on_broken : OnBroken} {fault
 error_open told {calling} {on_broken} {fault} {names} {before} {known} {now = now} has so_far =
     let messages = said_since on_broken fault names before known in
     let said : SaysTo told calling messages (has.output ∷ has.error ∷ has.files) now = rw has.are at so_far.said in
-    ap (λ those. is_open (slot_at those 1).state) said.2 ∙ ap is_open (all_said_state told (tee_called calling) messages has.error said.0 said.1) ∙ has.opened
+    cc (all_said_state told (tee_called calling) messages has.error said.0 said.1)
 
 pub tells_next : (told : Bool) {calling : Calling} {on_broken : OnBroken} {fault : Fault} {names : List (List ℕ)}
     {before known : List Standing} (other : Standing) {n count : ℕ} {old now new : List Slot} {name : List ℕ}
@@ -223,7 +219,7 @@ pub record Marks (call : ℕ) (before after : Option Break) (now : Standing) : T
   pub stands : standing_of after ≡ now
 
 pub marked_none : {call : ℕ} → Marks call None None Sound
-marked_none {call} = record {
+marked_none = record {
   said = λ on_broken. refl;
   older = λ on_broken other less. refl;
   sooner = λ other within. refl;
@@ -242,8 +238,8 @@ not_in on_broken call broke differs = grind (arith, nat_tests, differs)
 pub marked_now : {call : ℕ} (why : Reason) → Marks call None (Some (break_now call why)) (lost_for why)
 marked_now {call} why = record {
   said = λ on_broken. grind (arith, nat_tests);
-  older = λ on_broken other less. not_in on_broken other (break_now call why) (λ same. omega arith);
-  sooner = λ other within. grind (arith, nat_tests, within);
+  older = grind (arith, common_steps, not_in);
+  sooner = grind (arith, common_steps);
   then_is = grind (arith, nat_tests);
   now_is = grind (arith, nat_tests);
   stands = refl;
@@ -252,7 +248,7 @@ marked_now {call} why = record {
 marked_before : {call : ℕ} (broke : Break) → broke.call < call
     → Marks call (Some broke) (Some broke) (lost_for broke.why)
 marked_before {call} broke less = record {
-  said = λ on_broken. not_in on_broken call broke (λ same. omega arith) ∙ sym (tells_known on_broken broke.why (lost_for broke.why));
+  said = grind (arith, common_steps, not_in, tells_known);
   older = λ on_broken other sooner. refl;
   sooner = λ other within. refl;
   then_is = grind (arith, nat_tests, less);
@@ -271,48 +267,51 @@ pub said_marked : {call : ℕ} (on_broken : OnBroken) (names : List (List ℕ)) 
     → said_in on_broken call names afters ≡ said_since on_broken (fault_in call) names (map standing_of befores) nows
 said_marked on_broken [] marked = refl
 said_marked on_broken (name ∷ names) none_marked = refl
-said_marked {call} on_broken (name ∷ names) (all_marked before after now befores afters nows one rest) = cc (one.said on_broken, said_marked on_broken names rest)
+said_marked on_broken (name ∷ names) (all_marked before after now _ _ _ one rest) =
+    cc (one.said on_broken, said_marked on_broken names rest)
 
 said_older : {call : ℕ} (on_broken : OnBroken) (other : ℕ) (names : List (List ℕ))
     {befores afters : List (Option Break)} {nows : List Standing} → other < call → AllMark call befores afters nows
     → said_in on_broken other names afters ≡ said_in on_broken other names befores
 said_older on_broken other [] less marked = refl
 said_older on_broken other (name ∷ names) less none_marked = refl
-said_older on_broken other (name ∷ names) less (all_marked before after now befores afters nows one rest) =
+said_older on_broken other (name ∷ names) less (all_marked before after now _ _ _ one rest) =
     cc (one.older on_broken other less, said_older on_broken other names less rest)
 
 pub all_older : {call : ℕ} (on_broken : OnBroken) (end : ℕ) (names : List (List ℕ))
     {befores afters : List (Option Break)} {nows : List Standing} → end ≤ call → AllMark call befores afters nows
     → said_before on_broken end names afters ≡ said_before on_broken end names befores
 all_older on_broken zero names past marked = refl
-all_older on_broken (suc end) names {befores} {afters} past marked = cc (all_older on_broken end names (omega arith) marked, said_older on_broken end names (omega arith) marked)
+all_older on_broken (suc end) names past marked =
+    grind (arith, common_steps, marked, said_older, all_older on_broken end names (omega arith) marked)
 
 -- how the outputs stood before a call
 
 pub stood_sooner : {call : ℕ} (other : ℕ) {befores afters : List (Option Break)} {nows : List Standing} → other ≤ call
     → AllMark call befores afters nows → standings_before other afters ≡ standings_before other befores
 stood_sooner other within none_marked = refl
-stood_sooner other within (all_marked before after now befores afters nows one rest) = cc (one.sooner other within, stood_sooner other within rest)
+stood_sooner other within (all_marked before after now _ _ _ one rest) =
+    cc (one.sooner other within, stood_sooner other within rest)
 
 pub stood_then : {call : ℕ} {befores afters : List (Option Break)} {nows : List Standing}
     → AllMark call befores afters nows → standings_before call afters ≡ map standing_of befores
 stood_then none_marked = refl
-stood_then {call} (all_marked before after now befores afters nows one rest) = cc (one.then_is, stood_then rest)
+stood_then (all_marked before after now _ _ _ one rest) = cc (one.then_is, stood_then rest)
 
 pub stand_now : {call : ℕ} {befores afters : List (Option Break)} {nows : List Standing}
     → AllMark call befores afters nows → standings_before (suc call) afters ≡ nows
 stand_now none_marked = refl
-stand_now {call} (all_marked before after now befores afters nows one rest) = cc (one.now_is, stand_now rest)
+stand_now (all_marked before after now _ _ _ one rest) = cc (one.now_is, stand_now rest)
 
 pub stand_so : {call : ℕ} {befores afters : List (Option Break)} {nows : List Standing}
     → AllMark call befores afters nows → nows ≡ map standing_of afters
 stand_so none_marked = refl
-stand_so {call} (all_marked before after now befores afters nows one rest) = cc (one.stands, stand_so rest)
+stand_so (all_marked before after now _ _ _ one rest) = cc (one.stands, stand_so rest)
 
 -- one output
 
 pub joined_more : (pieces : List (List ℕ)) (piece : List ℕ) → concat pieces ++ piece ≡ concat (pieces ++ piece ∷ [])
-joined_more pieces piece = sym (concat-append pieces (piece ∷ []) ∙ ap (λ bytes. concat pieces ++ bytes) (append-nil piece))
+joined_more pieces piece = cc (concat-append pieces (piece ∷ []), append-nil piece)
 
 whole_now : (told : Bool) (pieces : List (List ℕ)) (piece : List ℕ) (start : Slot)
     → adds (told_of told piece) (adds (told_of told (concat pieces)) start)
@@ -322,16 +321,16 @@ whole_now told pieces piece start = grind (arith, common_steps, adds_both, joine
 begun_now : (told : Bool) (why : Reason) (pieces : List (List ℕ)) (piece : List ℕ) (n : ℕ) (start : Slot)
     → breaks why (adds (told_of told (take n piece)) (adds (told_of told (concat pieces)) start))
     ≡ breaks why (adds (told_of told (concat pieces ++ take n piece)) start)
-begun_now told why pieces piece n start = ap (breaks why) (adds_both told (concat pieces) (take n piece) start)
+begun_now told why pieces piece n start = cc (adds_both told (concat pieces) (take n piece) start)
 
 still_there : {pieces : List (List ℕ)} (before after : List (List ℕ)) (piece more : List ℕ)
     → pieces ≡ before ++ piece ∷ after → pieces ++ more ∷ [] ≡ before ++ piece ∷ (after ++ more ∷ [])
-still_there before after piece more is = ap (λ those. those ++ more ∷ []) is ∙ append_assoc before (piece ∷ after) (more ∷ [])
+still_there before after piece more is = grind (arith, common_steps)
 
 -- a piece was fed in a call before those that follow
 pub call_before : {pieces : List (List ℕ)} (before after : List (List ℕ)) (piece : List ℕ)
     → pieces ≡ before ++ piece ∷ after → suc (length before) < suc (length pieces)
-call_before before after piece is = omega (arith, length-append before (piece ∷ after), ap length is)
+call_before before after piece is = grind (arith, common_steps)
 
 -- an output is so after a call, with what that adds to what broke when
 abbrev pub Marked : (Option Break → Slot → Type 0) → ℕ → Option Break → Slot → Type 0
@@ -340,16 +339,17 @@ Marked Is call first new = (after : Option Break) × Is after new × Marks call 
 output_more : (told : Bool) {pieces : List (List ℕ)} {piece : List ℕ} {first : Option Break} {old new : Slot}
     → OutputLeft told pieces first old → Gets told piece old new
     → Marked (OutputLeft told (pieces ++ piece ∷ [])) (suc (length pieces)) first new
-output_more told {pieces} {piece} output_whole (gets_all sound) = (None, rw (whole_now told pieces piece standard_output) output_whole, marked_none)
-output_more told {pieces} {piece} output_whole (breaks_off sound n why within) = (
+output_more told {pieces} {piece} output_whole (gets_all _) =
+    (None, rw (whole_now told pieces piece standard_output) output_whole, marked_none)
+output_more told {pieces} {piece} output_whole (breaks_off _ n why within) = (
   Some (break_now (suc (length pieces)) why),
   rw (begun_now told why pieces piece n standard_output) (output_cut pieces piece [] n refl within),
   marked_now why,
 )
-output_more told output_whole (gets_none broken) = absurd (false≢true broken)
-output_more told (output_cut before that after n is within) (gets_all again) = absurd (false≢true (sym again))
-output_more told (output_cut before that after n is within) (breaks_off again m why less) = absurd (false≢true (sym again))
-output_more told {piece} (output_cut {why} before that after n is within) (gets_none broken) = (
+output_more told output_whole (gets_none broken) = absurd (cc)
+output_more told (output_cut _ _ _ n is _) (gets_all again) = absurd (cc)
+output_more told (output_cut _ _ _ n is _) (breaks_off again m _ _) = absurd (cc)
+output_more told {piece} (output_cut {why} before that after n is within) (gets_none _) = (
   Some (break_now (suc (length before)) why),
   output_cut before that (after ++ piece ∷ []) n (still_there before after that piece is) within,
   marked_before _ (call_before before after that is),
@@ -358,19 +358,20 @@ output_more told {piece} (output_cut {why} before that after n is within) (gets_
 file_more : (told : Bool) {mode : Mode} {pieces : List (List ℕ)} {piece : List ℕ} {name : List ℕ} {first : Option Break}
     {old new : Slot} → FileHas told mode pieces name first old → Gets told piece old new
     → Marked (FileHas told mode (pieces ++ piece ∷ []) name) (suc (length pieces)) first new
-file_more told {mode} {pieces} {piece} {name} has_all (gets_all sound) = (None, rw (whole_now told pieces piece (opened name mode)) has_all, marked_none)
-file_more told {mode} {pieces} {piece} {name} has_all (breaks_off sound n why within) = (
+file_more told {mode} {pieces} {piece} {name} has_all (gets_all _) =
+    (None, rw (whole_now told pieces piece (opened name mode)) has_all, marked_none)
+file_more told {mode} {pieces} {piece} {name} has_all (breaks_off _ n why within) = (
   Some (break_now (suc (length pieces)) why),
   rw (begun_now told why pieces piece n (opened name mode)) (has_begun pieces piece [] n refl within),
   marked_now why,
 )
-file_more told has_all (gets_none broken) = absurd (false≢true broken)
-file_more told (has_none kept named) (gets_all again) = absurd (false≢true (sym again))
-file_more told (has_none kept named) (breaks_off again m why less) = absurd (false≢true (sym again))
+file_more told has_all (gets_none broken) = absurd (cc)
+file_more told (has_none _ _) (gets_all again) = absurd (cc)
+file_more told (has_none _ _) (breaks_off again m _ _) = absurd (cc)
 file_more told (has_none {why} kept named) (gets_none broken) = (Some (break_now 0 why), has_none kept named, marked_before _ (omega arith))
-file_more told (has_begun before that after n is within) (gets_all again) = absurd (false≢true (sym again))
-file_more told (has_begun before that after n is within) (breaks_off again m why less) = absurd (false≢true (sym again))
-file_more told {piece} (has_begun {why} before that after n is within) (gets_none broken) = (
+file_more told (has_begun _ _ _ n is _) (gets_all again) = absurd (cc)
+file_more told (has_begun _ _ _ n is _) (breaks_off again m _ _) = absurd (cc)
+file_more told {piece} (has_begun {why} before that after n is within) (gets_none _) = (
   Some (break_now (suc (length before)) why),
   has_begun before that (after ++ piece ∷ []) n (still_there before after that piece is) within,
   marked_before _ (call_before before after that is),
@@ -386,8 +387,8 @@ pub files_go : {Is Then : List ℕ → Option Break → Slot → Type 0} {Change
     → (after : List (Option Break)) × EachFile Then names after news × AllMark call broke after (map stands_as news)
 files_go go [] many changes no_file = ([], no_file, none_marked)
 files_go go (new ∷ news) many changes no_file = absurd (omega arith)
-files_go go [] many changes (one_file name names first broke old olds one rest) = absurd (omega arith)
-files_go go (new ∷ news) many changes (one_file name names first broke old olds one rest) =
+files_go go [] many changes (one_file name _ _ _ old _ one rest) = absurd (omega arith)
+files_go go (new ∷ news) many changes (one_file name _ first _ old _ one rest) =
     let here = go name first old new one (changes 0 (omega arith)) in
     let there = files_go go news (omega arith) (λ n within. changes (suc n) (omega arith)) rest in
     (here.0 ∷ there.0, one_file _ _ _ _ _ _ here.1 there.1, all_marked _ _ _ _ _ _ here.2 there.2)
@@ -407,20 +408,20 @@ length-broke (one_file name names first broke file files one rest) = ap suc (len
 output_usable : (told : Bool) {pieces : List (List ℕ)} {first : Option Break} {output : Slot}
     → OutputLeft told pieces first output → IsUsable output
 output_usable told output_whole = λ sound. refl
-output_usable told (output_cut before that after n is within) = λ sound. refl
+output_usable told (output_cut _ _ _ n is _) = λ sound. refl
 
 file_usable : (told : Bool) {mode : Mode} {pieces : List (List ℕ)} {name : List ℕ} {first : Option Break} {file : Slot}
     → FileHas told mode pieces name first file → IsUsable file
 file_usable told has_all = λ sound. refl
-file_usable told (has_none kept named) = λ sound. absurd (false≢true (sym sound))
-file_usable told (has_begun before that after n is within) = λ sound. refl
+file_usable told (has_none _ _) = λ sound. absurd (cc)
+file_usable told (has_begun _ _ _ n is _) = λ sound. refl
 
 files_usable : (told : Bool) {mode : Mode} {pieces : List (List ℕ)} {names : List (List ℕ)}
     {broke : List (Option Break)} {files : List Slot} (n : ℕ) → n < length files
     → EachFile (FileHas told mode pieces) names broke files → IsUsable (slot_at files n)
 files_usable told n within no_file = absurd (omega arith)
-files_usable told zero within (one_file name names first broke file files one rest) = file_usable told one
-files_usable told (suc n) within (one_file name names first broke file files one rest) = files_usable told n (omega arith) rest
+files_usable told zero within (one_file name _ _ _ file _ one _) = file_usable told one
+files_usable told (suc n) within (one_file name _ _ _ file _ one rest) = files_usable told n (omega arith) rest
 
 -- a file's place, counted from the first file
 pub file_place : {names : List (List ℕ)} {tee : TeeState} (place : ℕ) → IsTeeOf names tee → IsFile tee place
@@ -431,7 +432,7 @@ file_place {names} {tee} (suc (suc n)) is file = let first : tee.first ≡ 2 = i
 
 pub place_file : {names : List (List ℕ)} {tee : TeeState} (n : ℕ) → IsTeeOf names tee → n < length names
     → IsFile tee (suc (suc n))
-place_file {names} {tee} n is within = grind (arith, common_steps)
+place_file n is within = grind (arith, common_steps)
 
 pub error_no_output : {names : List (List ℕ)} {tee : TeeState} → IsTeeOf names tee → IsOutput tee 1 → ⊥
 error_no_output is (inl here) = omega arith
@@ -444,9 +445,7 @@ module _ (told : Bool) (calling : Calling) (mode : Mode) (on_broken : OnBroken) 
   copies_ready {tee} is copies place output = rw copies.are (by output) where
     by : IsOutput tee place → IsUsable (slot_at (copies.output ∷ copies.error ∷ copies.files) place)
     by (inl here) = rw here (output_usable told copies.output_has)
-    by (inr file) =
-        let there = file_place place is file in
-        rw there.1 (files_usable told there.0 (omega (arith, length-files copies.files_have)) copies.files_have)
+    by (inr file) = grind (arith, common_steps, file_place, files_usable, length-files)
 
   -- the outputs after a call, before anything is said of it, where they stand so now
   pub record After (OutputIs : Option Break → Slot → Type 0) (FileIs : List ℕ → Option Break → Slot → Type 0)
@@ -474,11 +473,11 @@ module _ (told : Bool) (calling : Calling) (mode : Mode) (on_broken : OnBroken) 
       → nows ≡ standings_of mid → After OutputIs FileIs call copies mid nows
   called {OutputIs} {FileIs} {Change} {mid = mid} is copies call count error one changes go sees = rw sees (by mid refl) where
     by : (those : List Slot) → mid ≡ those → After OutputIs FileIs call copies mid (standings_of those)
-    by [] short = absurd (omega (arith, ap length short, ap length copies.are))
-    by (output ∷ []) short = absurd (omega (arith, ap length short, ap length copies.are))
+    by [] short = absurd (cc)
+    by (output ∷ []) short = absurd (cc)
     by (output ∷ other ∷ files) are =
-        let same : other ≡ copies.error = sym (ap (λ those. slot_at those 1) are) ∙ error ∙ ap (λ those. slot_at those 1) copies.are in
-        let here = one output (ap (λ those. slot_at those 0) are) in let many = length-files copies.files_have in
+        let same : other ≡ copies.error = cc in
+        let here = one output (cc) in let many = length-files copies.files_have in
         let rest = files_go go files (omega (arith, ap length are, ap length copies.are))
         (λ n within. rw (ap (λ those. slot_at those (suc (suc n))) are) at (rw (ap (λ those. slot_at those (suc (suc n))) copies.are) at
         (changes (suc (suc n)) (place_file n is (omega arith))))) copies.files_have in
@@ -487,7 +486,7 @@ module _ (told : Bool) (calling : Calling) (mode : Mode) (on_broken : OnBroken) 
           files = files;
           first = here.0;
           broke = rest.0;
-          are = are ∙ ap (λ slot. output ∷ slot ∷ files) same;
+          are = cc;
           output_is = here.1;
           files_are = rest.1;
           marked = all_marked copies.first here.0 (stands_as output) copies.broke rest.0 (map stands_as files) here.2 rest.2;
@@ -504,7 +503,7 @@ module _ (told : Bool) (calling : Calling) (mode : Mode) (on_broken : OnBroken) 
       ((said_before on_broken (suc (length pieces)) (output_names names) (next.first ∷ next.broke) ++ messages)
       ++ said_in on_broken (suc (length pieces)) (output_names names) (next.first ∷ next.broke)) standard_error
       says.0
-  said_after {pieces} {messages} {mid = mid} {known} copies next says =
+  said_after {pieces} {messages} copies next says =
       rw (said_marked on_broken (output_names names) next.marked, all_older on_broken (suc (length pieces)) (output_names names) (omega arith) next.marked, ← copies.known_are)
       (says_after told (tee_called calling) (said_before on_broken (suc (length pieces)) (output_names names) (copies.first ∷ copies.broke) ++ messages) _ standard_error copies.error says.0 copies.said
       (rw (ap (λ those. slot_at those 1) next.are) at says.1))
@@ -517,7 +516,8 @@ module _ (told : Bool) (calling : Calling) (mode : Mode) (on_broken : OnBroken) 
       → ChangesEach (Gets told piece) (IsOutput tee) old mid → nows ≡ standings_of mid
       → After (OutputLeft told (pieces ++ piece ∷ [])) (FileHas told mode (pieces ++ piece ∷ []))
       (suc (length pieces)) copies mid nows
-  fed_next {pieces} {piece} {mid = mid} is copies gets sees = called is copies (suc (length pieces)) gets.count (gets.others 1 (error_no_output is))
+  fed_next {pieces} is copies gets sees =
+      called is copies (suc (length pieces)) gets.count (gets.others 1 (error_no_output is))
       (λ output here. output_more told copies.output_has (rw here at (rw (ap (λ those. slot_at those 0) copies.are) at (gets.each 0 (inl refl)))))
       (λ place file. gets.each place (inr file)) (λ name first old new has got. file_more told has got) sees
 
@@ -535,7 +535,7 @@ module _ (told : Bool) (calling : Calling) (mode : Mode) (on_broken : OnBroken) 
     files = next.files;
     first = next.first;
     broke = next.broke;
-    are = says.2 ∙ ap (changed_at 1 (λ _. says.0)) next.are;
+    are = rw (says.2, next.are) refl;
     output_has = next.output_is;
     files_have = next.files_are;
     said = rw (ap (λ texts. texts ++ said_in on_broken (suc (length pieces)) (output_names names) (next.first ∷ next.broke)) (append-nil _)
@@ -559,7 +559,7 @@ module _ (told : Bool) (calling : Calling) (mode : Mode) (on_broken : OnBroken) 
     error = copies.error;
     files = files;
     are = are;
-    opened = ap is_open (all_said_state told (tee_called calling) _ standard_error copies.error copies.said);
+    opened = rw (all_said_state told (tee_called calling) _ standard_error copies.error copies.said) refl;
     files_are = many;
   }
 
@@ -571,8 +571,8 @@ module _ (told : Bool) (calling : Calling) (mode : Mode) (on_broken : OnBroken) 
   pub mid_streams : {pieces : List (List ℕ)} {messages : List Message} {old mid : List Slot} {known : List Standing}
       → Copies told calling mode on_broken names pieces messages old known → length mid ≡ length old
       → slot_at mid 1 ≡ slot_at old 1 → HasStreams mid (length names)
-  mid_streams {mid = []} copies count error = absurd (omega (arith, ap length copies.are))
-  mid_streams {mid = output ∷ []} copies count error = absurd (omega (arith, ap length copies.are))
+  mid_streams {mid = []} copies count error = absurd (cc)
+  mid_streams {mid = output ∷ []} copies count error = absurd (cc)
   mid_streams {mid = output ∷ other ∷ files} copies count error =
       streams_after copies (ap (λ slot. output ∷ slot ∷ files) (error ∙ ap (λ those. slot_at those 1) copies.are)) (omega (arith, ap length copies.are, length-files copies.files_have))
 
@@ -584,20 +584,21 @@ module _ (told : Bool) (calling : Calling) (mode : Mode) (on_broken : OnBroken) 
 output_kept : (told : Bool) {pieces : List (List ℕ)} {first : Option Break} {output : Slot}
     → OutputLeft told pieces first output → Marks (suc (length pieces)) first first (stands_as output)
 output_kept told output_whole = marked_none
-output_kept told (output_cut before that after n is within) = marked_before _ (call_before before after that is)
+output_kept told (output_cut before that after n is _) = marked_before _ (call_before before after that is)
 
 -- a file that is
 file_ends : (told : Bool) {mode : Mode} {pieces : List (List ℕ)} {name : List ℕ} {first : Option Break} {old new : Slot}
     → FileHas told mode pieces name first old → Closes old new
     → Marked (FileLeft told mode pieces name) (suc (length pieces)) first new
-file_ends told has_all (is_closed sound) = (None, file_whole, marked_none)
-file_ends told {pieces = pieces} has_all (fails_to_close sound why) = (Some (break_now (suc (length pieces)) why), file_unclosed, marked_now why)
-file_ends told has_all (was_broken broken) = absurd (false≢true broken)
-file_ends told (has_none kept named) (is_closed sound) = absurd (false≢true (sym sound))
-file_ends told (has_none kept named) (fails_to_close sound why) = absurd (false≢true (sym sound))
+file_ends told has_all (is_closed _) = (None, file_whole, marked_none)
+file_ends told {pieces = pieces} has_all (fails_to_close _ why) =
+    (Some (break_now (suc (length pieces)) why), file_unclosed, marked_now why)
+file_ends told has_all (was_broken broken) = absurd (cc)
+file_ends told (has_none _ _) (is_closed sound) = absurd (cc)
+file_ends told (has_none _ _) (fails_to_close sound _) = absurd (cc)
 file_ends told (has_none {why} kept named) (was_broken broken) = (Some (break_now 0 why), file_unopened kept named, marked_before _ (omega arith))
-file_ends told (has_begun before that after n is within) (is_closed sound) = absurd (false≢true (sym sound))
-file_ends told (has_begun before that after n is within) (fails_to_close sound why) = absurd (false≢true (sym sound))
+file_ends told (has_begun _ _ _ n is _) (is_closed sound) = absurd (cc)
+file_ends told (has_begun _ _ _ n is _) (fails_to_close sound _) = absurd (cc)
 file_ends told (has_begun {why} before that after n is within) (was_broken broken) =
     (Some (break_now (suc (length before)) why), file_cut before that after n is within, marked_before _ (call_before before after that is))
 
@@ -612,7 +613,7 @@ module _ (told : Bool) (calling : Calling) (mode : Mode) (on_broken : OnBroken) 
     files = copies.files;
     first = copies.first;
     broke = copies.broke;
-    are = says.2 ∙ ap (changed_at 1 (λ _. says.0)) copies.are;
+    are = rw (says.2, copies.are) refl;
     output_has = copies.output_has;
     files_have = copies.files_have;
     said = rw (append-nil _) at
@@ -651,11 +652,11 @@ module _ (told : Bool) (calling : Calling) (mode : Mode) (on_broken : OnBroken) 
     files = next.files;
     first = next.first;
     broke = next.broke;
-    are = says.2 ∙ ap (changed_at 1 (λ _. says.0)) next.are;
+    are = rw (says.2, next.are) refl;
     output_left = next.output_is;
     files_left = next.files_are;
     said = said_after told calling mode on_broken names copies next says;
     known_are = stand_so next.marked;
-    goes_on = ap (is_done on_broken) (stood_sooner (length pieces) (omega arith) next.marked) ∙ copies.goes_on;
-    before_are = stood_sooner (suc (length pieces)) (omega arith) next.marked ∙ copies.are_known;
+    goes_on = cc (stood_sooner (length pieces) (omega arith) next.marked);
+    before_are = cc (stood_sooner (suc (length pieces)) (omega arith) next.marked);
   }

@@ -1,9 +1,9 @@
 -- Lemmas on what a run reads of its input, and on how it ends.
 use Rattle.std.{
-  proofs.lemmas.{Grind.common_steps, Bool.{cases_Bool, false≢true, Decides.nat_tests}},
+  proofs.lemmas.{Grind.common_steps, Bool.{cases_Bool, false≢true}},
   proofs.Common.{◌≡◌, ℕ, ◌+◌, ◌<◌, ◌≤◌, ◌^◌, List, [], ◌∷◌, ◌++◌, length, take, Bool, true, false, Option, Some, None},
-  proofs.Common.{IsTrue, ◌⊎◌, refl, sym, ◌∙◌, ap, subst, arith, length-append, length-take, append-nil, inl, inr, All},
-  proofs.Common.{zero, suc, map, not, ◌&&◌, ◌||◌, if◌then◌else◌, is_none},
+  proofs.Common.{IsTrue, ◌⊎◌, refl, sym, ◌∙◌, ap, subst, arith, length-append, append-nil, inl, inr, All, zero, suc},
+  proofs.Common.{map, not, ◌&&◌, ◌||◌, if◌then◌else◌, is_none},
   specs.List.{concat, list_any},
 }
 use Rattle.ports_core.specs.{
@@ -52,18 +52,25 @@ whole : (told : Bool) (there : Content) (x : List ℕ) (breaks : Bool) (source :
     → (told ≡ true → (there.bytes ≡ x) × (there.breaks_off ≡ breaks) × (source.left.bytes ≡ []))
     → ((content : Content) → (told ≡ false → content.breaks_off ≡ breaks) → CameFrom told content source)
     → SeenWhole told there x breaks source
-whole true there x breaks source has came = let had = has refl in (there, (λ t. refl), had.0, had.1, (λ t. had.2), came there (λ off. absurd (false≢true (sym off))))
-whole false there x breaks source has came = (record { bytes = x; breaks_off = breaks; shown = None }, (λ t. absurd (false≢true t)), refl, refl, (λ t. absurd (false≢true t)), came _ (λ off. refl))
+whole true there x breaks source has came =
+    let had = has refl in (there, (λ t. refl), had.0, had.1, (λ t. had.2), came there (λ off. absurd (cc)))
+whole false there x breaks source has came = (
+  record { bytes = x; breaks_off = breaks; shown = None },
+  (λ t. absurd (cc)),
+  refl,
+  refl,
+  (λ t. absurd (cc)),
+  came _
+      (λ off. refl),
+)
 
 -- the read failed
 pub seen_broken : (told : Bool) (there : Content) (x : List ℕ) (size : ℕ) (sources new : List Source)
     → (told ≡ true → HasRead there x 0 sources) → IsTrue (is_readable sources 0)
     → (told ≡ true → BrokeOff (source_at sources 0).left) → ReadFails 0 size sources new
     → SeenWhole told there x true (source_at new 0)
-seen_broken told there x size sources new read can broke failed = whole told there x true (source_at new 0)
-    (λ t. let all = read_broken there x 0 sources (read t) (broke t) in
-    (all.0, all.1, nothing_more _ (sym all.0 ∙ read_failed there x 0 sources new size (read t) can failed)))
-    (λ content. came_broken told 0 size sources new can failed)
+seen_broken told there x size sources new read can broke failed =
+    grind (arith, common_steps, whole, read_broken, nothing_more, read_failed, came_broken)
 
 -- the read told the end
 pub seen_ended : (told : Bool) (there : Content) (x : List ℕ) (size : ℕ) (sources new : List Source)
@@ -79,14 +86,21 @@ seen_ended told there x size sources new {n = n} read can gave few room is = who
 pub seen_so_far : (told : Bool) (there : Content) (x : List ℕ) (sources : List Source)
     → (told ≡ true → HasRead there x 0 sources) → IsTrue (is_readable sources 0)
     → SeenTo told there x (source_at sources 0)
-seen_so_far true there x sources read can =
-    (there, (source_at sources 0).left.bytes, (λ t. refl), (read refl).bytes, (λ t. refl), came_sound true sources 0 can (λ off. absurd (false≢true (sym off))))
+seen_so_far true there x sources read can = (
+  there,
+  (source_at sources 0).left.bytes,
+  (λ t. refl),
+  (read refl).bytes,
+  (λ t. refl),
+  came_sound true sources 0 can
+      (λ off. absurd (cc)),
+)
 seen_so_far false there x sources read can = (
   unshown x,
   [],
-  (λ t. absurd (false≢true t)),
+  (λ t. absurd (cc)),
   sym (append-nil x),
-  (λ t. absurd (false≢true t)),
+  (λ t. absurd (cc)),
   came_sound false sources 0 can (λ off. refl),
 )
 
@@ -96,12 +110,12 @@ pub seen_more : (told : Bool) (there : Content) (x : List ℕ) (size : ℕ) (sou
     → IsTrue (is_readable sources 0) → (told ≡ true → Gave (source_at sources 0).left old_buffer buffer n)
     → new ≡ changed_at 0 (gives size n) sources
     → SeenTo told there (x ++ take n buffer) (source_at new 0)
-seen_more told there x size sources new {old_buffer} {buffer} {n} read can gave is =
-    seen_so_far told there (x ++ take n buffer) new (λ t. read_more there x 0 sources new old_buffer buffer size n (read t) can (gave t) is) (still_readable 0 sources new size n is can)
+seen_more told there x size sources new read can gave is =
+    grind (arith, common_steps, seen_so_far, read_more, still_readable)
 
 pub counted_more : (x buffer : List ℕ) {fed : ℕ} (n : ℕ) {sum : ℕ} → fed ≡ length x → n ≤ length buffer → sum ≡ fed + n
     → sum ≡ length (x ++ take n buffer)
-counted_more x buffer n counted within is = omega (arith, length-append x (take n buffer), length-take n buffer)
+counted_more x buffer n counted within is = grind (arith, common_steps)
 
 -- the pieces
 
@@ -113,23 +127,22 @@ none_sized k d low = absurd (omega arith)
 
 pub more_sized : (pieces : List (List ℕ)) (buffer : List ℕ) {n : ℕ} → AreSized pieces → (n ≡ 0 → ⊥) → n ≤ length buffer
     → length buffer ≤ largest_piece → AreSized (pieces ++ take n buffer ∷ [])
-more_sized pieces buffer {n} sized some within most = grind (arith, common_steps)
+more_sized pieces buffer sized some within most = grind (arith, common_steps)
 
 last_same : (before others : List (List ℕ)) (piece other : List ℕ) → before ++ piece ∷ [] ≡ others ++ other ∷ []
     → piece ≡ other
 last_same [] [] piece other is = cc
-last_same [] (first ∷ others) piece other is = absurd (omega (arith, ap length is, length-append others (other ∷ [])))
-last_same (first ∷ before) [] piece other is = absurd (omega (arith, ap length is, length-append before (piece ∷ [])))
+last_same [] (first ∷ others) piece other is = grind (arith, common_steps)
+last_same (first ∷ before) [] piece other is = grind (arith, common_steps)
 last_same (first ∷ before) (next ∷ others) piece other is = last_same before others piece other (cc)
 
 pub gave_none : (source : Source) → GaveLast [] source
-gave_none source before piece is = absurd (omega (arith, ap length is, length-append before (piece ∷ [])))
+gave_none source before piece is = grind (arith, common_steps)
 
 pub gave_last : (pieces : List (List ℕ)) (size : ℕ) (sources new : List Source) {old_buffer buffer : List ℕ} {n : ℕ}
     → IsTrue (is_readable sources 0) → Gave (source_at sources 0).left old_buffer buffer n
     → new ≡ changed_at 0 (gives size n) sources → GaveLast (pieces ++ take n buffer ∷ []) (source_at new 0)
-gave_last pieces size sources new {n = n} can gave is before piece same =
-    ap (λ (source : Source). source.last) (changed_source 0 (gives size n) sources new can is) ∙ sym (ap length gave.front) ∙ ap length (last_same pieces before _ piece same)
+gave_last pieces size sources new can gave is before piece same = grind (arith, common_steps, changed_source, last_same)
 
 -- each piece took one read, and there are no more pieces than bytes
 
@@ -137,16 +150,17 @@ few_pieces : (pieces : List (List ℕ)) → AreSized pieces → length pieces �
 few_pieces [] sized = omega arith
 few_pieces (piece ∷ pieces) sized =
     let rest = few_pieces pieces (λ k byte within. sized (suc k) byte (omega arith)) in
-    let some = (sized 0 piece (omega arith)).0 in omega (arith, length-append piece (concat pieces))
+    omega (arith, (sized 0 piece (omega arith)).0, length-append piece (concat pieces))
 
 pub reads_once : {x : List ℕ} (pieces : List (List ℕ)) {was now : ℕ} → x ≡ concat pieces → AreSized pieces
     → length x < 2 ^ 63 → was ≡ length pieces → now ≡ counted was → now ≡ length pieces + 1
-reads_once {x} pieces {was} joined sized few so_far is = let most = few_pieces pieces sized in let all = ap length joined in grind (arith, nat_tests, most, all)
+reads_once pieces joined sized few so_far is = grind (arith, common_steps, few_pieces)
 
 pub reads_more : {x : List ℕ} (pieces : List (List ℕ)) (piece : List ℕ) {was now : ℕ} → x ≡ concat pieces
     → AreSized pieces → length x < 2 ^ 63 → was ≡ length pieces → now ≡ counted was
     → now ≡ length (pieces ++ piece ∷ [])
-reads_more pieces piece joined sized few so_far is = let once = reads_once pieces joined sized few so_far is in omega (arith, length-append pieces (piece ∷ []))
+reads_more pieces piece joined sized few so_far is =
+    omega (arith, reads_once pieces joined sized few so_far is, length-append pieces (piece ∷ []))
 
 pub reads_copied : {told_in : Bool} (told : Bool) {calling : Calling} {mode : Mode} {on_broken : OnBroken}
     {names : List (List ℕ)} {content : Content} {source : Source} {slots : List Slot} {known : List Standing}
@@ -158,7 +172,7 @@ pub reads_copied : {told_in : Bool} (told : Bool) {calling : Calling} {mode : Mo
     → IsRead content (LeavesOf told_in source) is_vain came fault
     → Copies told calling mode on_broken names pieces [] slots known
     → CopiesRead told_in told calling mode on_broken names content source slots known fault
-reads_copied {told_in} told {content} {source} {known} {fault} {came} {pieces} joined vain sized few met ended last reads read copies = grind (arith, common_steps)
+reads_copied told joined vain sized few met ended last reads read copies = grind (arith, common_steps)
 
 -- the end
 
@@ -168,10 +182,10 @@ pub ends_copied : {told_in : Bool} (told : Bool) {calling : Calling} {mode : Mod
     → status ≡ status_for on_broken known fault → ComesIn told_in content source (is_done on_broken before) pieces fault
     → HasCopied told calling mode on_broken names pieces fault before slots known
     → EndsAs told_in told calling mode on_broken names content source slots status
-ends_copied {told_in} told {on_broken = on_broken} {content} {source} {pieces} {fault} is read left =
+ends_copied told {on_broken = on_broken} {pieces = pieces} {fault} is read left =
     copied pieces fault left.first left.broke left.output left.error left.files (rw (← left.before_are) at read)
     left.goes_on left.output_left left.files_left left.said left.are
-    (is ∙ ap (λ standings. status_for on_broken standings fault) left.known_are)
+    (cc)
 
 -- there was no memory
 
@@ -201,63 +215,66 @@ ends_at_once {told_in} told {calling} {mode} {on_broken} {names} {old} {new_sour
     let unread = ap (λ those. source_at those 0) (sources ∙ fresh.only) in
     of_content told_in (source_at old 0).left empty (source_at new_sources 0)
     (λ content. EndsAs told_in told calling mode on_broken names content (source_at new_sources 0) new status)
-    (λ _. ends_nowhere told is (same ∙ at) (fresh.standard, unread, λ _. sym (ap (λ those. (source_at those 0).left) fresh.only)) says)
-    (λ untold. ends_nowhere told is (same ∙ at) (fresh.standard, unread, λ tells. absurd (false≢true (sym untold ∙ tells))) says)
-    (ap (λ (source : Source). source.is_open) unread) (sym (ap (λ (source : Source). source.is_broken) unread))
+    (λ _. ends_nowhere told is (same ∙ at) (fresh.standard, unread, λ _. cc) says)
+    (λ untold. ends_nowhere told is (same ∙ at) (fresh.standard, unread, λ tells. absurd (cc)) says)
+    (cc) (cc)
 
 -- nothing broke
 
 pub sound_first : {X : Type 0} (first : Option X) (rest : Bool) → (is_none first && rest) ≡ true
     → (first ≡ None) × (rest ≡ true)
 sound_first None rest is = (refl, is)
-sound_first (Some x) rest is = absurd (false≢true is)
+sound_first (Some x) rest is = absurd (cc)
 
 pub nothing_in : (on_broken : OnBroken) (call : ℕ) (names : List (List ℕ)) (broke : List (Option Break))
     → are_sound broke ≡ true → said_in on_broken call names broke ≡ []
 nothing_in on_broken call [] broke sound = refl
 nothing_in on_broken call (name ∷ names) [] sound = refl
 nothing_in on_broken call (name ∷ names) (None ∷ broke) sound = nothing_in on_broken call names broke sound
-nothing_in on_broken call (name ∷ names) (Some other ∷ broke) sound = absurd (false≢true sound)
+nothing_in on_broken call (name ∷ names) (Some other ∷ broke) sound = absurd (cc)
 
 pub nothing_before : (on_broken : OnBroken) (call : ℕ) (names : List (List ℕ)) (broke : List (Option Break))
     → are_sound broke ≡ true → said_before on_broken call names broke ≡ []
 nothing_before on_broken zero names broke sound = refl
-nothing_before on_broken (suc call) names broke sound = ap (λ texts. texts ++ said_in on_broken call names broke) (nothing_before on_broken call names broke sound) ∙ nothing_in on_broken call names broke sound
+nothing_before on_broken (suc call) names broke sound =
+    cc (nothing_before on_broken call names broke sound, nothing_in on_broken call names broke sound)
 
 pub whole_output : (told : Bool) (pieces : List (List ℕ)) (first : Option Break) (output : Slot) → first ≡ None
     → OutputLeft told pieces first output → output ≡ adds (told_of told (concat pieces)) standard_output
 whole_output told pieces _ _ is output_whole = refl
-whole_output told pieces _ _ is (output_cut before that after n is_there within) = absurd (cc)
+whole_output told pieces _ _ is (output_cut _ _ _ n is_there within) = absurd (cc)
 
 pub whole_files : (told : Bool) (mode : Mode) (pieces : List (List ℕ)) (names : List (List ℕ))
     (broke : List (Option Break)) (files : List Slot) → are_sound broke ≡ true
     → FilesLeft told mode pieces names broke files
     → files ≡ map (λ name. closes (adds (told_of told (concat pieces)) (opened name mode))) names
 whole_files told mode pieces _ _ _ sound no_file = refl
-whole_files told mode pieces _ _ _ sound (one_file name names _ broke _ files file_whole rest) = ap (λ those. closes (adds (told_of told (concat pieces)) (opened name mode)) ∷ those) (whole_files told mode pieces names broke files sound rest)
-whole_files told mode pieces _ _ _ sound (one_file name names _ broke _ files (file_unopened kept named) rest) = absurd (false≢true sound)
-whole_files told mode pieces _ _ _ sound (one_file name names _ broke _ files (file_cut before that after n is within) rest) = absurd (false≢true sound)
-whole_files told mode pieces _ _ _ sound (one_file name names _ broke _ files file_unclosed rest) = absurd (false≢true sound)
+whole_files told mode pieces _ _ _ sound (one_file name names _ broke _ files file_whole rest) =
+    cc (whole_files told mode pieces names broke files sound rest)
+whole_files told mode pieces _ _ _ sound (one_file name _ _ _ _ _ (file_unopened _ _) _) = absurd (cc)
+whole_files told mode pieces _ _ _ sound (one_file name _ _ _ _ _ (file_cut _ _ _ n is _) _) = absurd (cc)
+whole_files told mode pieces _ _ _ sound (one_file name _ _ _ _ _ _ _) = absurd (cc)
 
 -- outputs of which none is broken never broke
 
 output_sound : {told : Bool} {pieces : List (List ℕ)} {first : Option Break} {output : Slot} → output.is_broken ≡ false
     → OutputLeft told pieces first output → first ≡ None
 output_sound whole output_whole = refl
-output_sound whole (output_cut before piece after n is within) = absurd (false≢true (sym whole))
+output_sound whole (output_cut _ _ _ n is _) = absurd (cc)
 
 file_sound : {told : Bool} {mode : Mode} {pieces : List (List ℕ)} {name : List ℕ} {first : Option Break} {file : Slot}
     → file.is_broken ≡ false → FileLeft told mode pieces name first file → first ≡ None
 file_sound whole file_whole = refl
-file_sound whole (file_unopened kept named) = absurd (false≢true (sym whole))
-file_sound whole (file_cut before piece after n is within) = absurd (false≢true (sym whole))
-file_sound whole file_unclosed = absurd (false≢true (sym whole))
+file_sound whole (file_unopened _ _) = absurd (cc)
+file_sound whole (file_cut _ _ _ n is _) = absurd (cc)
+file_sound whole file_unclosed = absurd (cc)
 
 files_sound : {told : Bool} {mode : Mode} {pieces names : List (List ℕ)} {broke : List (Option Break)}
     {files : List Slot} → ((place : ℕ) → (slot_at files place).is_broken ≡ false)
     → FilesLeft told mode pieces names broke files → are_sound broke ≡ true
 files_sound whole no_file = refl
-files_sound whole (one_file name names first broke file files left rest) = rw (file_sound (whole 0) left) (files_sound (λ place. whole (suc place)) rest)
+files_sound whole (one_file name _ _ _ file _ left rest) =
+    rw (file_sound (whole 0) left) (files_sound (λ place. whole (suc place)) rest)
 
 pub all_sound_if : {told : Bool} {mode : Mode} {pieces names : List (List ℕ)} {first : Option Break}
     {broke : List (Option Break)} {output error : Slot} {files new : List Slot} → OutputLeft told pieces first output
@@ -274,8 +291,8 @@ sound_if (None ∷ broke) whole left = sound_if broke whole left
 sound_if (Some one ∷ broke) whole left = by one.why whole left where
   by : (why : Reason) → any_is Broken (lost_for why ∷ map standing_of broke) ≡ false
       → any_is Gone (lost_for why ∷ map standing_of broke) ≡ false → false ≡ true
-  by reason.Gone none left = absurd (false≢true (sym left))
-  by why none left = absurd (false≢true (sym none))
+  by reason.Gone none left = absurd (cc)
+  by why none left = absurd (cc)
 
 gone_fails : (on_broken : OnBroken) (failed : Bool) → forgives on_broken ≡ false → gone_status on_broken failed ≡ 0 → ⊥
 gone_fails Warn failed strict zero_is = omega arith
@@ -291,24 +308,24 @@ status_zero on_broken broke fault strict = by (any_is Gone (map standing_of brok
       → any_is Broken (map standing_of broke) ≡ broken → is_none fault ≡ ended
       → (if gone then gone_status on_broken (not ended || broken) else if not ended || broken then 1 else 0) ≡ 0
       → (ended ≡ true) × (are_sound broke ≡ true)
-  by true broken ended is_gone is_broken is_ended zero_is = absurd (gone_fails on_broken (not ended || broken) strict zero_is)
+  by true broken ended is_gone is_broken is_ended zero_is = grind (arith, common_steps, gone_fails)
   by false true true is_gone is_broken is_ended zero_is = absurd (omega arith)
   by false broken false is_gone is_broken is_ended zero_is = absurd (omega arith)
   by false false true is_gone is_broken is_ended zero_is = (refl, sound_if broke is_broken is_gone)
 
 read_whole : {content : Content} (Leaves : List ℕ → Type 0) {is_vain : Bool} {x : List ℕ} {fault : Option Fault}
     → is_vain ≡ false → is_none fault ≡ true → IsRead content Leaves is_vain x fault → content.bytes ≡ x
-read_whole Leaves left sound (to_end x is ended leaves) = is
-read_whole Leaves left sound (to_break x is breaks leaves) = absurd (false≢true sound)
-read_whole Leaves left sound (to_limit x piece rest is many within leaves) = absurd (false≢true sound)
-read_whole Leaves left sound (to_broken_output x rest is leaves) = absurd (false≢true (sym left))
+read_whole Leaves left sound (to_end x is _ _) = is
+read_whole Leaves left sound (to_break x is _ _) = absurd (cc)
+read_whole Leaves left sound (to_limit x _ _ is _ _ _) = absurd (cc)
+read_whole Leaves left sound (to_broken_output x _ is _) = absurd (cc)
 
 -- where nothing broke the run goes on
 none_ends : (on_broken : OnBroken) (call : ℕ) (broke : List (Option Break)) → are_sound broke ≡ true
     → list_any (λ standing. ends_run standing on_broken) (standings_before call broke) ≡ false
 none_ends on_broken call [] sound = refl
 none_ends on_broken call (None ∷ broke) sound = none_ends on_broken call broke sound
-none_ends on_broken call (Some broke ∷ rest) sound = absurd (false≢true sound)
+none_ends on_broken call (Some broke ∷ rest) sound = absurd (cc)
 
 pub sound_goes_on : (on_broken : OnBroken) (call : ℕ) (first : Option Break) (broke : List (Option Break))
     → are_sound (first ∷ broke) ≡ true → is_done on_broken (standings_before call (first ∷ broke)) ≡ false
@@ -319,7 +336,7 @@ none_lost : (one : Standing) → is_same Sound one ≡ false → (broke : List (
     → any_is one (map standing_of broke) ≡ false
 none_lost one differs [] sound = refl
 none_lost one differs (None ∷ broke) sound = rw differs (none_lost one differs broke sound)
-none_lost one differs (Some other ∷ broke) sound = absurd (false≢true sound)
+none_lost one differs (Some other ∷ broke) sound = absurd (cc)
 
 pub sound_status : (on_broken : OnBroken) (broke : List (Option Break)) (fault : Option Fault) → are_sound broke ≡ true
     → status_of on_broken broke fault ≡ (if is_none fault then 0 else 1)
@@ -339,7 +356,8 @@ pub well_of : {told : Bool} {mode : Mode} (on_broken : OnBroken) {pieces names :
     → (forgives on_broken ≡ true → AreSound new) → status_of on_broken (first ∷ broke) fault ≡ 0
     → (is_none fault ≡ true) × (are_sound (first ∷ broke) ≡ true)
 well_of on_broken fault {first} {broke} left rest at sound zero_is = elim (cases_Bool (forgives on_broken)) [
-  | inl forgiving ↦ let all = all_sound_if left rest at (sound forgiving) in (none_faulty (is_none fault) (sym (sound_status on_broken (first ∷ broke) fault all) ∙ zero_is), all)
+  | inl forgiving ↦ let all = all_sound_if left rest at (sound forgiving) in
+      (none_faulty (is_none fault) (cc (sound_status on_broken (first ∷ broke) fault all)), all)
   | inr strict ↦ status_zero on_broken (first ∷ broke) fault strict zero_is
 ]
 
@@ -348,19 +366,28 @@ pub whole_if : {told_in : Bool} (told : Bool) {calling : Calling} {mode : Mode}
     → status ≡ 0 → (forgives on_broken ≡ true → AreSound new)
     → EndsAs told_in told calling mode on_broken names content source new status
     → new ≡ all_copied told mode names content.bytes
-whole_if told zero_is sound (no_room error said left at one) = absurd (omega arith)
+whole_if told zero_is sound (no_room _ said left at one) = absurd (omega arith)
 whole_if told {mode = mode} {on_broken} {names} zero_is sound (copied pieces fault first broke output error files read some output_left files_left said at is) =
     let good = well_of on_broken fault output_left files_left at sound (sym is ∙ zero_is) in let sounds = sound_first first (are_sound broke) good.1 in
     let silent = quiet fault (length pieces) (first ∷ broke) good.0 good.1 in
-    at ∙ ap (λ slot. slot ∷ error ∷ files) (whole_output told pieces first output sounds.0 output_left)
-    ∙ ap (λ slot. adds (told_of told (concat pieces)) standard_output ∷ slot ∷ files) (rw silent at said)
-    ∙ ap (λ those. adds (told_of told (concat pieces)) standard_output ∷ standard_error ∷ those) (whole_files told mode pieces names broke files sounds.1 files_left)
-    ∙ ap (all_copied told mode names) (sym (read_whole _ (sound_goes_on on_broken (suc (length pieces)) first broke good.1) good.0 read.read)) where
+    let made : error ≡ standard_error = rw silent at said in
+    rw (
+      at,
+      whole_output told pieces first output sounds.0 output_left,
+      made,
+      whole_files told mode pieces names broke files
+          sounds.1 files_left,
+      read_whole _ (sound_goes_on on_broken _ first broke good.1) good.0 read.read,
+    ) refl where
       quiet : (fault : Option Fault) (pieces : ℕ) (broke : List (Option Break)) → is_none fault ≡ true
           → are_sound broke ≡ true → messages_of on_broken names broke pieces fault ≡ []
       quiet None pieces broke ended sound =
-          ap (λ texts. (texts ++ []) ++ said_in on_broken (suc pieces) (output_names names) broke) (nothing_before on_broken (suc pieces) (output_names names) broke sound) ∙ nothing_in on_broken (suc pieces) (output_names names) broke sound
-      quiet (Some fault) pieces broke ended sound = absurd (false≢true ended)
+          cc (
+            nothing_before on_broken (suc pieces) (output_names names) broke sound,
+            nothing_in on_broken (suc pieces)
+                (output_names names) broke sound,
+          )
+      quiet (Some _) pieces broke ended sound = absurd (cc)
 
 pub whole_of : {told_in : Bool} (told : Bool) {calling : Calling} {mode : Mode}
     {on_broken : OnBroken} {names : List (List ℕ)} (there : Content) {source : Source} {new : List Slot} {status : ℕ}
@@ -368,4 +395,4 @@ pub whole_of : {told_in : Bool} (told : Bool) {calling : Calling} {mode : Mode}
     → OfContent told_in there
     (λ content. EndsAs told_in told calling mode on_broken names content source new status
     × CameFrom told_in content source) → new ≡ all_copied told mode names there.bytes
-whole_of told {mode = mode} {names = names} there tells zero_is sound (content, is, holds) = cc (whole_if told zero_is sound holds.0, is tells)
+whole_of told there tells zero_is sound (content, is, holds) = cc (whole_if told zero_is sound holds.0, is tells)

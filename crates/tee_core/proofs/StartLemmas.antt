@@ -1,17 +1,13 @@
 -- Lemmas on a run's start: files that are opened one after another, and the messages for those that could not be.
 use Rattle.std.{
-  proofs.lemmas.{
-    Bool.{false≢true, Decides.nat_tests},
-    Grind.common_steps,
-    List.{append-nil, get_or-append-add, get_or_append_left, length-map},
-  },
+  proofs.lemmas.{Grind.common_steps, List.{append-nil, get_or-append-add, get_or_append_left, length-map}},
   proofs.Common.{◌≡◌, ℕ, ◌+◌, ◌-◌, ◌^◌, ◌<◌, ◌≤◌, zero, suc, List, [], ◌∷◌, ◌++◌, length, map, take, drop, get_or, Bor},
   proofs.Common.{true, inl, inr, refl, sym, ◌∙◌, ap, arith, append_assoc, length-append, replicate, Bool, false},
   proofs.Common.{Option, Some, None},
   specs.List.list_any,
 }
 use Rattle.ports_core.{
-  specs.Slot.{Slot, no_slot, slot_at, opened, unopened, is_open, FailsToOpen, broke, changed_at, streams},
+  specs.Slot.{Slot, no_slot, slot_at, opened, unopened, is_open, FailsToOpen, broke, streams},
   specs.declared.{on_broken.OnBroken.OnBroken, calling.Calling.Calling, slot.Mode.Mode},
   specs.Streams.{standard_output, standard_error},
   proofs.Runs.adds-nil,
@@ -66,7 +62,7 @@ pub some_next : {mode : Mode} {name : List ℕ} {names : List (List ℕ)} {old m
 some_next {name} one rest = record {
   first = name ∷ rest.first;
   rest = rest.rest;
-  names_are = ap (λ those. name ∷ those) rest.names_are;
+  names_are = cc;
   opens = opens_next one rest.opens;
 }
 
@@ -88,23 +84,23 @@ begins_opening small = record { whole = λ new opens. opens; some = λ new opens
 pub opens_more : {mode : Mode} {names : List (List ℕ)} {name : List ℕ} {left : List (List ℕ)} {old now new : List Slot}
     {slot : ℕ} → Opening mode names (name ∷ left) old now → slot ≡ length now → slot < 2 ^ 64
     → OpensOne mode name now new → Opening mode names left old new
-opens_more {names} {left} {old} {now} so_far number small one = record {
+opens_more so_far number small one = record {
   whole = λ last opens. so_far.whole last (opens_next one opens);
   some = λ last opens. so_far.some last (some_next one opens);
-  counts = omega (arith, length-one one);
-  small = omega (arith, length-one one);
+  counts = omega (arith, length-one);
+  small = omega (arith, length-one);
 }
 
 -- a tee can go on with what was opened
 
 opened_usable : {mode : Mode} {name : List ℕ} {slot : Slot} → OpensAs mode name slot → IsUsable slot
 opened_usable is_opened = λ sound. refl
-opened_usable (is_unopened kept why named) = λ sound. absurd (false≢true (sym sound))
+opened_usable (is_unopened _ _ _) = λ sound. absurd (cc)
 
 since_usable : {mode : Mode} (names : List (List ℕ)) (slots : List Slot) (place : ℕ) → OpensEach mode names slots
     → place < length slots → IsUsable (slot_at slots place)
 since_usable [] [] place no_more within = absurd (omega arith)
-since_usable _ _ zero (one_more name names slot slots one rest) within = opened_usable one
+since_usable _ _ zero (one_more name _ slot _ one _) within = opened_usable one
 since_usable _ _ (suc place) (one_more name names slot slots one rest) within = since_usable names slots place rest (omega arith)
 
 pub length-since : {mode : Mode} (names : List (List ℕ)) (slots : List Slot) → OpensEach mode names slots
@@ -117,7 +113,7 @@ pub ready_to_go : {mode : Mode} {names : List (List ℕ)} {old new : List Slot} 
     → (0 < tee.count → tee.first ≡ length old) → IsReady tee new
 ready_to_go {names} {old} {new} tee some standard opens count first place is = by is where
   by : IsOutput tee place → IsUsable (slot_at new place)
-  by (inl here) = λ sound. ap (λ at. is_open (slot_at new at).state) here ∙ ap (λ those. is_open (slot_at those 0).state) opens.slots ∙ ap (λ (slot : Slot). is_open slot.state) (get_or_append_left old opens.since no_slot 0 some) ∙ standard
+  by (inl here) = grind (arith, common_steps, get_or_append_left, some)
   by (inr file) =
       let start = first (omega arith) in let many = length-since names opens.since opens.each in
       let there : place ≡ length old + (place - length old) = omega arith in
@@ -141,7 +137,8 @@ pub opens_more_at : {mode : Mode} {names : List (List ℕ)} (other : Bor (List �
     {old now new : List Slot} {slot : ℕ} → 1 ≤ length left → Opening mode names (map (λ name. name.now) left) old now
     → slot ≡ length now → slot < 2 ^ 64 → OpensOne mode (get_or left 0 other).now now new
     → Opening mode names (map (λ name. name.now) (take (length left - 1) (drop 1 left))) old new
-opens_more_at {mode} {names} other left {old} {now} some so_far number small one = opens_more (rw (first_and_rest other left some) at so_far) number small one
+opens_more_at other left some so_far number small one =
+    opens_more (rw (first_and_rest other left some) at so_far) number small one
 
 pub opens_next_at : {mode : Mode} (other : Bor (List ℕ)) (names : List (Bor (List ℕ))) {old mid new : List Slot}
     → 1 ≤ length names → OpensOne mode (get_or names 0 other).now old mid
@@ -161,7 +158,7 @@ some_now is = rw is (some_none)
 -- the numbers of the files
 pub in_range : {mode : Mode} {names : List (List ℕ)} {old new : List Slot} → Opens mode names old new
     → length new ≡ length old + length names
-in_range {names} {old} opens = grind (arith, common_steps, length-since)
+in_range opens = grind (arith, common_steps, length-since)
 
 file_starts : (told : Bool) {mode : Mode} {name : List ℕ} {file : Slot} → OpensAs mode name file
     → Marked (FileHas told mode [] name) 0 None file
@@ -172,7 +169,7 @@ files_start : (told : Bool) {mode : Mode} {names : List (List ℕ)} {files : Lis
     → (broke : List (Option Break)) × EachFile (FileHas told mode []) names broke files
     × AllMark 0 (replicate (length names) None) broke (map stands_as files)
 files_start told no_more = ([], no_file, none_marked)
-files_start told (one_more name names file files one rest) =
+files_start told (one_more name _ file _ one rest) =
     let here = file_starts told one in
     let there = files_start told rest in
     (here.0 ∷ there.0, one_file _ _ _ _ _ _ here.1 there.1, all_marked _ _ _ _ _ _ here.2 there.2)
@@ -187,7 +184,7 @@ all_start told {files = files} each =
 
 pub opened_streams : {mode : Mode} {names : List (List ℕ)} {slots : List Slot} → Opens mode names streams slots
     → HasStreams slots (length names)
-opened_streams {names} opens = grind (arith, common_steps, length-since)
+opened_streams opens = grind (arith, common_steps, length-since)
 
 -- nothing broke before a run
 
@@ -195,7 +192,7 @@ none_before : (on_broken : OnBroken) (whens : List (Option Break))
     → list_any (λ standing. ends_run standing on_broken) (standings_before 0 whens) ≡ false
 none_before on_broken [] = refl
 none_before on_broken (None ∷ whens) = none_before on_broken whens
-none_before on_broken (Some lost ∷ whens) = let rest = none_before on_broken whens in grind (arith, nat_tests, rest)
+none_before on_broken (Some lost ∷ whens) = grind (arith, common_steps, none_before on_broken whens)
 
 goes_at_first : (on_broken : OnBroken) (whens : List (Option Break))
     → is_done on_broken (standings_before 0 (None ∷ whens)) ≡ false
@@ -203,19 +200,19 @@ goes_at_first on_broken whens = rw (none_before on_broken whens) refl
 
 standing_none : (count : ℕ) → map standing_of (replicate count None) ≡ replicate count Sound
 standing_none zero = refl
-standing_none (suc count) = ap (λ rest. Sound ∷ rest) (standing_none count)
+standing_none (suc count) = cc (standing_none count)
 
 pub starts : (told : Bool) {calling : Calling} {mode : Mode} (on_broken : OnBroken) {names : List (List ℕ)}
     {old new : List Slot} {known nows : List Standing} → Opens mode names streams old
     → known ≡ replicate (length names + 1) Sound
     → SaysTo told calling (said_since on_broken (fault_in 0) (output_names names) known nows) old new
     → nows ≡ standings_of old → Copies told calling mode on_broken names [] [] new nows
-starts told {calling} on_broken {names} {old} {new} {known} {nows} opens unknown says sees =
+starts told on_broken {names} {known = known} {nows} opens unknown says sees =
     let known_is : known ≡ Sound ∷ replicate (length names) Sound = unknown ∙ ap (λ n. replicate n Sound) (let e : length names + 1 ≡ suc (length names) = omega arith in e) in
-    let stand : nows ≡ standings_of (standard_output ∷ standard_error ∷ opens.since) = sees ∙ ap standings_of opens.slots in
+    let stand : nows ≡ standings_of (standard_output ∷ standard_error ∷ opens.since) = cc in
     let all = all_start told opens.each in
     let known_so = map standing_of (None ∷ replicate (length names) None) in
-    let unbroken : known ≡ known_so = known_is ∙ sym (ap (λ rest. Sound ∷ rest) (standing_none (length names))) in
+    let unbroken : known ≡ known_so = cc (standing_none (length names)) in
     let says_since = said_since on_broken (fault_in 0) (output_names names) in
     record {
       output = standard_output;
@@ -223,7 +220,7 @@ starts told {calling} on_broken {names} {old} {new} {known} {nows} opens unknown
       files = opens.since;
       first = None;
       broke = all.0;
-      are = says.2 ∙ ap (changed_at 1 (λ _. says.0)) opens.slots;
+      are = cc;
       output_has = rw (← (adds-nil told standard_output)) output_whole;
       files_have = all.1;
       said = rw (ap (λ those. says_since those nows) unbroken ∙ ap (says_since known_so) stand
@@ -236,7 +233,7 @@ starts told {calling} on_broken {names} {old} {new} {known} {nows} opens unknown
 
 pub length-names : (names : List (Bor (List ℕ))) {known : List Standing} → known ≡ replicate (length names + 1) Sound
     → known ≡ replicate (length (map (λ (name : Bor (List ℕ)). name.now) names) + 1) Sound
-length-names names is = is ∙ ap (λ n. replicate (n + 1) Sound) (sym (length-map names (λ (name : Bor (List ℕ)). name.now)))
+length-names names is = cc (length-map names (λ (name : Bor (List ℕ)). name.now))
 
 pub is_tee_of : (names : List (Bor (List ℕ))) {old : List Slot} {tee : TeeState} → old ≡ streams → tee.is_over ≡ false
     → tee.count ≡ length names → (0 < tee.count → tee.first ≡ length old)

@@ -1,4 +1,4 @@
-use Rattle.std.proofs.{Common.{◌+◌, ap, ◌∙◌, inr}, lemmas.List.length-map}
+use Rattle.std.proofs.{Common.{inr}, lemmas.List.length-map}
 use Rattle.tee_core.proofs.{
   CopyLemmas.{copies_ready, known_many, closed_next, closing_said, error_no_output, mid_streams},
 }
@@ -16,7 +16,7 @@ tell_broken-requires-clause-streams g c =
 pub tell_broken-requires-clause-known : goal.tell_broken-requires-clause-known
 tell_broken-requires-clause-known g c =
     let (mode, pieces, messages, copies) = c.requires.copies in
-    known_many _ _ mode _ _ copies ∙ ap (λ n. n + 1) (length-map c.args.job.now.names.now _)
+    cc (known_many _ _ mode _ _ copies, length-map c.args.job.now.names.now _)
 
 pub returns : goal.returns
 returns g c = record {

@@ -1,4 +1,4 @@
-use Rattle.std.proofs.{Common.{◌+◌, ap, ◌∙◌}, lemmas.List.length-map}
+use Rattle.std.proofs.{lemmas.List.length-map}
 use Rattle.tee_core.proofs.CopyLemmas.{copies_ready, error_no_output, fed_next, known_many, mid_streams, piece_said}
 use Rattle.tee_core.proofs.run.copy_piece.Goals as goal
 
@@ -14,7 +14,7 @@ tell_broken-requires-clause-streams g c =
 pub tell_broken-requires-clause-known : goal.tell_broken-requires-clause-known
 tell_broken-requires-clause-known g c =
     let (mode, pieces, copies) = c.requires.copies in
-    known_many _ _ mode _ _ copies ∙ ap (λ n. n + 1) (length-map c.args.job.now.names.now _)
+    cc (known_many _ _ mode _ _ copies, length-map c.args.job.now.names.now _)
 
 pub returns-clause-copies : goal.returns-clause-copies
 returns-clause-copies g c mode pieces goes copies =

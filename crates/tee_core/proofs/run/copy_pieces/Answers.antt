@@ -1,9 +1,10 @@
+use Rattle.std.proofs.lemmas.Grind.{common_steps}
 use Rattle.std.proofs.{
   Common.{◌≡◌, ◌+◌, length, length-take, ◌∷◌, ap, ◌++◌, ◌∙◌, [], take, Some, inl, inr, arith, refl, sym},
   lemmas.Bool.false≢true,
 }
 use Rattle.ports_core.{
-  specs.Source.{Source, fails, gives, source_at},
+  specs.Source.{Source, fails, gives},
   proofs.InputsLemmas.{asked_again, changed_source, ended_now, keeps_again, keeps_itself, keeps_others, nothing_read},
   proofs.InputsLemmas.{read_more, sound_at, still_readable},
 }
@@ -30,7 +31,7 @@ pieces-init g c = record {
   readable = c.requires.input;
   others = keeps_itself _ _;
   read = λ told. nothing_read _ _;
-  last = λ told. gave_none (source_at (g.I.Inputs.sources c.args.inputs.now) 0);
+  last = grind (arith, common_steps, gave_none);
   reads = c.requires.unread;
   asked = λ within. within;
 }
@@ -43,7 +44,7 @@ pieces-preserved g c =
     let so_far = c.pieces.invariant in record {
       came = so_far.came ++ take c.in-Ok.n c.read.new.buffer;
       pieces = so_far.pieces ++ take c.in-Ok.n c.read.new.buffer ∷ [];
-      joined = ap (λ bytes. bytes ++ take c.in-Ok.n c.read.new.buffer) so_far.joined ∙ joined_more so_far.pieces (take c.in-Ok.n c.read.new.buffer);
+      joined = cc (joined_more so_far.pieces (take c.in-Ok.n c.read.new.buffer));
       sized = more_sized so_far.pieces c.read.new.buffer so_far.sized c.if-n-eq0.false (omega (arith, c.in-Ok.ensures.bound, c.read.auto.buffer)) (omega (arith, c.requires.most, c.read.auto.buffer, c.pieces.auto.buffer));
       copies = λ mode at. c.copy_piece.ensures.copies mode so_far.pieces (sym c.is_done.ensures ∙ c.pieces-test.true) (so_far.copies mode at);
       same = c.copy_piece.ensures.same ∙ so_far.same;

@@ -13,7 +13,7 @@ pub returns-in_err-open_file-clause-some : goal.returns-in_err-open_file-clause-
 returns-in_err-open_file-clause-some g c = grind (arith, common_steps, handed_on, some_now)
 
 pub returns-clause-ok : goal.returns-clause-ok
-returns-clause-ok g c = c.loop-left.invariant.whole _ (none_left c.loop-left.left.now c.in_default.len_below)
+returns-clause-ok g c = grind (arith, common_steps, none_left)
 
 pub returns-in_err-open_file-clause-err : goal.returns-in_err-open_file-clause-err
 returns-in_err-open_file-clause-err g c = grind (arith, common_steps)

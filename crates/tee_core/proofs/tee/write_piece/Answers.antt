@@ -1,14 +1,14 @@
-use Rattle.std.proofs.Common.{sym, ◌∙◌, rules}
+use Rattle.std.proofs.Common.{rules}
 use Rattle.tee_core.proofs.ChangeLemmas.{left_out, written_whole, written_short}
 use Rattle.tee_core.proofs.tee.write_piece.Goals as goal
 
 pub returns-then-broken : goal.returns-then-broken
-returns-then-broken g c = record { turned = left_out g.O.Outs.told (sym c.broken.ensures ∙ c.if-broken.true); few = search rules }
+returns-then-broken g c = record { turned = left_out g.O.Outs.told (cc); few = search rules }
 
 pub returns-in-Ok : goal.returns-in-Ok
 returns-in-Ok g c =
-    record { turned = written_whole g.O.Outs.told c.requires (sym c.broken.ensures ∙ c.if-broken.false) c.in-Ok.ensures.whole; few = search rules }
+    record { turned = written_whole g.O.Outs.told c.requires (cc) c.in-Ok.ensures.whole; few = search rules }
 
 pub returns-in-Err : goal.returns-in-Err
 returns-in-Err g c =
-    record { turned = written_short g.O.Outs.told c.requires (sym c.broken.ensures ∙ c.if-broken.false) c.in-Err.ensures.cut; few = search rules }
+    record { turned = written_short g.O.Outs.told c.requires (cc) c.in-Err.ensures.cut; few = search rules }

@@ -7,7 +7,7 @@ pub returns-in_default-clause-opens : goal.returns-in_default-clause-opens
 returns-in_default-clause-opens g c = none_left c.args.names.now c.in_default.len_below
 
 pub returns-in_err-first-clause-some : goal.returns-in_err-first-clause-some
-returns-in_err-first-clause-some g c = rw (handed_on _ _ c.from_residual.ensures.1) (some_now c.in_err-first.ensures.err.2)
+returns-in_err-first-clause-some g c = grind (arith, common_steps, handed_on, some_now)
 
 pub returns-in_err-open_files-clause-some : goal.returns-in_err-open_files-clause-some
 returns-in_err-open_files-clause-some g c = grind (arith, common_steps, handed_on, some_next_at)
