@@ -1,6 +1,6 @@
 -- Lemmas on the loop that feeds an engine, and on what an engine uses of its input.
 use Rattle.std.proofs.{
-  lemmas.{Grind.common_steps, List.{append-nil, drop_at, length-take}, Bool.{false≢true, or_right}},
+  lemmas.{Grind.common_steps, List.{append-nil, drop_at, length-take}, Bool.{or_right}},
   Common.{◌⊎◌, ◌≡◌, ℕ, ◌+◌, ◌<◌, ◌≤◌, ◌^◌, Bool, true, false, List, [], ◌++◌, length, take, Result, Ok, Err, IfOk},
   Common.{None, arith, length-append, length-take, inl, inr, refl, sym, ◌∙◌, ap, IsTrue, ◌-◌, drop, not, if◌then◌else◌},
   Common.{append_assoc, rules},
@@ -37,7 +37,7 @@ stops : (work : Work) (read : List ℕ) (low high : Part) {needs : Needs} (ended
     → IsCaused (IsMet work.means needs Lacks Ends old new) false taken size old new fault
     → Stops (record (call_of work needs read low high) { ended = ended; ahead = ahead }) new fault
 stops work read low high ended ahead Lacks Ends is long (engine.over is_over kept) = search rules
-stops work read low high ended ahead Lacks Ends is long (engine.long live many kept) = long many
+stops work read low high ended ahead Lacks Ends is long (engine.long _ many _) = long many
 stops work read low high {needs} ended ahead Lacks Ends {fault} {old} {new} is long (engine.met _ live why) = grind (arith, common_steps)
 
 -- the fault is a verdict of which this holds
@@ -48,8 +48,8 @@ OfVerdict fault P = (verdict : Verdict) × (fault ≡ fault_is.Verdict verdict) 
 pub judges : (means : Means) {needs : Needs} (Lacks : Type 0) (Ends : Verdict → Type 0) {fault : Fault} {over : Bool}
     {taken size : ℕ} {old new : List Slot} → is_verdict fault ≡ true
     → IsCaused (IsMet means needs Lacks Ends old new) over taken size old new fault → OfVerdict fault Ends
-judges means Lacks Ends is (engine.met (fault_is.Verdict verdict) live why) = (verdict, refl, why)
-judges means Lacks Ends is caused = absurd (false≢true is)
+judges means Lacks Ends is (engine.met (fault_is.Verdict verdict) _ why) = (verdict, refl, why)
+judges means Lacks Ends is caused = absurd (cc)
 
 -- what a fault left within an input, and what was made of its files then
 short_of_piece : {told : Bool} {opening : Needs} {most : ℕ} {work : Work} {content : Content} (WasRead : Step → Type 0)
@@ -66,11 +66,11 @@ short_of_piece : {told : Bool} {opening : Needs} {most : ℕ} {work : Work} {con
     → FedAs told before work opening most content WasRead new (Err fault)
 short_of_piece WasRead {x} piece rest {reached} {fault} lawful is within going read (engine.cut unjudged stop) why settles kept swept =
     stopped fault unjudged _ (feeds x piece rest is within going) read reached (why unjudged) stop (swept unjudged)
-short_of_piece {work} WasRead {x} piece rest {fault} lawful is within going read (engine.judged judging first at cleared) why settles kept swept =
+short_of_piece {work} WasRead {x} piece rest lawful is within going read (engine.judged judging first at cleared) why settles kept swept =
     let settling = settles judging in
     let stays : IsComplete work (x ++ piece) rest = lawful.stays (x ++ piece) rest settling.2.0 in
     rw settling.1 (judged settling.0 (or_right _ _ (ap work.is_complete is ∙ stays.still)) (ap work.verdict is ∙ stays.verdict_stays ∙ settling.2.1) first
-    (rw (sym stays.whole_stays ∙ ap work.whole (sym is)) at at)
+    (rw (← stays.whole_stays, ← is) at at)
     (rw (kept judging) cleared))
 
 -- what is known of an input that the engine has got all of, by what became of it
@@ -110,7 +110,7 @@ got_alike content Broken lawful got = absurd got
 got_enough : {work : Work} (content : Content) (x : List ℕ) (fed : Fed) → IsLawful work → HasGot work content x fed
     → is_enough work content ≡ true
 got_enough content x Whole lawful got = cc
-got_enough {work} content x Enough lawful got = grind (arith, common_steps)
+got_enough content x Enough lawful got = grind (arith, common_steps)
 got_enough content x Broken lawful got = absurd got
 
 fed_all : {told : Bool} {opening : Needs} {most : ℕ} {work : Work} {content : Content} (WasRead : Step → Type 0)
@@ -118,8 +118,9 @@ fed_all : {told : Bool} {opening : Needs} {most : ℕ} {work : Work} {content : 
     → work.verdict x ≡ None → OutputsAt told before (work.whole x) new
     → FedAs told before work opening most content WasRead new (Ok fed)
 fed_all WasRead Whole lawful got well at = whole got.0 (rw got.2 got.1) (rw got.2 well) (rw got.2 at)
-fed_all {work} WasRead {x} Enough lawful got well at =
-    let alike = alike_after got.1.0 lawful got.0 got.1.1 in had_enough (ap work.is_complete got.1.1 ∙ (lawful.stays x got.1.0 got.0).still) (alike.verdict ∙ well) (rw alike.whole at)
+fed_all WasRead {x} Enough lawful got well at =
+    let alike = alike_after got.1.0 lawful got.0 got.1.1 in had_enough (rw got.1.1 (lawful.stays x got.1.0 got.0).still)
+    (alike.verdict ∙ well) (rw alike.whole at)
 fed_all WasRead Broken lawful got well at = absurd got
 
 -- What a fault left at the end, and what was made of its files then. The engine was fed x, of which z was used.
@@ -133,11 +134,11 @@ short_of_end : {told : Bool} {opening : Needs} {most : ℕ} {work : Work} {conte
     → (is_verdict fault ≡ true → new ≡ reached)
     → (is_verdict fault ≡ false → Swept work.clears (length before) reached new)
     → FedAs told before work opening most content WasRead new (Err fault)
-short_of_end {content} WasRead {z} {reached} fed {fault} lawful got all alike needed read (engine.cut unjudged stop) why verdict kept swept =
+short_of_end WasRead {z} {reached} fed {fault} lawful got all alike needed read (engine.cut unjudged stop) why verdict kept swept =
     stopped fault unjudged _ (closes z all needed) read reached (why unjudged)
     (rw alike.settled at (rw alike.whole at stop))
     (swept unjudged)
-short_of_end {content} WasRead fed {fault} lawful got all alike needed read (engine.judged judging first at cleared) why verdict kept swept =
+short_of_end {content} WasRead fed lawful got all alike needed read (engine.judged judging first at cleared) why verdict kept swept =
     let same = got_alike content fed lawful got in let (given, is, ends) = verdict judging in
     rw is (judged given (got_enough content _ fed lawful got) (same.verdict ∙ ends) first (rw same.whole at) (rw (kept judging) cleared))
 
@@ -200,9 +201,9 @@ module _ {S : Type 0} (terms : Terms S) where
       → WasRead (close_of (terms.work now.stage) z)
       → EndsSo terms told now fed mid new result
       → FedAs told before (terms.work start.stage) opening most content WasRead new result
-  ended laws told {now} WasRead {x} {before} {fed} so_far own at got all alike needed read (finished next finishes) =
+  ended laws told {now} WasRead {x} {before} {fed} so_far own at got all alike needed read (finished _ finishes) =
       rw (← so_far.same) (fed_all WasRead fed (laws now.stage) got (finishes.well x so_far.holds.within) (finishes.outputs before x (stands told so_far own at)))
-  ended laws told {now} WasRead {x} {z} {before} {fed} so_far own at got all alike needed read (fell_short fault next reached finishes kept cleared) =
+  ended laws told {now} WasRead {x} {z} {before} {fed} so_far own at got all alike needed read (fell_short _ _ _ finishes kept cleared) =
       let why = rw so_far.holds.live at finishes.met in
       rw (← so_far.same) (short_of_end WasRead fed (laws now.stage) got all alike needed read (finishes.cut before x (stands told so_far own at))
       (λ unjudged. stops (terms.work now.stage) z ((terms.work now.stage).settled z) ((terms.work now.stage).whole z) (not ((terms.work now.stage).is_complete z)) (if (terms.work now.stage).is_complete z then (terms.work now.stage).ahead else 0) (Unit {0}) (EndsThere terms now.stage) unjudged (λ long. absurd (let bound : now.fed < 2 ^ 63 = so_far.bound in omega arith)) why)
@@ -224,7 +225,7 @@ module _ {S : Type 0} (terms : Terms S) where
       (P : Type 0) → (fed ≡ Whole) ⊎ (fed ≡ Enough) → EndsSo terms told engine fed old new result
       → IfOk result (λ found. found ≡ Broken → P)
   ends_sound told P sound (finished next finishes) = λ is. absurd (elim sound [ inl one ↦ cc | inr other ↦ cc ])
-  ends_sound told P sound (fell_short fault next reached finishes kept cleared) = tt
+  ends_sound told P sound (fell_short _ _ _ _ _ _) = tt
 
 -- what was read was needed
 
@@ -233,7 +234,7 @@ piece_within {n} buffer within = omega (arith, length-take n buffer)
 
 pub needed_more : {is_complete : List ℕ → Bool} {most n : ℕ} (x buffer : List ℕ) → is_complete x ≡ false → n ≤ most
     → IsNeeded is_complete most (x ++ take n buffer)
-needed_more {n} x buffer going within = grind (arith, common_steps)
+needed_more x buffer going within = grind (arith, common_steps)
 
 -- the input that is there, where it tells its bytes, and else one that has what was read of it
 
@@ -244,9 +245,9 @@ pub of_read : (told : Bool) (there : Content) (bytes : List ℕ) (breaks_off : B
     → content.breaks_off ≡ breaks_off → CameFrom told content source → P content)
     → OfContent told there (λ content. P content × CameFrom told content source)
 of_read true there bytes breaks_off source P all came holds =
-    let from = came there (λ off. absurd (false≢true (sym off))) in (there, λ t. refl, (holds there (λ t. refl) (all refl).0 (all refl).1 from, from))
+    let from = came there (λ off. absurd (cc)) in (there, λ t. refl, (holds there (λ t. refl) (all refl).0 (all refl).1 from, from))
 of_read false there bytes breaks_off source P all came holds =
-    let from = came (record { bytes = bytes; breaks_off = breaks_off; shown = None }) (λ off. refl) in (record { bytes = bytes; breaks_off = breaks_off; shown = None }, λ t. absurd (false≢true t), (holds _ (λ t. absurd (false≢true t)) refl refl from, from))
+    let from = came (record { bytes = bytes; breaks_off = breaks_off; shown = None }) (λ off. refl) in (record { bytes = bytes; breaks_off = breaks_off; shown = None }, λ t. absurd (cc), (holds _ (λ t. absurd (cc)) refl refl from, from))
 
 pub of_more : (told : Bool) (there : Content) (x rest : List ℕ) (source : Source) (P : Content → Type 0)
     → (told ≡ true → there.bytes ≡ x ++ rest)
@@ -255,14 +256,15 @@ pub of_more : (told : Bool) (there : Content) (x rest : List ℕ) (source : Sour
     → CameFrom told content source → P content)
     → OfContent told there (λ content. P content × CameFrom told content source)
 of_more true there x rest source P all came holds =
-    let from = came there (λ off. absurd (false≢true (sym off))) in (there, λ t. refl, (holds there (λ t. refl) rest (all refl) from, from))
+    let from = came there (λ off. absurd (cc)) in (there, λ t. refl, (holds there (λ t. refl) rest (all refl) from, from))
 of_more false there x rest source P all came holds =
-    let from = came (unshown x) (λ off. refl) in (unshown x, λ t. absurd (false≢true t), (holds _ (λ t. absurd (false≢true t)) [] (sym (append-nil x)) from, from))
+    let from = came (unshown x) (λ off. refl) in (unshown x, λ t. absurd (cc), (holds _ (λ t. absurd (cc)) [] (sym (append-nil x)) from, from))
 
 -- where the output was complete, no end had to be told
 pub told_by_complete : {work : Work} (content : Content) (source : Source) {x : List ℕ} (rest : List ℕ) → IsLawful work
     → work.is_complete x ≡ true → content.bytes ≡ x ++ rest → ToldEnd work content source
-told_by_complete {work} content source {x} rest lawful complete is ends going = absurd (false≢true (sym going ∙ ap work.is_complete is ∙ (lawful.stays x rest complete).still))
+told_by_complete content source {x} rest lawful complete is ends going =
+    absurd (cc (lawful.stays x rest complete).still)
 
 -- what is known of the call that a fault stopped
 pub fed_so : {told : Bool} {before : List Slot} {work : Work} {opening : Needs} {most : ℕ} {content : Content}
@@ -280,7 +282,7 @@ fed_so more (stopped fault is call is_call read reached why stop swept) = stoppe
 pub needed_front : {is_complete : List ℕ → Bool} {most : ℕ} {x : List ℕ} → (x ≡ []) ⊎ (is_complete x ≡ false)
     → IsNeeded is_complete most x
 needed_front (inl none) = inl none
-needed_front {x} (inr going) = grind (arith, common_steps)
+needed_front (inr going) = grind (arith, common_steps)
 
 -- Lemmas on what an engine uses of its input, and what is given back of it.
 
@@ -293,13 +295,13 @@ taken_next : {x buffer old_buffer : List ℕ} {slot : ℕ} (size : ℕ) {n : ℕ
     → HasTaken x slot start sources → IsTrue (is_readable sources slot)
     → Gave (source_at sources slot).left old_buffer buffer n → new ≡ changed_at slot (gives size n) sources
     → with_next n (source_at sources slot) ≡ (source_at start slot).taken ++ (x ++ take n buffer)
-taken_next {x} {slot} size {n} {start} {sources} took can gave is = grind (arith, common_steps)
+taken_next size took can gave is = grind (arith, common_steps)
 
 pub takes_more : {x buffer old_buffer : List ℕ} {slot : ℕ} (size : ℕ) {n : ℕ} {start sources new : List Source}
     → HasTaken x slot start sources → IsTrue (is_readable sources slot)
     → Gave (source_at sources slot).left old_buffer buffer n → new ≡ changed_at slot (gives size n) sources
     → HasTaken (x ++ take n buffer) slot start new
-takes_more {x} {buffer} {slot} size {n} {start} {sources} {new} took can gave is = grind (arith, common_steps, taken_next, changed_source)
+takes_more size took can gave is = grind (arith, common_steps, taken_next, changed_source)
 
 -- what is spare was given back
 
@@ -308,7 +310,7 @@ back_at : {taken : List ℕ} (start used : List ℕ) {rest : List ℕ} {n : ℕ}
 back_at {taken} start used {rest} {n} is long =
     let all : taken ≡ (start ++ used) ++ rest = is ∙ sym (append_assoc start used rest) in
     let at : length taken - n ≡ length (start ++ used) = omega (arith, ap length all ∙ length-append (start ++ used) rest) in
-    ap (λ k. drop k taken) at ∙ ap (drop (length (start ++ used))) all ∙ drop_at (start ++ used) rest (length (start ++ used)) refl
+    rw (at, all) (drop_at (start ++ used) rest _ refl)
 
 pub read_used : {work : Work} {content : Content} {x : List ℕ} {slot n : ℕ} {start sources new : List Source}
     (spare : IsSpare work x n) → HasRead content x slot sources → HasTaken x slot start sources
@@ -334,13 +336,13 @@ needed_within room (inr (before, piece, is, few, going)) = grind (arith, common_
 pub uses_all : {work : Work} {most slot : ℕ} {there : Content} {x : List ℕ} {source : Source}
     → there.bytes ≡ x ++ source.left.bytes → source.left.bytes ≡ [] → IsNeeded work.is_complete most x
     → work.is_complete x ≡ false → source.reached ≤ length x → Uses work most slot there source
-uses_all {x} joined none needed going few = grind (arith, common_steps)
+uses_all joined none needed going few = grind (arith, common_steps)
 
 -- the work ended with a verdict within it
 pub uses_judged : {work : Work} {most slot : ℕ} {there : Content} {x : List ℕ} {source : Source} {verdict : Verdict}
     → there.bytes ≡ x ++ source.left.bytes → IsNeeded work.is_complete most x → IsSettled work x verdict
     → source.reached ≤ length x → Uses work most slot there source
-uses_judged {x} joined needed settled few = grind (arith, common_steps)
+uses_judged joined needed settled few = grind (arith, common_steps)
 
 -- what was given back is no more than may be
 pub read_to_used : {work : Work} {x : List ℕ} {slot n : ℕ} {start sources new : List Source} (spare : IsSpare work x n)

@@ -5,9 +5,9 @@ use Rattle.std.proofs.{
     Bool.{false≢true, or_parts, or_left, or_right, false_from_ne_true},
     List.{append-nil, nil_from_length, Recursion.and_push},
   },
-  Common.{is_some, ◌≡◌, ℕ, ◌+◌, ◌<◌, ◌≤◌, zero, suc, Bool, true, false, ◌||◌, IsTrue, if◌then◌else◌, List, [], ◌∷◌},
-  Common.{◌++◌, length, Option, Some, None, IfSome, arith, inl, inr, refl, ◌⊎◌, not, take, Result, Ok, Err, sym, ◌∙◌},
-  Common.{ap, subst, lit≤, codes, ◌-◌, drop, map, get_or, Bor, append_assoc, lit<, rules},
+  Common.{◌≡◌, ℕ, ◌+◌, ◌<◌, ◌≤◌, zero, suc, Bool, true, false, ◌||◌, IsTrue, if◌then◌else◌, List, [], ◌∷◌, ◌++◌},
+  Common.{length, Option, Some, None, IfSome, arith, inl, inr, refl, ◌⊎◌, not, take, Result, Ok, Err, sym, ◌∙◌, ap},
+  Common.{subst, lit≤, codes, ◌-◌, drop, map, get_or, Bor, append_assoc, lit<, rules},
   Math.Bool.{and-false, and-true, or-false, or-true, or_assoc},
 }
 use Rattle.ports_core.specs.{
@@ -60,7 +60,7 @@ use Rattle.ports_core.specs.declared.fault.Fault.TheVariants as fault_is
 
 pub last_source : (sources : List Source) {source : Source}
     → source_at (sources ++ source ∷ []) (length sources) ≡ source
-last_source sources {source} = grind (arith, common_steps)
+last_source sources = grind (arith, common_steps)
 
 -- what is left of the input of a source
 
@@ -75,7 +75,7 @@ left_unread told slot sources can unread there sound step none going = (
     came = came_sound told sources slot can sound;
     sound = sound_at sources slot can;
     ended = λ ends. absurd (false≢true (sym going ∙ ends));
-    joined = λ t. there t ∙ sym (ap (λ read. read ++ (source_at sources slot).left.bytes) none);
+    joined = λ t. rw none (there t);
   },
   λ t standard. omega arith,
 )
@@ -88,26 +88,26 @@ pub unread_source : (told : Bool) (source : Option ℕ) (sources : List Source) 
     → OfSource told source sources Q
 unread_source told None sources Q can unread holds = holds empty (λ step none going. tt)
 unread_source true (Some slot) sources Q can unread holds =
-    ((source_at sources slot).left, λ t. refl, holds (source_at sources slot).left (left_unread true slot sources can unread (λ t. refl) (λ off. absurd (false≢true (sym off)))))
+    ((source_at sources slot).left, λ t. refl, holds (source_at sources slot).left (left_unread true slot sources can unread (λ t. refl) (λ off. absurd (cc))))
 unread_source false (Some slot) sources Q can unread holds =
-    (empty, λ t. absurd (false≢true t), holds empty (left_unread false slot sources can unread (λ t. absurd (false≢true t)) (λ off. refl)))
+    (empty, λ t. absurd (cc), holds empty (left_unread false slot sources can unread (λ t. absurd (cc)) (λ off. refl)))
 
 -- a source that was looked at is as it was, but for what was asked of it
 
 pub of_looked : (told : Bool) (most : ℕ) (source : Option ℕ) (old new : List Source) (Q : Content → Type 0)
     → OnlyLooked most source old new → OfSource told source new Q → OfSource told source old Q
 of_looked told most None old new Q same holds = holds
-of_looked told most (Some slot) old new Q looked (content, is, holds) = (content, λ t. is t ∙ ap (λ (source : Source). source.left) looked.looked, holds)
+of_looked told most (Some _) old new Q looked (content, is, holds) = (content, λ t. cc (is t, looked.looked), holds)
 
 pub looked_can : (most : ℕ) (source : Option ℕ) (old new : List Source) → OnlyLooked most source old new
     → IfSome source (λ slot. IsTrue (is_readable old slot)) → IfSome source (λ slot. IsTrue (is_readable new slot))
 looked_can most None old new looked can = tt
-looked_can most (Some slot) old new looked can = looked_readable looked can
+looked_can most (Some _) old new looked can = looked_readable looked can
 
 pub looked_unread : (most : ℕ) (source : Option ℕ) (old new : List Source) → OnlyLooked most source old new
     → IfSome source (λ slot. IsUnread (source_at old slot)) → IfSome source (λ slot. IsUnread (source_at new slot))
 looked_unread most None old new looked unread = tt
-looked_unread most (Some slot) old new looked unread = (ap (λ (source : Source). source.taken) looked.looked ∙ unread.0, ap (λ (source : Source). source.reached) looked.looked ∙ unread.1)
+looked_unread most (Some _) old new looked unread = rw looked.looked unread
 
 -- where a source is there, it shows what it shows
 pub shows_something : (told : Bool) (source : Option ℕ) (sources : List Source)
@@ -118,7 +118,7 @@ shows_something told (Some slot) sources = ((source_at sources slot).left.shown,
 -- an input that could be read is still there
 pub still_within : {source : Option ℕ} {slot : ℕ} {old new : List Source} → source ≡ Some slot
     → IfSome source (λ slot. IsTrue (is_readable old slot)) → KeepsOthers slot old new → slot < length new
-still_within {slot} {old} is can keeps = grind (arith, common_steps)
+still_within is can keeps = grind (arith, common_steps)
 
 -- an input that was fed to an engine, unless a fault stopped it
 pub left_of : {told : Bool} {work : Work} {most slot : ℕ} {there : Content} (sources : List Source)
@@ -135,16 +135,18 @@ left_of sources P Q within more uses (content, is, ((holds, ends), came)) =
 
 pub count_more : (count : ℕ) (names : List (List ℕ)) → count ≤ count_after count names
 count_more count [] = omega arith
-count_more count (name ∷ names) = let rest : next_slot count name ≤ count_after (next_slot count name) names = count_more (next_slot count name) names in at_least (is_dash name) (count_after (next_slot count name) names) rest where
-  at_least : (dash : Bool) (most : ℕ) → (if dash then count else count + 1) ≤ most → count ≤ most
-  at_least true most less = less
-  at_least false most less = omega arith
+count_more count (name ∷ names) =
+    let rest : next_slot count name ≤ count_after (next_slot count name) names = count_more (next_slot count name)
+    names in at_least (is_dash name) _ rest where
+      at_least : (dash : Bool) (most : ℕ) → (if dash then count else count + 1) ≤ most → count ≤ most
+      at_least true most less = less
+      at_least false most less = omega arith
 
 -- what taking a name leaves
 
 takes_none : {most : ℕ} {was_read : Bool} {name : List ℕ} {old new : List Source} → new ≡ old
     → TakesOne most was_read name old new
-takes_none {most} {name} {old} same = grind (arith, common_steps)
+takes_none same = grind (arith, common_steps)
 
 pub takes_file : {told : Bool} {laid : ℕ → List ℕ → Option Content} {most : ℕ} {was_read : Bool} {name : List ℕ}
     {old mid new : List Source} {slot : ℕ} → is_dash name ≡ false → 0 < length old → Opens told laid old mid name slot
@@ -155,14 +157,14 @@ takes_file differs some opens keeps asked = grind (arith, common_steps)
 pub takes_missing : {told : Bool} {laid : ℕ → List ℕ → Option Content} {most : ℕ} {was_read : Bool} {name : List ℕ}
     {old new : List Source} {fault : Fault} → is_dash name ≡ false → 0 < length old
     → OpensNothing told laid old new name fault → TakesOne most was_read name old new
-takes_missing {old} {new} differs some (from.broke at why number lies is) = grind (arith, common_steps)
+takes_missing differs some (from.broke at _ number lies is) = grind (arith, common_steps)
 takes_missing differs some (from.no_room is) = takes_none is
 
 -- its number is used up
 pub opens_missing : {told : Bool} {laid : ℕ → List ℕ → Option Content} {name : List ℕ} {old new : List Source}
     {fault : Fault} {slot : ℕ} → is_dash name ≡ false → OpensNothing told laid old new name fault
     → fault ≡ Open slot → length new ≡ next_slot (length old) name
-opens_missing differs (from.broke at why number lies is) cannot = grind (arith, common_steps)
+opens_missing differs (from.broke at _ number lies is) cannot = grind (arith, common_steps)
 opens_missing differs (from.no_room is) cannot = absurd (cc)
 
 -- a file that could not be opened is not open
@@ -185,8 +187,8 @@ still_done_at : (told : Bool) (work : Work) (most : ℕ) {room : ℕ} {was_read 
     → TakesOne room was_read name old new
     → StaysDone told work most was_read slot content old → StaysDone told work most now_read slot content new
 still_done_at told work most None content reads takes done = tt
-still_done_at told work most {was_read} (Some zero) content {old} {new} reads takes done = grind (arith, common_steps)
-still_done_at told work most (Some (suc slot)) content {old} {new} reads takes done = grind (arith, common_steps)
+still_done_at told work most (Some zero) content reads takes done = grind (arith, common_steps)
+still_done_at told work most (Some (suc _)) content reads takes done = grind (arith, common_steps)
 
 pub still_done : (told : Bool) (work : Option (List ℕ) → Work) (most : ℕ) {room : ℕ} {was_read now_read : Bool}
     {name : List ℕ} (inputs : List Input) {old new : List Source} → (was_read ≡ true → now_read ≡ true)
@@ -207,7 +209,7 @@ done_at : (told : Bool) (work : Work) (most : ℕ) (was_read : Bool) (slot : Opt
     (sources : List Source) → StaysDone told work most was_read slot content sources
     → IsDone told work most slot content sources
 done_at told work most was_read None content sources done = tt
-done_at told work most was_read (Some slot) content sources done = done.1
+done_at told work most was_read (Some _) content sources done = done.1
 
 pub all_done : (told : Bool) (work : Option (List ℕ) → Work) (most : ℕ) (was_read : Bool) (inputs : List Input)
     (sources : List Source) → StayDone told work most was_read inputs sources → AreDone told work most inputs sources
@@ -244,7 +246,7 @@ part_writable at = rw at.slots refl
 
 pub part_two : {told : Bool} {error : Slot} {part : Part} {slots : List Slot}
     → OutputsAt told (streams_with error) part slots → 2 ≤ length slots
-part_two {told} {error} {part} {slots} at = grind (arith, common_steps)
+part_two at = grind (arith, common_steps)
 
 -- the header was written
 pub headed : {told : Bool} {base : List Slot} {so_far : Part} (text : List ℕ) {old mid : List Slot}
@@ -262,13 +264,13 @@ pub of_source_too : (told : Bool) (source : Option ℕ) (sources : List Source) 
     → ((content : Content) → A content → B content → Q content)
     → OfSource told source sources (λ content. A content × B content) → OfSource told source sources Q
 of_source_too told None sources A B Q more (one, two) = more _ one two
-of_source_too told (Some slot) sources A B Q more (content, there, both) = grind (arith, common_steps)
+of_source_too told (Some _) sources A B Q more (content, there, both) = grind (arith, common_steps)
 
 pub from_source : (told : Bool) (source : Option ℕ) (sources : List Source) (A B : Content → Type 0) (Q : Type 0)
     → ((content : Content) → A content → B content → Q)
     → OfSource told source sources (λ content. A content × B content) → Q
 from_source told None sources A B Q more (one, two) = more _ one two
-from_source told (Some slot) sources A B Q more (content, there, both) = search rules
+from_source told (Some _) sources A B Q more (content, there, both) = search rules
 
 -- what is made of an input, by how it ends
 
@@ -302,7 +304,7 @@ stopped_in_header {told} {task} is_first name {shown} {content} {so_far} {error}
     (none_to_sweep (task.work shown).clears new (omega (arith, ap length is)))
 stopped_in_header {told} {task} is_first name {shown} {content} {so_far} {error} {old} {new} due unread at (broke n after) =
     let text = header_text task.with_header is_first name in
-    let count : length new ≡ length old = ap length after.slots.1 ∙ length-changed_at 0 _ _ ∙ length-changed_at 0 _ old in
+    let count : length new ≡ length old = simp length-changed_at at (ap length after.slots.1) in
     let lost = ap (λ those. (slot_at those 0).is_broken) after.slots.1
     ∙ broken_at _ 0 _ (writable-written old 0 0 (told_of told (take n text)) ∙ part_writable at) in
     cut_off (Write 0) _ new (heading content due (unread _ refl refl)) (λ _. refl, λ alone. refl, lost)
@@ -360,7 +362,7 @@ module _ (told_in told : Bool) (task : Task) (most : ℕ) (is_first failed was_r
       → IsDone told_in (task.work shown) most source (Some content) sources → (fed ≡ Whole) ⊎ (fed ≡ Enough)
       → FedAs told mid (task.work shown) (task.opening shown) most content (Leaves told_in content source sources) new
       (Ok fed) → TookSo content new (Ok (record { was_read = was_read; is_first = false; failed = failed }))
-  took_well {content} {new} done good (whole sound going well there) = went_well content new done (or_left _ _ (ap not sound)) well there
+  took_well {content} {new} done good (whole sound _ well there) = went_well content new done (or_left _ _ (ap not sound)) well there
   took_well {content} {new} done good (had_enough complete well there) = went_well content new done (or_right _ _ complete) well there
   took_well done good (broke_off breaks going reached there swept) = absurd (elim good [ inl is ↦ cc | inr is ↦ cc ])
 
@@ -371,7 +373,8 @@ module _ (told_in told : Bool) (task : Task) (most : ℕ) (is_first failed was_r
       → TookSo content new (Ok (record { was_read = was_read; is_first = false; failed = true }))
   took_broken {content} {old} {new} done is (broke_off breaks going reached there swept) says =
       went_badly content ((task.work shown).settled content.bytes) (message_of (Read 0) name) reached old new done
-      (let short : is_enough (task.work shown) content ≡ false = ap (λ (b : Bool). not b || (task.work shown).is_complete content.bytes) breaks ∙ going in simp (short, and-true)) there swept says
+      (let short : is_enough (task.work shown) content ≡ false = rw breaks going in simp (short, and-true))
+      there swept says
   took_broken done is ends says = absurd (cc)
 
   pub took_verdict : {why : Reason} {content : Content} {old new : List Slot} {verdict : Verdict}
@@ -382,7 +385,7 @@ module _ (told_in told : Bool) (task : Task) (most : ℕ) (is_first failed was_r
       → TookSo content new (Ok (record { was_read = was_read; is_first = false; failed = true }))
   took_verdict {content} {old} {new} {verdict} done (judged _ enough judges reached there swept) says =
       went_badly content ((task.work shown).whole content.bytes) (message_of (fault_is.Verdict verdict) (task.subject verdict name)) reached old new done (simp (enough, judges, and-true)) there swept says
-  took_verdict done (stopped _ unjudged call is_call read reached why stop swept) says = absurd (false≢true (sym unjudged))
+  took_verdict done (stopped _ unjudged call _ _ _ _ stop _) says = absurd (cc)
 
   pub took_stopped : {content : Content} {new : List Slot} {fault : Fault}
       → ((verdict : Verdict) → fault ≡ fault_is.Verdict verdict → ⊥)
@@ -405,9 +408,9 @@ pub fed_open : {told : Bool} {work : Work} {opening : Needs} {most : ℕ} {error
     → FedAs told mid work opening most content WasRead new result → is_open (slot_at new 1).state ≡ true
 fed_open WasRead opened at (whole sound going well there) = cc
 fed_open WasRead opened at (had_enough complete well there) = cc
-fed_open {work} {new} WasRead opened at (broke_off breaks going reached there swept) = grind (arith, common_steps)
-fed_open {work} {new} WasRead opened at (judged verdict enough judges reached there swept) = grind (arith, common_steps)
-fed_open {work} {new} WasRead opened at (stopped fault is call is_call read reached why stop swept) = grind (arith, common_steps)
+fed_open WasRead opened at (broke_off breaks going _ there swept) = grind (arith, common_steps)
+fed_open WasRead opened at (judged _ enough judges _ there swept) = grind (arith, common_steps)
+fed_open WasRead opened at (stopped _ is call is_call _ _ _ stop swept) = grind (arith, common_steps)
 
 -- Lemmas on how a run ends.
 
@@ -416,12 +419,13 @@ pub ran_through : {told_in told : Bool} {task : Task} {found : List Input}
     {sources : List Source} {new : List Slot} {failed : Bool} {status : ℕ} → status ≡ (if failed then 1 else 0)
     → TookAll told_in told task found sources new (Ok failed)
     → EndsAs told_in told task found sources new status
-ran_through is (all _ error reached same says at swept done) = as_defined error reached says at swept done (is ∙ ap (λ (b : Bool). if b then 1 else 0) same)
+ran_through is (all _ error reached same says at swept done) =
+    as_defined error reached says at swept done (rw same at is)
 
 -- standard error is there for the fault that stopped the run
 pub stop_open : {told_in told : Bool} {task : Task} {found : List Input} {sources : List Source} {new : List Slot}
     {fault : Fault} → TookAll told_in told task found sources new (Err fault) → is_open (slot_at new 1).state ≡ true
-stop_open {told} {task} {new} (stopped_at _ before input after error step reached among done untouched is_step stops says stop swept) = grind (arith, common_steps, swept_open, error_open, stop_error, all_said_state)
+stop_open (stopped_at _ _ _ _ _ step _ among done untouched is_step stops says stop swept) = grind (arith, common_steps, swept_open, error_open, stop_error, all_said_state)
 stop_open (not_begun is untouched none) = grind (arith, common_steps)
 
 -- the run that a fault stopped
@@ -431,7 +435,7 @@ pub ran_into : {told_in told : Bool} {task : Task} {found : List Input} {sources
     → TellsOn told task.speaker fault mid new
     → status ≡ status_after fault task.speaker.calling (output_reason mid fault)
     → EndsAs told_in told task found sources new status
-ran_into {told} {task} {mid} {fault} (stopped_at _ before input after error step reached among done untouched is_step stops said stop swept) tells is =
+ran_into {told} {task} {mid} {fault} (stopped_at _ before input after error step _ among done untouched is_step stops said stop swept) tells is =
     let told_so = stop_swept told (Tells told task.speaker (output_reason mid fault) fault (output_named mid fault))
     step (task.work input.shown).clears (lit≤ tt)
     (ap is_open (all_said_state told task.speaker (made_by task before).messages standard_error error said)) stop stops swept tells in
@@ -459,8 +463,8 @@ of_file : {told : Bool} (world : World) (was_read : Bool) {slot : ℕ} {name : L
     → P (showing shown (file_input name slot content)) → OfName told world was_read slot name P
 of_file world was_read {slot} {name} {content} shown P differs lies says holds = (
   showing shown (file_input name slot content),
-  (record { laid = λ _ _. content; standard = empty }, shown, sym (ap (λ d. showing shown (input_of (record { laid = λ _ _. content; standard = empty }) was_read slot name d)) differs)),
-  λ t. ap (λ n. showing n (file_input name slot content)) (says t) ∙ ap (file_input name slot) (sym (lies t)) ∙ sym (ap (input_of world was_read slot name) differs),
+  (record { laid = λ _ _. content; standard = empty }, shown, rw differs refl),
+  λ t. rw (says t, differs, lies t) refl,
   holds,
 )
 
@@ -472,14 +476,14 @@ dash_at : {told : Bool} (was_read : Bool) (laid : ℕ → List ℕ → Option Co
     → OfName told (world_of laid sources) was_read slot name P
 dash_at true laid sources slot name shown P dash none holds = (
   read_before,
-  (record { laid = laid; standard = empty }, None, sym (ap (λ d. showing None (input_of (record { laid = laid; standard = empty }) true slot name d)) dash)),
-  λ t. sym (ap (input_of (world_of laid sources) true slot name) dash),
-  subst (λ n. P (input_from (codes "standard input") None n empty)) none holds,
+  (record { laid = laid; standard = empty }, None, rw dash refl),
+  λ t. rw dash refl,
+  rw none at holds,
 )
 dash_at false laid sources slot name shown P dash says (content, there, holds) = (
   showing shown (standard_input content),
-  (record { laid = laid; standard = content }, shown, sym (ap (λ d. showing shown (input_of (record { laid = laid; standard = content }) false slot name d)) dash)),
-  λ t. ap (λ n. showing n (standard_input content)) (says t) ∙ ap (λ those. showing (shown_of (Some (source_at sources 0).left)) (standard_input those)) (there t) ∙ sym (ap (input_of (world_of laid sources) false slot name) dash),
+  (record { laid = laid; standard = content }, shown, rw dash refl),
+  λ t. rw (dash, says t, there t) refl,
   holds,
 )
 
@@ -496,11 +500,11 @@ pub took_opened : {told_in told : Bool} {task : Task} {most : ℕ} {is_first fai
     → OfName told_in (world_of laid old) was_read (length old) name
     (λ input. TookInput told_in told task most input (of_input task is_first input) is_first failed
     (was_read || is_dash name) so_far error first sources new result)
-took_opened {was_read} {laid} {name} {old} {slot} {sources} differs opened_it (shown, says, (content, there, one)) =
+took_opened {was_read} {laid} {name} {old} {slot} differs opened_it (shown, says, (content, there, one)) =
     of_file (world_of laid old) was_read shown _ differs (λ t. ap (λ n. laid n name) (sym opened_it.number) ∙ opened_it.lies t
     ∙ ap Some (sym (there t ∙ ap (λ (source : Source). source.left) (ap (λ those. source_at those slot) opened_it.sources ∙ ap (source_at (old ++ source_of opened_it.content ∷ [])) opened_it.number ∙ last_source old))))
-    (λ t. says t ∙ ap (λ those. shown_of (Some those)) (sym (there t)))
-    (rw (ap (λ (b : Bool). was_read || b) differs ∙ or-false was_read) (rw opened_it.number at one))
+    (λ t. rw (there t) (says t))
+    (rw (differs, or-false) (rw opened_it.number at one))
 
 -- standard input, for the operand `-`
 pub took_standard : {told_in told : Bool} {task : Task} {most : ℕ} {is_first failed : Bool} (was_read : Bool)
@@ -518,7 +522,7 @@ pub took_standard : {told_in told : Bool} {task : Task} {most : ℕ} {is_first f
 took_standard {told_in} {told} {task} {most} {is_first} {failed} was_read laid name old {sources} {so_far} {error} {first} {new} {result} is dash (shown, says, holds) =
     let P = λ (read : Bool) (input : Input). TookInput told_in told task most input (of_input task is_first input) is_first failed read so_far error first sources new result in
     dash_at was_read laid old (length old) name shown (P (was_read || is_dash name)) dash (rw is at says)
-    (rw (ap (λ (b : Bool). was_read || b) dash ∙ or-true was_read) (rw is at holds))
+    (rw (dash, or-true) (rw is at holds))
 
 -- a name that could not be opened: it is passed over with a message
 
@@ -532,8 +536,7 @@ pub of_missing : {told_in told : Bool} {why : Reason} {task : Task} {most : ℕ}
     (λ input. TookInput told_in told task most input (of_input task is_first input) is_first failed
     (was_read || is_dash name) so_far error (length old) after new
     (Ok (record { was_read = was_read; is_first = is_first; failed = true })))
-of_missing {told_in} {told} {why} {task} {most} {is_first} {was_read} {laid} {name} {sources} {new} differs
-    (from.broke slot reason number lies are) cannot at says =
+of_missing {told_in} {told} {why} {task} {most} {is_first} {was_read} {laid} {name} {sources} {new} differs (from.broke _ reason number lies are) cannot at says =
     of_file (world_of laid sources) was_read None _ differs (λ t. ap (λ n. laid n name) (sym number) ∙ lies t) (λ t. refl)
     (let said = said_at at says in
     took (record { was_read = was_read; is_first = is_first; failed = true }) said.0 new
@@ -550,7 +553,7 @@ pub of_no_room : {told_in told : Bool} {task : Task} {most : ℕ} {is_first fail
     (λ input. TookInput told_in told task most input (of_input task is_first input) is_first failed
     (was_read || is_dash name) so_far error (length old) after old (Err fault))
 of_no_room was_read differs (from.broke slot why number lies are) other at = absurd (other slot refl)
-of_no_room {told} {task} was_read {laid} {name} {sources} {so_far} {error} {old} differs (from.no_room are) other at =
+of_no_room {told} was_read {laid} {name} {sources} {so_far} {error} {old} differs (from.no_room are) other at =
     of_file (world_of laid sources) was_read (shown_of (laid (length sources) name)) _ differs (λ t. refl) (λ t. refl)
     (cut_off Memory _ old (unopened (laid (length sources) name) (length sources) refl (omega (arith, ap length are))) refl
     (stopped_here _ told (streams_with error) so_far so_far Memory old old at (part_begins_itself so_far) refl tt tt) (none_to_sweep _ old (omega arith)))
@@ -564,19 +567,17 @@ joined_nothing = search rules
 sweeps_clears : (task : Task) (work : Work) (is_first : Bool) (name : List ℕ) (content : Option Content)
     → (of_content task work is_first name content).sweeps ≡ true → work.clears ≡ true
 sweeps_clears task work is_first name None sweeps = cc
-sweeps_clears task work is_first name (Some content) sweeps = grind (arith, common_steps)
+sweeps_clears task work is_first name (Some _) sweeps = grind (arith, common_steps)
 
 -- each input says what it says
 pub says_itself : (input : Input) → showing input.shown input ≡ input
-says_itself input = by (is_some input.slot) where
-  by : (b : Bool) → (if b then record input { shown = input.shown } else input) ≡ input
-  by true = refl
-  by false = refl
+says_itself input = grind (arith, common_steps)
 
 pub are_from : (world : World) (was_read : Bool) (slot : ℕ) (names : List (List ℕ))
     → AreFrom was_read slot names (inputs_from world was_read slot names)
 are_from world was_read slot [] = refl
-are_from world was_read slot (name ∷ names) = ((world, _, sym (says_itself (input_of world was_read slot name (is_dash name)))), are_from world (was_read || is_dash name) (next_slot slot name) names)
+are_from world was_read slot (name ∷ names) =
+    ((world, _, sym (says_itself _)), are_from world (was_read || is_dash name) (next_slot slot name) names)
 
 -- what was done before the names that are left
 pub record Walked (told_in told : Bool) (task : Task) (world : World) (names left : List (List ℕ)) (progress : Progress)
@@ -612,7 +613,7 @@ pub walk_begins : {told_in told : Bool} {task : Task} {names : List (List ℕ)} 
     → ((shown : Option (List ℕ)) → (task.work shown).clears ≡ true → length names ≤ 1)
     → Walked told_in told task (world_of laid sources) names names
     (record { was_read = false; is_first = true; failed = false }) laid sources slots
-walk_begins {told} {names} {laid} {sources} {slots} fresh are alone =
+walk_begins {told} {sources = sources} {slots} fresh are alone =
     let one : length sources ≡ 1 = ap length fresh.only in
     let at_first : source_at sources 0 ≡ source_of fresh.standard = ap (λ those. source_at those 0) fresh.only in
     record {
@@ -629,13 +630,13 @@ walk_begins {told} {names} {laid} {sources} {slots} fresh are alone =
       first = refl;
       rest_made = λ rest. refl;
       rest_are = λ rest are_rest. rw one at are_rest;
-      rest_there = λ t. ap (λ n. inputs_from (world_of laid sources) false n names) one;
+      rest_there = λ t. rw one refl;
       laid_same = refl;
-      standard = λ _. at_first ∙ ap source_of (sym (ap (λ (source : Source). source.left) at_first));
+      standard = λ _. rw at_first refl;
       some = rw one (lit< tt);
       known = tt;
       asked = fresh_asks largest_piece sources fresh;
-      count = ap (λ n. count_after n names) one;
+      count = rw one refl;
     }
 
 -- where names are left, no file was removed
@@ -644,14 +645,14 @@ pub slots_at : {told_in told : Bool} {task : Task} {world : World} {names left :
     {sources : List Source} {slots : List Slot} → 1 ≤ length left
     → (walked : Walked told_in told task world names left progress laid sources slots)
     → OutputsAt told (streams_with walked.error) walked.made.part slots
-slots_at {slots} some walked = grind (arith, common_steps)
+slots_at some walked = grind (arith, common_steps)
 
 pub walked_error : {told_in : Bool} (told : Bool) {task : Task} {world : World} {names left : List (List ℕ)}
     {progress : Progress}
     {laid : ℕ → List ℕ → Option Content} {sources : List Source} {slots : List Slot}
     → (walked : Walked told_in told task world names left progress laid sources slots)
     → is_open walked.error.state ≡ true
-walked_error told {task} walked = ap is_open (all_said_state told task.speaker walked.made.messages standard_error walked.error walked.says)
+walked_error told {task} walked = rw (all_said_state told task.speaker _ _ _ walked.says) refl
 
 pub walk_streams : {told_in told : Bool} {task : Task} {world : World} {names left : List (List ℕ)}
     {progress : Progress} {laid : ℕ → List ℕ → Option Content} {sources : List Source} {slots : List Slot}
@@ -693,7 +694,7 @@ pub walk_goes_on : {told_in told : Bool} {task : Task} {world : World} {names : 
     → Takes told_in told task largest_piece progress laid sources new_sources name walked.made.part walked.error slots
     new (Ok next)
     → Walked told_in told task world names left next new_laid new_sources new
-walk_goes_on {told_in} {told} {task} {world} {names} {name} {left} {progress} {next} {laid} {new_laid} {sources} {new_sources} {slots} {new} walked leaves opened_it same (input, is_for, there, took _ after reached is is_done says at swept) =
+walk_goes_on {told_in} {told} {task} {world} {name = name} {left} {progress} {next} {sources = sources} {new_sources} {slots} {new} walked leaves opened_it same (input, is_for, there, took _ after reached is is_done says at swept) =
     let one = of_input task progress.is_first input in
     let was : next.was_read ≡ (progress.was_read || is_dash name) = ap (λ (p : Progress). p.was_read) is in
     let unswept : walked.made.sweeps ≡ false = walked.unswept (omega arith) in
@@ -747,11 +748,15 @@ walk_stops {told_in} told {task} {world} {names} {name} {left} {progress} {laid}
       walked.done ++ input ∷ rest,
       record {
         are = walked.rest_are (input ∷ rest) (is_for, are_from world (progress.was_read || is_dash name) (next_slot (length sources) name) left);
-        there = λ t. ap (λ (first : Input). walked.done ++ first ∷ rest) (there t ∙ same_input progress.was_read (length sources) name (is_dash name) sources walked.laid_same walked.standard) ∙ walked.rest_there t;
+        there = λ t. rw (
+          there t,
+          same_input progress.was_read _ name (is_dash name)
+              sources walked.laid_same walked.standard,
+        ) (walked.rest_there t);
       },
       stopped_at fault walked.done input rest walked.error step reached refl
-          (all_done told_in task.work largest_piece (progress.was_read || is_dash name) walked.done new_sources
-          (still_done told_in task.work largest_piece walked.done (λ had. ap (λ (b : Bool). b || is_dash name) had) leaves walked.known))
+          (all_done _ _ _ (progress.was_read || is_dash name) _ _
+          (still_done told_in task.work largest_piece walked.done (λ had. rw had refl) leaves walked.known))
           (rest_untouched world (progress.was_read || is_dash name) (next_slot (length sources) name) left new_sources
           (λ unread. let both = or_parts progress.was_read (is_dash name) unread in leaves.unasked both.1 ∙ walked.standard both.0) leaves.within)
           (rw before (rw walked.first at is_step))
@@ -764,18 +769,18 @@ pub walk_ends : {told_in told : Bool} {task : Task} {world : World} {names left 
     {laid : ℕ → List ℕ → Option Content} {sources : List Source} {slots : List Slot} → left ≡ []
     → Walked told_in told task world names left progress laid sources slots
     → RunsOver told_in world names (λ found. TookAll told_in told task found sources slots (Ok progress.failed))
-walk_ends {told_in} {task} {world} {progress} {sources} none walked =
+walk_ends {task = task} {progress = progress} none walked =
     let made : made_by task (walked.done ++ []) ≡ walked.made = walked.rest_made [] ∙ joined_nothing in (
       walked.done ++ [],
       record {
         are = walked.rest_are [] (rw none refl);
-        there = λ t. ap (λ those. walked.done ++ inputs_from world progress.was_read (length sources) those) (sym none) ∙ walked.rest_there t;
+        there = λ t. rw none at (walked.rest_there t);
       },
-      all progress.failed walked.error walked.reached (walked.failed ∙ ap (λ (those : Outcome). those.failed) (sym made))
+      all progress.failed walked.error walked.reached (rw made walked.failed)
           (rw made walked.says)
           (rw made walked.at)
           (rw made walked.swept)
-          (rw (append-nil walked.done) (all_done told_in task.work largest_piece progress.was_read walked.done sources walked.known)),
+          (rw (append-nil walked.done) (all_done _ _ _ _ _ _ walked.known)),
     )
 
 -- the words that a loop has left are the first of them and the rest
@@ -796,7 +801,7 @@ none_touched {laid} {sources} {names} fresh =
     let at_first : source_at sources 0 ≡ source_of fresh.standard = ap (λ those. source_at those 0) fresh.only in (
       inputs_at world names,
       record { are = are_from world false 1 names; there = λ t. refl },
-      rest_untouched world false 1 names sources (λ _. at_first ∙ ap source_of (sym (ap (λ (source : Source). source.left) at_first))) (omega (arith, ap length fresh.only)),
+      rest_untouched world false 1 names sources (λ _. rw at_first refl) (omega (arith, ap length fresh.only)),
     )
 
 pub fresh_counts : {sources : List Source} (names : List (List ℕ)) → IsFresh sources
@@ -812,4 +817,4 @@ pub untouched_on : {names : List (List ℕ)} (none : Bor (List ℕ)) (left : Lis
     (new : List Source) → 1 ≤ length left → Untouched names (map (λ word. word.now) left) start now
     → (is_dash (get_or left 0 none).now ≡ false → source_at new 0 ≡ source_at now 0)
     → Untouched names (map (λ word. word.now) (take (length left - 1) (drop 1 left))) start new
-untouched_on {names} none left new some untouched keeps = grind (arith, common_steps)
+untouched_on none left new some untouched keeps = grind (arith, common_steps)

@@ -30,7 +30,7 @@ out_after out low (rest, is) = (rest, ap (λ bytes. out ++ bytes) is ∙ sym (ap
 
 pub begins_after : (first : Part) {low high : Part} → Begins low high
     → Begins (after_part first low) (after_part first high)
-begins_after first {low} {high} begins = grind (arith, common_steps, out_after, front_begins)
+begins_after first begins = grind (arith, common_steps, out_after, front_begins)
 
 pub after_assoc : (first next last : Part)
     → after_part (after_part first next) last ≡ after_part first (after_part next last)
@@ -61,9 +61,9 @@ at_after {told} {base} {first} {part} {mid} one two = record {
 
 from_after : (fault : Fault) (base : ℕ) {mid : ℕ} (place count : ℕ) (first : ℕ) → mid ≡ base + first
     → IsAt fault mid place count → IsAt fault base (first + place) (first + count)
-from_after (Write slot) base place count first is (inl here) = inl here
-from_after (Write slot) base place count first is (inr there) = inr (omega arith)
-from_after (Open slot) base place count first is at = ap (λ n. first + n) at
+from_after (Write _) base place count first is (inl here) = inl here
+from_after (Write _) base place count first is (inr there) = inr (omega arith)
+from_after (Open _) base place count first is at = ap (λ n. first + n) at
 from_after fault base place count first is at = tt
 
 -- what stopped after a part, stopped after it
@@ -175,7 +175,7 @@ marked_error IsName fault output error since opened marks = shape_of opened mark
 
 pub stop_error : {how : Output} {told : Bool} {output error : Slot} {low high : Part} {fault : Fault} {now : List Slot}
     → is_open error.state ≡ true → StoppedBetween how told (output ∷ error ∷ []) low high fault now → HasError now
-stop_error {told} {output} {error} {high} {fault} opened stop = grind (arith, common_steps, marked_error)
+stop_error opened stop = grind (arith, common_steps, marked_error)
 
 -- a message changes standard error, and no other output
 
@@ -234,7 +234,7 @@ beside_error output error error_too files place differs = refl
 -- what stopped a step did so after the message too
 stops_still : {Change : Slot → Slot → Type 0} (step : Step) {mid new : List Slot} (fault : Fault) (place count : ℕ)
     → IsAt fault 2 place count → HasError mid → OnError Change mid new → Stops step mid fault → Stops step new fault
-stops_still step {mid} {new} (Write slot) place count from has says stops = grind (arith, common_steps, beside_error)
+stops_still step (Write _) place count from has says stops = grind (arith, common_steps, beside_error)
 stops_still step fault place count from has says stops = stops
 
 -- what is said after files were removed
@@ -261,8 +261,8 @@ swept_error true old new past swept = swept.before 1 (omega arith)
 
 streams_left : {output error : Slot} {since : List Slot} (mid : List Slot) {first : ℕ} → 2 ≤ first
     → SweptFrom first (output ∷ error ∷ since) mid → (now : List Slot) × (mid ≡ output ∷ error ∷ now)
-streams_left {since} [] past swept = absurd (let none : 0 ≡ suc (suc (length since)) = swept.size in omega arith)
-streams_left {since} (one ∷ []) past swept = absurd (let few : 1 ≡ suc (suc (length since)) = swept.size in omega arith)
+streams_left {since} [] past swept = absurd (cc)
+streams_left {since} (one ∷ []) past swept = absurd (cc)
 streams_left {output} (one ∷ two ∷ now) past swept =
     (now, ap (λ slot. slot ∷ two ∷ now) (swept.before 0 (omega arith)) ∙ ap (λ slot. output ∷ slot ∷ now) (swept.before 1 (omega arith)))
 
@@ -274,9 +274,9 @@ IsBeside fault = Unit {0}
 
 marked_beside : (IsName : List ℕ → Type 0) (fault : Fault) (place count : ℕ) (output error : Slot) (since : List Slot)
     (now : List Slot) → IsAt fault 2 place count → Marks IsName fault (output ∷ error ∷ since) now → IsBeside fault
-marked_beside IsName (Write slot) place count output error since now from marks = λ is.
+marked_beside IsName (Write _) place count output error since now from marks = λ is.
     elim from [ inl first ↦ omega arith | inr file ↦ omega arith ]
-marked_beside IsName (Open slot) place count output error since now from marks = λ is. omega arith
+marked_beside IsName (Open _) place count output error since now from marks = λ is. omega arith
 marked_beside IsName fault place count output error since now from marks = tt
 
 -- so its name and its reason are the same where only that output differs

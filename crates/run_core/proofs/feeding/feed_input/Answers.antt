@@ -165,7 +165,7 @@ returns-in-Err-feed g c =
               record {
                 came = came;
                 sound = sound_at (g.I.Inputs.sources c.read_part.new.inputs) c.args.slot (still_readable _ _ _ _ c.in-Ok.n c.in-Ok.ensures.rest so_far.readable);
-                ended = λ ends. absurd (false≢true ends);
+                ended = λ ends. absurd (cc);
                 joined = λ told. is told ∙ more told;
               },
               λ told unread standard. omega (arith, (takes_more _ (so_far.took told) so_far.readable (c.in-Ok.ensures.bytes told) c.in-Ok.ensures.rest).far unread),
