@@ -176,7 +176,7 @@ others_size delim Lines {k} =
     line_count-closed delim (other delim ∷ replicate (suc k) delim) (ends_with-append delim (other delim ∷ []) (replicate (suc k) delim) (omega arith) ∙ ends_there delim k)
     ∙ ap (λ is. cond is (delimiters delim (replicate (suc k) delim) + 1) (delimiters delim (replicate (suc k) delim))) (ne_eqb (other delim) delim (λ is. other_differs delim (sym is)))
     ∙ measure-delimiters delim Lines
-others_size delim Bytes {k} = grind (arith, common_steps)
+others_size delim Bytes = grind (arith, common_steps)
 
 delimiters_size : (delim : ℕ) (unit : Counted) {k : ℕ} → size delim unit (replicate (suc k) delim) ≡ suc k
 delimiters_size delim Lines {k} = line_count-closed delim (replicate (suc k) delim) (ends_there delim k) ∙ measure-delimiters delim Lines
@@ -185,8 +185,8 @@ delimiters_size delim Bytes {k} = length-replicate (suc k) delim
 -- after a complete line these are the last n
 last_exact : (delim : ℕ) (unit : Counted) {n : ℕ} (front : List ℕ) {back : List ℕ} → ends_with delim front ≡ true
     → size delim unit back ≡ n → last_of delim unit n (front ++ back) ≡ back
-last_exact delim Lines {n} front {back} ends is = grind (arith, common_steps, lines_of-append, drop-append_seam, joined-lines_of)
-last_exact delim Bytes {n} front {back} ends is = grind (arith, common_steps)
+last_exact delim Lines front ends is = grind (arith, common_steps, lines_of-append, drop-append_seam, joined-lines_of)
+last_exact delim Bytes front ends is = grind (arith, common_steps)
 
 last_after : (delim : ℕ) (unit : Counted) {n : ℕ} (x : List ℕ) {back : List ℕ} → size delim unit back ≡ n
     → last_of delim unit n (x ++ delim ∷ back) ≡ back

@@ -14,7 +14,7 @@ use Rattle.std.proofs.{
 use Rattle.ports_core.specs.{
   Slot.{Slot, is_writable, with_written, told_of},
   Source.Source,
-  Part.{Part, OutputsAt, StoppedBetween, gets_bytes, only_out},
+  Part.{Part, StoppedBetween, only_out},
   Work.{Work, Means, Needs, on_output, IsNeeded, IsSettled, IsSpare},
   Engine.{EndsThere, IsMetThere, Loads, TakesIn, TookIn, PutsOut, CutsOff, IsMet, cut, judged, MayGet},
   declared.{fault.Fault.Fault, verdict.Verdict.{Verdict, TheVariants.Changed}},
@@ -42,7 +42,6 @@ use Rattle.ends_core.specs.{
     Kept.Stops,
   },
   Kept.{held_of, most_of, delim_of as kept_delim, unit_of as kept_unit},
-  Shown.changed_below,
   laws.WorkLaws.{full_head, enough_came, fewer_came, complete_came},
   laws.EndsLaws.{ends_together, first_then_after, measure-append, first_of-append, first_of-short, after_of-append},
   laws.EndsLaws.{last_of-append, but_last_of-append, first_of-full},
@@ -57,12 +56,11 @@ use Rattle.ends_core.proofs.KeptLemmas as stop
 same_for : {A : Type 0} (f : Stretch → ℕ → Counted → ℕ → A) {old new : Ends} → SameAsked old new
     → f (stretch_of new) (delim_of new) (unit_of new) (count_of new)
     ≡ f (stretch_of old) (delim_of old) (unit_of old) (count_of old)
-same_for f {old} {new} same = grind (arith, common_steps)
+same_for f same = grind (arith, common_steps)
 
 pub same_work : {old new : Ends} → SameAsked old new → work new ≡ work old
-same_work {old} {new} same =
-    ap (λ least. record (work_in (stretch_of new) (delim_of new) (unit_of new) (count_of new)) { verdict = changed_below least }) same.least
-    ∙ ap (λ (work : Work). record work { verdict = changed_below (least_of old) }) (same_for work_in same)
+same_work same =
+    rw (same.least, same_for work_in same) refl
 
 -- it writes to standard output alone, and may want memory where the last are kept
 pub on_means : (s : Stretch) (delim : ℕ) (unit : Counted) (n : ℕ) → (work_in s delim unit n).means ≡ on_output (keeps s)
@@ -84,49 +82,51 @@ Makes ends bytes whole = (x : List ℕ) → Holds ends x → record ((work ends)
 
 -- what is written with a piece is what the output gains by it
 pub went_out : (ends : Ends) (piece : List ℕ) → Makes ends (due ends piece) (λ x. (work ends).settled (x ++ piece))
-went_out (First count front) piece x holds = grind (arith, common_steps, first_of-append)
+went_out (First count _) piece x holds = grind (arith, common_steps, first_of-append)
 went_out (ButLast kept) piece x holds = grind (arith, common_steps, but_last_of-append)
-went_out (FromNth count front) piece x holds = grind (arith, common_steps, after_of-append)
-went_out (Last kept) piece x holds = refl
+went_out (FromNth count _) piece x holds = grind (arith, common_steps, after_of-append)
+went_out (Last _) piece x holds = refl
 
 -- and at the end
 pub rest_out : (ends : Ends) → Makes ends (due_at_end ends) (work ends).whole
-rest_out (Last kept) x holds = ap only_out holds.waits
+rest_out (Last _) x holds = ap only_out holds.waits
 rest_out ends x holds = grind (arith, common_steps)
 
 module _ (told : Bool) (ends : Ends) (bytes : List ℕ) {whole : List ℕ → Part} (makes : Makes ends bytes whole)
     {old new : List Slot} where
   pub puts_out : new ≡ with_written 0 (told_of told bytes) old → PutsOut terms ends whole told old new
-  puts_out wrote before x at = subst (λ part. OutputsAt told before part new) (makes x at.holds) (out_more told before _ old new bytes at.outputs wrote)
+  puts_out wrote before x at = rw (makes x at.holds) at (out_more told before _ old new bytes at.outputs wrote)
 
   -- what stopped it stopped an output of bytes
   pub cuts_off : {lacks : Bool} {f : Fault} → Stops told lacks bytes old new f → CutsOff terms ends whole told old new f
   cuts_off {f = f} stops before x at = cut (stop.unjudged told stops)
       (subst (λ output. StoppedBetween output told before ((work ends).settled x) (whole x) f new) (sym (ap (λ means. means.output) (on_means (stretch_of ends) (delim_of ends) (unit_of ends) (count_of ends))))
-      (subst (λ part. StoppedBetween gets_bytes told before ((work ends).settled x) part f new) (makes x at.holds) (stop.between told at.outputs stops)))
-
-minus_both : (n a b : ℕ) → (n - a) - b ≡ n - (a + b)
-minus_both n a b = omega arith
+      (rw (makes x at.holds) at (stop.between told at.outputs stops)))
 
 -- what waits after the piece
 waits_next : (ends : Ends) {x : List ℕ} (piece : List ℕ) → Holds ends x
     → left_waiting ends piece ≡ waiting ends (x ++ piece)
-waits_next (ButLast kept) {x} piece holds = grind (arith, common_steps, last_of-append)
-waits_next (Last kept) {x} piece holds = grind (arith, common_steps, last_of-append)
+waits_next (ButLast kept) piece holds = grind (arith, common_steps, last_of-append)
+waits_next (Last kept) piece holds = grind (arith, common_steps, last_of-append)
 waits_next ends piece holds = refl
 
 waits_now : (ends : Ends) {next : Ends} {x : List ℕ} (piece : List ℕ) → SameAsked ends next
     → waiting_of next ≡ left_waiting ends piece → Holds ends x → waiting_of next ≡ waiting next (x ++ piece)
-waits_now ends {x} piece same waits holds = waits ∙ waits_next ends piece holds ∙ sym (same_for (λ s d u n. (work_in s d u n).waiting (x ++ piece)) same)
+waits_now ends {x} piece same waits holds =
+    cc (waits, waits_next ends piece holds, same_for (λ s d u n. (work_in s d u n).waiting (x ++ piece)) same)
 
 left_now : (ends : Ends) {next : Ends} {x : List ℕ} (piece : List ℕ) → SameAsked ends next
     → left_of next ≡ left_of ends - measure (delim_of ends) (unit_of ends) piece → Holds ends x
     → keeps (stretch_of next) ≡ false
     → left_of next ≡ front_in (stretch_of next) (count_of next) - measure (delim_of next) (unit_of next) (x ++ piece)
-left_now ends {next} {x} piece same left holds none =
-    left ∙ ap (λ m. m - measure (delim_of ends) (unit_of ends) piece) (holds.left (ap keeps (sym same.stretch) ∙ none)) ∙ minus_both _ _ _
-    ∙ ap (λ m. front_in (stretch_of ends) (count_of ends) - m) (sym (measure-append (delim_of ends) (unit_of ends) x piece))
-    ∙ sym (same_for (λ s d u n. front_in s n - measure d u (x ++ piece)) same)
+left_now ends {x = x} piece same left holds none =
+    omega (
+      arith,
+      left,
+      holds.left (rw same.stretch at none),
+      measure-append (delim_of ends) (unit_of ends) x piece,
+      same_for (λ s d u n. front_in s n - measure d u (x ++ piece)) same,
+    )
 
 missing_now : (ends : Ends) {next : Ends} {x : List ℕ} (piece : List ℕ) → SameAsked ends next
     → missing_of next ≡ missing_of ends - length piece → Holds ends x
@@ -134,7 +134,7 @@ missing_now : (ends : Ends) {next : Ends} {x : List ℕ} (piece : List ℕ) → 
 missing_now ends {x = x} piece same missing holds = omega (arith, length-append x piece)
 
 none_lacks : (ends : Ends) → keeps (stretch_of ends) ≡ false → may_lack ends ≡ false
-none_lacks (First count front) none = cc
+none_lacks (First count _) none = cc
 none_lacks ends none = cc
 
 full_lacks : (ends : Ends) (x : List ℕ) → waiting_of ends ≡ waiting ends x → FullLacksNone ends → unit_of ends ≡ Bytes
@@ -147,12 +147,18 @@ full_lacks ends x waits full bytes enough = refl
 
 pub past_after : (delim : ℕ) (unit : Counted) (n : ℕ) (x : List ℕ)
     → length x - length (first_of delim unit n x) ≡ length (after_of delim unit n x)
-past_after delim unit n x = omega (arith, sym (ap length (first_then_after delim unit n x)) ∙ length-append (first_of delim unit n x) (after_of delim unit n x))
+past_after delim unit n x =
+    omega (
+      arith,
+      ap length (first_then_after delim unit n x),
+      length-append (first_of delim unit n x)
+          (after_of delim unit n x),
+    )
 
 past_next : (ends : Ends) {x : List ℕ} (piece : List ℕ) → Holds ends x
     → past_of ends + length (unused_of ends piece)
     ≡ past_in (stretch_of ends) (delim_of ends) (unit_of ends) (count_of ends) (x ++ piece)
-past_next (First count front) {x} piece holds = grind (arith, common_steps, after_of-append, past_after)
+past_next (First count _) piece holds = grind (arith, common_steps, after_of-append, past_after)
 past_next ends piece holds = refl
 
 pub takes_in : (ends : Ends) {next : Ends} (piece : List ℕ) → SameAsked ends next
@@ -194,12 +200,12 @@ done_is_exact (ButLast kept) {x} {full} holds is = head_exact (kept_delim kept) 
 done_is_exact ends holds is = grind (arith, common_steps)
 
 pub full_is : (ends : Ends) {x : List ℕ} → Holds ends x → is_full ends ≡ (work ends).is_complete x
-full_is (First count front) {x} holds = grind (arith, common_steps)
+full_is (First count _) holds = grind (arith, common_steps)
 full_is ends holds = refl
 
 -- where memory may be wanted, something is kept
 pub lacks_kept : (ends : Ends) → may_lack ends ≡ true → keeps (stretch_of ends) ≡ true
-lacks_kept (First count front) lacking = cc
+lacks_kept (First count _) lacking = cc
 lacks_kept ends lacking = cc
 
 -- why a call stopped
@@ -208,8 +214,8 @@ pub met : (told : Bool) (ends : Ends) (needs : Means → Needs) (Lacks : Type 0)
     → (lacks ≡ true → ((needs (on_output (keeps (stretch_of ends)))).memory ≡ true) × Lacks)
     → IsTrue (is_writable old 0) → Stops told lacks bytes old new f
     → IsMet (work ends).means (needs (work ends).means) Lacks Fails old new f
-met told ends needs Lacks Fails {old = old} {new} {f} room can stops =
-    subst (λ means. IsMet means (needs means) Lacks Fails old new f) (sym (on_means (stretch_of ends) (delim_of ends) (unit_of ends) (count_of ends)))
+met told ends needs Lacks Fails room can stops =
+    rw (on_means (stretch_of ends) (delim_of ends) (unit_of ends) (count_of ends))
     (stop.met (on_output (keeps (stretch_of ends))) (needs (on_output (keeps (stretch_of ends)))) Lacks Fails told refl room can stops)
 
 -- how its end stopped
@@ -221,20 +227,22 @@ ends_changed told are is some = rw is (changed (omega arith) refl)
 pub ends_stopped : (told : Bool) {ends : Ends} {kept : Kept} {n : ℕ} {old new : List Slot} {f : Fault}
     → ends ≡ Last kept → n ≡ length (held_of kept) → Stops told false (take n (held_of kept)) old new f
     → EndsBadly told ends old new f
-ends_stopped told {kept = kept} {n} {old} {new} {f} is all stops = rw is (stopped f (subst (λ bytes. Stops told false bytes old new f) (take_all n (held_of kept) (omega arith)) stops))
+ends_stopped told {kept = kept} {n} {f = f} is all stops =
+    rw is (stopped f (rw (take_all n (held_of kept) (omega arith)) at stops))
 
 pub ends_cut : (told : Bool) (ends : Ends) {old new : List Slot} {f : Fault} → EndsBadly told ends old new f
     → CutsOff terms ends (work ends).whole told old new f
-ends_cut told (First count front) {new = new} (changed some same) before x at = judged refl _ at.outputs same
+ends_cut told (First _ _) (changed _ same) before x at = judged refl _ at.outputs same
 ends_cut told (ButLast kept) (changed some same) before x at = absurd (omega arith)
-ends_cut told (FromNth count front) (changed some same) before x at = judged refl _ at.outputs same
+ends_cut told (FromNth _ _) (changed _ same) before x at = judged refl _ at.outputs same
 ends_cut told (Last kept) (changed some same) before x at = absurd (omega arith)
 ends_cut told ends (stopped f stops) before x at = cuts_off told ends (due_at_end ends) (rest_out ends) stops before x at
 
 pub ends_met : (told : Bool) (ends : Ends) {old new : List Slot} {f : Fault} → IsTrue (is_writable old 0)
     → EndsBadly told ends old new f → IsMetThere terms ends old new f
 ends_met told ends can (changed some same) = λ x holds. fewer_came (least_of ends) x (omega arith)
-ends_met told ends can (stopped f stops) = met told ends (λ means. means.closing) _ (EndsThere terms ends) (λ never. absurd (false≢true never)) can stops
+ends_met told ends can (stopped f stops) =
+    met told ends (λ means. means.closing) _ (EndsThere terms ends) (λ never. absurd (cc)) can stops
 
 -- what a call owes for its result, from what the call within it gave
 
@@ -247,7 +255,7 @@ on_ok_each (Err f) also is too three = tt
 
 -- of nothing nothing is written
 pub silent_none : (ends : Ends) → IsSilent ends []
-silent_none (FromNth count front) = (stays front front.unit).0
+silent_none (FromNth _ front) = (stays front front.unit).0
 silent_none ends = refl
 
 pub passed_none : (ends : Ends) → ends ≡ passed ends []
@@ -261,7 +269,7 @@ pub passed_front : {told : Bool} {slot count n : ℕ} {ends next : Ends} {front 
     ≡ record front
     { left = front.left - measure front.delim front.unit x; missing = front.missing - length x })) old new
     → PassesOver told slot count (λ x. IsSilent ends x × (next ≡ passed ends x)) old new
-passed_front {n = n} is after passes = passes_so _ passes (λ x long keeps. rw (is, after) (keeps.0, ap (FromNth n) keeps.1))
+passed_front is after passes = passes_so _ passes (λ x long keeps. rw (is, after, keeps.1) (keeps.0, refl))
 
 took_in : (ends : Ends) {x : List ℕ} → Holds ends [] → terms.size ends ≡ 0 → IsSilent ends x
     → TookIn terms ends (passed ends x) x
@@ -275,7 +283,7 @@ took_in (FromNth count front) {x} fresh none silent = record {
       ∙ ap (λ bytes. record ((work (FromNth count front)).settled []) { out = ((work (FromNth count front)).settled []).out ++ bytes }) silent ∙ ap only_out (append-nil _);
   going = inr refl;
 }
-took_in ends {x} fresh none silent = rw silent (record {
+took_in ends fresh none silent = rw silent (record {
   same = refl;
   size = omega arith;
   holds = fresh;
@@ -289,7 +297,8 @@ pub loads : (told : Bool) {slot count : ℕ} {ends next : Ends} {old new : List 
     → terms.size ends ≡ 0
     → PassesOver told slot count (λ x. IsSilent ends x × (next ≡ passed ends x)) old new
     → Loads terms told slot count ends next old new
-loads told {ends = ends} {next} fresh none passes = passes_so _ passes (λ x long keeps. subst (λ after. TookIn terms ends after x) (sym keeps.1) (took_in ends fresh none keeps.0))
+loads told {ends = ends} fresh none passes =
+    passes_so _ passes (λ x long keeps. rw keeps.1 (took_in ends fresh none keeps.0))
 
 -- What waits in an engine that was fed a text.
 module _ (engine : GuardState Ends) (x : List ℕ) (holds : HoldsIn Holds engine x) where
@@ -306,7 +315,13 @@ module _ (engine : GuardState Ends) (x : List ℕ) (holds : HoldsIn Holds engine
   loses_nothing is = search (rules, head_waits, ends_together)
 
 first_within : (delim : ℕ) (unit : Counted) (n : ℕ) (x : List ℕ) → length (first_of delim unit n x) ≤ length x
-first_within delim unit n x = omega (arith, sym (length-append (first_of delim unit n x) (after_of delim unit n x)) ∙ ap length (first_then_after delim unit n x))
+first_within delim unit n x =
+    omega (
+      arith,
+      length-append (first_of delim unit n x) (after_of delim unit n x),
+      ap length
+          (first_then_after delim unit n x),
+    )
 
 -- the first n of a text are as many, where it has them
 first_measures : (delim : ℕ) (unit : Counted) (n : ℕ) (x : List ℕ) → n ≤ measure delim unit x
@@ -321,7 +336,7 @@ last_needed delim unit n {k} {used} long again = elim (cases_lt (measure delim u
   | inl short ↦ short
   | inr full ↦ absurd (omega (
     arith,
-    ap length (sym again ∙ ap (first_of delim unit n) (sym (take-append-drop k used)) ∙ first_of-full delim unit n (take k used) (drop k used) full),
+    ap length (rw (take-append-drop, again) at (first_of-full delim unit n (take k used) (drop k used) full)),
     first_within delim unit n (take k used),
     length-take k used,
   ))
@@ -343,7 +358,8 @@ first_needed : (delim : ℕ) (unit : Counted) (n : ℕ) (x : List ℕ)
 first_needed delim unit n x = elim (cases_lt (measure delim unit (first_of delim unit n x)) n) [
   | inl short ↦ inr (first_of delim unit n x, [], sym (append-nil (first_of delim unit n x)), omega arith, lt-leb n (measure delim unit (first_of delim unit n x)) short)
   | inr full ↦ needed_by delim unit n (length (first_of delim unit n x)) refl
-      (sym (first_of-full delim unit n (first_of delim unit n x) (after_of delim unit n x) full) ∙ ap (first_of delim unit n) (first_then_after delim unit n x))
+      (rw first_then_after at (sym (first_of-full delim unit n (first_of delim unit n x) (after_of delim unit n x)
+      full)))
 ]
 
 first_enough : (delim : ℕ) (unit : Counted) (n : ℕ) (x : List ℕ)
@@ -356,18 +372,18 @@ first_enough delim unit n x = elim (cases_lt (measure delim unit x) n) [
 -- a head uses the first n, and nothing that stands after them
 pub first_used : (delim : ℕ) (unit : Counted) (n : ℕ) {x : List ℕ}
     → IsSpare (head_work delim unit false n) x (length (after_of delim unit n x))
-first_used delim unit n {x} = search (rules, first_then_after, first_needed, first_enough)
+first_used delim unit n = search (rules, first_then_after, first_needed, first_enough)
 
 -- what was needed to the last byte is its own first n
 needed_whole : (delim : ℕ) (unit : Counted) (n : ℕ) {used : List ℕ}
     → IsNeeded (head_work delim unit false n).is_complete 1 used → first_of delim unit n used ≡ used
-needed_whole delim unit n (inl none) = ap (first_of delim unit n) none ∙ first_of-nil delim unit n ∙ sym none
-needed_whole delim unit n (inr (before, piece, is, few, going)) = ap (first_of delim unit n) is ∙ with_piece piece few ∙ sym is where
+needed_whole delim unit n (inl none) = rw none (first_of-nil delim unit n)
+needed_whole delim unit n (inr (before, piece, is, few, going)) = rw is (with_piece piece few) where
   short : measure delim unit before < n
   short = leb-false n (measure delim unit before) going
 
   with_piece : (piece : List ℕ) → length piece ≤ 1 → first_of delim unit n (before ++ piece) ≡ before ++ piece
-  with_piece [] few = ap (first_of delim unit n) (append-nil before) ∙ first_of-short delim unit n short ∙ sym (append-nil before)
+  with_piece [] few = rw append-nil (first_of-short delim unit n short)
   with_piece (byte ∷ []) few = first_of-more delim unit n before byte short
   with_piece (byte ∷ next ∷ piece) few = absurd (omega arith)
 
@@ -375,15 +391,16 @@ pub written_used : (delim : ℕ) (unit : Counted) (n : ℕ) {used rest : List �
     → IsNeeded (head_work delim unit false n).is_complete 1 used
     → (rest ≡ []) ⊎ ((head_work delim unit false n).is_complete used ≡ true)
     → first_of delim unit n (used ++ rest) ≡ used
-written_used delim unit n {used} needed (inl none) = grind (arith, common_steps, append-nil, needed_whole)
-written_used delim unit n {used} {rest} needed (inr complete) = grind (arith, common_steps, first_of-full, leb-true, needed_whole)
+written_used delim unit n needed (inl none) = grind (arith, common_steps, append-nil, needed_whole)
+written_used delim unit n needed (inr complete) = grind (arith, common_steps, first_of-full, leb-true, needed_whole)
 
 pub rest_left : (delim : ℕ) (unit : Counted) (n : ℕ) (used : List ℕ) {rest : List ℕ}
     → IsNeeded (head_work delim unit false n).is_complete 1 used
     → (rest ≡ []) ⊎ ((head_work delim unit false n).is_complete used ≡ true)
     → after_of delim unit n (used ++ rest) ≡ rest
 rest_left delim unit n used {rest} needed enough =
-    append_cancel_left used _ _ (ap (λ those. those ++ after_of delim unit n (used ++ rest)) (sym (written_used delim unit n needed enough)) ∙ first_then_after delim unit n (used ++ rest))
+    append_cancel_left used _ _ (rw (written_used delim unit n needed enough) at
+    (first_then_after delim unit n (used ++ rest)))
 
 -- which bytes aren't used is decided by when the output is complete
 spare_so : {one other : Work} {x : List ℕ} {n : ℕ} → one.is_complete ≡ other.is_complete → IsSpare one x n
@@ -393,8 +410,8 @@ spare_so same spare = record {
   rest = spare.rest;
   joined = spare.joined;
   long = spare.long;
-  needed = subst (λ is. IsNeeded is 1 spare.used) same spare.needed;
-  enough = subst (λ is. (spare.rest ≡ []) ⊎ (is spare.used ≡ true)) same spare.enough;
+  needed = rw same at spare.needed;
+  enough = rw same at spare.enough;
 }
 
 pub spare_here : (ends : Ends) {x : List ℕ} → Holds ends x → IsSpare (work ends) x (past_of ends)
@@ -409,8 +426,8 @@ goes_past : (delim : ℕ) (x piece used rest : List ℕ) → x ++ piece ≡ used
 goes_past delim x piece used rest is more = elim (cases_lt (length x) (length used)) [
   | inl past ↦ past
   | inr short ↦
-      let front : used ≡ take (length used) x = sym (take_at used rest (length used) refl) ∙ ap (take (length used)) (sym is)
-      ∙ take-append-le (length used) x piece short in
+      let front : used ≡ take (length used) x = rw (← is, take-append-le (length used) x piece short) at
+      (sym (take_at used rest (length used) refl)) in
       absurd (omega (arith, ap (delimiters delim) front, delimiters-take-le delim (length used) x))
 ]
 
@@ -433,11 +450,11 @@ few_spare : (delim : ℕ) (unit : Counted) (count : ℕ) {left n : ℕ} (x piece
     → count ≤ measure delim unit spare.used
     → length piece ≤ piece_for unit left → n ≤ ahead_of unit
 few_spare delim Bytes count x piece spare is going enough within =
-    omega (arith, sym (length-append x piece) ∙ ap length spare.joined ∙ length-append spare.used spare.rest)
+    omega (arith, length-append {A = ℕ}, ap length spare.joined)
 few_spare delim Lines count x piece spare is going enough within =
     let past = goes_past delim x piece spare.used spare.rest spare.joined (omega arith) in
     let few = few_between delim x piece spare.used spare.rest spare.joined past in
-    omega (arith, sym (length-append x piece) ∙ ap length spare.joined ∙ length-append spare.used spare.rest)
+    omega (arith, length-append {A = ℕ}, ap length spare.joined)
 
 pub may_get : (ends : Ends) → MayGet terms ends (wanted_by ends)
 may_get (First count front) x piece after n holds going within same later spare = elim spare.enough [
@@ -447,5 +464,5 @@ may_get (First count front) x piece after n holds going within same later spare 
 may_get ends x piece after n holds going within same later spare = grind (arith, common_steps)
 
 pub wants_some : (ends : Ends) {x : List ℕ} → Holds ends x → (work ends).is_complete x ≡ false → 0 < wanted_by ends
-wants_some (First count front) {x} holds going = grind (arith, common_steps)
+wants_some (First count _) holds going = grind (arith, common_steps)
 wants_some ends holds going = omega arith

@@ -1,19 +1,18 @@
 -- Where the last lines of a text begin, looked for from its end, block by block; and what an input shows there.
 use Rattle.std.proofs.{
   lemmas.Grind.common_steps,
-  lemmas.Bool.false≢true,
   lemmas.Option.none-some,
   lemmas.List.{length-take, length-drop, length-replicate, drop-drop, take-append-drop, take-take, take_at, drop_at},
   lemmas.List.{drop_all, drop-append-le, drop-take},
   Common.{◌≡◌, ℕ, ◌+◌, ◌-◌, ◌<◌, ◌≤◌, ◌==◌, zero, suc, List, [], ◌∷◌, ◌++◌, length, take, drop, replicate, min, Bool},
-  Common.{true, false, IsTrue, Option, Some, None, option_map, refl, sym, ◌∙◌, ap, arith, length-append, subst},
-  Common.{if◌then◌else◌, rules},
+  Common.{true, false, IsTrue, Option, Some, None, option_map, refl, sym, ◌∙◌, ap, arith, length-append, if◌then◌else◌},
+  Common.rules,
   Math.Seq.take-add,
 }
 use Rattle.std.specs.List.{onto_first}
 use Rattle.seg_core.{
   specs.{
-    Line.{BeginsAt, FallsShort, after_lines, delimiters, ends_with, line_count, lines_of},
+    Line.{BeginsAt, FallsShort, delimiters, ends_with, line_count, lines_of},
     inner.Lines.last_lines,
     declared.unit.Unit.{Unit as Counted, TheVariants.{Lines, Bytes}},
   },
@@ -58,12 +57,13 @@ but_one_shorter : (x : List ℕ) → 0 < length x → length (but_one x) ≡ len
 but_one_shorter x some = search rules
 
 all_lines : (delim : ℕ) (x : List ℕ) → 0 < length x → line_count delim x ≡ delimiters delim (but_one x) + 1
-all_lines delim x some = ap (line_count delim) (sym (take-append-drop (length x - 1) x)) ∙ lines_and_one delim (but_one x) (drop (length x - 1) x) (one_left x some)
+all_lines delim x some =
+    rw take-append-drop at (lines_and_one delim (but_one x) (drop (length x - 1) x) (one_left x some))
 
 -- a text of n lines after a complete one is the last n lines
 last_are : (delim : ℕ) {n : ℕ} (front : List ℕ) {y : List ℕ} → ends_with delim front ≡ true → line_count delim y ≡ n
     → y ≡ last_lines delim n (front ++ y)
-last_are delim {n} front {y} closed count = grind (arith, common_steps, lines_of-append, drop_at, joined-lines_of)
+last_are delim front closed count = grind (arith, common_steps, lines_of-append, drop_at, joined-lines_of)
 
 -- they begin after the delimiter that is the n-th from the end, where the last byte isn't counted
 pub begins_last : {delim n at : ℕ} (x : List ℕ) → 0 < length x → BeginsAt delim n (but_one x) at
@@ -72,17 +72,19 @@ begins_last {delim} {n} {at} x some begins =
     let shorter = but_one_shorter x some in
     let within : at ≤ length (but_one x) = begins.within in
     let front : take at (but_one x) ≡ take at x = take-take at (length x - 1) x (omega arith) in
-    let rest : drop at x ≡ drop at (but_one x) ++ drop (length x - 1) x = ap (drop at) (sym (take-append-drop (length x - 1) x)) ∙ drop-append-le at (but_one x) (drop (length x - 1) x) within in
-    let count : line_count delim (drop at x) ≡ n = ap (line_count delim) rest ∙ lines_and_one delim (drop at (but_one x)) (drop (length x - 1) x) (one_left x some) ∙ begins.counted in
-    last_are delim (take at x) (ap (ends_with delim) (sym front) ∙ begins.after) count ∙ ap (last_lines delim n) (take-append-drop at x)
+    let rest : drop at x ≡ drop at (but_one x) ++ drop (length x - 1) x = rw take-append-drop at
+    (drop-append-le at (but_one x) (drop (length x - 1) x) within) in
+    let count : line_count delim (drop at x) ≡ n = rw
+    (rest, lines_and_one delim (drop at (but_one x)) (drop (length x - 1) x) (one_left x some)) begins.counted in
+    last_are delim (take at x) (rw front at begins.after) count ∙ ap (last_lines delim n) (take-append-drop at x)
 
 -- a text without as many lines is all of them
 pub few_last : (delim : ℕ) {n : ℕ} (x : List ℕ) → delimiters delim (but_one x) < n → x ≡ last_lines delim n x
-few_last delim {n} [] few = grind (arith, common_steps)
+few_last delim [] few = grind (arith, common_steps)
 few_last delim {n} (byte ∷ x) few =
     let count = all_lines delim (byte ∷ x) (omega arith) in
     let none : line_count delim (byte ∷ x) - n ≡ 0 = omega arith in
-    sym (ap (λ k. after_lines delim k (byte ∷ x)) none ∙ joined-lines_of delim (byte ∷ x))
+    rw none (sym (joined-lines_of delim (byte ∷ x)))
 
 -- a block of the text is one of the text without its last byte
 block_of : (x : List ℕ) (from size : ℕ) → from + size ≤ length x - 1
@@ -93,7 +95,7 @@ block_of x from size within =
     sym (ap (λ k. take size (drop from (take k x))) (sym all) ∙ ap (take size) (drop-take from more x) ∙ take-take size more (drop from x) (omega arith))
 
 pub block_then : (y : List ℕ) (from size : ℕ) → drop from y ≡ take size (drop from y) ++ drop (from + size) y
-block_then y from size = sym (take-append-drop size (drop from y)) ∙ ap (λ rest. take size (drop from y) ++ rest) (drop-drop size from y)
+block_then y from size = rw (← drop-drop, take-append-drop) refl
 
 -- where the walk from the end stands: this number of delimiters is still wanted before this place
 abbrev pub IsWanted : ℕ → ℕ → ℕ → ℕ → List ℕ → Type 0
@@ -107,8 +109,7 @@ pub wanted_before : {delim count wanted end : ℕ} (from size : ℕ) {found : �
 wanted_before {delim} {end} from size x {block} is place within are short =
     let here : block ≡ take size (drop from (but_one x)) = are ∙ block_of x from size (omega arith) in
     let all : delimiters delim (drop from (but_one x)) ≡ delimiters delim block + delimiters delim (drop end (but_one x)) =
-    ap (delimiters delim) (block_then (but_one x) from size) ∙ delimiters-append delim (take size (drop from (but_one x))) (drop (from + size) (but_one x))
-    ∙ ap (λ those. delimiters delim those + delimiters delim (drop (from + size) (but_one x))) (sym here) ∙ ap (λ k. delimiters delim block + delimiters delim (drop k (but_one x))) place in
+    rw (block_then (but_one x) from size, ← here, place) (delimiters-append delim block (drop end (but_one x))) in
     let counted = short.counted in let fewer = short.fewer in omega arith
 
 -- the wanted one stands in the block
@@ -117,18 +118,22 @@ pub begins_in : {delim count wanted end : ℕ} (from size : ℕ) {at : ℕ} (x :
     → BeginsAt delim wanted block at → BeginsAt delim count (but_one x) (from + at)
 begins_in {delim} {end} from size {at} x {block} is place within are begins =
     let here : block ≡ take size (drop from (but_one x)) = are ∙ block_of x from size (omega arith) in
-    let all : drop from (but_one x) ≡ block ++ drop end (but_one x) = block_then (but_one x) from size ∙ ap (λ those. those ++ drop (from + size) (but_one x)) (sym here) ∙ ap (λ k. block ++ drop k (but_one x)) place in
+    let all : drop from (but_one x) ≡ block ++ drop end (but_one x) = rw (← here, place) at
+    (block_then (but_one x) from size) in
     let inner : at ≤ length block = begins.within in
-    let long : length block + length (drop end (but_one x)) ≡ length (but_one x) - from = sym (ap length all ∙ length-append block (drop end (but_one x))) ∙ length-drop from (but_one x) in
+    let long : length block + length (drop end (but_one x)) ≡ length (but_one x) - from = rw (all, length-append) at
+    (length-drop from (but_one x)) in
     let front : take (from + at) (but_one x) ≡ take from (but_one x) ++ take at block =
-    take-add from at (but_one x) ∙ ap (λ those. take from (but_one x) ++ take at those) all ∙ ap (λ those. take from (but_one x) ++ those) (take_of at block (drop end (but_one x)) inner) in
-    let rest : drop (from + at) (but_one x) ≡ drop at block ++ drop end (but_one x) = sym (drop-drop at from (but_one x)) ∙ ap (drop at) all ∙ drop-append-le at block (drop end (but_one x)) inner in
+    rw (take-add from at (but_one x), all, take_of at block (drop end (but_one x)) inner) refl in
+    let rest : drop (from + at) (but_one x) ≡ drop at block ++ drop end (but_one x) = rw (← drop-drop, all)
+    (drop-append-le at block (drop end (but_one x)) inner) in
     let some : 0 < length (take at block) = ends_with-some delim (take at block) begins.after in
     let taken : length (take at block) ≡ min at (length block) = length-take at block in
-    let after : delimiters delim (drop (from + at) (but_one x)) ≡ delimiters delim (drop at block) + delimiters delim (drop end (but_one x)) = ap (delimiters delim) rest ∙ delimiters-append delim (drop at block) (drop end (but_one x)) in
+    let after : delimiters delim (drop (from + at) (but_one x)) ≡ delimiters delim (drop at block) + delimiters delim
+    (drop end (but_one x)) = rw rest (delimiters-append delim (drop at block) (drop end (but_one x))) in
     let counted = begins.counted in record {
       within = omega arith;
-      after = ap (ends_with delim) front ∙ ends_with-append delim (take from (but_one x)) (take at block) some ∙ begins.after;
+      after = rw (front, ends_with-append delim (take from (but_one x)) (take at block) some) begins.after;
       counted = omega arith;
     } where
       take_of : (at : ℕ) (block rest : List ℕ) → at ≤ length block → take at (block ++ rest) ≡ take at block
@@ -139,7 +144,7 @@ begins_in {delim} {end} from size {at} x {block} is place within are begins =
 -- the walk came to the front
 pub all_wanted : (delim : ℕ) {count wanted : ℕ} (end : ℕ) {x : List ℕ} → IsWanted delim count wanted end x → end ≡ 0
     → 0 < wanted → x ≡ last_lines delim count x
-all_wanted delim {count} end {x} is front some = grind (arith, common_steps, few_last)
+all_wanted delim end is front some = grind (arith, common_steps, few_last)
 
 -- Where they begin in what an input shows
 
@@ -161,7 +166,7 @@ pub record SeenFrom (told : Bool) (left : Content) (delim count wanted end len :
 -- before any look: a text of this length
 text_shown : (told : Bool) {len : ℕ} (shown : Option (List ℕ)) → (told ≡ true → Some len ≡ option_map length shown)
     → (text : List ℕ) × (told ≡ true → shown ≡ Some text) × (len ≡ length text)
-text_shown false {len} shown counted = (replicate len 0, λ never. absurd (false≢true never), sym (length-replicate len 0))
+text_shown false {len} shown counted = (replicate len 0, λ never. absurd (cc), sym (length-replicate len 0))
 text_shown true {len} None counted = absurd (none-some len (sym (counted refl)))
 text_shown true (Some text) counted = (text, λ tells. refl, let same = counted refl in cc)
 
@@ -188,12 +193,12 @@ pub block_seen : (told : Bool) {left : Content} {delim count wanted end len : �
     → SeenFrom told left delim count wanted end len → from + size ≡ end → end ≤ len - 1 → length block ≡ size
     → (told ≡ true → ShowsOf left from block)
     → (seen : SeenFrom told left delim count wanted end len) × (block ≡ take size (drop from seen.text))
-block_seen true from size {block} seen place within long shows =
+block_seen true from size seen place within long shows =
     let (text, is, there) = shows refl in
     let shown = seen.shown refl in
     let same : text ≡ seen.text = cc in
-    (seen, subst (λ those. block ≡ take (length block) (drop from those)) same there ∙ ap (λ n. take n (drop from seen.text)) long)
-block_seen false {left} {delim} {wanted = wanted} {end} {len} from size {block} seen place within long shows =
+    (seen, rw (same, long) at there)
+block_seen false {end = end} {len} from size {block} seen place within long shows =
     let text = take from seen.text ++ (block ++ drop end seen.text) in
     let front : length (take from seen.text) ≡ from = omega (arith, length-take from seen.text) in
     let all : length text ≡ len = omega (arith, length-append (take from seen.text) (block ++ drop end seen.text), length-append block (drop end seen.text), length-drop end seen.text) in
@@ -201,11 +206,11 @@ block_seen false {left} {delim} {wanted = wanted} {end} {len} from size {block} 
     let rest : drop end text ≡ drop end seen.text = ap (λ k. drop k text) (sym place) ∙ sym (drop-drop size from text) ∙ ap (drop size) from_there ∙ drop_at block (drop end seen.text) size long in (
       record {
         text = text;
-        shown = λ never. absurd (false≢true never);
+        shown = λ never. absurd (cc);
         long = sym all;
-        still = seen.still ∙ ap (λ those. wanted + delimiters delim those) (but_one_end seen.text text (omega arith) (sym rest) (sym seen.long ∙ sym all));
+        still = rw (but_one_end seen.text text (omega arith) (sym rest) (omega arith)) at seen.still;
       },
-      sym (ap (take size) from_there ∙ take_at block (drop end seen.text) size long),
+      rw from_there (sym (take_at block (drop end seen.text) size long)),
     )
 
 -- where a part that is so long begins
@@ -218,7 +223,7 @@ module _ {told : Bool} {left : Content} {delim count wanted end len : ℕ} where
   pub found_in : (from size : ℕ) {at : ℕ} {block : List ℕ} → SeenFrom told left delim count wanted end len
       → from + size ≡ end → 0 < end → end ≤ len - 1 → length block ≡ size → (told ≡ true → ShowsOf left from block)
       → BeginsAt delim wanted block at → SeenLast told left delim Lines count (record { place = from + at; len = len })
-  found_in from size {at} seen place some within long shows begins =
+  found_in from size seen place some within long shows begins =
       let now = block_seen told from size seen place within long shows in
       let text = now.0.text in
       let many = now.0.long in
@@ -257,7 +262,7 @@ module _ {told : Bool} {left : Content} {delim count wanted end len : ℕ} where
 pub found_none : (told : Bool) {left : Content} (delim : ℕ) {count len : ℕ} → count ≡ 0
     → (told ≡ true → Some len ≡ count_shown left)
     → SeenLast told left delim Lines count (record { place = len; len = len })
-found_none told {left} delim {count} none counted =
+found_none told {left} delim none counted =
     let text = text_shown told left.shown counted in record {
       text = text.0;
       shown = text.1;

@@ -1,6 +1,6 @@
 -- The laws of the work of `head` and of `tail`.
 use Rattle.std.proofs.{
-  lemmas.{Grind.common_steps, Bool.{false≢true, leb-true, le-leb, le-ltb, lt-ltb}},
+  lemmas.{Grind.common_steps, Bool.{leb-true, le-leb, le-ltb, lt-ltb}},
   Common.{◌≡◌, ℕ, ◌-◌, ◌<◌, ◌≤◌, ◌&&◌, zero, suc, not, List, ◌++◌, length, Bool, true, false, Option, Some, None, cond},
   Common.{nat_le, refl, sym, ◌∙◌, ap, arith, rules},
 }
@@ -65,7 +65,7 @@ complete_came delim unit {least} {n} x within full =
 -- so what its input has changed below stays as it is
 came_stays : (delim : ℕ) (unit : Counted) {least n : ℕ} (x y : List ℕ) → least ≤ n
     → nat_le n (measure delim unit x) ≡ true → changed_below least (x ++ y) ≡ changed_below least x
-came_stays delim unit {least} {n} x y within full =
+came_stays delim unit {n = n} x y within full =
     complete_came delim unit (x ++ y) within (full_head delim unit false n x y full).0
     ∙ sym (complete_came delim unit x within full)
 
@@ -113,7 +113,7 @@ pub tail_lawful_by : (delim : ℕ) (unit : Counted) (from_nth : Bool) (n : ℕ) 
 tail_lawful_by delim unit from_nth n verdict = record {
   grows = tail_grows delim unit from_nth n;
   ends = tail_ends delim unit from_nth n;
-  stays = λ x y never. absurd (false≢true never);
+  stays = λ x y never. absurd (cc);
 }
 
 pub tail_lawful : (delim : ℕ) (unit : Counted) (from_nth : Bool) (n : ℕ) → IsLawful (tail_work delim unit from_nth n)

@@ -1,7 +1,4 @@
-use Rattle.std.proofs.{
-  Common.{◌≡◌, ℕ, List, ◌++◌, length, Bool, true, false, ◌⊎◌, inl, inr, refl, sym, ◌∙◌, ap, subst},
-  lemmas.Bool.false≢true,
-}
+use Rattle.std.proofs.{Common.{◌≡◌, ℕ, List, ◌++◌, length, Bool, true, false, ◌⊎◌, inl, inr, refl, ap, subst}}
 use Rattle.ports_core.specs.{
   Slot.Slot,
   Work.{Means, on_output},
@@ -21,9 +18,9 @@ only_writes : (memory : Bool) {lacks : Bool} (Ends : Verdict → Type 0) (old ne
     → lacks ≡ false → ((verdict : Verdict) → Ends verdict → ⊥)
     → IsMet (on_output memory) (on_output memory).feeding (lacks ≡ true) Ends old new fault
     → (fault ≡ Write 0) ⊎ (fault ≡ TooLong)
-only_writes memory Ends old new Memory enough well cause = absurd (false≢true (sym enough ∙ cause.1))
-only_writes memory Ends old new (Write slot) enough well cause = inl (ap Write (cause.1 refl))
-only_writes memory Ends old new (Open slot) enough well cause = absurd (false≢true cause.0)
+only_writes memory Ends old new Memory enough well cause = absurd (cc)
+only_writes memory Ends old new (Write _) enough well cause = inl (ap Write (cause.1 refl))
+only_writes memory Ends old new (Open _) enough well cause = absurd (cc)
 only_writes memory Ends old new (fault_is.Verdict verdict) enough well cause = absurd (well verdict cause)
 only_writes memory Ends old new fault enough well cause = absurd cause
 
@@ -32,9 +29,10 @@ only_these : (memory : Bool) {lacks is_over : Bool} (Ends : Verdict → Type 0) 
     → IsCaused
     (IsMet (on_output memory) (on_output memory).feeding (lacks ≡ true) Ends old new) is_over fed size old new fault
     → (fault ≡ Write 0) ⊎ (fault ≡ TooLong)
-only_these memory Ends live enough well (over ended same) = absurd (false≢true (sym live ∙ ended))
-only_these memory Ends live enough well (long going much same) = inr refl
-only_these memory Ends {old} {new} live enough well (met fault going cause) = only_writes memory Ends old new fault enough well cause
+only_these memory Ends live enough well (over ended _) = absurd (cc)
+only_these memory Ends live enough well (long _ _ _) = inr refl
+only_these memory Ends {old} {new} live enough well (met fault _ cause) =
+    only_writes memory Ends old new fault enough well cause
 
 fails : (engine : GuardState Ends) (x piece : List ℕ) (old new : List Slot) (fault : Fault) → HoldsIn Holds engine x
     → may_lack engine.stage ≡ false
