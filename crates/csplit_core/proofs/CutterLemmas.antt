@@ -732,7 +732,12 @@ module _ {told : Bool} {cutter mid : CutterState} {writer next : WriterState} {c
   cut_done empty shorter = record {
     fewer = passed.fewer;
     spreading = λ line. record {
-      keeps = record { operands = ap (λ (c : CutterState). c.operands) passed.same; style = ap (λ (c : CutterState). c.style) passed.same; writer = leaves_again went.leaves (began_there cutter passed opening_is began).leaves };
+      keeps = record {
+        operands = ap (λ (c : CutterState). c.operands) passed.same;
+        style = ap (λ (c : CutterState). c.style) passed.same;
+        writer = leaves_again went.leaves
+            (began_there cutter passed opening_is began).leaves;
+      };
       lines = ap (λ (c : CutterState). c.lines) passed.same;
       fit = record { fits = passed.fit.fits; most = passed.fit.most; delim = passed.fit.delim; sought = passed.fit.sought };
       held = passed.held;

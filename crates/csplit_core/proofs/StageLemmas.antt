@@ -749,7 +749,14 @@ finishes_by told stage next old new (ended_so verdict mid reached closed judges 
 none_stands : (told : Bool) (style : Style) {before slots : List Slot} → 2 ≤ length slots
     → OutputsAt told before nothing slots → At told (writer_for style) before nothing slots
 none_stands told style {before} {slots} two at =
-    record { owns = rw (let e : length slots ≡ length before = omega (arith, outputs_count told before nothing slots at) in e) at (first_owns style two); outputs = at }
+    record {
+      owns = rw (let e : length slots ≡ length before = omega (
+        arith,
+        outputs_count told before nothing slots
+            at,
+      ) in e) at (first_owns style two);
+      outputs = at;
+    }
 
 -- the first section began, or could not; the operands are as they are handed over
 pub begins_at : (told : Bool) (style : Style) {given operands : List Operand} {writer : WriterState}

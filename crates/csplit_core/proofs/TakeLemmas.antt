@@ -512,30 +512,32 @@ pub spread_passes : {told : Bool} {cutter mid end next : CutterState} {cut : Cut
     → (rest ≡ []) ⊎ (ends_with newline line ≡ true) → PassesOver mid rest end n
     → Holds told end (end.window.held ++ (left ++ take n rest)) between new next fault
     → CutsAll told cutter cut place waiting line (take n rest) old new next fault
-spread_passes {told} {cutter} {mid} {end} {next} {cut} {place} {waiting} {line} {left} {rest} {n} {between = between} {new} {fault} spread complete over held = record {
-  keeps = keeps_on spread.so_far.keeps held_now.keeps;
-  reaches = λ x at here. let after = spread.so_far.after x at here in let there = reached x at here in
-      reaches_then spread.so_far.keeps.style after.grows after.reaches
-      (reaches_as there.same (sym (settled_same (x ++ take n rest) spread.so_far.keeps))
-      (held_now.reaches (x ++ take n rest) there.at there.arrives));
-  went = where_well fault held_now.went (λ went. record {
-    lines = omega (arith, ap (λ (c : CutterState). c.lines) went.same, over_now.few, length-take-le n rest over.within);
-    sound = sound_held went (subst IsSound over_now.same over.sound);
-    stands = λ x at here. let there = reached x at here in went.stands (x ++ take n rest) there.at there.arrives;
-    size = omega (arith, length-append left (take n rest));
-  });
-} where
-  over_now : PassesOver (record spread.now { aim = mid.aim }) rest end n
-  over_now = rw spread.is at over
+spread_passes {told} {cutter} {mid} {end} {next} {cut} {place} {waiting} {line} {left} {rest} {n} {between = between}
+    {new} {fault} spread complete over held = record {
+      keeps = keeps_on spread.so_far.keeps held_now.keeps;
+      reaches = λ x at here. let after = spread.so_far.after x at here in let there = reached x at here in
+          reaches_then spread.so_far.keeps.style after.grows after.reaches
+          (reaches_as there.same (sym (settled_same (x ++ take n rest) spread.so_far.keeps))
+          (held_now.reaches (x ++ take n rest) there.at there.arrives));
+      went = where_well fault held_now.went (λ went. record {
+        lines = omega (arith, ap (λ (c : CutterState). c.lines) went.same, over_now.few, length-take-le n rest over.within);
+        sound = sound_held went (subst IsSound over_now.same over.sound);
+        stands = λ x at here. let there = reached x at here in went.stands (x ++ take n rest) there.at there.arrives;
+        size = omega (arith, length-append left (take n rest));
+      });
+    } where
+      over_now : PassesOver (record spread.now { aim = mid.aim }) rest end n
+      over_now = rw spread.is at over
 
-  held_now : Holds told (more_lines spread.now end.lines mid.aim) (left ++ take n rest) between new next fault
-  held_now = subst (λ those. Holds told (more_lines spread.now end.lines mid.aim)
-      (those ++ (left ++ take n rest)) between new next fault) spread.so_far.held (rw over_now.same at held)
+      held_now : Holds told (more_lines spread.now end.lines mid.aim) (left ++ take n rest) between new next fault
+      held_now = subst (λ those. Holds told (more_lines spread.now end.lines mid.aim)
+          (those ++ (left ++ take n rest)) between new next fault) spread.so_far.held (rw over_now.same at held)
 
-  reached : (x : List ℕ) (at : IsAt (bare cutter) x waiting) (here : CutsNow line cut place at)
-      → Reached (part_at (spread.so_far.after x at here).now) (more_lines spread.now end.lines mid.aim)
-      (x ++ take n rest) (left ++ take n rest)
-  reached x at here = there_of line spread.so_far.fit (joins_by n complete here.last.2) (rw spread.is at spread.tries) over_now (spread.so_far.after x at here)
+      reached : (x : List ℕ) (at : IsAt (bare cutter) x waiting) (here : CutsNow line cut place at)
+          → Reached (part_at (spread.so_far.after x at here).now) (more_lines spread.now end.lines mid.aim)
+          (x ++ take n rest) (left ++ take n rest)
+      reached x at here = there_of line spread.so_far.fit (joins_by n complete here.last.2)
+          (rw spread.is at spread.tries) over_now (spread.so_far.after x at here)
 
 -- they are held alone
 pub spread_held : {told : Bool} {cutter mid next : CutterState} {cut : Cut} {place : ℕ} {waiting line left : List ℕ}

@@ -120,8 +120,15 @@ module _ {suppress : Bool} (all : List Line) {total : ℕ} {state : State} {foun
       → most ≡ min (moved offset total) (2 ^ 64 - 1) → total < 2 ^ 64 - 1 → (turn : Turn)
       → FallsAt total state.current total most turn → Turns suppress all state turn
   falls_search offset target near is_found = falls total (moved offset total)
-      (subst (λ t. CutsAt suppress all state operand t total (moved offset total)) (sym target)
-      (record { not_before = near; within = omega arith; match = seen.last operand operands are near ∙ is_found; first = seen.others operand operands are }, refl))
+      (subst (λ t. CutsAt suppress all state operand t total (moved offset total)) (sym target) (
+        record {
+          not_before = near;
+          within = omega arith;
+          match = seen.last operand operands are near ∙ is_found;
+          first = seen.others operand operands are;
+        },
+        refl,
+      ))
 
   -- and where it has not, or the search begins after it, no line matches
   pub misses_search : {pattern : Pattern} {kept : Bool} {offset : Offset} → operand.target ≡ Search pattern kept offset

@@ -153,7 +153,8 @@ pub looked_block : {most slot : ℕ} (size : ℕ) (buffer : List ℕ) {old mid n
     → HasLooked most slot old mid → IsTrue (is_readable old slot) → length buffer ≤ most
     → new ≡ changed_at slot (looks (length (take size buffer))) mid
     → HasLooked most slot old new
-looked_block {most} size buffer so_far can few is = looked_again {least = most} so_far (looked_once (looked_readable so_far can) (omega (arith, length-take size buffer)) is) (omega arith)
+looked_block {most} size buffer so_far can few is = looked_again {least = most} so_far
+    (looked_once (looked_readable so_far can) (omega (arith, length-take size buffer)) is) (omega arith)
 
 -- What is known of the text that an input shows, of which its end was looked at from a place on: this number of delimiters is
 -- still wanted before it. Where inputs don't tell their bytes, any text with that end is one that it may show.
@@ -201,7 +202,12 @@ block_seen true from size seen place within long shows =
 block_seen false {end = end} {len} from size {block} seen place within long shows =
     let text = take from seen.text ++ (block ++ drop end seen.text) in
     let front : length (take from seen.text) ≡ from = omega (arith, length-take from seen.text) in
-    let all : length text ≡ len = omega (arith, length-append (take from seen.text) (block ++ drop end seen.text), length-append block (drop end seen.text), length-drop end seen.text) in
+    let all : length text ≡ len = omega (
+      arith,
+      length-append (take from seen.text) (block ++ drop end seen.text),
+      length-append block (drop end seen.text),
+      length-drop end seen.text,
+    ) in
     let from_there : drop from text ≡ block ++ drop end seen.text = drop_at (take from seen.text) (block ++ drop end seen.text) from front in
     let rest : drop end text ≡ drop end seen.text = ap (λ k. drop k text) (sym place) ∙ sym (drop-drop size from text) ∙ ap (drop size) from_there ∙ drop_at block (drop end seen.text) size long in (
       record {

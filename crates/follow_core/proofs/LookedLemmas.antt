@@ -414,7 +414,9 @@ pub makes_look : {told_in told : Bool} {shows shows_mid : ℕ → Snapshot}
     slots_new result
     → MakesLook told_in told (shows (length seen)) seen old watched slots seen_new
     (record inside { names = names_new; printer = printer }) watched_new slots_new result
-makes_look {told_in} {told} {shows} {shows_mid} {seen} {seen_mid} {seen_new} {old} {inside} {names_new} {watched} {watched_mid} {watched_new} {printer} {slots} {slots_new} {result} live can view begin shows_same seen_same turned watched_same names_are names_now seen_is visits =
+makes_look {told_in} {told} {shows} {shows_mid} {seen} {seen_mid} {seen_new} {old} {inside} {names_new} {watched}
+    {watched_mid} {watched_new} {printer} {slots} {slots_new}
+    {result} live can view begin shows_same seen_same turned watched_same names_are names_now seen_is visits =
     by result made where
       begins : Begins told_in old watched inside watched_mid
       begins = rw view begin
@@ -646,7 +648,11 @@ most_made false process shows count made within left = (
 )
 most_made true process shows count made within left = (
   until_over process shows 0 count,
-  record { are = λ t. refl; within = until_within process shows 0 count; found = λ fewer. let (last, at, over) = until_found process shows 0 count fewer in (last, omega arith, over) },
+  record {
+    are = λ t. refl;
+    within = until_within process shows 0 count;
+    found = λ fewer. let (last, at, over) = until_found process shows 0 count fewer in (last, omega arith, over);
+  },
   left refl,
 )
 

@@ -233,7 +233,8 @@ lists_same : {A : Type 0} (one other : List (List A)) → length one ≡ length 
     → ((place : ℕ) → place < length one → get_or one place [] ≡ get_or other place []) → one ≡ other
 lists_same [] [] count same = refl
 lists_same (bytes ∷ one) (those ∷ other) count same =
-    ap (λ first. first ∷ one) (same zero (omega arith)) ∙ ap (λ rest. those ∷ rest) (lists_same one other (omega arith) (λ place less. same (suc place) (omega arith)))
+    ap (λ first. first ∷ one) (same zero (omega arith)) ∙ ap (λ rest. those ∷ rest)
+    (lists_same one other (omega arith) (λ place less. same (suc place) (omega arith)))
 lists_same one other count same = cc
 
 files_at : (low high : List File) (place : ℕ) → FilesBegin low high
@@ -269,7 +270,8 @@ no_longer work one other place agreed also less within =
 pub one_is_agreed : (work : Work) (x : List ℕ) (one other : Part) → IsAgreed work x one → IsAgreed work x other
     → outputs_of one ≡ outputs_of other
 one_is_agreed work x one other agreed also =
-    let count : length (outputs_of one) ≡ length (outputs_of other) = (let few = no_more work one other agreed also in omega (arith, no_more work other one also agreed)) in
+    let count : length (outputs_of one) ≡ length (outputs_of other) =
+    (let few = no_more work one other agreed also in omega (arith, no_more work other one also agreed)) in
     lists_same (outputs_of one) (outputs_of other) count (λ place less.
     let within : place < length (outputs_of other) = rw count at less in
     beginnings_same (output_at one place) (output_at other place) (output_at (work.whole (x ++ [])) place)

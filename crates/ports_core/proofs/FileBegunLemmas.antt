@@ -382,7 +382,20 @@ pub close_not : {told : Bool} {writer : WriterState} (slot size : ℕ) {old new 
     → SlotBreaks slot (changed_at slot closes old) new
     → Goes told writer (with_next Never) old new (paused writer) (Some f)
 close_not {told} {writer} slot size {old} {new} is ready which broken = subst (λ f. Goes told writer (with_next Never) old new (paused writer) (Some f)) (sym which) (record {
-  leaves = record { naming = refl; tells = refl; keeps = refl; open_alone = λ alone. refl; owns = owns; slots = (let at = at_file is ready in (λ none. absurd (omega arith), close_rose slot old new at.1 (writable_within slot old at.1) broken)); output = tt; ready = tt };
+  leaves = record {
+    naming = refl;
+    tells = refl;
+    keeps = refl;
+    open_alone = λ alone. refl;
+    owns = owns;
+    slots = (let at = at_file is ready in (
+      λ none. absurd (omega arith),
+      close_rose slot old new at.1
+          (writable_within slot old at.1) broken,
+    ));
+    output = tt;
+    ready = tt;
+  };
   reaches = λ manner draft writes. let now = now_is is writes in let named = file_named now.0 writes in
       reaches_as (open_part manner draft named now.0) (closed_part manner draft named now.0)
       (reaches_by owns (λ first last. falls_wider (closes_not manner.output told (ended_files manner draft) (name_after manner draft) draft.bytes old

@@ -68,7 +68,12 @@ module _ (line : PartFile → List ℕ) (told : Bool) (front : List PartFile) (f
   tells_line old None closed some wrote = out_added told (line file) old wrote
   tells_line old (Some _) closed some (short.broke n cut) =
       becomes_again (line_begins (take n (line file))) (out_added told (take n (line file)) old refl) (halts_here (record { out = take_begins_after n (lines_for line front) (line file); files = files_begin_themselves (front ++ file ∷ []) })
-      (turn_last front file (length front) refl closed) (cut_short n (with_last (lines_for line front ++ line file) front file)) (let size : length (with_written 0 (told_of told (take n (line file))) old) ≡ length old = length-changed_at 0 _ old in omega arith, cut.slots) (λ before at. inl refl))
+      (turn_last front file (length front) refl closed)
+      (cut_short n (with_last (lines_for line front ++ line file) front file)) (
+        let size : length (with_written 0 (told_of told (take n (line file))) old) ≡ length old =
+            length-changed_at 0 _ old in omega arith,
+        cut.slots,
+      ) (λ before at. inl refl))
 
 -- a `?` handed a fault on
 pub stop_is : {T : Type 0} (P : Option Fault → Type 0) (result : Result T Fault) (fault : Fault)

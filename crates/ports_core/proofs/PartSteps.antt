@@ -208,5 +208,7 @@ module _ (output : Output) (told : Bool) (front : List File) (name bytes : List 
       (Some (fault.Write slot))
   closes_not {slot} old closed last is =
       becomes_again (close_begins _ front name bytes) (closes_last output told _ front name bytes old last refl) (halts_here (part_begins_itself _)
-      (turn_last front (file_of name bytes state.Closed) (length front) refl closed) (lines_of_last output front (file_of name bytes state.Closed) _ (fault.Write slot) tt) (omega (arith, length-changed_at), is)
+      (turn_last front (file_of name bytes state.Closed) (length front) refl closed)
+      (lines_of_last output front (file_of name bytes state.Closed) _ (fault.Write slot) tt)
+      (omega (arith, length-changed_at), is)
       (λ before at. inr (last_place output told _ front (file_of name bytes state.Closed) (last ∙ sym (length-changed_at slot closes old)) at)))

@@ -186,7 +186,9 @@ module _ {S : Type 0} (terms : Terms S) where
   stopped_feeding laws told {now = now} next WasRead {x} piece rest {before = before} so_far own at is within going read passes kept cleared =
       let why = rw so_far.holds.count at (rw so_far.holds.live at passes.met) in
       rw (← so_far.same) (short_of_piece WasRead piece rest (laws now.stage) is within going read (passes.cut before x (stands told so_far own at))
-      (λ unjudged. stops (terms.work now.stage) (x ++ piece) ((terms.work now.stage).settled x) ((terms.work now.stage).settled (x ++ piece)) false 0 _ (EndsWith terms piece now.stage) unjudged (λ long. let size : length (x ++ piece) ≡ length x + length piece = length-append x piece in omega arith) why)
+      (λ unjudged. stops (terms.work now.stage) (x ++ piece) ((terms.work now.stage).settled x)
+      ((terms.work now.stage).settled (x ++ piece)) false 0 _ (EndsWith terms piece now.stage) unjudged
+      (λ long. let size : length (x ++ piece) ≡ length x + length piece = length-append x piece in omega arith) why)
       (λ judging. let (verdict, is, ends) = judges (terms.work now.stage).means _ (EndsWith terms piece now.stage) judging passes.met in (verdict, is, ends x so_far.holds.within))
       kept
       (λ unjudged. rw passes.same at (cleared unjudged (length before) (passes.owns (length before) (so_far.owns (length before) own)))))
@@ -206,7 +208,11 @@ module _ {S : Type 0} (terms : Terms S) where
   ended laws told {now} WasRead {x} {z} {before} {fed} so_far own at got all alike needed read (fell_short _ _ _ finishes kept cleared) =
       let why = rw so_far.holds.live at finishes.met in
       rw (← so_far.same) (short_of_end WasRead fed (laws now.stage) got all alike needed read (finishes.cut before x (stands told so_far own at))
-      (λ unjudged. stops (terms.work now.stage) z ((terms.work now.stage).settled z) ((terms.work now.stage).whole z) (not ((terms.work now.stage).is_complete z)) (if (terms.work now.stage).is_complete z then (terms.work now.stage).ahead else 0) (Unit {0}) (EndsThere terms now.stage) unjudged (λ long. absurd (let bound : now.fed < 2 ^ 63 = so_far.bound in omega arith)) why)
+      (λ unjudged. stops (terms.work now.stage) z ((terms.work now.stage).settled z) ((terms.work now.stage).whole z)
+      (not ((terms.work now.stage).is_complete z))
+      (if (terms.work now.stage).is_complete z then (terms.work now.stage).ahead else 0) (Unit {0})
+      (EndsThere terms now.stage) unjudged (λ long. absurd
+      (let bound : now.fed < 2 ^ 63 = so_far.bound in omega arith)) why)
       (λ judging. let (verdict, is, ends) = judges (terms.work now.stage).means (Unit {0}) (EndsThere terms now.stage) judging finishes.met in (verdict, is, ends x so_far.holds.within))
       kept (λ unjudged. rw finishes.same at (cleared unjudged (length before) (finishes.owns (length before) (so_far.owns (length before) own)))))
 
@@ -247,7 +253,11 @@ pub of_read : (told : Bool) (there : Content) (bytes : List ℕ) (breaks_off : B
 of_read true there bytes breaks_off source P all came holds =
     let from = came there (λ off. absurd (cc)) in (there, λ t. refl, (holds there (λ t. refl) (all refl).0 (all refl).1 from, from))
 of_read false there bytes breaks_off source P all came holds =
-    let from = came (record { bytes = bytes; breaks_off = breaks_off; shown = None }) (λ off. refl) in (record { bytes = bytes; breaks_off = breaks_off; shown = None }, λ t. absurd (cc), (holds _ (λ t. absurd (cc)) refl refl from, from))
+    let from = came (record { bytes = bytes; breaks_off = breaks_off; shown = None }) (λ off. refl) in (
+      record { bytes = bytes; breaks_off = breaks_off; shown = None },
+      λ t. absurd (cc),
+      (holds _ (λ t. absurd (cc)) refl refl from, from),
+    )
 
 pub of_more : (told : Bool) (there : Content) (x rest : List ℕ) (source : Source) (P : Content → Type 0)
     → (told ≡ true → there.bytes ≡ x ++ rest)
@@ -350,7 +360,13 @@ pub read_to_used : {work : Work} {x : List ℕ} {slot n : ℕ} {start sources ne
     → IsTrue (is_readable sources slot) → new ≡ changed_at slot (gets_back n) sources → slot ≡ 0
     → (source_at new slot).reached ≤ length spare.used + work.ahead
 read_to_used {slot} {n} {sources} {new} spare few took unread can is standard =
-    omega (arith, few standard, took.far unread, ap length spare.joined ∙ length-append spare.used spare.rest, ap (λ (source : Source). source.reached) (changed_source slot (gets_back n) sources new can is))
+    omega (
+      arith,
+      few standard,
+      took.far unread,
+      ap length spare.joined ∙ length-append spare.used spare.rest,
+      ap (λ (source : Source). source.reached) (changed_source slot (gets_back n) sources new can is),
+    )
 
 -- the output was complete, and what it doesn't use was given back
 pub uses_part : {work : Work} {most slot n : ℕ} {there : Content} {x : List ℕ} {start sources new : List Source}

@@ -228,13 +228,17 @@ pub rest_untouched : (world : World) (was_read : Bool) (slot : ℕ) (names : Lis
     → (was_read ≡ false → source_at sources 0 ≡ source_of world.standard) → length sources ≤ slot
     → AreUntouched (inputs_from world was_read slot names) sources
 rest_untouched world was_read slot [] sources unread few = tt
-rest_untouched world was_read slot (name ∷ names) sources unread few =
-    (by_name was_read (is_dash name) unread, rest_untouched world (was_read || is_dash name) (next_slot slot name) names sources (λ none. unread (or_parts was_read (is_dash name) none).0) (let more : slot ≤ next_slot slot name = count_more slot (name ∷ []) in omega arith)) where
-      by_name : (was dash : Bool) → (was ≡ false → source_at sources 0 ≡ source_of world.standard)
-          → (let input = input_of world was slot name dash in IsUntouched input.slot input.content sources)
-      by_name true true at_first = tt
-      by_name false true at_first = inr (world.standard, refl, at_first refl)
-      by_name was false at_first = inl few
+rest_untouched world was_read slot (name ∷ names) sources unread few = (
+  by_name was_read (is_dash name) unread,
+  rest_untouched world (was_read || is_dash name)
+      (next_slot slot name) names sources (λ none. unread (or_parts was_read (is_dash name) none).0)
+      (let more : slot ≤ next_slot slot name = count_more slot (name ∷ []) in omega arith),
+) where
+  by_name : (was dash : Bool) → (was ≡ false → source_at sources 0 ≡ source_of world.standard)
+      → (let input = input_of world was slot name dash in IsUntouched input.slot input.content sources)
+  by_name true true at_first = tt
+  by_name false true at_first = inr (world.standard, refl, at_first refl)
+  by_name was false at_first = inl few
 
 -- Lemmas on one input of a run.
 
@@ -425,7 +429,8 @@ ran_through is (all _ error reached same says at swept done) =
 -- standard error is there for the fault that stopped the run
 pub stop_open : {told_in told : Bool} {task : Task} {found : List Input} {sources : List Source} {new : List Slot}
     {fault : Fault} → TookAll told_in told task found sources new (Err fault) → is_open (slot_at new 1).state ≡ true
-stop_open (stopped_at _ _ _ _ _ step _ among done untouched is_step stops says stop swept) = grind (arith, common_steps, swept_open, error_open, stop_error, all_said_state)
+stop_open (stopped_at _ _ _ _ _ step _ among done untouched is_step stops says stop swept) =
+    grind (arith, common_steps, swept_open, error_open, stop_error, all_said_state)
 stop_open (not_begun is untouched none) = grind (arith, common_steps)
 
 -- the run that a fault stopped
@@ -536,7 +541,8 @@ pub of_missing : {told_in told : Bool} {why : Reason} {task : Task} {most : ℕ}
     (λ input. TookInput told_in told task most input (of_input task is_first input) is_first failed
     (was_read || is_dash name) so_far error (length old) after new
     (Ok (record { was_read = was_read; is_first = is_first; failed = true })))
-of_missing {told_in} {told} {why} {task} {most} {is_first} {was_read} {laid} {name} {sources} {new} differs (from.broke _ reason number lies are) cannot at says =
+of_missing {told_in} {told} {why} {task} {most} {is_first} {was_read} {laid} {name} {sources} {new} differs
+    (from.broke _ reason number lies are) cannot at says =
     of_file (world_of laid sources) was_read None _ differs (λ t. ap (λ n. laid n name) (sym number) ∙ lies t) (λ t. refl)
     (let said = said_at at says in
     took (record { was_read = was_read; is_first = is_first; failed = true }) said.0 new
@@ -694,7 +700,8 @@ pub walk_goes_on : {told_in told : Bool} {task : Task} {world : World} {names : 
     → Takes told_in told task largest_piece progress laid sources new_sources name walked.made.part walked.error slots
     new (Ok next)
     → Walked told_in told task world names left next new_laid new_sources new
-walk_goes_on {told_in} {told} {task} {world} {name = name} {left} {progress} {next} {sources = sources} {new_sources} {slots} {new} walked leaves opened_it same (input, is_for, there, took _ after reached is is_done says at swept) =
+walk_goes_on {told_in} {told} {task} {world} {name = name} {left} {progress} {next} {sources = sources} {new_sources}
+    {slots} {new} walked leaves opened_it same (input, is_for, there, took _ after reached is is_done says at swept) =
     let one = of_input task progress.is_first input in
     let was : next.was_read ≡ (progress.was_read || is_dash name) = ap (λ (p : Progress). p.was_read) is in
     let unswept : walked.made.sweeps ≡ false = walked.unswept (omega arith) in

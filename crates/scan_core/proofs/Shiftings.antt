@@ -452,7 +452,15 @@ weight_small {code} {state} t w l h =
 more_steps : {code : List Node} {line : List ℕ} {steps : ℕ} (added : ℕ) → HasStepsBefore code line steps
     → HasStepsBefore code line (steps + added)
 more_steps added has =
-    record { place = has.place; within = has.within; ends = has.ends; first = has.first; before = has.before; counted = has.counted; least = let l = has.least in omega arith }
+    record {
+      place = has.place;
+      within = has.within;
+      ends = has.ends;
+      first = has.first;
+      before = has.before;
+      counted = has.counted;
+      least = let l = has.least in omega arith;
+    }
 
 state_over : {code : List Node} {table : Table} {line : List ℕ} {place state steps added : ℕ} → IsTable code table
     → IsStateAt code table line place state steps → place < length line → HasStepsBefore code line (steps + added)

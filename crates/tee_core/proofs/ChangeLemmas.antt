@@ -74,7 +74,12 @@ pub newly_in_two : (old mid new : List Slot) → length mid ≡ length old → l
     → StayBroken mid new → newly_broken old new ≡ newly_broken old mid + newly_broken mid new
 newly_in_two [] [] [] count_mid count_new first second = refl
 newly_in_two (o ∷ olds) (m ∷ mids) (n ∷ news) count_mid count_new first second =
-    omega (arith, in_two (first 0) (second 0), newly_in_two olds mids news (omega arith) (omega arith) (λ place broken. first (suc place) broken) (λ place broken. second (suc place) broken))
+    omega (
+      arith,
+      in_two (first 0) (second 0),
+      newly_in_two olds mids news (omega arith) (omega arith)
+          (λ place broken. first (suc place) broken) (λ place broken. second (suc place) broken),
+    )
 newly_in_two old mid new count_mid count_new first second = absurd (omega arith)
 
 pub turned_none : {Change : Slot → Slot → Type 0} {IsOne : ℕ → Type 0} {slots : List Slot}

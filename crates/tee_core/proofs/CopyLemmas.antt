@@ -428,7 +428,8 @@ pub file_place : {names : List (List ℕ)} {tee : TeeState} (place : ℕ) → Is
     → (n : ℕ) × (place ≡ suc (suc n)) × (n < length names)
 file_place {tee} zero is file = absurd (omega (arith, is.first (omega (arith, file.0, file.1))))
 file_place {tee} (suc zero) is file = absurd (omega (arith, is.first (omega (arith, file.0, file.1))))
-file_place {names} {tee} (suc (suc n)) is file = let first : tee.first ≡ 2 = is.first (omega arith) in let count : tee.count ≡ length names = is.count in (n, refl, omega arith)
+file_place {names} {tee} (suc (suc n)) is file = let first : tee.first ≡ 2 = is.first (omega arith) in
+    let count : tee.count ≡ length names = is.count in (n, refl, omega arith)
 
 pub place_file : {names : List (List ℕ)} {tee : TeeState} (n : ℕ) → IsTeeOf names tee → n < length names
     → IsFile tee (suc (suc n))
@@ -574,11 +575,13 @@ module _ (told : Bool) (calling : Calling) (mode : Mode) (on_broken : OnBroken) 
   mid_streams {mid = []} copies count error = absurd (cc)
   mid_streams {mid = output ∷ []} copies count error = absurd (cc)
   mid_streams {mid = output ∷ other ∷ files} copies count error =
-      streams_after copies (ap (λ slot. output ∷ slot ∷ files) (error ∙ ap (λ those. slot_at those 1) copies.are)) (omega (arith, ap length copies.are, length-files copies.files_have))
+      streams_after copies (ap (λ slot. output ∷ slot ∷ files) (error ∙ ap (λ those. slot_at those 1) copies.are))
+      (omega (arith, ap length copies.are, length-files copies.files_have))
 
   pub known_many : {pieces : List (List ℕ)} {messages : List Message} {slots : List Slot} {known : List Standing}
       → Copies told calling mode on_broken names pieces messages slots known → length known ≡ length names + 1
-  known_many copies = let count = ap length copies.known_are ∙ length-map (copies.first ∷ copies.broke) standing_of in omega (arith, length-broke copies.files_have)
+  known_many copies = let count = ap length copies.known_are ∙ length-map (copies.first ∷ copies.broke) standing_of in
+      omega (arith, length-broke copies.files_have)
 
 -- an output that isn't closed
 output_kept : (told : Bool) {pieces : List (List ℕ)} {first : Option Break} {output : Slot}

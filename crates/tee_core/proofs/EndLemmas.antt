@@ -281,7 +281,8 @@ pub all_sound_if : {told : Bool} {mode : Mode} {pieces names : List (List ℕ)} 
     → FilesLeft told mode pieces names broke files → new ≡ output ∷ error ∷ files → AreSound new
     → are_sound (first ∷ broke) ≡ true
 all_sound_if left rest is whole =
-    let those = rw is at whole in rw (output_sound (those 0 (λ same. omega arith)) left) (files_sound (λ place. those (suc (suc place)) (λ same. omega arith)) rest)
+    let those = rw is at whole in rw (output_sound (those 0 (λ same. omega arith)) left)
+    (files_sound (λ place. those (suc (suc place)) (λ same. omega arith)) rest)
 
 -- where it is no fault that one is gone, and none failed, nothing broke
 pub sound_if : (broke : List (Option Break)) → any_is Broken (map standing_of broke) ≡ false

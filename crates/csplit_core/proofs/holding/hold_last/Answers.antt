@@ -14,7 +14,8 @@ split_at-requires g c = let parts =
 
 pub returns-in_err-put-clause-goes : goal.returns-in_err-put-clause-goes
 returns-in_err-put-clause-goes g c = rw (handed_on _ _ c.from_residual-in_err-put.ensures.1)
-    (hold_on (parted c.over-over.ensures c.len.ensures.len c.min-front.ensures) c.split_at.ensures.front c.in_ok-write_front.ensures.goes c.in_err-put.ensures.goes)
+    (hold_on (parted c.over-over.ensures c.len.ensures.len c.min-front.ensures) c.split_at.ensures.front
+    c.in_ok-write_front.ensures.goes c.in_err-put.ensures.goes)
 
 pub keep-requires : goal.keep-requires
 keep-requires g c =
@@ -24,7 +25,8 @@ keep-requires g c =
 
 pub returns-clause-goes : goal.returns-clause-goes
 returns-clause-goes g c = goes_or_lacks c.keep.result
-    (hold_on (parted c.over-over.ensures c.len.ensures.len c.min-front.ensures) c.split_at.ensures.front c.in_ok-write_front.ensures.goes c.in_ok-put.ensures.goes)
+    (hold_on (parted c.over-over.ensures c.len.ensures.len c.min-front.ensures) c.split_at.ensures.front
+    c.in_ok-write_front.ensures.goes c.in_ok-put.ensures.goes)
     c.keep.ensures.err
 
 pub returns-clause-window : goal.returns-clause-window

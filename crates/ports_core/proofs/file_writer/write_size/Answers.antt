@@ -8,13 +8,15 @@ use Rattle.ports_core.proofs.file_writer.write_size.Goals as goal
 pub returns : goal.returns
 returns g c =
     c.in_ok-write_whole.ensures.whole ∙ ap (λ line. with_written 0 (told_of g.O.Outs.told line) (g.O.Outs.slots c.args.outs.now))
-    (line_is c.args.size 21 c.copy_from_slice.new.self c.copy_from_slice.ensures.after (c.as_bytes-digits.ensures.value ∙ c.format.ensures.text) (let fits = c.format.ensures.fits in omega arith))
+    (line_is c.args.size 21 c.copy_from_slice.new.self c.copy_from_slice.ensures.after
+    (c.as_bytes-digits.ensures.value ∙ c.format.ensures.text) (let fits = c.format.ensures.fits in omega arith))
 
 pub returns-in_err-write_whole : goal.returns-in_err-write_whole
 returns-in_err-write_whole g c = stop_is (Wrote _ _ _ _ _) _ _ (of_write _ _ _ c.from_residual.ensures.1 c.in_err-write_whole.ensures.slot)
     (broke c.in_err-write_whole.field-0.0.written
     (subst (λ line. BrokeAfter g.O.Outs.told (g.O.Outs.slots c.args.outs.now) (g.O.Outs.slots c.write_whole.new.outs) 0 line c.in_err-write_whole.field-0.0.written)
-    (line_is c.args.size 21 c.copy_from_slice.new.self c.copy_from_slice.ensures.after (c.as_bytes-digits.ensures.value ∙ c.format.ensures.text) (let fits = c.format.ensures.fits in omega arith))
+    (line_is c.args.size 21 c.copy_from_slice.new.self c.copy_from_slice.ensures.after
+    (c.as_bytes-digits.ensures.value ∙ c.format.ensures.text) (let fits = c.format.ensures.fits in omega arith))
     c.in_err-write_whole.ensures.cut))
 
 pub slice_bounds-write_whole-end : goal.slice_bounds-write_whole-end

@@ -92,7 +92,8 @@ returns-then-n-eq0 g c =
     = λ told unread. rw (ap (λ more. so_far.fed ++ more) nothing ∙ append-nil so_far.fed) at ((takes_more _ (so_far.took told) so_far.readable (c.in-Ok.ensures.bytes told) c.in-Ok.ensures.rest).far unread) in record {
       ends = λ before opening own at.
           of_read g.I.Inputs.told _ so_far.fed false _ _
-          (λ told. let at_end = (c.in-Ok.ensures.bytes told).ended c.if-n-eq0.true (omega arith) in let all = read_to_end _ _ _ _ (so_far.read told) at_end.0 at_end.1 in (all.1, all.0))
+          (λ told. let at_end = (c.in-Ok.ensures.bytes told).ended c.if-n-eq0.true (omega arith) in let all =
+          read_to_end _ _ _ _ (so_far.read told) at_end.0 at_end.1 in (all.1, all.0))
           (λ content. came_sound g.I.Inputs.told _ c.args.slot (still_readable _ _ _ _ c.in-Ok.n c.in-Ok.ensures.rest so_far.readable))
           (λ content is bytes sound came. (
             ended _ g.met.S.Stage.lawful _ _ so_far.feeds own at (sound, going, bytes) (to_end sound bytes) (alike_itself)

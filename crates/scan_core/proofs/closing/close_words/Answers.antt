@@ -18,7 +18,8 @@ loop-at-preserved c =
     let leads = c.index.ensures ∙ get_or_default _ at _ 0 (let s = c.requires.closures.leads.size in omega arith) in
     elim c.if-word-index-ne0.branch [
       | then-word-index-ne0 w ↦
-          rw (← w.words-is) at (apart_more c.loop-at.invariant c.requires.closures c.requires.begun inside c.requires.size w.looked_up.ensures fits (search rules) refl)
+          rw (← w.words-is) at (apart_more c.loop-at.invariant c.requires.closures c.requires.begun inside
+          c.requires.size w.looked_up.ensures fits (search rules) refl)
       | else-word-index-ne0 w ↦ rw (← w.words-is) at (apart_skip c.loop-at.invariant c.requires.closures c.requires.begun inside (ap (bit_and (get_or now at 0)) (sym leads) ∙ w.if-word-index-ne0.false))
     ]
 

@@ -15,7 +15,10 @@ returns-then-next c =
     let b : (k : ℕ) → k < length c.args.line.now → slice_index c.args.line.now k < 256 = λ k h. search (rules, c.type_inv.line) in
     let w = walk_run _ c.loop-place.invariant
     c.stretch_end-end.ensures.low c.stretch_end-end.ensures.high b c.stretch_end-end.ensures.stays c.index.ensures c.positions_of_places-steps.ensures in
-    record { exact = walk_stops _ _ w c.if-place-line.true (b c.stretch_end-end.result c.if-place-line.true) c.index-next.ensures c.if-next.true c.index-then-place-line.ensures }
+    record {
+      exact = walk_stops _ _ w c.if-place-line.true (b c.stretch_end-end.result c.if-place-line.true)
+          c.index-next.ensures c.if-next.true c.index-then-place-line.ensures;
+    }
 
 pub overflow_add-steps-then-place-line : goal.overflow_add-steps-then-place-line
 overflow_add-steps-then-place-line c =

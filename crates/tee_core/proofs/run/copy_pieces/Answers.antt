@@ -54,7 +54,9 @@ pieces-preserved g c =
       others = keeps_again _ _ _ _ so_far.others (keeps_others _ _ _ _ c.in-Ok.ensures.rest);
       read = λ told. read_more _ _ _ _ _ _ _ _ _ (so_far.read told) so_far.readable (c.in-Ok.ensures.bytes told) c.in-Ok.ensures.rest;
       last = λ told. gave_last so_far.pieces _ _ _ so_far.readable (c.in-Ok.ensures.bytes told) c.in-Ok.ensures.rest;
-      reads = reads_more so_far.pieces (take c.in-Ok.n c.read.new.buffer) so_far.joined so_far.sized (omega arith) so_far.reads (ap (λ (source : Source). source.reads) (changed_source 0 (gives _ c.in-Ok.n) _ _ so_far.readable c.in-Ok.ensures.rest));
+      reads = reads_more so_far.pieces (take c.in-Ok.n c.read.new.buffer) so_far.joined so_far.sized
+          (omega arith) so_far.reads (ap (λ (source : Source). source.reads)
+          (changed_source 0 (gives _ c.in-Ok.n) _ _ so_far.readable c.in-Ok.ensures.rest));
       asked = λ within. asked_again _ _ _ _ _ _ so_far.readable c.in-Ok.ensures.rest (omega arith) (so_far.asked within);
     }
 
@@ -78,9 +80,16 @@ returns-in-Err-clause-copies g c mode at =
 pub returns-then-n-eq0-clause-copies : goal.returns-then-n-eq0-clause-copies
 returns-then-n-eq0-clause-copies g c mode at =
     let so_far = c.pieces.invariant in
-    let (content, is, bytes, ended, leaves, breaks) = seen_ended _ _ _ _ _ _ so_far.read so_far.readable c.in-Ok.ensures.bytes c.if-n-eq0.true (omega arith) c.in-Ok.ensures.rest in
-    let copied = reads_copied _ so_far.joined (sym c.is_done.ensures ∙ c.pieces-test.true) so_far.sized (omega arith) (inr (sound_at (g.I.Inputs.sources c.read.new.self) 0 (still_readable _ _ _ _ c.in-Ok.n c.in-Ok.ensures.rest so_far.readable)))
-    (λ none left. ended_now _ _ c.in-Ok.n _ _ so_far.readable c.in-Ok.ensures.rest c.if-n-eq0.true (omega arith)) (λ told vain. absurd (false≢true vain)) (reads_once so_far.pieces so_far.joined so_far.sized (omega arith) so_far.reads (ap (λ (source : Source). source.reads) (changed_source 0 (gives _ c.in-Ok.n) _ _ so_far.readable c.in-Ok.ensures.rest)))
+    let (content, is, bytes, ended, leaves, breaks) =
+    seen_ended _ _ _ _ _ _ so_far.read so_far.readable c.in-Ok.ensures.bytes c.if-n-eq0.true
+    (omega arith) c.in-Ok.ensures.rest in
+    let copied = reads_copied _ so_far.joined (sym c.is_done.ensures ∙ c.pieces-test.true) so_far.sized (omega arith)
+    (inr (sound_at (g.I.Inputs.sources c.read.new.self) 0
+    (still_readable _ _ _ _ c.in-Ok.n c.in-Ok.ensures.rest so_far.readable)))
+    (λ none left. ended_now _ _ c.in-Ok.n _ _ so_far.readable c.in-Ok.ensures.rest c.if-n-eq0.true (omega arith))
+    (λ told vain. absurd (false≢true vain)) (reads_once so_far.pieces so_far.joined so_far.sized
+    (omega arith) so_far.reads (ap (λ (source : Source). source.reads)
+    (changed_source 0 (gives _ c.in-Ok.n) _ _ so_far.readable c.in-Ok.ensures.rest)))
     (to_end _ bytes ended leaves) (so_far.copies mode at) in
     (content, is, (copied, breaks))
 
@@ -91,8 +100,14 @@ returns-in_default-clause-copies g c mode at =
     let so_far = c.pieces.invariant in
     let (content, rest, is, bytes, leaves, breaks) = seen_more _ _ _ _ _ _ so_far.read so_far.readable c.in-Ok.ensures.bytes c.in-Ok.ensures.rest in
     let long : length (so_far.came ++ take c.in-Ok.n c.read.new.buffer) ≡ c.pieces.fed + c.in-Ok.n = sym (counted_more so_far.came c.read.new.buffer c.in-Ok.n so_far.counted (omega (arith, c.in-Ok.ensures.bound, c.read.auto.buffer)) refl) in
-    let copied = reads_copied _ so_far.joined (sym c.is_done.ensures ∙ c.pieces-test.true) so_far.sized (omega arith) (inr (sound_at (g.I.Inputs.sources c.read.new.self) 0 (still_readable _ _ _ _ c.in-Ok.n c.in-Ok.ensures.rest so_far.readable))) (λ none. absurd (cc)) (λ told vain. absurd (false≢true vain)) (reads_once so_far.pieces so_far.joined so_far.sized (omega arith) so_far.reads (ap (λ (source : Source). source.reads) (changed_source 0 (gives _ c.in-Ok.n) _ _ so_far.readable c.in-Ok.ensures.rest)))
-    (to_limit so_far.came (take c.in-Ok.n c.read.new.buffer) rest bytes (omega arith) (omega (arith, length-take c.in-Ok.n c.read.new.buffer)) leaves) (so_far.copies mode at) in
+    let copied = reads_copied _ so_far.joined (sym c.is_done.ensures ∙ c.pieces-test.true) so_far.sized (omega arith)
+    (inr (sound_at (g.I.Inputs.sources c.read.new.self) 0
+    (still_readable _ _ _ _ c.in-Ok.n c.in-Ok.ensures.rest so_far.readable))) (λ none. absurd (cc))
+    (λ told vain. absurd (false≢true vain)) (reads_once so_far.pieces so_far.joined so_far.sized
+    (omega arith) so_far.reads (ap (λ (source : Source). source.reads)
+    (changed_source 0 (gives _ c.in-Ok.n) _ _ so_far.readable c.in-Ok.ensures.rest)))
+    (to_limit so_far.came (take c.in-Ok.n c.read.new.buffer) rest bytes (omega arith)
+    (omega (arith, length-take c.in-Ok.n c.read.new.buffer)) leaves) (so_far.copies mode at) in
     (content, is, (copied, breaks))
 
 -- where the outputs that are broken end it
@@ -101,6 +116,8 @@ pub returns-clause-copies : goal.returns-clause-copies
 returns-clause-copies g c mode at =
     let so_far = c.pieces.invariant in
     let (content, rest, is, bytes, leaves, breaks) = seen_so_far _ _ _ _ so_far.read so_far.readable in
-    let copied = reads_copied _ so_far.joined (sym c.is_done.ensures ∙ c.pieces-test.false) so_far.sized (omega arith) (inr (sound_at (g.I.Inputs.sources c.pieces.inputs) 0 so_far.readable)) (λ none left. absurd (false≢true (sym left))) (λ told vain. so_far.last told) (omega arith)
+    let copied = reads_copied _ so_far.joined (sym c.is_done.ensures ∙ c.pieces-test.false) so_far.sized (omega arith)
+    (inr (sound_at (g.I.Inputs.sources c.pieces.inputs) 0 so_far.readable))
+    (λ none left. absurd (false≢true (sym left))) (λ told vain. so_far.last told) (omega arith)
     (to_broken_output _ rest bytes leaves) (so_far.copies mode at) in
     (content, is, (copied, breaks))

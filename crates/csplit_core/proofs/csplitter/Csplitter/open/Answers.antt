@@ -16,7 +16,16 @@ pub returns-clause-ready : goal.returns-clause-ready
 returns-clause-ready g c =
     let empty = c.new.ensures.items in
     let opened = c.in_ok-cutter.ensures in
-    rw c.new-2.ensures (record { writer = opened.ready; output = opened.output c.requires.output; manner = rw opened.asked opened.manner; sound = opened.sound; unbroken = ap (delimiters newline) empty; room = (omega (arith, ap length empty)); few = omega arith })
+    rw c.new-2.ensures (record {
+      writer = opened.ready;
+      output = opened.output c.requires.output;
+      manner = rw opened.asked opened.manner;
+      sound = opened.sound;
+      unbroken = ap (delimiters newline) empty;
+      room = (omega (arith, ap length empty));
+      few =
+          omega arith;
+    })
 
 pub returns-clause-owns : goal.returns-clause-owns
 returns-clause-owns g c = rw c.new-2.ensures (record { writer = c.in_ok-cutter.ensures.owns; all = c.in_ok-cutter.ensures.all })

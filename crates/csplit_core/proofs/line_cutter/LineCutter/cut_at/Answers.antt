@@ -12,7 +12,8 @@ returns-in_err-put-clause-err g c = fault_is _ _ _ c.from_residual.ensures.1
 
 pub returns-in_err-pass-clause-err : goal.returns-in_err-pass-clause-err
 returns-in_err-pass-clause-err g c = fault_is _ _ _ c.from_residual-in_err-pass.ensures.1
-    (λ line. cut_pass_stopped c.requires.fit c.requires.cuts c.saturating_sub.ensures c.split_lines.ensures.first line c.in_ok-put.ensures.goes c.in_err-pass.ensures)
+    (λ line. cut_pass_stopped c.requires.fit c.requires.cuts c.saturating_sub.ensures c.split_lines.ensures.first
+    line c.in_ok-put.ensures.goes c.in_err-pass.ensures)
 
 pub returns-in_err-next-clause-err : goal.returns-in_err-next-clause-err
 returns-in_err-next-clause-err g c = fault_is _ _ _ c.from_residual-in_err-next.ensures.1

@@ -45,4 +45,5 @@ overflow_add-left c = grind (arith, common_steps)
 pub loop-end-preserved : goal.loop-end-preserved
 loop-end-preserved c =
     more_clear (one_more c.in-Some.end c.loop-end.invariant c.is_match.ensures.same
-    (first_at c.in-Some.end c.in-Some.ensures) c.is_match.ensures.found c.if-is_match.false) c.pass_clear-clear-in-Some.ensures (rest_all c.pass_clear-clear-in-Some.result _)
+    (first_at c.in-Some.end c.in-Some.ensures) c.is_match.ensures.found c.if-is_match.false)
+    c.pass_clear-clear-in-Some.ensures (rest_all c.pass_clear-clear-in-Some.result _)

@@ -51,7 +51,8 @@ cut_line-requires g c = record {
 pub returns-in_err-cut_line : goal.returns-in_err-cut_line
 returns-in_err-cut_line g c = rw (handed_on _ _ c.from_residual.ensures.1)
     (stretch_first (Err c.in_err-cut_line.field-0.0) c.requires.sound.fit
-    (c.is_past.ensures.live c.if-is_past.false) c.requires.start c.try_line.ensures.same c.in-Some.ensures.cuts c.in-Some.ensures.tries c.in_err-cut_line.ensures tt)
+    (c.is_past.ensures.live c.if-is_past.false) c.requires.start c.try_line.ensures.same c.in-Some.ensures.cuts
+    c.in-Some.ensures.tries c.in_err-cut_line.ensures tt)
 
 pub returns : goal.returns
 returns g c = stretch_first (Ok c.unfound-2.result) c.requires.sound.fit

@@ -7,7 +7,12 @@ use Rattle.csplit_core.proofs.progress.Progress.turn.Goals as goal
 
 pub returns-in_default-clause-says : goal.returns-in_default-clause-says
 returns-in_default-clause-says c lines seen =
-    record { ending = used_up; runs = is_used_up _ (drop_all c.args.self.now.done c.args.operands.now (grind (arith, nat_tests, c.in_default.ensures.lookup.0))); aims = tt }
+    record {
+      ending = used_up;
+      runs = is_used_up _ (drop_all c.args.self.now.done c.args.operands.now
+          (grind (arith, nat_tests, c.in_default.ensures.lookup.0)));
+      aims = tt;
+    }
 
 pub returns-then-total-search_line-clause-says : goal.returns-then-total-search_line-clause-says
 returns-then-total-search_line-clause-says c lines seen =
@@ -16,7 +21,8 @@ returns-then-total-search_line-clause-says c lines seen =
 
 pub returns-then-not-found-clause-says : goal.returns-then-not-found-clause-says
 returns-then-not-found-clause-says c lines seen =
-    misses_search lines (left_is c.args.operands.now c.args.self.now.done c.in-Some.ensures.lookup.3.0 c.in-Some.ensures.lookup.1) seen c.in-Search.is (λ near. c.if-not-found.true)
+    misses_search lines (left_is c.args.operands.now c.args.self.now.done c.in-Some.ensures.lookup.3.0
+    c.in-Some.ensures.lookup.1) seen c.in-Search.is (λ near. c.if-not-found.true)
 
 pub returns-in-Number-clause-says : goal.returns-in-Number-clause-says
 returns-in-Number-clause-says c lines seen = falls_number lines

@@ -18,4 +18,8 @@ returns-clause-ok c =
     let h = c.in_default.ensures in
     let same = h.0 in
     c.loop-duplication.invariant.so_far c.next_duplication.new.self
-    (finish_ends h.1 (record { nodes = ap (λ s. s.nodes.items) same; pending = ap (λ s. s.pending.items) same; passing = ap (λ s. s.passing) same ∙ c.loop-duplication.invariant.passing }))
+    (finish_ends h.1 (record {
+      nodes = ap (λ s. s.nodes.items) same;
+      pending = ap (λ s. s.pending.items) same;
+      passing = ap (λ s. s.passing) same ∙ c.loop-duplication.invariant.passing;
+    }))

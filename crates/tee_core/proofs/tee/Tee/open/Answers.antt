@@ -16,7 +16,10 @@ pub returns-clause-opens : goal.returns-clause-opens
 returns-clause-opens g c = grind (arith, common_steps, opens_next_at)
 
 pub returns-clause-ready : goal.returns-clause-ready
-returns-clause-ready g c = ready_to_go (record { first = c.in_ok-first.first; count = length c.args.names.now; is_over = false }) (omega arith) c.requires.output (opens_next_at _ c.args.names.now c.in-len1-up.len_at_least c.in_ok-first.ensures.ok.1 c.in_ok-open_files.ensures.ok) (sym (length-map c.args.names.now _)) (λ some. c.in_ok-first.ensures.ok.0)
+returns-clause-ready g c = ready_to_go (record
+    { first = c.in_ok-first.first; count = length c.args.names.now; is_over = false }) (omega arith) c.requires.output
+    (opens_next_at _ c.args.names.now c.in-len1-up.len_at_least c.in_ok-first.ensures.ok.1
+    c.in_ok-open_files.ensures.ok) (sym (length-map c.args.names.now _)) (λ some. c.in_ok-first.ensures.ok.0)
 
 pub invariant_of-result-2 : goal.invariant_of-result-2
 invariant_of-result-2 g c = grind (arith, common_steps, in_range, opens_next_at, length-map)
