@@ -99,7 +99,7 @@ pub settled_files : (limit : Limit) (filing : Filing) (x : List ℕ)
 settled_files limit filing x = bytes_named filing 0 (settled_parts limit x) ∙ ap (named_bytes filing.names 0) (settled_bytes limit x)
 
 pub list_count : (limit : Limit) (x : List ℕ) → length (settled_list limit x) ≡ length (parts limit x)
-list_count limit x = ap length (sym (settled_bytes limit x)) ∙ length-map (settled_parts limit x) (λ (file : Share). file.bytes) ∙ settled_count limit x
+list_count limit x = ap length (sym (settled_bytes _ x)) ∙ length-map (settled_parts limit x) (λ (file : Share). file.bytes) ∙ settled_count _ x
 
 -- where all files have names, what is written and what waits are all that came in
 
@@ -202,14 +202,14 @@ agreed_files work x few y more begin few_come come count out same = record {
     few_come,
     few_come,
     λ front is also. let short =
-        beginning_short front _ is in omega (arith, ap length out),
+        beginning_short _ _ is in omega (arith, ap length out),
   )
   longest (suc place) less = (
     y,
     y,
     come,
     come,
-    λ front is also. let short = beginning_short front _ is in
+    λ front is also. let short = beginning_short _ _ is in
         let here : get_or (file_bytes (work.whole (x ++ y))) place [] ≡ get_or (file_bytes (work.settled x)) place [] =
         ap (λ files. get_or files place []) same ∙ get_or_append_left (file_bytes (work.settled x)) more [] place
         (omega arith) in
@@ -253,7 +253,7 @@ parts_agreed_by {limit} filing {x} decides =
 
 pub parts_agreed : (limit : Limit) (filing : Filing) → 0 < most limit → {x : List ℕ}
     → IsAgreed (parts_work limit filing) x ((parts_work limit filing).settled x)
-parts_agreed limit filing some = parts_agreed_by filing (decides limit some)
+parts_agreed limit filing some = parts_agreed_by _ (decides _ some)
 
 -- Lines that are dealt
 
@@ -273,5 +273,5 @@ plan_by cut elide filing = record { cut = cut; elide = elide; filing = filing }
 
 pub agreed_at : (cut : Cut) (elide : Bool) (filing : Filing) → IsPositive cut → {x : List ℕ}
     → IsAgreed (split_work (plan_by cut elide filing)) x ((split_work (plan_by cut elide filing)).settled x)
-agreed_at (cut.Parts limit) elide filing some = parts_agreed limit filing some
-agreed_at (cut.Round n delim) elide filing some = round_agreed delim n elide filing
+agreed_at (cut.Parts limit) elide filing some = parts_agreed _ _ some
+agreed_at (cut.Round n delim) elide filing some = round_agreed _ n _ _

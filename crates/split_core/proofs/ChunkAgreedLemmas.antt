@@ -63,7 +63,7 @@ run_front c [] rest run = tt
 run_front c (byte ∷ front) rest (same, run) = (same, run_front c front rest run)
 
 run_begins : (c : ℕ) (low high : List ℕ) → IsBeginning low high → IsRun c high → IsRun c low
-run_begins c low high (rest, is) run = run_front c low rest (subst (IsRun c) is run)
+run_begins c low high (rest, is) run = run_front c _ _ (subst (IsRun c) is run)
 
 pub run_of : (c n : ℕ) → IsRun c (replicate n c)
 run_of c zero = tt
@@ -72,7 +72,7 @@ run_of c (suc n) = (refl, run_of c n)
 run_drop : (c n : ℕ) (bytes : List ℕ) → IsRun c bytes → IsRun c (drop n bytes)
 run_drop c zero bytes run = run
 run_drop c (suc n) [] run = tt
-run_drop c (suc n) (byte ∷ bytes) (same, run) = run_drop c n bytes run
+run_drop c (suc n) (byte ∷ bytes) (same, run) = run_drop c n _ run
 
 -- two runs of different bytes have nothing in common
 apart : (a b : ℕ) → a ≢ b → (front one other : List ℕ) → IsBeginning front one → IsBeginning front other → IsRun a one
@@ -85,7 +85,7 @@ begins_tail byte next front x (rest, is) = (rest, ap (drop 1) is)
 
 apart_after : (a b : ℕ) → a ≢ b → (r front one other : List ℕ) → IsBeginning front (r ++ one)
     → IsBeginning front (r ++ other) → IsRun a one → IsRun b other → length front ≤ length r
-apart_after a b differ [] front one other first second run also = apart a b differ front one other first second run also
+apart_after a b differ [] front one other first second run also = apart a b differ _ _ _ first second run also
 apart_after a b differ (byte ∷ r) [] one other first second run also = omega arith
 apart_after a b differ (byte ∷ r) (next ∷ front) one other first second run also =
     grind (
@@ -94,7 +94,7 @@ apart_after a b differ (byte ∷ r) (next ∷ front) one other first second run 
       other,
       begins_tail,
       apart_after a b differ r front one other (begins_tail next byte
-          front (r ++ one) first),
+          _ _ first),
     )
 
 -- Files, of which the first has r and then this byte, and only it from there on, and so have all after it
@@ -116,7 +116,7 @@ tail_kept : (elide : Bool) (c : ℕ) (r : List ℕ) (pieces : List (List ℕ)) �
 tail_kept false c r pieces tail = tail
 tail_kept true c r [] tail = absurd tail
 tail_kept true c r (piece ∷ pieces) ((more, is, run), runs) =
-    rw (ap has_bytes is ∙ some_after r c more) ((more, is, run), some_runs c pieces runs)
+    rw (ap has_bytes is ∙ some_after r c _) ((more, is, run), some_runs c _ runs)
 
 runs_at : (c : ℕ) (pieces : List (List ℕ)) (i : ℕ) → AreRuns c pieces → IsRun c (get_or pieces i [])
 runs_at c [] i runs = tt
@@ -138,12 +138,12 @@ tails_apart a b differ [] r (piece ∷ one) (next ∷ other) ((more, is, run), r
     first second = omega (
       arith,
       ap length (first_made r),
-      apart_after a b differ r bytes (a ∷ more) (b ∷ rest) (subst (IsBeginning bytes) is first)
+      apart_after a b differ r _ _ _ (subst (IsBeginning bytes) is first)
           (subst (IsBeginning bytes) are second) (refl, run) (refl, also),
     )
 tails_apart a b differ [] r (piece ∷ one) (next ∷ other) tail also (suc place) bytes first second =
     grind (arith, common_steps, apart, runs_at, other)
-tails_apart a b differ (piece ∷ front) r one other tail also zero bytes first second = beginning_short bytes piece first
+tails_apart a b differ (piece ∷ front) r one other tail also zero bytes first second = beginning_short _ _ first
 tails_apart a b differ (piece ∷ front) r one other tail also (suc place) bytes first second =
     tails_apart a b differ front r one other tail also place bytes first second
 
@@ -155,11 +155,11 @@ drop_none c (suc n) = tt
 
 drop_run : (c : ℕ) (x y : List ℕ) (n : ℕ) (front : List ℕ) → IsBeginning front (x ++ y) → length x ≤ n → IsRun c y
     → IsRun c (drop n front)
-drop_run c [] y n front begins past run = run_drop c n front (run_begins c front y begins run)
+drop_run c [] y n front begins past run = run_drop c n _ (run_begins c _ y begins run)
 drop_run c (byte ∷ x) y n [] begins past run = drop_none c n
 drop_run c (byte ∷ x) y zero (next ∷ front) begins past run = absurd (omega arith)
 drop_run c (byte ∷ x) y (suc n) (next ∷ front) begins past run =
-    drop_run c x y n front (begins_tail next byte front (x ++ y) begins) (omega arith) run
+    drop_run c x y n _ (begins_tail _ _ _ _ begins) (omega arith) run
 
 runs_from : (c : ℕ) (f : ℕ → List ℕ) (a n : ℕ) → ((i : ℕ) → a ≤ i → IsRun c (f i))
     → AreRuns c (map f (range_with_len a n))
@@ -170,7 +170,7 @@ front_of : (unit : Which) (delim place byte : ℕ) (y : List ℕ) → 0 < place
     → (more : List ℕ) × (begun_before unit delim place (byte ∷ y) ≡ byte ∷ more)
 front_of Bytes delim zero byte y some = absurd (omega arith)
 front_of Bytes delim (suc place) byte y some = (take place y, refl)
-front_of Lines delim place byte y some = (_, begun_first delim byte place y some)
+front_of Lines delim place byte y some = (_, begun_first _ _ _ y some)
 
 -- the chunk that is begun has what is left, and then that byte, and so have all after it
 tail_is : (chunks : Chunks) (size : ℕ) (x y : List ℕ) (c p m : ℕ) → IsRun c y
@@ -243,11 +243,11 @@ pub said_split : (elide : Bool) (chunks : Chunks) (size : ℕ) (x y : List ℕ) 
     ++ kept elide (map (chunk_at chunks size (x ++ y)) (range_with_len p (suc m)))
 said_split elide chunks size x y m some short long is =
     let p = ended chunks size x in
-    let here : HaveEnded chunks size x p = ended_is chunks size x in
-    files_split elide chunks size (x ++ y) p m some long is
+    let here : HaveEnded chunks size x p = ended_is _ _ x in
+    files_split _ _ _ _ p m some long is
     ∙ ap (λ front. kept elide front ++ kept elide (map (chunk_at chunks size (x ++ y)) (range_with_len p (suc m))))
-    (full_stays chunks size p x y (omega arith) here.before
-    ∙ sym (ap (λ cut. cut.full) (chunks_are chunks size x some (omega arith) here)))
+    (full_stays _ _ p x y (omega arith) here.before
+    ∙ sym (ap (λ cut. cut.full) (chunks_are _ _ x some (omega arith) here)))
 
 -- the files where a text goes on with one byte alone
 abbrev pub TailFiles : Bool → Chunks → ℕ → List ℕ → ℕ → List ℕ → List (List ℕ) → List ℕ → Type 0
@@ -387,7 +387,7 @@ none_files elide chunks x c some = by chunks.count refl where
 tail_runs : (c : ℕ) (r : List ℕ) (pieces : List (List ℕ)) (place : ℕ) → IsTail c r pieces
     → IsRun c (get_or pieces (suc place) [])
 tail_runs c r [] place tail = absurd tail
-tail_runs c r (piece ∷ pieces) place tail = runs_at c pieces place tail.1
+tail_runs c r (piece ∷ pieces) place tail = runs_at c _ _ tail.1
 
 -- the first file has all that begins before the second chunk
 pub first_file : (elide : Bool) (chunks : Chunks) (byte : ℕ) (x : List ℕ) → 0 < chunks.count
@@ -488,9 +488,9 @@ none_longest elide chunks (byte ∷ x) (suc place) some =
 
 pub files_longest : (elide : Bool) (chunks : Chunks) (said : Option ℕ) (x : List ℕ) (place : ℕ) → 0 < chunks.count
     → is_longer said x ≡ false → AreFiles elide chunks said x place
-files_longest elide chunks None x place some fits = none_longest elide chunks x place some
+files_longest elide chunks None x place some fits = none_longest _ _ x _ some
 files_longest elide chunks (Some size) x place some fits =
-    said_longest elide chunks size x place some (ltb-false _ _ fits)
+    said_longest _ _ _ x _ some (ltb-false _ _ fits)
 
 -- The outputs
 
@@ -513,8 +513,8 @@ few_kept elide cut count few = grind (arith, common_steps, length-kept, length-a
 pub few_decided : (elide : Bool) (chunks : Chunks) (said : Option ℕ) (x : List ℕ) → 0 < chunks.count
     → length (files_by elide (decided chunks 1 said x)) ≤ chunks.count
 few_decided elide chunks None x some = grind (arith, common_steps, few_kept, made_few)
-few_decided elide chunks (Some size) x some = few_kept elide (chunks_of chunks size x) chunks.count
-    (few_files chunks size x some)
+few_decided elide chunks (Some size) x some = few_kept _ _ _
+    (few_files _ _ x some)
 
 pub settled_files : (plan : ChunksPlan) (said : Option ℕ) (x : List ℕ) → 0 < plan.chunks.count
     → are_named plan.filing.names plan.chunks.count ≡ true
@@ -623,6 +623,6 @@ pub chunk_agreed : (place : ℕ) (chunks : Chunks) (said : Option ℕ) (x : List
     → is_longer said x ≡ false
     → AgreeAt (CanFollow said x) (chunk_work place chunks said) x ((chunk_work place chunks said).settled x)
 chunk_agreed place chunks said x within fits = record {
-  common = λ y comes. common (chunk_work place chunks said) (chunk_lawful place chunks said within) x y;
-  longest = chunk_longest place chunks said x within fits;
+  common = λ y comes. common _ (chunk_lawful _ _ _ within) x y;
+  longest = chunk_longest _ _ _ x within fits;
 }

@@ -49,7 +49,7 @@ open_so : (unit : Unit) (delim at : ℕ) (x z y : List ℕ) → length x ≡ len
     → nat_le at (open_from unit delim (x ++ y)) ≡ nat_le at (open_from unit delim (z ++ y))
 open_so Bytes delim at x z y long before = ap (nat_le at) (omega (arith, length-append x y, length-append z y))
 open_so Lines delim at x z y long before =
-    by (nat_lt 0 (delimiters delim y)) (open_append delim x y) (open_append delim z y) where
+    by (nat_lt 0 (delimiters delim y)) (open_append _ x y) (open_append _ z y) where
       by : (some : Bool)
           → open_from Lines delim (x ++ y) ≡ cond some (length x + open_from Lines delim y) (open_from Lines delim x)
           → open_from Lines delim (z ++ y) ≡ cond some (length z + open_from Lines delim y) (open_from Lines delim z)

@@ -39,12 +39,12 @@ use Rattle.seg_core.specs.declared.cut.Way.TheVariants as way
 
 pub chunks_in_are : (chunks : Chunks) (x : List ℕ) → 0 < chunks.count
     → chunks_in chunks x ≡ map (chunk_at chunks (length x) x) (range_with_len 0 chunks.count)
-chunks_in_are chunks x some = ap (λ cut. cut.full) (cut_all chunks (length x) x some (omega arith))
+chunks_in_are chunks x some = ap (λ cut. cut.full) (cut_all _ _ x some (omega arith))
     ∙ ap (λ z. map (chunk_at chunks (length x) z) (range_with_len 0 chunks.count)) (take_all (length x) x (omega arith))
 
 pub count_chunks : (chunks : Chunks) (x : List ℕ) → 0 < chunks.count → length (chunks_in chunks x) ≡ chunks.count
 count_chunks chunks x some =
-    ap length (chunks_in_are chunks x some) ∙ length-map-range_with_len (chunk_at chunks (length x) x) 0 chunks.count
+    ap length (chunks_in_are _ x some) ∙ length-map-range_with_len (chunk_at chunks (length x) x) 0 chunks.count
 
 pub join_first : (chunks : Chunks) (x : List ℕ) (place : ℕ) → 0 < chunks.count → place ≤ chunks.count
     → joined (take place (chunks_in chunks x)) ≡ before_chunk chunks (length x) place x
@@ -60,7 +60,7 @@ join_chunks chunks x some =
 pub chunk_in : (chunks : Chunks) (x : List ℕ) (place : ℕ) → place < chunks.count
     → get_or (chunks_in chunks x) place [] ≡ chunk_at chunks (length x) x place
 chunk_in chunks x place within =
-    ap (λ pieces. get_or pieces place []) (chunks_in_are chunks x (omega arith))
+    ap (λ pieces. get_or pieces place []) (chunks_in_are _ x (omega arith))
     ∙ get_or-map-range_with_len (chunk_at chunks (length x) x) 0 chunks.count place place [] within (omega arith)
 
 -- those of bytes
@@ -109,7 +109,7 @@ lines_to : (delim : ℕ) (chunks : Chunks) (x : List ℕ) (place : ℕ) → chun
     → flat_map (lines_of delim) (map (chunk_at chunks (length x) x) (range_with_len 0 place))
     ≡ lines_of delim (begun_before Lines delim (chunk_start chunks.count (length x) place) x)
 lines_to delim chunks x zero by is =
-    let e = start_first chunks.count (length x) in ap (λ at. lines_of delim (begun_before Lines delim at x)) (sym e)
+    let e = start_first _ _ in ap (λ at. lines_of delim (begun_before Lines delim at x)) (sym e)
 lines_to delim chunks x (suc place) by is =
     let at = chunk_start chunks.count (length x) in
     let f = chunk_at chunks (length x) x in
@@ -249,12 +249,12 @@ pub chunks_together : (chunks : Chunks) (said : Option ℕ) (x : List ℕ) → 0
 chunks_together chunks said x some is =
     let pieces = chunks_in chunks x in
     let cut : in_the_end chunks said x ≡ record { full = pieces; rest = [] } =
-    ap (λ size. chunks_of chunks size x) (said_size said x is)
-    ∙ ap (λ left. record { full = pieces; rest = left }) (rest_none chunks (length x) x some (omega arith)) in
+    ap (λ size. chunks_of chunks size x) (said_size _ x is)
+    ∙ ap (λ left. record { full = pieces; rest = left }) (rest_none _ _ x some (omega arith)) in
     ap (λ those. flat_map (λ place. get_or (pieces_in those) place []) (range_with_len 0 chunks.count)) cut
     ∙ ap (λ n. flat_map (λ place. get_or (pieces ++ [] ∷ []) place []) (range_with_len 0 n))
-    (sym (count_chunks chunks x some))
-    ∙ all_pieces pieces 0 (pieces ++ [] ∷ [])
-    (λ i. ap (λ at. get_or (pieces ++ [] ∷ []) at []) (omega arith) ∙ same_pieces pieces [] i
+    (sym (count_chunks _ x some))
+    ∙ all_pieces _ 0 _
+    (λ i. ap (λ at. get_or (pieces ++ [] ∷ []) at []) (omega arith) ∙ same_pieces _ _ i
     ∙ ap (λ those. get_or those i []) (append-nil pieces))
-    ∙ join_chunks chunks x some
+    ∙ join_chunks _ x some

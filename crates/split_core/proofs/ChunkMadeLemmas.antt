@@ -48,7 +48,7 @@ record GoesOnWith (elide : Bool) (chunks : Chunks) (said : Option ℕ) (x r : Li
 
 said_goes_on : (elide : Bool) (chunks : Chunks) (size : ℕ) (x : List ℕ) (byte : ℕ) → 0 < chunks.count
     → length x < size → byte < 256 → GoesOnWith elide chunks (Some size) x (chunks_of chunks size x).rest byte
-said_goes_on elide chunks size x byte some short small = by (said_filled elide chunks size x byte some short) where
+said_goes_on elide chunks size x byte some short small = by (said_filled _ _ _ x _ some short) where
   by : TailFiles elide chunks size x byte (fill size x byte) (kept elide (chunks_of chunks size x).full)
       (chunks_of chunks size x).rest → GoesOnWith elide chunks (Some size) x (chunks_of chunks size x).rest byte
   by ([], none, files) = absurd none
@@ -62,7 +62,7 @@ said_goes_on elide chunks size x byte some short small = by (said_filled elide c
 
 none_goes_on : (elide : Bool) (chunks : Chunks) (x : List ℕ) (byte : ℕ) → 0 < chunks.count → byte < 256
     → GoesOnWith elide chunks None x x byte
-none_goes_on elide chunks x byte some small = by (none_files elide chunks x byte some) where
+none_goes_on elide chunks x byte some small = by (none_files _ _ x _ some) where
   by : TailFiles elide chunks (length (x ++ byte ∷ far_on chunks x byte)) x byte (far_on chunks x byte) [] x
       → GoesOnWith elide chunks None x x byte
   by ([], none, files) = absurd none
@@ -71,12 +71,12 @@ none_goes_on elide chunks x byte some small = by (none_files elide chunks x byte
     comes = (copies_come (suc (suc (length x) * chunks.count)) byte small, refl);
     more = more;
     later = later;
-    files = rw is at files ∙ ap (λ front. front ++ (x ++ byte ∷ more) ∷ later) (sym (none_kept elide));
+    files = rw is at files ∙ ap (λ front. front ++ (x ++ byte ∷ more) ∷ later) (sym (none_kept _));
   }
 
 heads_differ : (r more other : List ℕ) → r ++ 0 ∷ more ≡ r ++ 1 ∷ other → ⊥
 heads_differ [] more other same = omega (arith, ap (λ z. get_or z 0 2) same)
-heads_differ (byte ∷ r) more other same = heads_differ r more other (ap (drop 1) same)
+heads_differ (byte ∷ r) more other same = heads_differ r _ _ (ap (drop 1) same)
 
 -- so two differ in the file after those that have ended
 two_files : {elide : Bool} {chunks : Chunks} {said : Option ℕ} {x r : List ℕ} {n : ℕ}
@@ -96,16 +96,16 @@ record Grows (elide : Bool) (chunks : Chunks) (said : Option ℕ) (x : List ℕ)
 none_grows : (elide : Bool) (chunks : Chunks) (x : List ℕ) → 0 < chunks.count → Grows elide chunks None x
 none_grows elide chunks x some = record {
   r = x;
-  one = none_goes_on elide chunks x 0 some (omega arith);
-  two = none_goes_on elide chunks x 1 some (omega arith);
+  one = none_goes_on _ _ x 0 some (omega arith);
+  two = none_goes_on _ _ x 1 some (omega arith);
 }
 
 said_grows : (elide : Bool) (chunks : Chunks) (size : ℕ) (x : List ℕ) → 0 < chunks.count → length x < size
     → Grows elide chunks (Some size) x
 said_grows elide chunks size x some short = record {
   r = (chunks_of chunks size x).rest;
-  one = said_goes_on elide chunks size x 0 some short (omega arith);
-  two = said_goes_on elide chunks size x 1 some short (omega arith);
+  one = said_goes_on _ _ _ x 0 some short (omega arith);
+  two = said_goes_on _ _ _ x 1 some short (omega arith);
 }
 
 -- What all continuations have
@@ -119,11 +119,11 @@ ended_first : (elide : Bool) (chunks : Chunks) (said : Option ℕ) (x y : List �
     → CanFollow said x y → (tail : List (List ℕ))
     × (files_by elide (in_the_end chunks said (x ++ y)) ≡ kept elide (decided chunks 1 said x).full ++ tail)
 ended_first elide chunks None x y some comes = let files = files_by elide (in_the_end chunks None (x ++ y)) in
-    (files, ap (λ front. front ++ files) (sym (none_kept elide)))
+    (files, ap (λ front. front ++ files) (sym (none_kept _)))
 ended_first elide chunks (Some size) x y some comes = elim (cases_lt (length x) size) [
-  | inl short ↦ (let left = chunks_left chunks size x some short in
-      (_, said_split elide chunks size x y left.0 some short (eqb-true _ _ comes.1) left.1))
-  | inr full ↦ ([], no_rest elide chunks size x y some full comes)
+  | inl short ↦ (let left = chunks_left _ _ x some short in
+      (_, said_split _ _ _ x y _ some short (eqb-true _ _ comes.1) left.1))
+  | inr full ↦ ([], no_rest _ _ _ x y some full comes)
 ]
 
 -- The files
@@ -229,7 +229,7 @@ pub chunks_made : (plan : ChunksPlan) (said : Option ℕ) (x : List ℕ) → 0 <
     → are_named plan.filing.names plan.chunks.count ≡ true → is_longer said x ≡ false
     → AreMade (CanFollow said x) (chunks_work plan said) x (chunks_settled plan said x).files
 chunks_made plan None x some named fits =
-    made_by plan None x some named (inr (differ plan None x some named (none_grows plan.elide plan.chunks x some)))
+    made_by plan None x some named (inr (differ plan None x some named (none_grows _ _ x some)))
 chunks_made plan (Some size) x some named fits = elim (cases_lt (length x) size) [
   | inl short ↦ made_by plan (Some size) x some named
       (inr (differ plan (Some size) x some named (said_grows plan.elide plan.chunks size x some short)))
@@ -272,24 +272,24 @@ still_going chunks said x on = (
 
   at : (y : List ℕ) → get_or (pieces_in (in_the_end chunks said (x ++ y))) n []
       ≡ get_or (files_by false (in_the_end chunks said (x ++ y))) n []
-  at y = let cut = in_the_end chunks said (x ++ y) in same_pieces cut.full cut.rest n
+  at y = let cut = in_the_end chunks said (x ++ y) in same_pieces _ _ n
 
 pub chunk_going : (place : ℕ) (chunks : Chunks) (said : Option ℕ) (x : List ℕ) → place < chunks.count
     → is_longer said x ≡ false → (chunk_work place chunks said).is_complete x ≡ false
     → (at : ℕ) × (at ≤ place) × TwoDiffer (CanFollow said x) (λ y. (chunk_work at chunks said).whole (x ++ y))
 chunk_going place chunks None x within fits going =
-    (0, omega arith, still_going chunks None x (none_grows false chunks x (omega arith)))
+    (0, omega arith, still_going _ _ x (none_grows _ _ x (omega arith)))
 chunk_going place chunks (Some size) x within fits going = (
   length (chunks_of chunks size x).full,
   omega (arith, count, few),
-  still_going chunks (Some size) x (said_grows false chunks size x some short),
+  still_going _ _ x (said_grows _ _ _ x some short),
 ) where
   some : 0 < chunks.count
   some = omega arith
 
   few : ended chunks size x ≤ place
   few = elim (cases_lt place (ended chunks size x)) [
-    | inl past ↦ absurd (false≢true (sym going ∙ has_ended_before chunks size x place past))
+    | inl past ↦ absurd (false≢true (sym going ∙ has_ended_before _ _ x _ past))
     | inr those ↦ those
   ]
 
@@ -301,7 +301,7 @@ chunk_going place chunks (Some size) x within fits going = (
 
   count : length (chunks_of chunks size x).full ≡ ended chunks size x
   count = ap (λ (cut : CutUp). length cut.full)
-      (chunks_are chunks size x some (omega (arith, short)) (ended_is chunks size x))
+      (chunks_are _ _ x some (omega (arith, short)) (ended_is _ _ x))
       ∙ length-map-range_with_len (chunk_at chunks size x) 0 (ended chunks size x)
 
 -- Empty files that are left out

@@ -50,7 +50,7 @@ tail_spot : (c : ℕ) (x : List ℕ) (pieces : List (List ℕ)) (i : ℕ) → i 
     → spots_from 1 pieces i ≡ spot 1 i ∷ []
 tail_spot c x [] i less tail = absurd tail
 tail_spot c x (piece ∷ pieces) i less tail =
-    spot_in 1 i piece pieces (omega (arith, ap length tail.0.1, length-append x (c ∷ tail.0.0)))
+    spot_in 1 i _ _ (omega (arith, ap length tail.0.1, length-append x (c ∷ tail.0.0)))
 
 abbrev pub far_copies : Chunks → List ℕ → List ℕ
 far_copies chunks x = replicate (suc (length x) * chunks.count) 0
@@ -58,8 +58,8 @@ far_copies chunks x = replicate (suc (length x) * chunks.count) 0
 -- the first file, where enough comes
 far_first : (elide : Bool) (chunks : Chunks) (x : List ℕ) (i : ℕ) → 0 < chunks.count → i < length x
     → spots_from 1 (files_by elide (in_the_end chunks None (x ++ 0 ∷ far_copies chunks x))) i ≡ spot 1 i ∷ []
-far_first elide chunks x i some less = let (tail, after, files) = none_files elide chunks x 0 some in
-    ap (λ files. spots_from 1 files i) files ∙ tail_spot 0 x tail i less after
+far_first elide chunks x i some less = let (tail, after, files) = none_files _ _ x 0 some in
+    ap (λ files. spots_from 1 files i) files ∙ tail_spot 0 x _ i less after
 
 files_differ : (plan : ChunksPlan) (said : Option ℕ) (x : List ℕ) → 0 < plan.chunks.count
     → are_named plan.filing.names plan.chunks.count ≡ true → is_longer said x ≡ false → (i : ℕ)

@@ -56,11 +56,11 @@ whole_is (in_output chunk) chunks size x = refl
 -- of a text within its size
 settled_within : (on : Course) (chunks : Chunks) (size : ℕ) (x : List ℕ) → length x ≤ size
     → part_on on (chunks_within chunks size x) ≡ (work_on on chunks (Some size)).settled x
-settled_within on chunks size x fits = rw (settled_is on chunks size x, cut_of chunks size x fits) refl
+settled_within on chunks size x fits = rw (settled_is _ _ _ x, cut_of _ _ x fits) refl
 
 pub whole_within : (on : Course) (chunks : Chunks) (size : ℕ) (x : List ℕ) → length x ≤ size
     → whole_on on (chunks_within chunks size x) ≡ (work_on on chunks (Some size)).whole x
-whole_within on chunks size x fits = rw (whole_is on chunks size x, cut_of chunks size x fits) refl
+whole_within on chunks size x fits = rw (whole_is _ _ _ x, cut_of _ _ x fits) refl
 
 -- Where the size was said
 
@@ -70,16 +70,16 @@ past_at : (chunks : Chunks) (size place : ℕ) (aim : AimState) (x : List ℕ) �
     → is_past_at aim place ≡ (work_on (course_of aim) chunks (Some size)).is_complete x
 past_at chunks size place (to_files writer elide) x can fits is = sym (le-ltb _ _ fits)
 past_at chunks size place (to_output chunk) x can fits is = elim (cases_lt chunk place) [
-  | inl before ↦ lt-ltb _ _ before ∙ sym (has_ended_before chunks size x chunk (omega arith))
+  | inl before ↦ lt-ltb _ _ before ∙ sym (has_ended_before _ _ x _ (omega arith))
   | inr past ↦ le-ltb _ _ past ∙ sym (by (has_ended chunks size x chunk) refl past)
 ] where
   by : (has : Bool) → has_ended chunks size x chunk ≡ has → place ≤ chunk → has_ended chunks size x chunk ≡ false
-  by true has past = absurd (omega (arith, ended_after chunks size x chunk (ltb-true _ _ can) has))
+  by true has past = absurd (omega (arith, ended_after _ _ x _ (ltb-true _ _ can) has))
   by false has past = has
 
 pub past_is : {cutter : CutterState} {size : ℕ} {x : List ℕ} → IsCut cutter size x
     → is_past_on cutter.target ≡ (said_work cutter size).is_complete x
-past_is {cutter} {size} {x} is = past_at cutter.chunks size cutter.target.place cutter.target.aim x is.cut.can is.fits (placed_at is)
+past_is {cutter} {size} {x} is = past_at _ _ _ _ x is.cut.can is.fits (placed_at is)
 
 -- and where a text has its size
 full_at : (chunks : Chunks) (size : ℕ) (aim : AimState) (x : List ℕ)
@@ -395,7 +395,7 @@ whole_said {chunker} {size} has =
     rw (used_is has) (elim has.spare.enough [
       | inl none ↦ rw (used_all has.spare none) (whole_within on chunks size used has.within)
       | inr complete ↦
-          rw has.spare.joined (complete_all on chunks size used has.spare.rest has.cut.can has.within complete)
+          rw has.spare.joined (complete_all _ _ _ _ _ has.cut.can has.within complete)
     ])
 
 ends_well : (aim : AimState) (chunks : Chunks) (size : ℕ) (x : List ℕ) {n : ℕ}
@@ -424,8 +424,8 @@ ends_well (to_output chunk) chunks size x spare can fits ends = rw all refl wher
 ends_badly : (aim : AimState) (chunks : Chunks) (size : ℕ) (x : List ℕ) → length x < size
     → (work_on (course_of aim) chunks (Some size)).is_complete x ≡ false
     → (work_on (course_of aim) chunks (Some size)).verdict x ≡ Some Changed
-ends_badly (to_files writer elide) chunks size x short open_still = rw (shorter_differs size (length x) short) refl
-ends_badly (to_output chunk) chunks size x short open_still = rw (open_still, shorter_differs size (length x) short) refl
+ends_badly (to_files writer elide) chunks size x short open_still = rw (shorter_differs _ _ short) refl
+ends_badly (to_output chunk) chunks size x short open_still = rw (open_still, shorter_differs _ _ short) refl
 
 module _ {chunker next : ChunkerState} {size : ℕ} {told : Bool} {old new : List Slot} (said : chunker.said ≡ Some size)
     (same : IsLike chunker next) (bound : total next ≤ total chunker) where
@@ -471,4 +471,4 @@ past_so (to_output chunk) (to_output other) place same = ap (λ chunk. nat_lt ch
 
 pub past_same : (one two : TargetState) → course_of two.aim ≡ course_of one.aim → two.place ≡ one.place
     → is_past_on two ≡ is_past_on one
-past_same one two same place = ap (is_past_at two.aim) place ∙ past_so one.aim two.aim one.place same
+past_same one two same place = ap (is_past_at two.aim) place ∙ past_so _ _ _ same

@@ -196,7 +196,7 @@ passes_lacking {told} old {piece} {slots} unsaid can = record {
 
 aimed_writable : (aim : AimState) (chunks : Chunks) (said : Option ℕ) (slots : List Slot) → IsAimed aim slots
     → writes (work_on (course_of aim) chunks said).means.output ≡ true → IsTrue (is_writable slots 0)
-aimed_writable (to_files writer elide) chunks said slots aimed told = told_writable writer.tells slots aimed.0.output told
+aimed_writable (to_files writer elide) chunks said slots aimed told = told_writable _ _ aimed.0.output told
 aimed_writable (to_output chunk) chunks said slots aimed told = aimed
 
 module _ {told : Bool} {old new : ChunkerState} {before after : List Slot} where
@@ -262,7 +262,7 @@ said_waits (Some size) state x holds = holds.waits
 
 pub chunks_wait : (state : ChunkerState) (x : List ℕ) → Holds state x
     → length state.waiting ≡ length ((work state).waiting x)
-chunks_wait state x holds = ap length (said_waits state.said state x holds
+chunks_wait state x holds = ap length (said_waits _ _ x holds
     ∙ sym (waiting_is (course state.cutter) state.cutter.chunks state.said x)
     ∙ ap (λ (those : Work). those.waiting x) (sym (works_so state (holds_can state.said state x holds))))
 
@@ -313,7 +313,7 @@ open_beside state z those same beside holds = by (course state.cutter) refl wher
 
   by : (on : Course) → course state.cutter ≡ on → those.is_complete z ≡ false
   by (in_files filing elide) on = ap (λ (those : Work). those.is_complete z) (sym same ∙ is ∙ ap (λ on. work_on on state.cutter.chunks state.said) on)
-      ∙ files_open filing elide state.cutter.chunks state.said state z on refl holds
+      ∙ files_open _ _ _ _ _ z on refl holds
   by (in_output chunk) on = absurd (beside (ap (λ (those : Work). those.means.output)
       (sym same ∙ is ∙ ap (λ on. work_on on state.cutter.chunks state.said) on)))
 
@@ -323,7 +323,7 @@ unsaid_open (in_output chunk) chunks x = refl
 
 spare_by : (said : Option ℕ) (state : ChunkerState) (x : List ℕ) → HoldsBy said state x
     → IsSpare (work_on (course state.cutter) state.cutter.chunks said) x state.spare
-spare_by None state x holds = rw holds.spare (all_used _ x (unsaid_open (course state.cutter) state.cutter.chunks x))
+spare_by None state x holds = rw holds.spare (all_used _ x (unsaid_open _ _ x))
 spare_by (Some size) state x holds = holds.spare
 
 pub chunks_spare : (state : ChunkerState) (x : List ℕ) → Holds state x → IsSpare (work state) x state.spare

@@ -55,7 +55,7 @@ pub take-take_few : (k n : ℕ) (x : List ℕ) → k ≤ length (take n x) → t
 take-take_few k n x few = grind (arith, common_steps)
 
 first_is_take : (limit : Limit) (x : List ℕ) → first_part limit x ≡ take (length (first_part limit x)) x
-first_is_take (Lines n delim) x = first_lines-is_take delim n x
+first_is_take (Lines n delim) x = first_lines-is_take _ n x
 first_is_take (Bytes n) x = grind (arith, common_steps)
 first_is_take (LineBytes n delim) x = grind (arith, common_steps, whole_is_take, take-take_few, whole_within)
 
@@ -75,13 +75,13 @@ pub cut_two : (limit : Limit) {x first : List ℕ} (next : List ℕ) → is_full
     → x ≡ first ++ next → is_full limit next ≡ false → cut_up limit x ≡ cut_so (first ∷ []) next
 cut_two limit {x} {first} next full is both short =
     let after : after_first limit x ≡ next = ap (λ (front : List ℕ). drop (length front) x) is ∙ ap (drop (length first)) both ∙ drop-append_seam first next in
-    cut_once limit (rw is at (goes x [] next full (subst (λ those. Cuts limit those [] next) (sym after) (stops next short))))
+    cut_once _ (rw is at (goes x [] next full (subst (λ those. Cuts limit those [] next) (sym after) (stops next short))))
 
 -- the bytes of shares are those that were shared
 pub bytes_of_shares : (state : State) (those : List (List ℕ))
     → map (λ (file : Share). file.bytes) (map (share state) those) ≡ those
 bytes_of_shares state [] = refl
-bytes_of_shares state (part ∷ those) = ap (λ rest. part ∷ rest) (bytes_of_shares state those)
+bytes_of_shares state (part ∷ those) = ap (λ rest. part ∷ rest) (bytes_of_shares _ _)
 
 -- places that leave the same remainder are dealt alike
 pub dealt_same : (n file one other : ℕ) (lines : List (List ℕ)) → one % n ≡ other % n
@@ -141,11 +141,11 @@ open_goes_on : (delim : ℕ) (x y : List ℕ) → 0 < delimiters delim x → del
 open_goes_on delim x y some none = search (rules, delimiters-append, open_of_lines, after_lines-append)
 
 none_open : (delim : ℕ) {x : List ℕ} → whole_lines delim x ≡ x → open_line delim x ≡ []
-none_open delim {x} is = append_cancel_left (whole_lines delim x) (open_line delim x) [] (whole_then_open delim ∙ sym is ∙ sym (append-nil (whole_lines delim x)))
+none_open delim {x} is = append_cancel_left (whole_lines delim x) (open_line delim x) [] (whole_then_open _ ∙ sym is ∙ sym (append-nil (whole_lines delim x)))
 
 open_plain : (delim : ℕ) (x : List ℕ) → 0 < delimiters delim x → delimiters delim (open_line delim x) ≡ 0
 open_plain delim x some =
-    let both : delimiters delim (whole_lines delim x ++ open_line delim x) ≡ delimiters delim x = ap (delimiters delim) (whole_then_open delim) in
+    let both : delimiters delim (whole_lines delim x ++ open_line delim x) ≡ delimiters delim x = ap (delimiters delim) (whole_then_open _) in
     let front : delimiters delim (whole_lines delim x) ≡ delimiters delim x = ap (delimiters delim) (whole_of_lines delim x some) ∙ delimiters-first_lines delim (delimiters delim x) x (omega (arith, delimiters-append delim (whole_lines delim x) (open_line delim x))) in omega (arith, delimiters-append delim (whole_lines delim x) (open_line delim x))
 
 -- a text that ends with the last delimiter of a block

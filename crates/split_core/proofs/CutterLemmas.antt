@@ -70,7 +70,7 @@ cut_lines delim q w x {rest} {first} more within low all is split line = elim (c
   | inr long ↦ (let e : w ≡ q = omega arith in
       take-add w (length first) x
       ∙ ap (λ past. take w x ++ past) (ap (take (length first)) (sym is ∙ split) ∙ take_at first more (length first) refl
-      ∙ sym (first_of delim more split line) ∙ ap (first_lines delim 1) is)
+      ∙ sym (first_of _ _ split line) ∙ ap (first_lines delim 1) is)
       ∙ ap (λ n. take n x ++ first_lines delim 1 (drop n x)) e)
 ]
 
@@ -88,8 +88,8 @@ begins_early unit delim place x y all some = elim (cases_lt (open_from unit deli
 open_of_whole : (delim : ℕ) (x : List ℕ)
     → open_from Lines delim (first_lines delim (delimiters delim x) x) ≡ open_from Lines delim x
 open_of_whole delim x = let d = delimiters delim x in let first = first_lines delim d x in
-    ap (λ n. length (first_lines delim n first)) (delimiters-first_lines delim d x (omega arith))
-    ∙ ap length (ap joined (ap (take d) (lines_of-first_lines delim d x) ∙ take-take d d (lines_of delim x) (omega arith)))
+    ap (λ n. length (first_lines delim n first)) (delimiters-first_lines _ d x (omega arith))
+    ∙ ap length (ap joined (ap (take d) (lines_of-first_lines _ d x) ∙ take-take d d (lines_of delim x) (omega arith)))
 
 pub open_early : (unit : Unit) (delim place : ℕ) (x : List ℕ) → begun_before unit delim place x ≡ x
     → is_within unit delim x ≡ true → open_from unit delim x < place
@@ -109,7 +109,7 @@ no_line unit delim x none = omega (arith, ltb-false _ _ none, open_within unit d
 pub within_last : (unit : Unit) (delim : ℕ) (x y : List ℕ) → 0 < length y
     → is_within unit delim (x ++ y) ≡ is_within unit delim y
 within_last Bytes delim x y some = grind (arith, nat_tests)
-within_last Lines delim x y some = by (nat_lt 0 (delimiters delim y)) refl (open_append delim x y) where
+within_last Lines delim x y some = by (nat_lt 0 (delimiters delim y)) refl (open_append _ x y) where
   by : (more : Bool) → nat_lt 0 (delimiters delim y) ≡ more
       → open_from Lines delim (x ++ y) ≡ cond more (length x + open_from Lines delim y) (open_from Lines delim x)
       → is_within Lines delim (x ++ y) ≡ is_within Lines delim y
@@ -148,10 +148,10 @@ ends_open {told} {cutter} {size} {slots} ready within short = record {
   chunks = refl;
   at = refl;
   within = refl;
-  sends = sends_as (λ x. x) None (λ x so. so) (λ x so. refl) (λ x so.
+  sends = sends_as (λ x. x) _ (λ x so. so) (λ x so. refl) (λ x so.
       let less : length x.0 < size = omega arith in
       let line = sym so.within ∙ within in
-      let is = still_ended cutter.chunks size cutter.target.place x.0 less (so.begun line less) line so.from in
+      let is = still_ended _ _ _ _ less (so.begun line less) line so.from in
       let e : ended cutter.chunks size x.0 - cutter.target.place ≡ 0 = omega arith in
       ap (λ n. with_fulls n x.1) (sym e)) (sends_none ready (λ x so. so.carries));
 }
@@ -187,7 +187,7 @@ name_of (in_output chunk) count place all less = tt
 full_begins : (on : Course) (cut : CutUp) → Begins (part_on on cut) (part_on on (with_full cut))
 full_begins (in_files filing elide) cut = let manner = manner_of filing in
     subst (Begins _) (ap (draft_part manner) (ends_full elide cut)) (ends_begin elide manner (draft_by elide cut))
-full_begins (in_output chunk) cut = rw (piece_full (pieces_in cut) chunk) (part_begins_itself (piece_at chunk cut))
+full_begins (in_output chunk) cut = rw (piece_full _ _) (part_begins_itself _)
 
 pub fulls_begin : (on : Course) (cut : CutUp) (few more : ℕ)
     → Begins (part_on on (with_fulls few cut)) (part_on on (with_fulls (few + more) cut))
@@ -299,7 +299,7 @@ pub fulls_are : (more : ℕ) (cut : CutUp)
     → with_fulls (suc more) cut ≡ record { full = cut.full ++ cut.rest ∷ replicate more []; rest = [] }
 fulls_are zero cut = refl
 fulls_are (suc more) cut = ap with_full (fulls_are more cut)
-    ∙ ap (λ full. record { full = full; rest = [] }) (append_assoc cut.full (cut.rest ∷ replicate more []) ([] ∷ []) ∙ ap (λ rest. cut.full ++ cut.rest ∷ rest) (more_empty more))
+    ∙ ap (λ full. record { full = full; rest = [] }) (append_assoc cut.full (cut.rest ∷ replicate more []) ([] ∷ []) ∙ ap (λ rest. cut.full ++ cut.rest ∷ rest) (more_empty _))
 
 pub cut_of : (chunks : Chunks) (size : ℕ) (x : List ℕ) → length x ≤ size
     → chunks_of chunks size x ≡ chunks_within chunks size x
@@ -331,14 +331,14 @@ grown chunks size x y some within all = elim (cases_lt (ended chunks size x) (en
 
 pub begin_so : (on : Course) (low high : CutUp) → Goes low high → Begins (part_on on low) (part_on on high)
 begin_so (in_files filing elide) low high goes = part_begins filing _ _ (shares_on elide Open goes)
-begin_so (in_output chunk) low high goes = out_begins _ _ (piece_on chunk goes)
+begin_so (in_output chunk) low high goes = out_begins _ _ (piece_on _ goes)
 
 -- what is there of a text begins what is there once it goes on
 pub so_grows : (on : Course) (chunks : Chunks) (size : ℕ) (x y : List ℕ) → 0 < chunks.count → length (x ++ y) ≤ size
     → Begins (part_on on (chunks_within chunks size x)) (part_on on (chunks_within chunks size (x ++ y)))
 so_grows on chunks size x y some within =
     rw (← cut_of chunks size x (omega (arith, length-append x y)), ← cut_of chunks size (x ++ y) within)
-    (begin_so on _ _ (chunks_go_on chunks size x y some))
+    (begin_so _ _ _ (chunks_go_on _ _ x y some))
 
 -- what is known of a text of which so much was cut off, where more comes than its size is long
 pub record Place (cutter : CutterState) (size : ℕ) (x : List ℕ) : Type 0 where
@@ -354,7 +354,7 @@ some_of (in_files filing elide) count can = ltb-true _ _ can
 some_of (in_output chunk) count can = omega (arith, ltb-true _ _ can)
 
 pub some_in : {cutter : CutterState} {x : List ℕ} {cut : CutUp} → HasCut cutter x cut → 0 < cutter.chunks.count
-some_in {cutter} has = some_of (course cutter) cutter.chunks.count has.can
+some_in {cutter} has = some_of _ _ has.can
 
 pub placed_at : {cutter : CutterState} {size : ℕ} {x : List ℕ} → IsCut cutter size x
     → ended cutter.chunks size x ≡ cutter.target.place
@@ -406,8 +406,8 @@ changes_cut : {told : Bool} {cutter : CutterState} {next : TargetState} {size : 
     → Sends told cutter.target (λ x. IsCut cutter size x
     × Place cutter size x) (chunks_within cutter.chunks size)
     (λ x. with_rest y (chunks_within cutter.chunks size x)) old new next fault
-changes_cut {cutter = cutter} {size = size} y fault changes = sends_as (chunks_within cutter.chunks size) fault
-    (λ x so. (so.0.cut.carries, name_of (course cutter) cutter.chunks.count cutter.target.place so.0.cut.all so.1.less)) (λ x so. refl) (λ x so. refl) changes
+changes_cut {cutter = cutter} {size = size} y fault changes = sends_as _ _
+    (λ x so. (so.0.cut.carries, name_of _ _ _ so.0.cut.all so.1.less)) (λ x so. refl) (λ x so. refl) changes
 
 -- and the chunks end that have all then
 pub record Cutting (cutter mid : CutterState) (y : List ℕ) : Type 0 where
@@ -430,18 +430,18 @@ ends_cut : {told : Bool} {cutter mid : CutterState} {next : TargetState} {size :
     × Carries mid.target (with_rest y (chunks_within cutter.chunks size x)))
     (λ x. with_rest y (chunks_within cutter.chunks size x))
     (λ x. chunks_within cutter.chunks size (x ++ y)) old new next fault
-ends_cut {cutter = cutter} {mid} {size = size} {y} fault is ends = sends_as (λ x. (x ++ y, with_rest y (chunks_within cutter.chunks size x))) fault
+ends_cut {cutter = cutter} {mid} {size = size} {y} fault is ends = sends_as (λ x. (x ++ y, with_rest y (chunks_within cutter.chunks size x))) _
     (λ x so. let (here, place, within, all) = so.0 in record {
       carries = so.1;
       all = rw (is.stays, is.chunks) here.cut.all;
       at = omega (arith, length-append x y);
-      within = rw is.chunks (is.within ∙ sym (within_last cutter.chunks.unit cutter.chunks.delim x y is.some));
+      within = rw is.chunks (is.within ∙ sym (within_last _ _ x y is.some));
       fits = within;
       begun = λ open_line short. rw (is.chunks, is.place, ← place.is) all;
-      from = rw (is.chunks, is.place, ← place.is) (ended_grows cutter.chunks size x y);
+      from = rw (is.chunks, is.place, ← place.is) (ended_grows _ _ x y);
     }) (λ x so. refl)
     (λ x so. let (here, place, within, all) = so.0 in
-    rw (is.chunks, is.place, ← place.is) (grown cutter.chunks size x y place.some within all)) ends
+    rw (is.chunks, is.place, ← place.is) (grown _ _ x y place.some within all)) ends
 
 pub both_cut : {told : Bool} {cutter mid : CutterState} {next : TargetState} {size : ℕ} {y : List ℕ}
     {old wet new : List Slot} (fault : Option Fault) → Cutting cutter mid y
@@ -450,7 +450,7 @@ pub both_cut : {told : Bool} {cutter mid : CutterState} {next : TargetState} {si
     (λ x. with_fulls (ended mid.chunks size x.0 - mid.target.place) x.1) wet new next fault
     → Sends told cutter.target (CutsOn cutter size y) (chunks_within cutter.chunks size)
     (λ x. chunks_within cutter.chunks size (x ++ y)) old new next fault
-both_cut {y = y} fault is changes ends = sends_then (sends_as (λ x. x) None (λ x so. (so.0, so.1)) (λ x so. refl) (λ x so. refl) (changes_cut y None changes)) (λ x so has. (so, has)) (ends_cut fault is ends)
+both_cut {y = y} fault is changes ends = sends_then (sends_as (λ x. x) _ (λ x so. (so.0, so.1)) (λ x so. refl) (λ x so. refl) (changes_cut y _ changes)) (λ x so has. (so, has)) (ends_cut _ is ends)
 
 pub has_cut : {cutter next : CutterState} {x : List ℕ} (y : List ℕ) {from to : CutUp} → next.chunks ≡ cutter.chunks
     → course next ≡ course cutter → next.at ≡ cutter.at + length y
@@ -460,7 +460,7 @@ has_cut {cutter} {x = x} y chunks stays at within some has carries = record {
   can = rw (stays, chunks) has.can;
   all = rw (stays, chunks) has.all;
   at = omega (arith, length-append x y);
-  within = rw chunks (within ∙ sym (within_last cutter.chunks.unit cutter.chunks.delim x y some));
+  within = rw chunks (within ∙ sym (within_last _ _ x y some));
   carries = carries;
 }
 
@@ -540,17 +540,17 @@ pub needed_in : {cutter : CutterState} {size : ℕ} {x : List ℕ} (text : List 
     → IsCut cutter size x → length (x ++ text) ≤ size
     → IsOpen cutter size (x ++ take (n - 1) text)
 needed_in {cutter} {size} {x} text n going some few is has within = let chunks = cutter.chunks in
-    let place = place_of text has (omega arith) within in
+    let place = place_of _ has (omega arith) within in
     let z = x ++ take (n - 1) text in
     let last = drop (n - 1) (take n text) in
     let front : take (n - 1) (take n text) ≡ take (n - 1) text = take-take (n - 1) n text (omega arith) in
     let both : z ++ last ≡ x ++ take n text =
     rw (append_assoc x (take (n - 1) text) last, ← front, take-append-drop (n - 1) (take n text)) refl in
-    let all : before_chunk chunks size (ended chunks size x + 1) (z ++ last) ≡ z ++ last = rw (both, is) (all_before text has place) in
+    let all : before_chunk chunks size (ended chunks size x + 1) (z ++ last) ≡ z ++ last = rw (both, is) (all_before _ has place) in
     let one : length last ≡ 1 = omega (arith, length-drop (n - 1) (take n text), length-take n text) in
-    not_yet chunks size cutter.target.place cutter.target.aim z
+    not_yet _ _ _ _ z
     (omega (arith, length-append x (take (n - 1) text), length-take (n - 1) text, length-append x text))
-    (rw place.is at (begins_early chunks.unit chunks.delim _ z last all (omega arith))) going
+    (rw place.is at (begins_early _ _ _ z _ all (omega arith))) going
 
 -- where a stretch was written
 pub cutting : {told : Bool} {cutter mid : CutterState} {end n : ℕ} (text : List ℕ) {old new : List Slot}
@@ -572,15 +572,15 @@ steps_so {n = n} text writes ends = let is = writes.count.2 in (
   writes.count.0,
   writes.count.1,
   omega arith,
-  cuts_on text None is (cutting text writes) (rw (← is) at writes.sends) ends,
-  λ going x within has. needed_in text n going writes.count.0 writes.count.1 is within has,
+  cuts_on _ _ is (cutting _ writes) (rw (← is) at writes.sends) ends,
+  λ going x within has. needed_in _ n going writes.count.0 writes.count.1 is within has,
 )
 
 -- nothing is full before that chunk's end
 pub steps_short : {told : Bool} {cutter next : CutterState} {size n : ℕ} (text : List ℕ) {old new : List Slot}
     → 0 < cutter.chunks.count → WritesTo told cutter (end_so cutter size) text old new next (Ok n)
     → next.at < end_so cutter size → Steps told cutter size text old new next (Ok n)
-steps_short {size = size} text some writes short = steps_so text writes
+steps_short {size = size} text some writes short = steps_so _ writes
     (ends_short writes.sends.brings.ready (rw writes.chunks some) (rw (writes.chunks, writes.place) short))
 
 -- Stretch after stretch
@@ -590,7 +590,7 @@ pub cuts_nothing : {told : Bool} {cutter : CutterState} {size : ℕ} {slots : Li
 cuts_nothing {told} {cutter} {size} {slots} ready = record {
   chunks = refl;
   bound = omega arith;
-  brings = brings_as (λ x. x) None (λ x so. so) (λ x so. refl) (λ x so. ap (part_so cutter size) (sym (append-nil x))) (sends_none {target = cutter.target} {So = λ x. IsCut cutter size x × (length (x ++ []) ≤ size)} {from = chunks_within cutter.chunks size} ready (λ x so. so.0.cut.carries)).brings;
+  brings = brings_as (λ x. x) _ (λ x so. so) (λ x so. refl) (λ x so. ap (part_so cutter size) (sym (append-nil x))) (sends_none {target = cutter.target} {So = λ x. IsCut cutter size x × (length (x ++ []) ≤ size)} {from = chunks_within cutter.chunks size} ready (λ x so. so.0.cut.carries)).brings;
   stands = λ x is within. rw (append-nil x) is;
 }
 
@@ -638,7 +638,7 @@ module _ {told : Bool} {cutter now : CutterState} {size : ℕ} {text left : List
   away_more {next} {rest} {n} (some, within, at, step, going) not_past is = record {
     done = so_far.done ++ take n left;
     both = rw (is, append_assoc so_far.done (take n left) (drop n left), take-append-drop n left) so_far.both;
-    cuts = cuts_again so_far.done (take n left) None so_far.cuts step;
+    cuts = cuts_again _ _ _ so_far.cuts step;
     at = omega (arith, length-append so_far.done (take n left), length-take n left);
     start = elim so_far.start [
       | inl (same, none) ↦ inr (rw same at not_past)
@@ -669,7 +669,7 @@ module _ {told : Bool} {cutter now : CutterState} {size : ℕ} {text left : List
 
   pub away_stops : {next : CutterState} {new : List Slot} {why : Fault}
       → Cuts told now size left slots new next (Some why) → Cuts told cutter size text old new next (Some why)
-  away_stops {why = why} stops = rw so_far.both (cuts_again so_far.done left (Some why) so_far.cuts stops)
+  away_stops {why = why} stops = rw so_far.both (cuts_again _ _ _ so_far.cuts stops)
 
   pub away_so : (piece : List ℕ) (own : ℕ) {count : ℕ} → own ≡ min (length piece) (size - cutter.at)
       → text ≡ take own piece → count ≡ length left + (length piece - own)

@@ -40,12 +40,12 @@ use Rattle.ports_core.{
 
 none_append : (delim : ℕ) (x y : List ℕ) → HasNone delim x → HasNone delim y → HasNone delim (x ++ y)
 none_append delim [] y first rest = rest
-none_append delim (byte ∷ x) y first rest = (first.0, none_append delim x y first.1 rest)
+none_append delim (byte ∷ x) y first rest = (first.0, none_append _ x y first.1 rest)
 
 -- a mask without a bit
 unmarked : (delim : ℕ) (x : List ℕ) → delimiter_mask delim x ≡ 0 → HasNone delim x
 unmarked delim [] none = tt
-unmarked delim (byte ∷ x) none = (grind (arith, nat_tests, none), unmarked delim x (grind (arith, nat_tests, none)))
+unmarked delim (byte ∷ x) none = (grind (arith, nat_tests, none), unmarked _ x (grind (arith, nat_tests, none)))
 
 -- how many bytes stand before the first delimiter
 abbrev pub before_first : ℕ → List ℕ → ℕ
@@ -66,7 +66,7 @@ first_step {delim} false {byte} {x} here rest some = search (rules, eqb-false)
 
 pub first_marked : {delim : ℕ} (x : List ℕ) → 0 < delimiter_mask delim x → IsFirstAt delim x (before_first delim x)
 first_marked [] some = absurd (omega arith)
-first_marked {delim} (byte ∷ x) some = first_step (eqb byte delim) refl (λ more. first_marked x more) some
+first_marked {delim} (byte ∷ x) some = first_step _ refl (λ more. first_marked x more) some
 
 half : (is : Bool) {rest : ℕ} → (cond is 1 0 + 2 * rest) / 2 ≡ rest
 half true = omega arith
@@ -76,7 +76,7 @@ half false = omega arith
 pub mask_after : (delim at : ℕ) (x : List ℕ)
     → delimiter_mask delim x / 2 ^ at / 2 ≡ delimiter_mask delim (drop (suc at) x)
 mask_after delim at [] = ap (λ n. n / 2) (zero-div (2 ^ at)) ∙ zero-div 2
-mask_after delim zero (byte ∷ x) = ap (λ n. n / 2) (div-one _) ∙ half (eqb byte delim)
+mask_after delim zero (byte ∷ x) = ap (λ n. n / 2) (div-one _) ∙ half _
 mask_after delim (suc at) (byte ∷ x) =
     cc (power, div-div-eq-div-mul (cond (eqb byte delim) 1 0 + 2 * delimiter_mask delim x) 2 (2 ^ at), half (eqb byte delim), mask_after delim at x) where
       power : 2 ^ suc at ≡ 2 * 2 ^ at
@@ -128,11 +128,11 @@ pub first_seen : {delim : ℕ} {x : List ℕ} {ahead : Ahead} {at : ℕ} → See
     → at ≡ before_first delim (take ahead.width (drop ahead.passed x)) → 0 < ahead.mask
     → IsFirstAt delim x (ahead.passed + at) × (at < ahead.width)
 first_seen {delim} {x} {ahead} {at} sees is some = (
-  first_of_text ahead.passed ahead.width sees.within sees.none first,
+  first_of_text _ _ sees.within sees.none first,
   (omega (arith, first.within, length-window)),
 ) where
   first : IsFirstAt delim (take ahead.width (drop ahead.passed x)) at
-  first = rw (← is) at (first_marked (take ahead.width (drop ahead.passed x)) (subst (λ n. 0 < n) sees.marked some))
+  first = rw (← is) at (first_marked _ (subst (λ n. 0 < n) sees.marked some))
 
 pub sees_rest : {delim : ℕ} {x : List ℕ} {ahead : Ahead} (at : ℕ) {mask : ℕ} → Sees delim x ahead → at < ahead.width
     → mask ≡ ahead.mask / 2 ^ at / 2
@@ -153,7 +153,7 @@ pub mask_padded : (delim other : ℕ) (x : List ℕ) (n : ℕ) → eqb other del
     → delimiter_mask delim (x ++ replicate n other) ≡ delimiter_mask delim x
 mask_padded delim other [] zero differs = refl
 mask_padded delim other [] (suc n) differs = grind (arith, common_steps, mask_padded delim other [] n differs)
-mask_padded delim other (byte ∷ x) n differs = ap (λ rest. cond (eqb byte delim) 1 0 + 2 * rest) (mask_padded delim other x n differs)
+mask_padded delim other (byte ∷ x) n differs = ap (λ rest. cond (eqb byte delim) 1 0 + 2 * rest) (mask_padded _ _ x n differs)
 
 lowest_bit : {delim : ℕ} {x : List ℕ} {ahead : Ahead} → Sees delim x ahead → 0 < ahead.mask
     → count_trailing_zeros 64 ahead.mask ≡ before_first delim (take ahead.width (drop ahead.passed x))
@@ -180,7 +180,7 @@ pub split_rest : {delim : ℕ} {x rest : List ℕ} {ahead : Ahead} → Sees deli
           (count_trailing_zeros 64 ahead.mask + 1);
       mask = ahead.mask / 2 ^ count_trailing_zeros 64 ahead.mask / 2;
     })
-split_rest {ahead} sees some back = rw back (sees_rest (count_trailing_zeros 64 ahead.mask) sees (seen_at sees some).1 refl)
+split_rest {ahead} sees some back = rw back (sees_rest _ sees (seen_at sees some).1 refl)
 
 -- a text that is padded with the complement of the delimiter, which is another byte, keeps its mask
 pub mask_of_padded : (delim other : ℕ) (x : List ℕ) {lanes : List ℕ} → length x < 64 → other ≡ 255 - delim → delim < 256
@@ -188,7 +188,7 @@ pub mask_of_padded : (delim other : ℕ) (x : List ℕ) {lanes : List ℕ} → l
     → delimiter_mask delim (take 64 lanes) ≡ delimiter_mask delim (take 64 x)
 mask_of_padded delim other x {lanes} short complement small is =
     ap (delimiter_mask delim) (take_all 64 lanes (let long : length lanes ≡ 64 = ap length is ∙ length-append x (replicate (64 - length x) other) ∙ ap (λ n. length x + n) (length-replicate (64 - length x) other) ∙ omega arith in omega arith) ∙ is)
-    ∙ mask_padded delim other x (64 - length x) (ne_eqb other delim (λ same. omega arith)) ∙ ap (delimiter_mask delim)
+    ∙ mask_padded _ _ x _ (ne_eqb other delim (λ same. omega arith)) ∙ ap (delimiter_mask delim)
     (sym (take_all 64 x (omega arith)))
 
 -- of a piece what is left is still to be gathered
@@ -205,7 +205,7 @@ pub record Dealing (delim n start : ℕ) (piece : List ℕ) (gathered : List (Li
 
 pub has_none : (delim : ℕ) (x : List ℕ) → delimiters delim x ≡ 0 → HasNone delim x
 has_none delim [] none = tt
-has_none delim (byte ∷ x) none = (grind (arith, nat_tests, none), has_none delim x (grind (arith, nat_tests, none)))
+has_none delim (byte ∷ x) none = (grind (arith, nat_tests, none), has_none _ x (grind (arith, nat_tests, none)))
 
 get_or-changed : (place : ℕ) (line : List ℕ) (xs : List (List ℕ)) (file : ℕ) → file < length xs
     → get_or (changed_at place (λ had. had ++ line) xs) file []
@@ -249,7 +249,7 @@ pub line_more : {delim n start : ℕ} {piece : List ℕ} {gathered now : List (L
     → IsFirstLine delim left line rest → now ≡ changed_at next (λ had. had ++ line) gathered
     → reached_now ≡ max reached (next + 1) → size ≡ n → place ≡ (next + 1) % size
     → Dealing delim n start piece now place reached_now rest
-line_more line so_far cut is reached_is same goes = rw (goes, same) (complete_line line so_far cut.first cut.counted is reached_is)
+line_more line so_far cut is reached_is same goes = rw (goes, same) (complete_line _ so_far cut.first cut.counted is reached_is)
 
 -- the place after the last is the first again: then all files are reached
 pub line_goes_round : {delim n start : ℕ} {piece : List ℕ} {gathered now : List (List ℕ)} {next : ℕ} (reached : ℕ)
@@ -260,14 +260,14 @@ pub line_goes_round : {delim n start : ℕ} {piece : List ℕ} {gathered now : L
 line_goes_round {n} {next} reached line so_far cut is same last =
     let few = so_far.few in let inside = so_far.within in
     let all : next + 1 ≡ n = omega arith in
-    line_more line so_far cut is (omega arith) refl (sym (ap (λ k. k % n) all ∙ mod_self n))
+    line_more _ so_far cut is (omega arith) refl (sym (ap (λ k. k % n) all ∙ mod_self n))
 
 pub line_goes_on : {delim n start : ℕ} {piece : List ℕ} {gathered now : List (List ℕ)} {next : ℕ} (reached : ℕ)
     {count : ℕ} {left : List ℕ} (line : List ℕ) {rest : List ℕ}
     → Dealing delim n start piece gathered next (max reached next) left
     → IsFirstLine delim left line rest → now ≡ changed_at next (λ had. had ++ line) gathered → count ≡ n
     → next + 1 < count → Dealing delim n start piece now (next + 1) (max reached (next + 1)) rest
-line_goes_on reached line so_far cut is same more = line_more line so_far cut is (omega arith) refl
+line_goes_on reached line so_far cut is same more = line_more _ so_far cut is (omega arith) refl
     (sym (mod-eq_of_lt (omega arith)))
 
 -- no complete line is left: there is nothing after the open line
@@ -276,7 +276,7 @@ open_line : {delim n start : ℕ} {piece : List ℕ} {gathered now : List (List 
     → delimiters delim line ≡ 0 → 0 < length line → now ≡ changed_at next (λ had. had ++ line) gathered
     → reached_now ≡ max reached (next + 1) → Dealing delim n start piece now next reached_now []
 open_line {delim} {n} {gathered} {next} {reached} line so_far none some is reached_is = record {
-  count = ap length is ∙ length-changed_at next _ gathered ∙ so_far.count;
+  count = ap length is ∙ length-changed_at _ _ _ ∙ so_far.count;
   within = so_far.within;
   shares = λ file inside. ap (λ those. get_or those file [] ++ []) is ∙ shares_next next next gathered line [] file so_far.count so_far.within inside refl
       ∙ ap (λ lines. get_or gathered file [] ++ dealt n file next lines) (sym one_line) ∙ so_far.shares file inside;
@@ -286,7 +286,7 @@ open_line {delim} {n} {gathered} {next} {reached} line so_far none some is reach
   over = omega arith;
 } where
   one_line : lines_of delim line ≡ line ∷ []
-  one_line = lines_of-open delim line some (has_none delim line none)
+  one_line = lines_of-open _ _ some (has_none _ _ none)
 
 -- one member was put in its place
 pub appended : (gathered : List (List ℕ)) (place : ℕ) {had : List ℕ} (now line : List ℕ) {E : Type 0}
@@ -294,7 +294,7 @@ pub appended : (gathered : List (List ℕ)) (place : ℕ) {had : List ℕ} (now 
     → OnOk result (now ≡ had ++ line)
     → OnOk result (set gathered place now ≡ changed_at place (λ those. those ++ line) gathered)
 appended gathered place {had} now line result within at is =
-    on_ok_weaker result (λ (same : now ≡ had ++ line). ap (set gathered place) same ∙ set-changed gathered place (λ those. those ++ line) had within at) is
+    on_ok_weaker result (λ (same : now ≡ had ++ line). ap (set gathered place) same ∙ set-changed _ _ (λ those. those ++ line) _ within at) is
 
 -- all is gathered
 ended : {delim n start : ℕ} {piece : List ℕ} {gathered : List (List ℕ)} {next reached : ℕ}
@@ -323,7 +323,7 @@ pub ends_open : {delim n start : ℕ} {piece : List ℕ} {gathered now : List (L
 ends_open {delim} {n} {start} {piece} {gathered} {next} {reached} line so_far same none some is reached_is =
     let more : length line ≢ 0 = eqb-false (length line) 0 some in
     ended
-    (open_line line (rw (← same) at so_far) (ap (delimiters delim) same ∙ none) (omega arith) is reached_is)
+    (open_line _ (rw (← same) at so_far) (ap (delimiters delim) same ∙ none) (omega arith) is reached_is)
 
 -- a line that is the first of what was left stands at its beginning
 pub first_taken : {delim : ℕ} {left x : List ℕ} (line : List ℕ) {rest : List ℕ} → IsFirstLine delim x line rest

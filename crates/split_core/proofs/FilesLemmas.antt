@@ -86,13 +86,13 @@ drop_by f zero start n {at} is = search rules
 drop_by f (suc k) start zero {at} is = search rules
 drop_by f (suc k) start (suc n) {at} is =
     let rest : n - k ≡ suc n - suc k = omega arith in
-    drop_by f k (start + 1) n (omega arith) ∙ ap (λ count. map f (range_with_len at count)) rest
+    drop_by f k _ n (omega arith) ∙ ap (λ count. map f (range_with_len at count)) rest
 
 -- From some files to others
 
 grow_begins : (filing : Filing) {from to few many : ℕ} {low high : ℕ → Share} → Grow from to low few high many
     → Begins (part_by filing low few) (part_by filing high many)
-grow_begins filing {few = few} {many} {low} {high} grow = record { out = told_begins filing.verbose _ _ (by 0 few many grow.more); files = by 0 few many grow.more } where
+grow_begins filing {few = few} {many} {low} {high} grow = record { out = told_begins _ _ _ (by 0 few many grow.more); files = by 0 few many grow.more } where
   by : (start m n : ℕ) → m ≤ n
       → FilesBegin (map (λ i. file_at filing i (low i)) (range_with_len start m))
       (map (λ i. file_at filing i (high i)) (range_with_len start n))
@@ -111,7 +111,7 @@ pub grow_trans : (from to : ℕ) {a b c d few some many : ℕ} {low mid high : �
 grow_trans from to {low = low} {mid} {high} first second here there before after = record {
   more = omega arith;
   new = omega arith;
-  begin = λ i. kept_trans (λ (those : Share). those.state) (low i) (mid i) (high i) (first.begin i) (second.begin i);
+  begin = λ i. kept_trans (λ (those : Share). those.state) _ _ _ (first.begin i) (second.begin i);
   bytes = λ i. begins_trans _ _ _ (first.bytes i) (second.bytes i);
   same = λ i out. first.same i (wider here before out) ∙ second.same i (wider there after out);
 }
@@ -145,7 +145,7 @@ next_due filing out part high {some} {many} name due = record {
   rest = map file (range_with_len (some + 1) (many - suc some));
   files = let left : many - some ≡ suc (many - suc some) = omega arith in
       sym (take-append-drop some (map file (range_with_len 0 many)))
-      ∙ cc (take-map-range_with_len file 0 many some (omega arith), drop_by file some 0 many (zero-add some), left);
+      ∙ cc (take-map-range_with_len file 0 many some (omega arith), drop_by _ _ 0 _ (zero-add some), left);
   place = length-map-range_with_len file 0 some ∙ sym (length-map-range_with_len (λ i. file_at filing i (part i)) 0 some);
   name_is = sym due.0;
 } where
@@ -161,7 +161,7 @@ pub record HasBegun (filing : Filing) (some many : ℕ) (bytes : List ℕ) (why 
       → IsDueLine (IsDue filing some many) line bytes why
 
 pub begun_none : (filing : Filing) {some many : ℕ} (why : Fault) → IsNoOpen why → HasBegun filing some many [] why
-begun_none filing why other = record { some_of = inl refl; due = λ line is. none_due _ line why other }
+begun_none filing why other = record { some_of = inl refl; due = λ line is. none_due _ _ _ other }
 
 -- a line after those for the files of a part goes to the next file
 line_in : (line : List ℕ → List ℕ) {part whole : Part} {name : List ℕ} (bytes : List ℕ)
@@ -169,7 +169,7 @@ line_in : (line : List ℕ → List ℕ) {part whole : Part} {name : List ℕ} (
     → IsBeginning (openings_for line part.files ++ bytes) (openings_for line whole.files)
 line_in line {part} {whole} {name} bytes begins next (rest, is) = let due : drop (length part.files) whole.files ≡ next.file ∷ next.rest = ap (λ n. drop n whole.files) (sym next.place) ∙ ap (drop (length next.front)) next.files ∙ drop-append_seam next.front (next.file ∷ next.rest) in (
   rest ++ openings_for line next.rest,
-  openings_since line part.files whole.files begins ∙ ap (λ files. openings_for line part.files ++ openings_for line files) due
+  openings_since _ _ _ begins ∙ ap (λ files. openings_for line part.files ++ openings_for line files) due
       ∙ ap (λ text. openings_for line part.files ++ (text ++ openings_for line next.rest)) (ap line next.name_is ∙ is)
       ∙ ap (λ text. openings_for line part.files ++ text) (append_assoc bytes rest (openings_for line next.rest)) ∙ sym (append_assoc (openings_for line part.files) bytes (rest ++ openings_for line next.rest)),
 )
@@ -220,7 +220,7 @@ lines_in filing {some} {many} {most} first part last fewest out bytes place {why
       by true high so due next = record {
         next = bytes;
         all = so ∙ ap (λ text. text ++ bytes) (openings_since opening_line (files_by filing first fewest) (files_by filing part some) begins.files) ∙ append_assoc (openings_for opening_line (files_by filing first fewest)) _ bytes;
-        due = due_by _ _ opening_line bytes why next (due opening_line refl);
+        due = due_by _ _ _ _ _ next (due opening_line refl);
       }
 
 -- The files before a place have got theirs already, and the files after it have got nothing.
@@ -282,7 +282,7 @@ pub halts : {told : Bool} {before : List Slot} {filing : Filing} {low high : ℕ
     → IsAt why (length before) place some
     → Halts told before filing low few high many from to why now
 halts {filing = filing} place part some {why} other after within inside above below outputs marks came =
-    halts_in place part some _ [] after within inside above below (sym (append-nil _)) (begun_none filing why other) outputs marks came
+    halts_in _ _ _ _ _ after within inside above below (sym (append-nil _)) (begun_none _ _ other) outputs marks came
 
 -- it stopped them in order
 pub stops_in_order : {told : Bool} {before : List Slot} {filing : Filing} {low high : ℕ → Share} {few many from to : ℕ}
@@ -355,7 +355,7 @@ adds_then {told} {files} {between} {next} {first} {second} {from} {to} {low} {hi
       further (Ok done) before had has at = at
       further (Err why) before had has stop = record {
         stops = λ start last fewest most end front back. stop.stops start last fewest most end
-            (grow_trans 0 (low + 1) front (grow_by from to first (length files.outputs) one.outside (λ i. refl)) (omega arith) (omega arith) (omega arith)
+            (grow_trans 0 _ front (grow_by _ _ _ _ one.outside (λ i. refl)) (omega arith) (omega arith) (omega arith)
             (omega arith)) back;
         own = λ place is. omega (arith, stop.own place is);
       }
@@ -377,7 +377,7 @@ adds_wider {files = files} {some} {more} {from} {to} low most rest {new = new} {
   leaves = λ before had has at is. record {
     stops = λ start last fewest all end front back.
         let count : max (max (length files.outputs) to) most ≡ max (length files.outputs) most = omega arith in
-        (adds.leaves before had _ at (λ i. refl)).stops start last fewest all (max most end) front (grow_trans (to - 1) (max most end)
+        (adds.leaves before had _ at (λ i. refl)).stops start last fewest all (max most end) front (grow_trans _ _
         (rw count at (grow_by low most rest (max (length files.outputs) to) none
         (λ i. is i ∙ ap (λ bytes. had i ++ bytes) (are i) ∙ sym (append_assoc (had i) (some i) (rest i))))) back
         (omega arith) (omega arith) (omega arith) (omega arith));
@@ -424,11 +424,11 @@ each_output P outputs slot before last place within = grind (arith, common_steps
 -- each output is one of the slots
 output_within : {files : FilesState} {slots : List Slot} (place : ℕ) → AreReady files slots
     → place < length files.outputs → output_at files place < length slots
-output_within {files} {slots} place ready within = writable_within (output_at files place) slots (ready.closable place within).1
+output_within {files} {slots} place ready within = writable_within _ _ (ready.closable place within).1
 
 ready_written : {files : FilesState} (slot : ℕ) (bytes : List ℕ) {old new : List Slot} → AreReady files old
     → new ≡ with_written slot bytes old → AreReady files new
-ready_written {files} slot bytes {old} {new} ready is = by (can_tell files.tells old new (λ can. written_writable old new 0 slot bytes can is) ready.output) where
+ready_written {files} slot bytes {old} {new} ready is = by (can_tell _ _ _ (λ can. written_writable _ _ 0 _ _ can is) ready.output) where
   by : CanTell files.tells new → AreReady files new
   by can = search (rules, length-changed_at, writable-written)
 
@@ -439,13 +439,13 @@ owned_same size first owns = record { stand = owns.stand; last = λ drawn. owns.
 -- standard output is told of the next one
 told_ready : (told : Bool) {files : FilesState} {old : List Slot} → AreReady files old
     → AreReady files (told_next told files.tells files.names old)
-told_ready told {files} {old} ready = ready_written 0 (told_of told (line_next files.tells files.names)) ready refl
+told_ready told {files} {old} ready = ready_written 0 _ ready refl
 
 ready_opened : {files : FilesState} {old new : List Slot} (name : List ℕ) → AreReady files old
     → new ≡ old ++ opened name Fresh ∷ [] → AreReady (with_opened (length old) files) new
 ready_opened {files} {old} {new} name ready is = by
-    (can_tell files.tells old new
-    (writable_before old new 0 (opened name Fresh) (let two = ready.streams in omega arith) is) ready.output) where
+    (can_tell _ _ _
+    (writable_before _ _ 0 _ (let two = ready.streams in omega arith) is) ready.output) where
       by : CanTell files.tells new → AreReady (with_opened (length old) files) new
       by can = grind (
         arith,
@@ -466,8 +466,8 @@ owned_unopened : {told : Bool} (files : FilesState) (names : Names) {old new : L
     → files.names.drawn ≡ length files.outputs → OpensNone told files.tells files.names names old new why
     → KeepsFiles files old (record files { names = names }) new
 owned_unopened files names drawn (no_memory same) first owns = record { stand = owns.stand; last = λ also. owns.last drawn ∙ sym (ap length same) }
-owned_unopened {told} files names {old} {new} drawn (no_line n few has cut) first owns = record { stand = owns.stand; last = λ also. owns.last drawn ∙ sym (short_size told 0 _ old new _ (short.broke n cut)) }
-owned_unopened {told} files names {old} drawn (no_number few has same) first owns = record { stand = owns.stand; last = λ also. owns.last drawn ∙ sym (written_size 0 (told_of told (line_next files.tells files.names)) old _ same) }
+owned_unopened {told} files names {old} {new} drawn (no_line n few has cut) first owns = record { stand = owns.stand; last = λ also. owns.last drawn ∙ sym (short_size _ 0 _ _ _ _ (short.broke n cut)) }
+owned_unopened {told} files names {old} drawn (no_number few has same) first owns = record { stand = owns.stand; last = λ also. owns.last drawn ∙ sym (written_size 0 _ _ _ same) }
 owned_unopened files names drawn (no_name few none same) first owns = record { stand = owns.stand; last = λ also. owns.last drawn ∙ sym (ap length same) }
 owned_unopened files names drawn (no_file slot kept reason at few has drew is made) first owns =
     record { stand = owns.stand; last = λ also. absurd (omega (arith, ap (λ (those : Names). those.drawn) drew)) }
@@ -478,7 +478,7 @@ line_breaks : (told : Bool) (tells : Tells) (names : Names) (n : ℕ) {old new :
     → (is_verbose tells ≡ true) × Rose 0 old new
 line_breaks told Nothing names n no_sizes can cut = absurd (omega arith)
 line_breaks told Sizes names n no_sizes can cut = absurd (omega arith)
-line_breaks told Openings names n {old} {new} no_sizes can cut = (refl, write_rose told 0 (line_next Openings names) n old new can cut)
+line_breaks told Openings names n {old} {new} no_sizes can cut = (refl, write_rose _ 0 _ n _ _ can cut)
 
 fails_caused : (told : Bool) (files : FilesState) {next : Names} (old new : List Slot) {why : Fault}
     → AreReady files old → IsTrue (has_next files.names) → OpensNone told files.tells files.names next old new why
@@ -487,8 +487,8 @@ fails_caused told files old new ready has (no_memory same) = inl refl
 fails_caused told files old new ready has (no_line n few _ cut) = let (verbose, rose) = line_breaks told files.tells files.names n ready.tells ready.output cut in inr (inl (verbose, refl, rose))
 fails_caused told files old new ready has (no_file slot kept reason at few _ drew is made) =
     let now = told_next told files.tells files.names old in
-    let size : length now ≡ length old = written_size 0 (told_of told (line_next files.tells files.names)) old _ refl in
-    let rose = open_rose slot reason kept _ new (at ∙ sym size) made in
+    let size : length now ≡ length old = written_size 0 _ _ _ refl in
+    let rose = open_rose _ _ _ _ _ (at ∙ sym size) made in
     inr (inr (slot, refl, rose_later slot old now new (keeps_write 0 _ old _ refl) rose))
 fails_caused told files old new ready has (no_number few _ same) = inl refl
 fails_caused told files old new ready has (no_name few none same) = absurd (false≢true (sym none ∙ has))
@@ -503,7 +503,7 @@ pub cannot_later : (verbose other : Bool) (old mid new : List Slot) {why : Fault
     → KeepsBroken old mid → CannotOpen other mid new why → CannotOpen verbose old new why
 cannot_later verbose other old mid new same stay (inl none) = inl none
 cannot_later verbose other old mid new same stay (inr (inl (is_told, is, rose))) = inr (inl (sym same ∙ is_told, is, rose_later 0 old mid new stay rose))
-cannot_later verbose other old mid new same stay (inr (inr (slot, is, rose))) = inr (inr (slot, is, rose_later slot old mid new stay rose))
+cannot_later verbose other old mid new same stay (inr (inr (slot, is, rose))) = inr (inr (slot, is, rose_later _ _ _ _ stay rose))
 
 -- what standard output is told of one more file
 told_one : (verbose : Bool) (files : List File) (file : File) → file.state ≡ Open
@@ -520,10 +520,10 @@ pub reached : (told : Bool) (files : FilesState) {old new : List Slot} (place : 
 reached told files {old} {new} place ready here is = record {
   adds = record {
     filing = refl;
-    owned = λ first owns. rw size at (owned_opened (next_name files.names) ready.drawn is first (owned_same size first owns));
-    ready = rw size at (ready_opened (next_name files.names) (told_ready told ready) is);
+    owned = λ first owns. rw size at (owned_opened _ ready.drawn is first (owned_same size first owns));
+    ready = rw size at (ready_opened _ (told_ready _ ready) is);
     opened = omega (arith, length-append files.outputs (length old ∷ []));
-    sound = keeps_again old mid new (keeps_write 0 _ old mid refl) (keeps_open _ mid new is);
+    sound = keeps_again _ _ _ (keeps_write 0 _ _ _ refl) (keeps_open _ _ _ is);
     caused = tt;
     outside = λ i out. refl;
     leaves = leaves;
@@ -534,7 +534,7 @@ reached told files {old} {new} place ready here is = record {
   mid = told_next told files.tells files.names old
 
   size : length mid ≡ length old
-  size = written_size 0 (told_of told (line_next files.tells files.names)) old mid refl
+  size = written_size 0 _ _ _ refl
 
   output : Output
   output = output_by (is_verbose files.tells)
@@ -559,7 +559,7 @@ reached told files {old} {new} place ready here is = record {
       ++ line_next files.tells files.names ≡ told_of_files output
       (files_by (filing_in files) (all_open had) (length files.outputs) ++ next ∷ [])
   out had = ap (λ tells. told_of_files output (files_by (filing_in files) (all_open had) (length files.outputs)) ++ told_before (output_of tells) (next_name files.names)) ready.tells
-      ∙ sym (told_one (is_verbose files.tells) (files_by (filing_in files) (all_open had) (length files.outputs)) next refl)
+      ∙ sym (told_one _ _ _ refl)
 
   leaves : (before : List Slot) (had has : ℕ → List ℕ) → StandAt told files before had old
       → ((i : ℕ) → has i ≡ had i ++ [])
@@ -568,7 +568,7 @@ reached told files {old} {new} place ready here is = record {
       let count : max (length files.outputs) (place + 1) ≡ length files.outputs + 1 = omega arith in
       rw (← count) at (subst (λ those. OutputsAt told before (part_with output those) new) (list before had has at are)
       (subst (λ out. OutputsAt told before (record { out = out; files = files_by (filing_in files) (all_open had) (length files.outputs) ++ next ∷ [] }) new) (out had)
-      (file_more told before _ mid new (next_name files.names) Fresh (out_more told before (part_by (filing_in files) (all_open had) (length files.outputs)) old mid (line_next files.tells files.names) at.outputs refl) is)))
+      (file_more _ _ _ _ _ _ _ (out_more _ _ _ _ _ _ at.outputs refl) is)))
 
 -- or it couldn't be
 pub reached_not : (told : Bool) (files : FilesState) {names : Names} {old new : List Slot} (place : ℕ) {why : Fault}
@@ -577,8 +577,8 @@ pub reached_not : (told : Bool) (files : FilesState) {names : Names} {old new : 
     → (IsTrue (has_next files.names) → OpensNone told files.tells files.names names old new why)
     → Opens told files place (place + 1) old (record files { names = names }) new (Err why)
 reached_not told files {names} {old} {new} place {why} ready here named same unopened = record {
-  adds = adds_not told files _ place (place + 1) stops.bytes why (omega arith) (omega arith) (omega arith) same (owned_unopened files names ready.drawn fails) (of_files (is_verbose files.tells) old new caused) (λ i out. refl)
-      stops.wrote begun (marks_by _ _ why stops.reached new due stops.marks) (λ first. subst (IsAt why first place) here (stops.at first place));
+  adds = adds_not _ _ _ _ _ _ _ (omega arith) (omega arith) (omega arith) same (owned_unopened _ _ ready.drawn fails) (of_files _ _ _ caused) (λ i out. refl)
+      stops.wrote begun (marks_by _ _ _ _ _ due stops.marks) (λ first. subst (IsAt why first place) here (stops.at first place));
   caused = caused;
 } where
   has : IsTrue (has_next files.names)
@@ -588,7 +588,7 @@ reached_not told files {names} {old} {new} place {why} ready here named same uno
   fails = unopened has
 
   caused : CannotOpen (is_verbose files.tells) old new why
-  caused = fails_caused told files old new ready has fails
+  caused = fails_caused _ _ _ _ ready has fails
 
   stops : StopsOpening told files.tells files.names old new why
   stops = stops_opening (let two = ready.streams in omega arith) fails
@@ -607,7 +607,7 @@ reached_not told files {names} {old} {new} place {why} ready here named same uno
       | inl none ↦ inl none
       | inr some ↦ inr (omega arith, subst (IsBeginning stops.bytes) line some.1)
     ];
-    due = λ of is. due_by _ _ of stops.bytes why due (stops.due of (line ∙ is ∙ ap (λ n. of (name_at files.names.naming n)) (sym ready.drawn)));
+    due = λ of is. due_by _ _ _ _ _ due (stops.due of (line ∙ is ∙ ap (λ n. of (name_at files.names.naming n)) (sym ready.drawn)));
   }
 
 -- Writing
@@ -662,33 +662,33 @@ pub written : (told : Bool) {files : FilesState} {old new : List Slot} (place : 
     → Adds told files (only_at place bytes) place (place + 1) old files new result
 written told {files} {old} {new} place bytes (Ok done) ready within is = record {
   filing = refl;
-  owned = owned_same (written_size (output_at files place) (told_of told bytes) old new is);
-  ready = ready_written (output_at files place) (told_of told bytes) ready is;
+  owned = owned_same (written_size _ _ _ _ is);
+  ready = ready_written _ _ ready is;
   opened = omega arith;
-  sound = keeps_write (output_at files place) (told_of told bytes) old new is;
+  sound = keeps_write _ _ _ _ is;
   caused = tt;
-  outside = none_outside place bytes;
-  leaves = λ before had has at are. rw (let count : length files.outputs ≡ max (length files.outputs) (place + 1) = omega arith in count) at (writes told place bytes within is at are);
+  outside = none_outside _ _;
+  leaves = λ before had has at are. rw (let count : length files.outputs ≡ max (length files.outputs) (place + 1) = omega arith in count) at (writes _ _ _ within is at are);
 }
 written told {files} {old} {new} place bytes (Err _) ready within (short.broke n cut) = record {
   filing = refl;
-  owned = owned_same (short_size told slot bytes old new _ (short.broke n cut));
+  owned = owned_same (short_size _ _ _ _ _ _ (short.broke n cut));
   ready = tt;
   opened = tt;
   sound = tt;
   caused = (
     λ none. absurd (omega (arith, (ready.closable place within).0)),
-    write_rose told slot bytes n old new
+    write_rose _ _ _ n _ _
         (ready.closable place within).1 cut,
   );
-  outside = none_outside place bytes;
-  leaves = λ before had has at are. halts place (all_open (λ i. had i ++ only_at place (take n bytes) i)) (length files.outputs) tt (omega arith) (omega arith)
+  outside = none_outside _ _;
+  leaves = λ before had has at are. halts _ _ _ tt (omega arith) (omega arith)
       (omega arith)
       (subst (λ many. Grow place (place + 1) (all_open had) (length files.outputs) (all_open (λ i. had i ++ only_at place (take n bytes) i)) many) count
-      (grow_by place (place + 1) (only_at place (take n bytes)) (length files.outputs) (none_outside place (take n bytes)) (λ i. refl)))
-      (grow_by place (place + 1) (only_at place (drop n bytes)) (length files.outputs) (none_outside place (drop n bytes))
+      (grow_by _ _ _ _ (none_outside _ _) (λ i. refl)))
+      (grow_by _ _ _ _ (none_outside _ _)
       (λ i. are i ∙ ap (λ those. had i ++ those) (parted i) ∙ sym (append_assoc (had i) (only_at place (take n bytes) i) (only_at place (drop n bytes) i))))
-      (writes told place (take n bytes) within refl at (λ i. refl))
+      (writes _ _ _ within refl at (λ i. refl))
       (omega (arith, length-changed_at, output_within), cut.slots)
       (inr (at.owns.stand place within));
 } where
@@ -801,7 +801,7 @@ sent {told} {between = between} {mid = mid} {new} {place} bytes result reached s
 pub sent_unreached : {told : Bool} {files next : FilesState} {old new : List Slot} {place : ℕ} (bytes : List ℕ)
     {why : Fault} → Opens told files place (place + 1) old next new (Err why)
     → Adds told files (only_at place bytes) place (place + 1) old next new (Err why)
-sent_unreached {place = place} bytes reached = adds_wider place (place + 1) (only_at place bytes) reached.adds (λ i. refl) (none_outside place bytes) (omega arith) (omega arith) (omega arith)
+sent_unreached {place = place} bytes reached = adds_wider _ _ _ reached.adds (λ i. refl) (none_outside _ _) (omega arith) (omega arith) (omega arith)
 
 -- what a field of the list of outputs shows
 pub output_is : (files : FilesState) {items : List ℕ} (place : ℕ) {slot : ℕ} → items ≡ files.outputs

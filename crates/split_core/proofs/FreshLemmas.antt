@@ -27,20 +27,20 @@ module _ (chunks : Chunks) (target : TargetState) (can : can_cut (course_of targ
   cutter = record { chunks = chunks; at = 0; is_within = false; target = target }
 
   has_none : HasCut cutter [] (uncut [])
-  has_none = record { can = can; all = all; at = refl; within = sym (none_so chunks.unit chunks.delim); carries = fresh }
+  has_none = record { can = can; all = all; at = refl; within = sym (none_so _ _); carries = fresh }
 
   -- no byte came in
   pub holds_none : (said : Option ℕ) (waiting : List ℕ) → waiting ≡ [] → IfSome said (λ size. 0 < size)
       → HoldsBy said (record { said = said; cutter = cutter; waiting = waiting; spare = 0 }) []
   holds_none None waiting none long = record {
-    cut = rw (begun_of_none chunks.unit chunks.delim) has_none;
+    cut = rw (begun_of_none _ _) has_none;
     waits = none ∙ sym (drop-nil _);
     spare = refl;
   }
   holds_none (Some size) waiting none long = record {
     spare = record { used = []; rest = []; joined = refl; long = refl; needed = inl refl; enough = inl refl };
     within = omega arith;
-    cut = subst (HasCut cutter []) (sym (none_within chunks size (some_of _ _ can) long)) has_none;
+    cut = subst (HasCut cutter []) (sym (none_within _ _ (some_of _ _ can) long)) has_none;
     waits = none;
   }
 
@@ -48,9 +48,9 @@ module _ (chunks : Chunks) (target : TargetState) (can : can_cut (course_of targ
 
 none_decided : (chunks : Chunks) (first : ℕ) (said : Option ℕ) → 0 < chunks.count → IfSome said (λ size. 0 < size)
     → decided chunks first said [] ≡ uncut []
-none_decided chunks first None count long = ap uncut (begun_of_none chunks.unit chunks.delim _)
+none_decided chunks first None count long = ap uncut (begun_of_none _ _ _)
 none_decided chunks first (Some size) count long =
-    ap (chunks_within chunks size) (take-nil size) ∙ none_within chunks size count long
+    ap (chunks_within chunks size) (take-nil size) ∙ none_within _ _ count long
 
 no_piece : (place : ℕ) → piece_at place (uncut []) ≡ nothing
 no_piece zero = refl

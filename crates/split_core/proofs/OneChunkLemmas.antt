@@ -112,10 +112,10 @@ starts_lines delim (byte ∷ x) zero less = record {
   lacks = λ place y before. none_begun delim place (byte ∷ (x ++ y)) (omega arith);
 }
 starts_lines delim (byte ∷ x) (suc i) less =
-    starts_next delim byte x i (starts_lines delim x i (omega arith)) (eqb byte delim) refl
+    starts_next _ _ x i (starts_lines _ x i (omega arith)) _ refl
 
 starts : (unit : Unit) (delim : ℕ) (x : List ℕ) (i : ℕ) → i < length x → Starts unit delim x i
-starts Lines delim x i less = starts_lines delim x i less
+starts Lines delim x i less = starts_lines _ x i less
 starts Bytes delim x i less = record {
   at = i + 1;
   some = omega arith;
@@ -169,7 +169,7 @@ climb n place s low (suc k) size within less more top from =
       start_next,
       short_size,
       mul-zero,
-      climb n place s low k
+      climb n _ s _ k
           (suc size) within less (omega (arith, more)),
     )
 
@@ -203,13 +203,13 @@ front_then : (place : ℕ) (chunks : Chunks) (w : List ℕ) → length (front_of
     + length (chunk_at chunks (length w) w place) ≡ length (front_of chunks (place + 1) w)
 front_then place chunks w = let front = front_of chunks place w in
     sym (length-append front (chunk_at chunks (length w) w place))
-    ∙ ap length (begin_then_rest front (front_of chunks (place + 1) w)
+    ∙ ap length (begin_then_rest _ _
     (begun_monotone chunks.unit chunks.delim w (start_grows chunks.count (length w) place (place + 1) (omega arith))))
 
 goes_before : (place : ℕ) (chunks : Chunks) (said : Option ℕ) (w : List ℕ) (i : ℕ) → place < chunks.count
     → is_as_said said w ≡ true → i < length (front_of chunks place w) → one_chunk_spots place chunks said w i ≡ []
 goes_before place chunks said w i within is less =
-    spots_are place chunks said w i within is ∙ rw (lt-ltb _ _ less) refl
+    spots_are _ _ _ w i within is ∙ rw (lt-ltb _ _ less) refl
 
 goes_here : (place : ℕ) (chunks : Chunks) (said : Option ℕ) (w : List ℕ) (i : ℕ) → place < chunks.count
     → is_as_said said w ≡ true → length (front_of chunks place w) ≤ i → i < length (front_of chunks (place + 1) w)
@@ -283,7 +283,7 @@ said_wait place chunks size x within = record {
   before = x;
   are_last = sym (append-nil x);
   differ = λ i past less. absurd (omega arith);
-  decided = λ i less y z comes also. (let there = one_place place chunks size x i within less in
+  decided = λ i less y z comes also. (let there = one_place _ _ _ x i within less in
       there.1 y comes.1 ∙ sym (there.1 z also.1));
 }
 
@@ -303,7 +303,7 @@ Differ place chunks x i = (y : List ℕ) × (z : List ℕ) × CanFollow None x y
     × (one_chunk_spots place chunks None (x ++ y) i ≢ one_chunk_spots place chunks None (x ++ z) i)
 
 far_comes : (chunks : Chunks) (x : List ℕ) → CanFollow None x (far_copies chunks x)
-far_comes chunks x = (copies_come (suc (length x) * chunks.count) 0 (omega arith), refl)
+far_comes chunks x = (copies_come _ 0 (omega arith), refl)
 
 first_differs : (chunks : Chunks) (x : List ℕ) (i : ℕ) → 0 < chunks.count → length (front_of chunks 1 x) ≤ i
     → i < length x → Differ 0 chunks x i
@@ -363,8 +363,8 @@ later_differs place chunks x i later within past less = by (starts chunks.unit c
 
 none_differ : (place : ℕ) (chunks : Chunks) (x : List ℕ) (i : ℕ) → place < chunks.count
     → length (front_of chunks (max place 1) x) ≤ i → i < length x → Differ place chunks x i
-none_differ zero chunks x i within past less = first_differs chunks x i within past less
-none_differ (suc place) chunks x i within past less = later_differs (suc place) chunks x i (omega arith) within
+none_differ zero chunks x i within past less = first_differs _ x i within past less
+none_differ (suc place) chunks x i within past less = later_differs _ _ x i (omega arith) within
     (omega (arith, ap (λ n. length (front_of chunks n x)) one)) less where
       one : max (suc place) 1 ≡ suc place
       one = omega arith
@@ -397,12 +397,12 @@ none_decided (suc place) chunks x i within less = (
 
 pub chunk_waits : (place : ℕ) (chunks : Chunks) (said : Option ℕ) (x : List ℕ) → place < chunks.count
     → DifferOn (CanFollow said x) (one_chunk_spots place chunks said) x ((chunk_work place chunks said).waiting x)
-chunk_waits place chunks (Some size) x within = said_wait place chunks size x within
+chunk_waits place chunks (Some size) x within = said_wait _ _ _ x within
 chunk_waits place chunks None x within = record {
   before = front_of chunks (max place 1) x;
-  are_last = sym (begin_then_rest _ x (begun_begins chunks.unit chunks.delim _ x));
-  differ = λ i past less. none_differ place chunks x i within past less;
-  decided = λ i less y z comes also. (let there = none_decided place chunks x i within less in
+  are_last = sym (begin_then_rest _ x (begun_begins _ _ _ x));
+  differ = λ i past less. none_differ _ _ x i within past less;
+  decided = λ i less y z comes also. (let there = none_decided _ _ x i within less in
       there.1 y ∙ sym (there.1 z));
 }
 

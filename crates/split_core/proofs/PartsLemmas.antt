@@ -115,12 +115,12 @@ pub extended : {told : Bool} {state next : PartsState} {mid_writer : WriterState
     → Goes told mid_writer (with_bytes bytes) mid new next.writer fault
     → next.limit ≡ state.limit → numbers next ≡ (state.left, state.has_line, [])
     → Extends told state bytes old new next fault
-extended {state = state} bytes {fault = fault} first second limit same = record { limit = limit; same = in_any fault same; goes = goes_more state.waiting bytes first second }
+extended {state = state} bytes {fault = fault} first second limit same = record { limit = limit; same = in_any _ same; goes = goes_more _ _ first second }
 
 pub extended_not : {told : Bool} {state next : PartsState} (bytes : List ℕ) {old new : List Slot} {fault : Fault}
     → Goes told state.writer (with_bytes state.waiting) old new next.writer (Some fault) → next.limit ≡ state.limit
     → Extends told state bytes old new next (Some fault)
-extended_not {state = state} bytes stopped limit = record { limit = limit; same = tt; goes = stops_among state.waiting bytes stopped }
+extended_not {state = state} bytes stopped limit = record { limit = limit; same = tt; goes = stops_among _ _ stopped }
 
 -- It ends, and what waits and more begin the next.
 
@@ -166,7 +166,7 @@ turn_begins draft past = grind (arith, common_steps, map-append, shares_after, s
 begins_closed : (ended : List (List ℕ)) (more high : List Share)
     → SharesBegin (map (share file_state.Closed) ended ++ more) high
     → (rest : List Share) × (high ≡ map (share file_state.Closed) ended ++ rest) × (length more ≤ length rest)
-begins_closed [] more high begins = (high, refl, shares_fewer more high begins)
+begins_closed [] more high begins = (high, refl, shares_fewer _ _ begins)
 begins_closed (one ∷ ended) more [] begins = absurd begins
 begins_closed (one ∷ ended) more (whole ∷ high) begins =
     grind (arith, common_steps, begins_closed ended more high begins.2)
@@ -216,7 +216,7 @@ late ended bytes = record { ended = ended; opening = Late; bytes = bytes }
 all_of : {state : PartsState} {x : List ℕ} (more : List ℕ) → Stands state x
     → begun_of state x ++ (state.waiting ++ more) ≡ rest_of state x ++ more
 all_of {state} {x} more stands =
-    cc (stands.waits, append_assoc (begun_of state x) (waiting_rest state.limit (rest_of state x)) more, settled_then_waiting state.limit (rest_of state x))
+    cc (stands.waits, append_assoc (begun_of state x) (waiting_rest state.limit (rest_of state x)) more, settled_then_waiting _ _)
 
 -- with more of x this is written, and then the numbers are right
 record Comes (state : PartsState) (x taken : List ℕ) (after : Draft) (are : ℕ × Bool × List ℕ) : Type 0 where
@@ -230,7 +230,7 @@ record Comes (state : PartsState) (x taken : List ℕ) (after : Draft) (are : �
 module _ {state : PartsState} {x taken : List ℕ} {after : Draft} {are : ℕ × Bool × List ℕ}
     (comes : Comes state x taken after are) where
   cut_is : cut_up state.limit (x ++ taken) ≡ cut_so (full_of state x ++ comes.full) comes.rest
-  cut_is = cut_on state.limit x taken ∙ ap (λ cut. cut_so (full_of state x ++ cut.full) cut.rest) comes.cut
+  cut_is = cut_on _ x _ ∙ ap (λ cut. cut_so (full_of state x ++ cut.full) cut.rest) comes.cut
 
   draft_so : draft_of state.limit (x ++ taken) ≡ after
   draft_so = ap (λ cut. late cut.full (settled_rest state.limit cut.rest)) cut_is ∙ sym comes.is
@@ -276,7 +276,7 @@ takes_not {told} {state} {taken = taken} {change} {new = new} begins moves = rec
   limit = moves.limit;
   leaves = moves.goes.leaves;
   stands = tt;
-  reaches = λ x stands. stops_wider (moves.goes.reaches (manner_of (filing_of state)) (draft_of state.limit x) stands.writes) (part_begins (filing_of state) _ _ (begins x stands));
+  reaches = λ x stands. stops_wider (moves.goes.reaches (manner_of (filing_of state)) (draft_of state.limit x) stands.writes) (part_begins _ _ _ (begins x stands));
   short = λ is x stands.
       let ran = moves.goes.short is (manner_of (filing_of state)) (draft_of state.limit x) stands.writes in record {
         none = short_count (filing_of state) (change (draft_of state.limit x)) (settled_parts state.limit (x ++ taken)) ran.none (begins x stands) ran.begun;
@@ -334,14 +334,14 @@ turned_on : {told : Bool} {state next : PartsState} (piece : List ℕ) (change :
     → Moves told state are change old new next fault
     → Takes told state (taken bytes piece fault) old new next fault
 turned_on piece change bytes None comes moves = takes_so comes moves
-turned_on piece change bytes (Some f) comes moves = takes_not (λ x stands. below piece bytes (comes x stands)) moves
+turned_on piece change bytes (Some f) comes moves = takes_not (λ x stands. below _ _ (comes x stands)) moves
 
 -- what waits begins the next part
 pub begins_on : {told : Bool} {state next : PartsState} (piece : List ℕ) (bytes : ℕ) {old new : List Slot}
     (fault : Option Fault)
     → LeadsOn state piece (Begins bytes) → Turns told state (take bytes piece) old new next fault
     → Takes told state (taken bytes piece fault) old new next fault
-begins_on {state = state} piece bytes fault leads turn = turned_on piece (turns (state.waiting ++ take bytes piece)) bytes fault (λ x stands.
+begins_on {state = state} piece bytes fault leads turn = turned_on _ _ _ _ (λ x stands.
     rw stands.waits (turned_so (leads (rest_of state x) stands.lacks))) turn
 
 -- these bytes are the last of the part
@@ -383,11 +383,11 @@ waits_on : (told : Bool) (state : PartsState) (piece : List ℕ) {slots : List S
 waits_on told state piece leads ready = takes_so {change = λ draft. draft} (λ x stands. let held = leads (rest_of state x) stands.lacks in record {
   full = [];
   rest = rest_of state x ++ piece;
-  cut = cut_none state.limit _ held.short;
+  cut = cut_none _ _ held.short;
   is = cc (append-nil (full_of state x), held.settled);
   lacks = held.lacks;
   waits = ap (λ waits. waits ++ piece) stands.waits ∙ sym held.waits;
-}) (record { limit = refl; same = refl; goes = goes_still state.writer.current ready.writer ready.writer.current (λ first last. last) (λ draft now. (refl, now)) })
+}) (record { limit = refl; same = refl; goes = goes_still _ ready.writer ready.writer.current (λ first last. last) (λ draft now. (refl, now)) })
 
 -- there is no room for it
 no_room : (told : Bool) (state : PartsState) (piece : List ℕ) {slots : List Slot} → IsReady state slots
@@ -404,9 +404,9 @@ pub waited : (told : Bool) (state next : PartsState) (piece : List ℕ) (slots :
 waited told state next piece slots (Ok n) some leads ready count waits err = (
   omega arith,
   omega arith,
-  rw (count, take-length piece, waits) (waits_on told state piece leads ready),
+  rw (count, take-length piece, waits) (waits_on _ _ _ leads ready),
 )
-waited told state next piece slots (Err f) some leads ready count waits err = rw (err.0, err.1) (no_room told state piece ready)
+waited told state next piece slots (Err f) some leads ready count waits err = rw (err.0, err.1) (no_room _ _ _ ready)
 
 -- A piece is taken in step by step.
 
@@ -463,14 +463,14 @@ pub passed_more : {told : Bool} {state mid next : PartsState} {piece left rest :
 passed_more {left = left} {n = n} (done, split, took, ready) (some, within, step) is = (
   done ++ take n left,
   split ∙ ap (λ those. done ++ those) (sym (take-append-drop n left)) ∙ sym (append_assoc done (take n left) (drop n left)) ∙ ap (λ those. (done ++ take n left) ++ those) (sym is),
-  takes_again done (take n left) None took step,
+  takes_again _ _ _ took step,
   still_ready ready step,
 )
 
 pub passed_stopped : {told : Bool} {state mid next : PartsState} {piece left : List ℕ} {old wet new : List Slot}
     {f : Fault} → Passed told state piece left old wet mid
     → Takes told mid left wet new next (Some f) → Takes told state piece old new next (Some f)
-passed_stopped {left = left} {f = f} (done, split, took, ready) stop = rw split (takes_again done left (Some f) took stop)
+passed_stopped {left = left} {f = f} (done, split, took, ready) stop = rw split (takes_again _ _ _ took stop)
 
 pub passed_all : {told : Bool} {state next : PartsState} {piece left : List ℕ} {old now : List Slot}
     → Passed told state piece left old now next → left ≡ [] → Takes told state piece old now next None
@@ -480,7 +480,7 @@ passed_all {told} {state} {next} {old = old} {now} (done, split, took, ready) no
 
 -- where no part was begun, nothing is left
 no_rest : (state : PartsState) (x : List ℕ) → begun_of state x ≡ [] → rest_of state x ≡ []
-no_rest state x none = by (rest_of state x) (settled_some state.limit (rest_of state x)) where
+no_rest state x none = by (rest_of state x) (settled_some _ _) where
   by : (rest : List ℕ) → (0 < length rest → 0 < length (begun_of state x)) → rest ≡ []
   by [] some = refl
   by (byte ∷ rest) some = absurd (omega (arith, ap length none, some (omega arith)))
@@ -528,7 +528,7 @@ held_ends {state = state} fault limit first second broke =
       limit = limit;
       leaves = both.leaves;
       broke = broke;
-      reaches = λ x stands. reaches_as refl (sym (whole_so state stands)) (both.reaches (manner_of (filing_of state)) (draft_of state.limit x) stands.writes);
+      reaches = λ x stands. reaches_as refl (sym (whole_so _ stands)) (both.reaches (manner_of (filing_of state)) (draft_of state.limit x) stands.writes);
     }
 
 -- What the stage owes

@@ -122,7 +122,7 @@ lines_after delim n x (byte ∷ y) some = grind (arith, common_steps, line_count
 
 pub opened_after : (delim : ℕ) (elide : Bool) (n : ℕ) (x y : List ℕ) → 0 < n
     → max (opened_by delim elide n x) (reached_by delim n (delimiters delim x % n) y) ≡ opened_by delim elide n (x ++ y)
-opened_after delim true n x y some = lines_after delim n x y some
+opened_after delim true n x y some = lines_after _ n x y some
 opened_after delim false n x y some = omega arith
 
 -- what a file has of a text that goes on
@@ -190,8 +190,8 @@ pub passes_at : (told : Bool) (round : RoundState) (piece : List ℕ) {place : �
 passes_at told round piece (Ok u) is adds = record {
   same = ap (λ filing. round_work (round_plan round.delim round.count round.elide filing)) adds.filing;
   size = omega arith;
-  holds = takes_in told round piece is adds;
-  outputs = λ start x at. rw (made_is told round piece at) at (left_by told round piece at (Ok u) adds);
+  holds = takes_in _ _ _ is adds;
+  outputs = λ start x at. rw (made_is told round piece at) at (left_by _ round piece at (Ok u) adds);
   ready = adds.ready;
   owns = adds.owned;
   there = λ are. tt;
@@ -208,8 +208,8 @@ passes_at told round piece {before = before} {after} (Err why) is adds =
       owns = adds.owned;
       there = λ are. tt;
       cut = λ start x at. cut (part.unjudged (always_named tells) before after why adds.caused lacks)
-          (stopped_as (output_by tells) told (stands_is at.holds) (made_is told round piece at)
-          (stops_in_order (left_by told round piece at (Err why) adds)));
+          (stopped_as _ _ (stands_is at.holds) (made_is told round piece at)
+          (stops_in_order (left_by _ round piece at (Err why) adds)));
       met = part.met_files false _ _ (EndsWith ways.terms piece (way.Round round)) (always_named tells) tells
           before after why (refl, refl) refl refl adds.caused (λ is. absurd (lacks is));
     }
@@ -233,7 +233,7 @@ finishes_by told round old new (Ok u) closes = record {
   same = refl;
   size = omega arith;
   well = λ x holds. refl;
-  outputs = λ before x at. rw (closed_part at.holds) at (closes.closed before _ (stand_at told round at));
+  outputs = λ before x at. rw (closed_part at.holds) at (closes.closed before _ (stand_at _ _ at));
   writable = part.told_writable round.files.tells new closes.output;
   owns = closes.owned;
   there = λ are. tt;
@@ -248,7 +248,7 @@ finishes_by told round old new (Err why) closes = record {
   writable = tt;
   owns = closes.owned;
   there = λ are. tt;
-  cut = λ before x at. cut (ap is_verdict closes.caused.1) (stopped_as (output_by (is_verbose round.files.tells)) told (stands_is at.holds) (closed_part at.holds) (closes.cut before _ (stand_at told round at)));
+  cut = λ before x at. cut (ap is_verdict closes.caused.1) (stopped_as _ _ (stands_is at.holds) (closed_part at.holds) (closes.cut before _ (stand_at _ _ at)));
   met = part.met_closing (is_verbose round.files.tells) (EndsThere ways.terms (way.Round round)) old new closes.caused;
 }
 
@@ -282,7 +282,7 @@ module _ (told : Bool) (names : Naming) (tells : Tells) {count : ℕ} {files nex
       → (OnOk result (OutputsAt told before part new))
       × (IfErr result (λ why. StoppedBetween (output_by (is_verbose tells)) told before nothing part why new))
   opens_all {part} made before at = by result ((rw is at opens).adds.leaves before (λ i. []) (λ i. []) (record {
-    owns = subst (λ place. OwnsFiles (no_files names tells) place old) (omega (arith, outputs_count told before nothing old at)) (none_owned names tells);
+    owns = subst (λ place. OwnsFiles (no_files names tells) place old) (omega (arith, outputs_count _ _ _ _ at)) (none_owned _ _);
     outputs = rw (← nothing_part (output_by (is_verbose tells))) at at;
     none = λ i past. refl;
   }) (λ i. refl)) where
@@ -292,7 +292,7 @@ module _ (told : Bool) (names : Naming) (tells : Tells) {count : ℕ} {files nex
         → (OnOk result (OutputsAt told before part new))
         × (IfErr result (λ why. StoppedBetween (output_by (is_verbose tells)) told before nothing part why new))
     by (Ok done) leaves = (rw made at leaves, tt)
-    by (Err why) leaves = (tt, stopped_as (output_by (is_verbose tells)) told (nothing_part (output_by (is_verbose tells))) made (stops_in_order leaves))
+    by (Err why) leaves = (tt, stopped_as _ _ (nothing_part _) made (stops_in_order leaves))
 
 -- where all files have names, the work is what was asked for
 pub does_all : (delim : ℕ) (filing others : Filing) (elide : Bool) (n : ℕ) → are_named filing.names n ≡ true
@@ -343,19 +343,19 @@ named_of (way.Turn turn) x holds judged = cc
 
 pub all_named : (splitter : Splitter) (x : List ℕ) → (as_if ways.terms).Holds splitter x
     → Judges (ways.work splitter) x Suffixes → ⊥
-all_named splitter x is judged = named_of splitter is.other is.holds (sym (verdict_as is.alike) ∙ judged)
+all_named splitter x is judged = named_of _ _ is.holds (sym (verdict_as is.alike) ∙ judged)
 
 -- and unless it writes what one file would have, more can come
 open_of : (splitter : Splitter) (x : List ℕ) → ways.Holds splitter x
     → ((ways.work splitter).means.output ≡ gets_bytes → ⊥) → (ways.work splitter).is_complete x ≡ false
 open_of (way.Parts parts) x holds beside = sym (part.never_done holds)
 open_of (way.Round round) x holds beside = refl
-open_of (way.Chunks state) x holds beside = open_beside state x (ways.work (way.Chunks state)) refl beside holds
+open_of (way.Chunks state) x holds beside = open_beside _ x _ refl beside holds
 open_of (way.Turn turn) x holds beside = refl
 
 pub goes_on : (splitter : Splitter) (x : List ℕ) → (as_if ways.terms).Holds splitter x
     → ((ways.work splitter).means.output ≡ gets_bytes → ⊥) → (ways.work splitter).is_complete x ≡ false
-goes_on splitter x is beside = complete_as is.alike ∙ open_of splitter is.other is.holds beside
+goes_on splitter x is beside = complete_as is.alike ∙ open_of _ _ is.holds beside
 
 -- only one chunk can be complete
 never_of : (splitter : Splitter) → ((state : ChunkerState) → splitter ≡ way.Chunks state → ⊥) → (x : List ℕ)
@@ -367,7 +367,7 @@ never_of (way.Turn turn) other x holds = refl
 
 pub never_done : (splitter : Splitter) → ((state : ChunkerState) → splitter ≡ way.Chunks state → ⊥) → (x : List ℕ)
     → (as_if ways.terms).Holds splitter x → (ways.work splitter).is_complete x ≡ false
-never_done splitter other x is = complete_as is.alike ∙ never_of splitter other is.other is.holds
+never_done splitter other x is = complete_as is.alike ∙ never_of _ other _ is.holds
 
 -- a split into parts isn't complete where any engine of it goes on
 told_beside : (verbose : Bool) → output_by verbose ≡ gets_bytes → ⊥
@@ -378,7 +378,7 @@ pub open_after : (those : Work) (verbose : Bool) → those.means.output ≡ outp
     → (after : Splitter) (z : List ℕ) → ways.work after ≡ those → (as_if ways.terms).Holds after z
     → those.is_complete z ≡ false
 open_after those verbose told after z same is = ap (λ (those : Work). those.is_complete z) (sym same)
-    ∙ goes_on after z is (λ bytes. told_beside verbose
+    ∙ goes_on _ z is (λ bytes. told_beside _
     (sym told ∙ ap (λ (those : Work). those.means.output) (sym same) ∙ bytes))
 
 spares : (splitter after : Splitter) (z : List ℕ) (n : ℕ) → ways.work after ≡ ways.work splitter
@@ -401,9 +401,9 @@ held_of : (splitter : Splitter) (x : List ℕ) → ways.Holds splitter x
     → held splitter ≡ length ((ways.work splitter).waiting x)
 held_of (way.Parts parts) x holds = parts_wait holds
 held_of (way.Round round) x holds = none_waits holds
-held_of (way.Chunks state) x holds = chunks_wait state x holds
+held_of (way.Chunks state) x holds = chunks_wait _ x holds
 held_of (way.Turn turn) x holds = refl
 
 pub held_is : (splitter : Splitter) (x : List ℕ) → (as_if ways.terms).Holds splitter x
     → held splitter ≡ length ((ways.work splitter).waiting x)
-held_is splitter x is = held_of splitter is.other is.holds ∙ ap length (sym (waiting_as is.alike))
+held_is splitter x is = held_of _ _ is.holds ∙ ap length (sym (waiting_as is.alike))

@@ -87,7 +87,7 @@ run_within (suc bound) n (suc i) (x ∷ xs) some few =
 
 -- the run at a place has the members from i * n to less than (i + 1) * n
 pub run_at : {X : Type 0} (n i : ℕ) (xs : List X) → 0 < n → get_or (runs_of n xs) i [] ≡ take n (drop (i * n) xs)
-run_at n i xs some = run_within (length xs) n i xs some (omega arith)
+run_at n i xs some = run_within _ n i _ some (omega arith)
 
 -- this many runs of n hold all members, and one run less doesn't
 abbrev AreFewest : ℕ → ℕ → ℕ → Type 0
@@ -110,7 +110,7 @@ count_within bound n xs some few = grind (arith, common_steps)
 
 -- there are as few runs as can hold all members
 pub runs_count : {X : Type 0} (n : ℕ) (xs : List X) → 0 < n → AreFewest (length (runs_of n xs)) n (length xs)
-runs_count n xs some = count_within (length xs) n xs some (omega arith)
+runs_count n xs some = count_within _ n _ some (omega arith)
 
 -- Parts of n lines, and of n bytes
 
@@ -119,21 +119,21 @@ last_lines delim n [] short = refl
 last_lines delim n (byte ∷ x) short =
     cc (
       runs_last n (lines_of delim (byte ∷ x)) (line_count-some delim (byte ∷ x) (omega arith)) (omega (arith, (line_count_near delim (byte ∷ x)).1)),
-      joined-lines_of delim (byte ∷ x),
+      joined-lines_of _ _,
     )
 
 lines_cut : (delim n : ℕ) {x : List ℕ} {full : List (List ℕ)} {rest : List ℕ} → 0 < n → Cuts (Lines n delim) x full rest
     → full ++ unless_empty rest ≡ line_parts delim n x
 lines_cut delim n {x} some (stops _ short) = last_lines delim n x (short_some (Lines n delim) x short some)
 lines_cut delim n {x} some (goes _ full _ is past) =
-    grind (arith, common_steps, full_some, lines_of-after, runs_next, line_count_near, lines_cut delim n some past)
+    grind (arith, common_steps, full_some, lines_of-after, runs_next, line_count_near, lines_cut _ n some past)
 
 pub lines_are_runs : (delim n : ℕ) (x : List ℕ) → 0 < n → parts (Lines n delim) x ≡ line_parts delim n x
-lines_are_runs delim n x some = lines_cut delim n some (cuts_up)
+lines_are_runs delim n x some = lines_cut _ n some (cuts_up)
 
 last_bytes : (n : ℕ) (x : List ℕ) → length x < n → unless_empty x ≡ byte_parts n x
 last_bytes n [] short = refl
-last_bytes n (byte ∷ x) short = sym (runs_last n (byte ∷ x) (omega arith) (omega arith))
+last_bytes n (byte ∷ x) short = sym (runs_last n _ (omega arith) (omega arith))
 
 bytes_cut : (n : ℕ) {x : List ℕ} {full : List (List ℕ)} {rest : List ℕ} → 0 < n → Cuts (Bytes n) x full rest
     → full ++ unless_empty rest ≡ byte_parts n x
@@ -192,7 +192,7 @@ line_bytes_once {delim} {n} some (more x these enough past) (more _ those _ othe
 line_bytes_first : (delim n : ℕ) (x : List ℕ) → 0 < n → n ≤ length x
     → (0 < length (whole_lines delim (take n x))) × (length (whole_lines delim (take n x)) ≤ n)
 line_bytes_first delim n x some enough =
-    let both : length (whole_lines delim (take n x)) + length (open_line delim (take n x)) ≡ length (take n x) = sym (length-append (whole_lines delim (take n x)) (open_line delim (take n x))) ∙ ap length (whole_then_open delim) in
+    let both : length (whole_lines delim (take n x)) + length (open_line delim (take n x)) ≡ length (take n x) = sym (length-append (whole_lines delim (take n x)) (open_line delim (take n x))) ∙ ap length (whole_then_open _) in
     (whole_some delim (take n x) (omega (arith, length-take-le n x enough)), omega (arith, length-take-le n x enough))
 
 -- none is empty, and none has more than n bytes
@@ -205,8 +205,8 @@ line_bytes_within delim n _ _ some (more x those enough past) =
       arith,
       common_steps,
       line_bytes_first,
-      line_bytes_within delim n (drop (length (whole_lines delim (take n
-          x))) x) those some past,
+      line_bytes_within _ n (drop (length (whole_lines delim (take n
+          x))) x) _ some past,
     )
 
 -- Texts that go on
@@ -286,7 +286,7 @@ are_dealt delim n file place (line ∷ lines) each =
       before_some,
       few_dealt,
       are_dealt delim n file (place + 1) lines
-          (others delim line lines each),
+          (others _ _ _ each),
     )
 
 -- the places of a file's lines are n apart
@@ -302,7 +302,7 @@ nth_step : (n : ℕ) {file : ℕ} (place left k : ℕ) (line : List ℕ) (lines 
     ≡ get_or (line ∷ lines) (left + k * n) []
 nth_step n {file} place left zero line lines true few at is next = grind (arith, common_steps, nothing_between, eqb-true, zero-mul, get_or)
 nth_step n {file} place left (suc k) line lines true few at is next =
-    let none : left ≡ 0 = nothing_between n place few (at ∙ sym (eqb-true (place % n) file is)) in
+    let none : left ≡ 0 = nothing_between n _ few (at ∙ sym (eqb-true (place % n) file is)) in
     let there : left + suc k * n ≡ suc (n - 1 + k * n) = omega (arith, none, suc-mul) in
     let around : place + 1 + (n - 1) ≡ place + n = omega arith in
     cc (next (n - 1) k (omega arith) (ap (λ at. at % n) around ∙ add-mod_right place n ∙ eqb-true (place % n) file is), there)
@@ -374,7 +374,7 @@ all_from n place (line ∷ lines) some = one_gets (λ file. dealt n file (place 
 
 -- all bytes are dealt
 pub all_dealt : (delim n : ℕ) (x : List ℕ) → 0 < n → length (joined (round_robin delim n x)) ≡ length x
-all_dealt delim n x some = all_from n 0 (lines_of delim x) some ∙ ap length (joined-lines_of delim x)
+all_dealt delim n x some = all_from n 0 _ some ∙ ap length (joined-lines_of _ x)
 
 -- the files that have a line are the first ones
 pub first_files : (delim n : ℕ) (x : List ℕ)

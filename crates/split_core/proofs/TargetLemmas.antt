@@ -59,7 +59,7 @@ pub files_go : {told : Bool} {writer next : WriterState} {change : Draft → Dra
 files_go {fault = fault} named goes = record {
   leaves = goes.leaves;
   reaches = goes.reaches;
-  named = where_short fault goes.short (λ ran manner draft writes. let short = ran manner draft writes in named manner draft writes short.none short.begun);
+  named = where_short _ goes.short (λ ran manner draft writes. let short = ran manner draft writes in named manner draft writes short.none short.begun);
   writes = goes.writes;
 }
 
@@ -84,7 +84,7 @@ pub files_again : {told : Bool} {one two three : WriterState} {first second : Dr
 files_again {told} {three = three} {first} {second} both {new = new} {fault} is begins never before after = record {
   leaves = leaves_again before.leaves after.leaves;
   reaches = λ manner draft writes. reaches_again (begins manner draft) (before.reaches manner draft writes) (reaches_as refl (ap (draft_part manner) (sym (is draft))) (after.reaches manner (first draft) (before.writes manner draft writes)));
-  named = where_short fault never (λ none manner draft writes. absurd (none manner (first draft) (before.writes manner draft writes)));
+  named = where_short _ never (λ none manner draft writes. absurd (none manner (first draft) (before.writes manner draft writes)));
   writes = where_well fault after.writes (λ more manner draft writes. subst (Writes manner three) (is draft) (more manner (first draft) (before.writes manner draft writes)));
 }
 
@@ -111,8 +111,8 @@ pub emptied : {told : Bool} {writer next : WriterState} (elide : Bool) {old new 
     → elide ≡ false → is_file writer.current ≡ false
     → Goes told writer (with_next AtOnce) old new next fault → Files told writer (empties_by elide) old new next fault
 emptied {writer = writer} elide kept none goes = rw kept (files_as
-    (λ draft now. let is = none_made writer.tells draft.opening draft.bytes writer.current none now in sym (ap (λ made. begun_by made draft) is))
-    (files_go (λ manner draft writes nameless begun. let is = none_made writer.tells draft.opening draft.bytes writer.current none writes.current in
+    (λ draft now. let is = none_made _ _ _ _ none now in sym (ap (λ made. begun_by made draft) is))
+    (files_go (λ manner draft writes nameless begun. let is = none_made _ _ _ _ none writes.current in
     rw (ap (λ made. draft.ended ++ made) is ∙ append-nil draft.ended) at nameless) goes))
 
 late_after : (elide : Bool) (draft : Draft) → with_next Late (empties_by elide draft) ≡ ends_by elide draft
@@ -177,15 +177,15 @@ pub brings_files : {told : Bool} {writer next : WriterState} {elide : Bool} {So 
     → Brings told (in_files (filing_by writer) elide) (to_files writer elide) (to_files next elide) So
     (part_on (in_files (filing_by writer) elide)) high old new fault
 brings_files {told} {writer} {next} {elide} {dchange = dchange} {high} {old} {new} fault ready is begins so_writes named files = record {
-  stays = ap (λ filing. in_files filing elide) (filing_same writer next files.leaves);
+  stays = ap (λ filing. in_files filing elide) (filing_same _ _ files.leaves);
   owns = files.leaves.owns.owns;
-  slots = slots_as old new fault (ap (λ tells. manner_by writer.names.naming (output_of tells)) ready.1) files.leaves.slots;
+  slots = slots_as _ _ _ (ap (λ tells. manner_by writer.names.naming (output_of tells)) ready.1) files.leaves.slots;
   only = of_files (filing_by writer) elide fault;
   named = named;
   output = files.leaves.output;
   ready = where_well fault files.leaves.ready (λ can. (can, subst TellsNoSizes (sym files.leaves.tells) ready.1));
   begins = λ cut has. subst (Begins _) (is cut) (begins (manner_of (filing_by writer)) (draft_by elide cut));
-  reaches = λ cut has before at. at_aim _ told next elide before _ new fault (is cut)
+  reaches = λ cut has before at. at_aim _ _ _ _ _ _ _ _ (is cut)
       ((files.reaches (manner_of (filing_by writer)) (draft_by elide cut) (so_writes cut has)).there before (record { owns = at.owns; outputs = at.outputs }));
 }
 
@@ -229,7 +229,7 @@ ends_full false cut = ap (λ more. record { ended = cut.full ++ more; opening = 
 
 pub ends_begin : (elide : Bool) (manner : Manner) (draft : Draft)
     → Begins (draft_part manner draft) (draft_part manner (ends_by elide draft))
-ends_begin elide manner draft = subst (λ high. Begins (draft_part manner draft) (draft_part manner high)) (late_after elide draft)
+ends_begin elide manner draft = subst (λ high. Begins (draft_part manner draft) (draft_part manner high)) (late_after _ _)
     (part_trans _ _ _ (empties_begin elide manner draft) (next_begins manner Late (empties_by elide draft)))
 
 pub files_next : {told : Bool} {writer next : WriterState} {elide : Bool} {place : ℕ} {old new : List Slot}
@@ -281,7 +281,7 @@ piece_apart (first ∷ full) one other (suc chunk) differs = piece_apart full on
 
 piece_other : (full : List (List ℕ)) (one other : List ℕ) (chunk : ℕ) {place : ℕ} → length full ≡ place
     → eqb chunk place ≡ false → get_or (full ++ one ∷ []) chunk [] ≡ get_or (full ++ other ∷ []) chunk []
-piece_other full one other chunk {place} is differs = piece_apart full one other chunk (λ here. false≢true (sym differs ∙ eq-eqb chunk place (sym here ∙ is)))
+piece_other full one other chunk {place} is differs = piece_apart _ _ _ _ (λ here. false≢true (sym differs ∙ eq-eqb chunk place (sym here ∙ is)))
 
 -- it gets more bytes if its chunk was begun
 piece_more : (chunk place : ℕ) (bytes : List ℕ) (cut : CutUp) → length cut.full ≡ place
@@ -291,8 +291,8 @@ piece_more chunk place bytes cut is = by (eqb chunk place) refl where
   by : (here : Bool) → eqb chunk place ≡ here
       → get_or (pieces_in cut) chunk [] ++ cond here bytes [] ≡ get_or (pieces_in (with_rest bytes cut)) chunk []
   by true here = let e : chunk ≡ place = eqb-true chunk place here in
-      rw e (ap (λ those. those ++ bytes) (piece_here cut.full cut.rest is) ∙ sym (piece_here cut.full (cut.rest ++ bytes) is))
-  by false here = append-nil _ ∙ piece_other cut.full cut.rest (cut.rest ++ bytes) chunk is here
+      rw e (ap (λ those. those ++ bytes) (piece_here _ _ is) ∙ sym (piece_here _ _ is))
+  by false here = append-nil _ ∙ piece_other _ _ _ _ is here
 
 none_files : (files : List PartFile) → FilesBegin files [] → files ≡ []
 none_files [] begins = refl
@@ -302,7 +302,7 @@ none_files (file ∷ files) begins = absurd begins
 out_stops : (told : Bool) (before : List Slot) (had more : List ℕ) {high : List ℕ} (n : ℕ) {old new : List Slot}
     → had ++ more ≡ high → OutputsAt told before (only_out had) old → BrokeAfter told old new 0 more n
     → StoppedInTurn gets_bytes told before (only_out had) (only_out high) (Write 0) new
-out_stops told before had more {high} n {old} {new} is at broke = let stops = out_cut told before (only_out had) old new more n at broke in rw (← is) (record {
+out_stops told before had more {high} n {old} {new} is at broke = let stops = out_cut _ _ _ _ _ _ n at broke in rw (← is) (record {
   part = stops.part;
   above = stops.above;
   below = stops.below;
@@ -311,7 +311,7 @@ out_stops told before had more {high} n {old} {new} is at broke = let stops = ou
     closed = tt;
     within = omega arith;
     last = let none = ap length
-        (none_files stops.part.files stops.below.files) in omega arith;
+        (none_files _ stops.below.files) in omega arith;
   };
   lines = tt;
   reached = stops.reached;
@@ -325,15 +325,15 @@ out_there : (told : Bool) (chunk : ℕ) (before : List Slot) (had more : List �
     → Wrote told 0 more old new fault
     → IsThere gets_bytes told (AtAim told (to_output chunk) before (only_out high) new) before (only_out had)
     (only_out high) new fault
-out_there told chunk before had more old new None is at wrote = record { owns = tt; outputs = rw is at (out_more told before (only_out had) old new more at wrote) }
-out_there told chunk before had more old new (Some _) is at (short.broke n cut) = out_stops told before had more n is at cut
+out_there told chunk before had more old new None is at wrote = record { owns = tt; outputs = rw is at (out_more _ _ _ _ _ _ at wrote) }
+out_there told chunk before had more old new (Some _) is at (short.broke n cut) = out_stops _ _ _ _ n is at cut
 
 out_slots : (told : Bool) (chunk : ℕ) (more : List ℕ) (old new : List Slot) (fault : Option Fault)
     → IsTrue (is_writable old 0) → Wrote told 0 more old new fault
     → KeepsOrBreaks (manner_on (in_output chunk)) old new fault × IfSome fault (IsOf (in_output chunk))
     × IfNone fault (IsTrue (is_writable new 0))
-out_slots told chunk more old new None can wrote = (keeps_write 0 _ old new wrote, tt, rw (wrote, writable-written old 0 0 (told_of told more)) can)
-out_slots told chunk more old new (Some _) can (short.broke n cut) = ((λ none. refl, write_rose told 0 more n old new can cut), refl, tt)
+out_slots told chunk more old new None can wrote = (keeps_write 0 _ _ _ wrote, tt, rw (wrote, writable-written _ 0 0 _) can)
+out_slots told chunk more old new (Some _) can (short.broke n cut) = ((λ none. refl, write_rose _ 0 _ n _ _ can cut), refl, tt)
 
 never_named : (P : Type 0) (chunk : ℕ) (fault : Option Fault) → IfSome fault (IsOf (in_output chunk))
     → IfSome fault (λ why. why ≡ Verdict Suffixes → P)
@@ -377,7 +377,7 @@ brings_none {told} {chunk} {high = high} {slots} can is = record {
   named = tt;
   output = λ can. can;
   ready = can;
-  begins = λ cut has. subst (Begins (piece_at chunk cut)) (is cut) (part_begins_itself (piece_at chunk cut));
+  begins = λ cut has. subst (Begins (piece_at chunk cut)) (is cut) (part_begins_itself _);
   reaches = λ cut has before at. record { owns = tt; outputs = rw (is cut) at at.outputs };
 }
 
@@ -393,8 +393,8 @@ output_next {chunk = chunk} can = record {
 
 slots_again : (on : Course) (old mid new : List Slot) (fault : Option Fault) → KeepsOrBreaks (manner_on on) old mid None
     → KeepsOrBreaks (manner_on on) mid new fault → KeepsOrBreaks (manner_on on) old new fault
-slots_again on old mid new None first second = keeps_again old mid new first second
-slots_again on old mid new (Some why) first second = breaks_later {manner = manner_on on} old mid new why refl first second
+slots_again on old mid new None first second = keeps_again _ _ _ first second
+slots_again on old mid new (Some why) first second = breaks_later {manner = manner_on on} _ _ _ _ refl first second
 
 pub brings_then : {X : Type 0} {told : Bool} {on : Course} {one two three : AimState} {So Later : X → Type 0}
     {low middle high : X → Part} {old mid new : List Slot} {fault : Option Fault}
@@ -403,9 +403,9 @@ pub brings_then : {X : Type 0} {told : Bool} {on : Course} {one two three : AimS
 brings_then {told = told} {on} {high = high} {old} {mid} {new} {fault} first later second = record {
   stays = second.stays;
   owns = λ place owns. second.owns place (first.owns place owns);
-  slots = slots_again on old mid new fault first.slots second.slots;
+  slots = slots_again _ _ _ _ _ first.slots second.slots;
   only = second.only;
-  named = where_short fault second.named (λ never x so. never x (later x so));
+  named = where_short _ second.named (λ never x so. never x (later x so));
   output = where_well fault second.output (λ more can. more (first.output can));
   ready = second.ready;
   begins = λ x so. part_trans _ _ _ (first.begins x so) (second.begins x (later x so));
@@ -426,7 +426,7 @@ brings_wider {told = told} {on} {low = low} {middle} {high} {new = new} {why} wi
   output = tt;
   ready = tt;
   begins = λ x so. part_trans _ _ _ (brings.begins x so) (wider x so);
-  reaches = λ x so before at. turn_between (output_on on) told before (low x) (low x) (middle x) (high x) why new (part_begins_itself (low x)) (brings.reaches x so before at) (wider x so);
+  reaches = λ x so before at. turn_between _ _ _ _ _ _ _ _ _ (part_begins_itself _) (brings.reaches x so before at) (wider x so);
 }
 
 -- in other words
@@ -440,7 +440,7 @@ brings_as {told = told} {on} {aim} {next} {low = low} {high} {low'} {high'} f {o
   owns = brings.owns;
   slots = brings.slots;
   only = brings.only;
-  named = where_short fault brings.named (λ never y also. never (f y) (so y also));
+  named = where_short _ brings.named (λ never y also. never (f y) (so y also));
   output = brings.output;
   ready = brings.ready;
   begins = λ y also. rw (low_is y also) at (subst (Begins (low (f y))) (high_is y also) (brings.begins (f y) (so y also)));
@@ -453,7 +453,7 @@ pub sends_as : {X Y : Type 0} {told : Bool} {target next : TargetState} {So : X 
     → ((y : Y) → Also y → So (f y)) → ((y : Y) → Also y → from (f y) ≡ from' y) → ((y : Y) → Also y → to (f y) ≡ to' y)
     → Sends told target So from to old new next fault → Sends told target Also from' to' old new next fault
 sends_as {target = target} {next} f fault so from_is to_is sends = let on = course_of target.aim in record {
-  brings = brings_as f fault so (λ y also. ap (part_on on) (from_is y also)) (λ y also. ap (part_on on) (to_is y also)) sends.brings;
+  brings = brings_as f _ so (λ y also. ap (part_on on) (from_is y also)) (λ y also. ap (part_on on) (to_is y also)) sends.brings;
   carries = where_well fault sends.carries (λ has y also. subst (Carries next) (to_is y also) (has (f y) (so y also)));
 }
 

@@ -60,9 +60,9 @@ pub passes_at : (told : Bool) (turn : TurnState) (piece : List ℕ) {before afte
 passes_at told turn piece {before} {after} (Ok u) can wrote = record {
   same = refl;
   size = omega arith;
-  holds = takes_in turn piece;
-  outputs = λ start x at. rw (went_out piece at.holds) at (out_more told start _ before after (due turn piece) at.outputs wrote);
-  ready = written_writable before after 0 0 _ can wrote;
+  holds = takes_in _ _;
+  outputs = λ start x at. rw (went_out _ at.holds) at (out_more _ _ _ _ _ _ at.outputs wrote);
+  ready = written_writable _ _ 0 0 _ can wrote;
   owns = λ first own. tt;
   there = λ are. tt;
   cut = tt;
@@ -76,8 +76,8 @@ passes_at told turn piece {before} {after} (Err why) can (short.broke n broke) =
   ready = tt;
   owns = λ first own. tt;
   there = λ are. tt;
-  cut = λ start x at. cut refl (rw (went_out piece at.holds) at (out_cut told start _ before after (due turn piece) n at.outputs broke));
-  met = ((λ is. refl), (λ is. refl), write_rose told 0 (due turn piece) n before after can broke);
+  cut = λ start x at. cut refl (rw (went_out _ at.holds) at (out_cut _ _ _ _ _ _ n at.outputs broke));
+  met = ((λ is. refl), (λ is. refl), write_rose _ 0 _ n _ _ can broke);
 }
 
 -- there was no room for it

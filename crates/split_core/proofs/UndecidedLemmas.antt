@@ -308,13 +308,13 @@ follows delim n x i less =
 had_less : (delim n : ℕ) (x : List ℕ) (i : ℕ) → i < length x
     → had delim n (dealt_to delim n x i) x i < length (share_of delim n x (dealt_to delim n x i))
 had_less delim n x i less =
-    let next = follows delim n x i less in
+    let next = follows _ n x i less in
     omega (arith, ap length next.is ∙ length-append (dealt n (dealt_to delim n x i) 0 (lines_of delim (take i x))) (get_or x i 0 ∷ next.rest))
 
 had_byte : (delim n : ℕ) (x : List ℕ) (i : ℕ) → i < length x
     → get_or (share_of delim n x (dealt_to delim n x i)) (had delim n (dealt_to delim n x i) x i) 0 ≡ get_or x i 0
 had_byte delim n x i less =
-    let next = follows delim n x i less in
+    let next = follows _ n x i less in
     ap (λ those. get_or those (had delim n (dealt_to delim n x i) x i) 0) next.is ∙ get_or-append_seam (dealt n (dealt_to delim n x i) 0 (lines_of delim (take i x))) (get_or x i 0) next.rest 0
 
 -- of two bytes of a file the later one stands later in it
@@ -324,7 +324,7 @@ had_grows delim n x i j less within same =
     let front : take i (take j x) ≡ take i x = take-take i j x (omega arith) in
     let file : dealt_to delim n (take j x) i ≡ dealt_to delim n x i = ap (λ those. delimiters delim those % n) front in
     let grown : had delim n (dealt_to delim n (take j x) i) (take j x) i < length (share_of delim n (take j x) (dealt_to delim n (take j x) i))
-    = had_less delim n (take j x) i
+    = had_less _ n _ i
     (let all : length (take j x) ≡ j = length-take-le j x (omega arith) in omega arith) in
     omega (
       arith,
@@ -451,12 +451,12 @@ round_placed delim n elide filing some = record {
 
 pub placed_at : (cut : Cut) (elide : Bool) (filing : Filing) → IsPositive cut
     → ArePlaced (beside_output (split_work (plan_by cut elide filing))) (split_spots (plan_by cut elide filing))
-placed_at (cut.Parts limit) elide filing some = parts_placed limit filing
-placed_at (cut.Round n delim) elide filing some = round_placed delim n elide filing some
+placed_at (cut.Parts limit) elide filing some = parts_placed _ _
+placed_at (cut.Round n delim) elide filing some = round_placed _ n _ _ some
 
 -- where nothing is told, that is all of it
 pub placed_quiet : (cut : Cut) (elide : Bool) (filing : Filing) → IsPositive cut → filing.verbose ≡ false
     → ArePlaced (split_work (plan_by cut elide filing)) (split_spots (plan_by cut elide filing))
-placed_quiet cut elide filing some is = subst (λ verbose. ArePlaced (with_told verbose) (split_spots (plan_by cut elide filing))) (sym is) (placed_at cut elide filing some) where
+placed_quiet cut elide filing some is = subst (λ verbose. ArePlaced (with_told verbose) (split_spots (plan_by cut elide filing))) (sym is) (placed_at _ _ _ some) where
   with_told : Bool → Work
   with_told verbose = record (split_work (plan_by cut elide filing)) { whole = λ x. record { out = told_of_files (output_by verbose) (whole_by (plan_by cut elide filing) x).files; files = (whole_by (plan_by cut elide filing) x).files } }

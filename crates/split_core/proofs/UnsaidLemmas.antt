@@ -51,22 +51,22 @@ goes_on_so : (cutter : CutterState) (end : ℕ) (w : List ℕ) → BeginsBefore 
     → true ≡ (nat_lt cutter.at end || cutter.is_within) → open_from cutter.chunks.unit cutter.chunks.delim w < end
 goes_on_so cutter end w (has, all) short = elim (or_cases (nat_lt cutter.at end) cutter.is_within (sym short)) [
   | inl before ↦ omega (arith, ltb-true _ _ before, open_within cutter.chunks.unit cutter.chunks.delim w)
-  | inr within ↦ open_early cutter.chunks.unit cutter.chunks.delim end w all (sym has.within ∙ within)
+  | inr within ↦ open_early _ _ _ w all (sym has.within ∙ within)
 ]
 
 writes_on : (cutter : CutterState) (end : ℕ) (w front : List ℕ) → BeginsBefore cutter end w
     → true ≡ (nat_lt cutter.at end || cutter.is_within)
     → begun_before cutter.chunks.unit cutter.chunks.delim end (w ++ front) ≡ w ++ cut_to cutter end front
 writes_on cutter end w front so short =
-    rw so.0.at (begun_on cutter.chunks.unit cutter.chunks.delim end w front (goes_on_so cutter end w so short))
+    rw so.0.at (begun_on _ _ _ w _ (goes_on_so _ _ w so short))
 
 -- nothing waits, or it goes with what comes later
 still_all : (cutter : CutterState) (waiting : List ℕ) (end : ℕ) (z : List ℕ) → BeginsBefore cutter end z
     → (length waiting ≡ 0) ⊎ (false ≡ (nat_lt cutter.at end || cutter.is_within)) → all_before cutter waiting end z ≡ z
 still_all cutter waiting end z (has, all) (inl none) = rw (nil_from_length waiting none, append-nil z) all
 still_all cutter waiting end z (has, all) (inr stops) = let (before, within) = or_parts (nat_lt cutter.at end) cutter.is_within (sym stops) in
-    let open_at = no_line cutter.chunks.unit cutter.chunks.delim z (sym has.within ∙ within) in
-    begun_stays cutter.chunks.unit cutter.chunks.delim end z waiting (omega (arith, ltb-false _ _ before)) ∙ all
+    let open_at = no_line _ _ z (sym has.within ∙ within) in
+    begun_stays _ _ _ z _ (omega (arith, ltb-false _ _ before)) ∙ all
 
 pub settles_none : {told : Bool} {cutter : CutterState} {waiting : List ℕ} {end : ℕ} {slots : List Slot}
     → IsAimed cutter.target.aim slots
@@ -75,10 +75,10 @@ pub settles_none : {told : Bool} {cutter : CutterState} {waiting : List ℕ} {en
 settles_none {cutter = cutter} {waiting} {end} ready ends = record {
   chunks = refl;
   bound = omega arith;
-  sends = sends_as (λ z. z) None (λ z so. so) (λ z so. refl)
-      (λ z so. ap uncut (sym (still_all cutter waiting end z so ends)))
+  sends = sends_as (λ z. z) _ (λ z so. so) (λ z so. refl)
+      (λ z so. ap uncut (sym (still_all _ _ _ z so ends)))
       (sends_none {So = BeginsBefore cutter end} {from = uncut} ready (λ z so. so.0.carries));
-  stands = λ z so. rw (still_all cutter waiting end z so ends) (so.0, sym (drop_at z waiting (length z) refl));
+  stands = λ z so. rw (still_all _ _ _ z so ends) (so.0, sym (drop_at z waiting (length z) refl));
 }
 
 module _ {told : Bool} {cutter : CutterState} (waiting : List ℕ) (end : ℕ) {old : List Slot}
@@ -87,22 +87,22 @@ module _ {told : Bool} {cutter : CutterState} (waiting : List ℕ) (end : ℕ) {
       → Changes told cutter.target (with_rest (cut_to cutter end waiting)) old new next fault
       → Sends told cutter.target (BeginsBefore cutter end) (λ z. uncut z)
       (λ z. uncut (all_before cutter waiting end z)) old new next fault
-  sends_on fault changes = sends_as (λ z. uncut z) fault
+  sends_on fault changes = sends_as (λ z. uncut z) _
       (λ z (has, all). let less : cutter.target.place < cutter.chunks.count =
       omega (arith, some_in has) in
-      (has.carries, name_of (course cutter) cutter.chunks.count cutter.target.place has.all less))
-      (λ z so. refl) (λ z so. ap uncut (sym (writes_on cutter end z waiting so short))) changes
+      (has.carries, name_of _ _ _ has.all less))
+      (λ z so. refl) (λ z so. ap uncut (sym (writes_on _ _ z _ so short))) changes
 
   pub settles_on : {next : CutterState} {left : List ℕ} {new : List Slot} {n : ℕ}
       → WritesTo told cutter end waiting old new next (Ok n) → left ≡ drop n waiting
       → Settles told cutter waiting end old new next left None
-  settles_on {next} {left} {new} {n} writes is = let y = cut_to cutter end waiting in let step = cutting waiting writes in
+  settles_on {next} {left} {new} {n} writes is = let y = cut_to cutter end waiting in let step = cutting _ writes in
       let long : length y ≡ n = omega (arith, ap length writes.count.2, length-take n waiting) in
-      let sends = sends_on None writes.sends in record {
+      let sends = sends_on _ writes.sends in record {
         chunks = writes.chunks;
         bound = omega (arith, ap length is, length-drop n waiting);
         sends = sends;
-        stands = λ z so. let all = writes_on cutter end z waiting so short in
+        stands = λ z so. let all = writes_on _ _ z _ so short in
             let both : length (z ++ y) ≡ length z + n = omega (arith, length-append z y) in (
               rw all (has_cut y writes.chunks step.stays (omega arith) writes.within
                   (omega arith) so.0 (rw all at (sends.carries z so))),
@@ -116,7 +116,7 @@ module _ {told : Bool} {cutter : CutterState} (waiting : List ℕ) (end : ℕ) {
   settles_not {why = why} writes = record {
     chunks = writes.chunks;
     bound = omega arith;
-    sends = sends_on (Some why) writes.sends;
+    sends = sends_on _ writes.sends;
     stands = tt;
   }
 
@@ -124,7 +124,7 @@ module _ {told : Bool} {cutter : CutterState} (waiting : List ℕ) (end : ℕ) {
 
 begun_later : (unit : Counted) (delim : ℕ) {place other : ℕ} (x : List ℕ) → place ≤ other
     → begun_before unit delim place x ≡ x → begun_before unit delim other x ≡ x
-begun_later unit delim {place} {other} x within all = same (begun_monotone unit delim x within) (begun_begins unit delim other x) where
+begun_later unit delim {place} {other} x within all = same (begun_monotone _ _ x within) (begun_begins _ _ _ x) where
   same : IsBeginning (begun_before unit delim place x) (begun_before unit delim other x)
       → IsBeginning (begun_before unit delim other x) x → begun_before unit delim other x ≡ x
   same (more, is) (rest, both) = let none : length rest ≡ 0 = omega (arith, ap length is, length-append (begun_before unit delim place x) more, ap length all, ap length both, length-append (begun_before unit delim other x) rest) in
@@ -161,19 +161,19 @@ settled_none chunker x said =
 module _ {chunker : ChunkerState} {x : List ℕ} (has : IsUnsaid chunker x) where
   all_came : cut_front chunker x ++ chunker.waiting ≡ x
   all_came = let chunks = chunker.cutter.chunks in
-      rw has.waits (begin_then_rest (cut_front chunker x) x (begun_begins chunks.unit chunks.delim _ x))
+      rw has.waits (begin_then_rest _ x (begun_begins _ _ _ x))
 
   front_before : (more : List ℕ)
       → BeginsBefore chunker.cutter
       (chunk_start chunker.cutter.chunks.count (length (x ++ more)) (first_on (course chunker.cutter)))
       (cut_front chunker x)
   front_before more = let on = course chunker.cutter in let chunks = chunker.cutter.chunks in
-      let fits = first_fits on chunks.count has.cut.can in
+      let fits = first_fits _ _ has.cut.can in
       let low : length x ≤ length (x ++ more) = omega (arith, length-append x more) in
       let later = start_by_size _ _ _ _ (some_in has.cut) fits low in (
         has.cut,
-        begun_later chunks.unit chunks.delim (cut_front chunker x) later
-            (begun_again chunks.unit chunks.delim _ x),
+        begun_later _ _ _ later
+            (begun_again _ _ _ x),
       )
 
   came_more : (piece : List ℕ) → cut_front chunker x ++ (chunker.waiting ++ piece) ≡ x ++ piece
@@ -241,7 +241,7 @@ start_some n size count some = elim (cases_lt 0 (size / n)) [
 ]
 
 none_of : (chunks : Chunks) (size place : ℕ) → chunk_at chunks size [] place ≡ []
-none_of chunks size place = ap (drop (length (before_chunk chunks size place []))) (begun_of_none chunks.unit chunks.delim (chunk_start chunks.count size (place + 1))) ∙ drop-nil _
+none_of chunks size place = ap (drop (length (before_chunk chunks size place []))) (begun_of_none _ _ _) ∙ drop-nil _
 
 none_ended : (chunks : Chunks) (size : ℕ) → 0 < chunks.count → 0 < size → ended chunks size [] ≡ 0
 none_ended chunks size count some = ended_only {chunks = chunks} {size = size} {x = []} (record {
@@ -299,8 +299,8 @@ past_pieces chunks size chunk z all = let f = chunk_at chunks size z in let n = 
 part_same : (on : Course) (chunks : Chunks) (size : ℕ) (z : List ℕ) → 0 < chunks.count → length z ≤ size
     → before_chunk chunks size (first_on on) z ≡ z
     → part_on on (with_fulls (ended chunks size z) (uncut z)) ≡ part_on on (chunks_within chunks size z)
-part_same (in_files filing elide) chunks size z count fits all = ap (part_on (in_files filing elide)) (first_cut chunks size z count fits all)
-part_same (in_output zero) chunks size z count fits all = ap (part_on (in_output zero)) (first_cut chunks size z count fits all)
+part_same (in_files filing elide) chunks size z count fits all = ap (part_on (in_files filing elide)) (first_cut _ _ z count fits all)
+part_same (in_output zero) chunks size z count fits all = ap (part_on (in_output zero)) (first_cut _ _ z count fits all)
 part_same (in_output (suc chunk)) chunks size z count fits all = let e : max (suc chunk) 1 ≡ suc chunk = omega arith in
     ap only_out (fulls_past (suc chunk) (ended chunks size z) (uncut z) ∙ sym (past_pieces chunks size (suc chunk) z (ap (λ place. before_chunk chunks size place z) (sym e) ∙ all)))
 
@@ -313,7 +313,7 @@ carries_same : (chunks : Chunks) (size : ℕ) (z : List ℕ) (place : ℕ) (aim 
     → Carries (record { place = place; aim = aim }) (with_fulls (ended chunks size z) (uncut z))
     → Carries (record { place = place; aim = aim }) (chunks_within chunks size z)
 carries_same chunks size z place (to_files writer elide) count fits all carries =
-    rw (first_cut chunks size z count fits all) at carries
+    rw (first_cut _ _ z count fits all) at carries
 carries_same chunks size z place (to_output chunk) count fits all carries = record {
   placed = omega (
     arith,
@@ -347,8 +347,8 @@ cut_off_so {cutter} {waiting} {size} {z} so = record {
   begun = λ within short. absurd
       (omega (
         arith,
-        none_waits cutter.chunks.unit cutter.chunks.delim
-            (chunk_start cutter.chunks.count size (first_on (course cutter))) z waiting so.is within,
+        none_waits _ _
+            _ z _ so.is within,
       ));
   from = omega arith;
 }

@@ -45,7 +45,7 @@ complete_is state x some holds = complete_by state.said state x some holds
 -- where the input doesn't say its length, the output is never complete
 unsaid_by : (said : Option ℕ) → is_some said ≡ false → (on : Course) (chunks : Chunks) (x : List ℕ)
     → (work_on on chunks said).is_complete x ≡ false
-unsaid_by None none on chunks x = unsaid_open on chunks x
+unsaid_by None none on chunks x = unsaid_open _ _ x
 unsaid_by (Some size) none on chunks x = absurd (false≢true (sym none))
 
 pub unsaid_goes_on : (state : ChunkerState) (x z : List ℕ) → is_some state.said ≡ false → Holds state x
@@ -108,14 +108,14 @@ few_of_chunk state size chunk most said on is x piece after n holds going within
     let z = holds.other in
     let chunks = state.cutter.chunks in
     let it : work state ≡ chunk_work chunk chunks (Some size) =
-    made_by state (in_output chunk) z holds.holds on ∙ ap (chunk_work chunk chunks) said in
+    made_by _ _ z holds.holds on ∙ ap (chunk_work chunk chunks) said in
     let can : nat_lt chunk chunks.count ≡ true =
-    sym (ap (λ on. can_cut on chunks.count) on) ∙ holds_can state.said state z holds.holds in
+    sym (ap (λ on. can_cut on chunks.count) on) ∙ holds_can _ _ z holds.holds in
     let still : (work state).is_complete z ≡ false = sym (complete_as holds.alike) ∙ going in
     omega (
       arith,
-      few_missing chunk chunks size z piece n can
-          (omega (arith, all_cut state size z said still holds.holds))
+      few_missing _ _ _ z _ n can
+          (omega (arith, all_cut _ _ z said still holds.holds))
           (sym (ap (λ (those : Work). those.is_complete z) it) ∙ still)
           (subst (λ (those : Work). IsSpare those (z ++ piece) n) it ((holds.alike.unused piece n).0 spare)),
     )

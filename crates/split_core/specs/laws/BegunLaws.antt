@@ -28,14 +28,14 @@ pub begun_first : (delim byte place : ℕ) (x : List ℕ) → 0 < place
     → begun_before Lines delim place (byte ∷ x) ≡ byte ∷ cond (eqb byte delim) (begun_before Lines delim (place - 1) x)
     (begun_before Lines delim (max (place - 1) 1) x)
 begun_first delim byte zero x some = absurd (omega arith)
-begun_first delim byte (suc zero) x some = first_lines-cons delim byte 0 x
+begun_first delim byte (suc zero) x some = first_lines-cons _ _ 0 x
 begun_first delim byte (suc (suc place)) x some = grind (arith, common_steps)
 
 pub begun_some : (unit : Unit) (delim place : ℕ) (x : List ℕ) → 0 < place → 0 < length x
     → 0 < length (begun_before unit delim place x)
 begun_some Bytes delim place x some has = omega (arith, length-take place x)
 begun_some Lines delim place [] some has = absurd (omega arith)
-begun_some Lines delim place (byte ∷ x) some has = rw (begun_first delim byte place x some) (omega arith)
+begun_some Lines delim place (byte ∷ x) some has = rw (begun_first _ _ _ x some) (omega arith)
 
 -- From where on it may still get bytes
 
@@ -76,9 +76,9 @@ begun_stays_lines : (delim place : ℕ) (x y : List ℕ) → place ≤ open_from
 begun_stays_lines delim place [] y within = let e : place ≡ 0 = omega arith in
     rw e refl
 begun_stays_lines delim place (byte ∷ x) y within = elim (cases_lt 0 place) [
-  | inl some ↦ begun_first delim byte place (x ++ y) some
+  | inl some ↦ begun_first _ _ _ _ some
       ∙ ap (λ more. byte ∷ more) (stays_step delim byte place x y (λ at. begun_stays_lines delim at x y) within some
-      (eqb byte delim) refl) ∙ sym (begun_first delim byte place x some)
+      _ refl) ∙ sym (begun_first _ _ _ x some)
   | inr none ↦ (let e : place ≡ 0 = omega arith in
       rw e refl)
 ]
@@ -87,7 +87,7 @@ begun_stays_lines delim place (byte ∷ x) y within = elim (cases_lt 0 place) [
 pub begun_stays : (unit : Unit) (delim place : ℕ) (x y : List ℕ) → place ≤ open_from unit delim x
     → begun_before unit delim place (x ++ y) ≡ begun_before unit delim place x
 begun_stays Bytes delim place x y within = take-append-le place x y within
-begun_stays Lines delim place x y within = begun_stays_lines delim place x y within
+begun_stays Lines delim place x y within = begun_stays_lines _ _ x y within
 
 on_step : (delim byte place : ℕ) (x y : List ℕ)
     → ((at : ℕ) → open_from Lines delim x < at
@@ -103,9 +103,9 @@ begun_on_lines : (delim place : ℕ) (x y : List ℕ) → open_from Lines delim 
 begun_on_lines delim place [] y past =
     let e : place ≡ max (place - 0) 1 = omega arith in ap (λ at. begun_before Lines delim at y) e
 begun_on_lines delim place (byte ∷ x) y past =
-    begun_first delim byte place (x ++ y) (omega arith)
+    begun_first _ _ _ _ (omega arith)
     ∙ ap (λ more. byte ∷ more) (on_step delim byte place x y (λ at. begun_on_lines delim at x y) past
-    (eqb byte delim) refl)
+    _ refl)
 
 take_on : (place : ℕ) (x y : List ℕ) → length x < place → take place (x ++ y) ≡ x ++ take (max (place - length x) 1) y
 take_on place x y past = let e : place ≡ length x + max (place - length x) 1 = omega arith in
@@ -114,8 +114,8 @@ take_on place x y past = let e : place ≡ length x + max (place - length x) 1 =
 -- else all of it does, and what follows does up to that place, or to the end of the line that is open
 pub begun_on : (unit : Unit) (delim place : ℕ) (x y : List ℕ) → open_from unit delim x < place
     → begun_before unit delim place (x ++ y) ≡ x ++ begun_before unit delim (max (place - length x) 1) y
-begun_on Bytes delim place x y past = take_on place x y past
-begun_on Lines delim place x y past = begun_on_lines delim place x y past
+begun_on Bytes delim place x y past = take_on _ x y past
+begun_on Lines delim place x y past = begun_on_lines _ _ x y past
 
 pub begun_of_none : (unit : Unit) (delim place : ℕ) → begun_before unit delim place [] ≡ []
 begun_of_none Bytes delim zero = refl
@@ -132,8 +132,8 @@ begun_first_place Lines delim x = refl
 pub begun_all : (unit : Unit) (delim place : ℕ) (x : List ℕ) → open_from unit delim x < place
     → begun_before unit delim place x ≡ x
 begun_all unit delim place x past =
-    ap (begun_before unit delim place) (sym (append-nil x)) ∙ begun_on unit delim place x [] past
-    ∙ ap (λ more. x ++ more) (begun_of_none unit delim (max (place - length x) 1)) ∙ append-nil x
+    ap (begun_before unit delim place) (sym (append-nil x)) ∙ begun_on _ _ _ x _ past
+    ∙ ap (λ more. x ++ more) (begun_of_none _ _ _) ∙ append-nil x
 
 -- so does one that ends before it
 pub begun_long : (unit : Unit) (delim place : ℕ) (x : List ℕ) → length x ≤ place → begun_before unit delim place x ≡ x
@@ -141,7 +141,7 @@ begun_long Bytes delim place x long = take_all place x long
 begun_long Lines delim zero [] long = refl
 begun_long Lines delim zero (byte ∷ x) long = absurd (omega arith)
 begun_long Lines delim (suc place) x long =
-    ap (λ rest. take place x ++ rest) (first_lines-all delim 1
+    ap (λ rest. take place x ++ rest) (first_lines-all _ 1
     (omega (arith, line_count-le-length delim (drop place x), length-drop place x)))
     ∙ take-append-drop place x
 
@@ -150,22 +150,22 @@ pub begun_lines : (delim place other : ℕ) (x : List ℕ) → place ≤ other �
     × (begun_before Lines delim place x ≡ first_lines delim n (begun_before Lines delim other x))
 begun_lines delim zero other x within = (0, (λ none. absurd (omega arith)), refl)
 begun_lines delim (suc place) other [] within =
-    (1, (λ some. omega arith), rw (begun_of_none Lines delim (suc place), begun_of_none Lines delim other) refl)
+    (1, (λ some. omega arith), rw (begun_of_none _ _ _, begun_of_none _ _ _) refl)
 begun_lines delim (suc place) other (byte ∷ x) within = by (eqb byte delim) refl
     (begun_lines delim (suc place - 1) (other - 1) x (omega arith))
-    (begun_lines delim (max (suc place - 1) 1) (max (other - 1) 1) x (omega arith)) where
+    (begun_lines _ _ _ x (omega arith)) where
       Early : ℕ → ℕ → List ℕ → Type 0
       Early at to x = (n : ℕ) × (0 < at → 0 < n)
           × (begun_before Lines delim at x ≡ first_lines delim n (begun_before Lines delim to x))
 
       begun : (at : ℕ) → 0 < at → (ends : Bool) → eqb byte delim ≡ ends → begun_before Lines delim at (byte ∷ x)
           ≡ byte ∷ cond ends (begun_before Lines delim (at - 1) x) (begun_before Lines delim (max (at - 1) 1) x)
-      begun at some ends is = begun_first delim byte at x some ∙ ap (λ ends. byte ∷ cond ends
+      begun at some ends is = begun_first _ _ _ x some ∙ ap (λ ends. byte ∷ cond ends
           (begun_before Lines delim (at - 1) x) (begun_before Lines delim (max (at - 1) 1) x)) is
 
       lines : (n : ℕ) (w : List ℕ) (ends : Bool) → eqb byte delim ≡ ends → first_lines delim (suc n) (byte ∷ w)
           ≡ byte ∷ cond ends (first_lines delim n w) (first_lines delim (suc n) w)
-      lines n w ends is = first_lines-cons delim byte n w
+      lines n w ends is = first_lines-cons _ _ n w
           ∙ ap (λ ends. byte ∷ cond ends (first_lines delim n w) (first_lines delim (suc n) w)) is
 
       by : (ends : Bool) → eqb byte delim ≡ ends → Early (suc place - 1) (other - 1) x
@@ -197,10 +197,10 @@ begun_monotone Bytes delim {place} {other} x within = (
       ∙ ap (λ front. front ++ drop place (take other x)) (take-take place other x within),
 )
 begun_monotone Lines delim {place} {other} x within =
-    let (n, some, is) = begun_lines delim place other x within in
+    let (n, some, is) = begun_lines _ _ _ x within in
     let whole = begun_before Lines delim other x in (
       joined (drop n (lines_of delim whole)),
-      sym (first_lines_then_rest delim n whole)
+      sym (first_lines_then_rest _ n _)
           ∙ ap (λ front. front ++ joined (drop n (lines_of delim whole))) (sym is),
     )
 
@@ -208,16 +208,16 @@ pub begun_begins : (unit : Unit) (delim place : ℕ) (x : List ℕ) → IsBeginn
 begun_begins unit delim place x =
     subst (IsBeginning (begun_before unit delim place x))
     (begun_long unit delim (max place (length x)) x (omega arith))
-    (begun_monotone unit delim x (omega arith))
+    (begun_monotone _ _ x (omega arith))
 
 pub begun_within : (unit : Unit) (delim place : ℕ) (x : List ℕ) → length (begun_before unit delim place x) ≤ length x
-begun_within unit delim place x = beginning_short _ _ (begun_begins unit delim place x)
+begun_within unit delim place x = beginning_short _ _ (begun_begins _ _ _ x)
 
 pub begun_grows : (unit : Unit) (delim place : ℕ) (x y : List ℕ)
     → IsBeginning (begun_before unit delim place x) (begun_before unit delim place (x ++ y))
 begun_grows unit delim place x y = elim (cases_lt (open_from unit delim x) place) [
-  | inl past ↦ rw (begun_all unit delim place x past, begun_on unit delim place x y past) (begins_more x _)
-  | inr within ↦ rw (begun_stays unit delim place x y within) (begins_itself _)
+  | inl past ↦ rw (begun_all _ _ _ x past, begun_on _ _ _ x y past) (begins_more x _)
+  | inr within ↦ rw (begun_stays _ _ _ x y within) (begins_itself _)
 ]
 
 again_step : (delim place : ℕ) (x : List ℕ)
@@ -232,10 +232,10 @@ begun_again_lines : (delim place : ℕ) (x : List ℕ)
     → begun_before Lines delim place (begun_before Lines delim place x) ≡ begun_before Lines delim place x
 begun_again_lines delim place [] = ap (begun_before Lines delim place) (begun_of_none Lines delim place)
 begun_again_lines delim place (byte ∷ x) = elim (cases_lt 0 place) [
-  | inl some ↦ ap (begun_before Lines delim place) (begun_first delim byte place x some)
-      ∙ begun_first delim byte place _ some
+  | inl some ↦ ap (begun_before Lines delim place) (begun_first _ _ _ x some)
+      ∙ begun_first _ _ _ _ some
       ∙ ap (λ more. byte ∷ more) (again_step delim place x (λ at. begun_again_lines delim at x) (eqb byte delim))
-      ∙ sym (begun_first delim byte place x some)
+      ∙ sym (begun_first _ _ _ x some)
   | inr none ↦ (let e : place ≡ 0 = omega arith in
       rw e refl)
 ]
@@ -244,13 +244,13 @@ begun_again_lines delim place (byte ∷ x) = elim (cases_lt 0 place) [
 pub begun_again : (unit : Unit) (delim place : ℕ) (x : List ℕ)
     → begun_before unit delim place (begun_before unit delim place x) ≡ begun_before unit delim place x
 begun_again Bytes delim place x = take-take place place x (omega arith)
-begun_again Lines delim place x = begun_again_lines delim place x
+begun_again Lines delim place x = begun_again_lines _ _ x
 
 -- Where its open line is
 
 pub open_within : (unit : Unit) (delim : ℕ) (x : List ℕ) → open_from unit delim x ≤ length x
 open_within Bytes delim x = omega arith
-open_within Lines delim x = length-first_lines-le delim (delimiters delim x) x
+open_within Lines delim x = length-first_lines-le _ _ x
 
 open_grows_lines : (delim : ℕ) (x y : List ℕ) → open_from Lines delim x ≤ open_from Lines delim (x ++ y)
 open_grows_lines delim x y =
@@ -266,7 +266,7 @@ open_grows_lines delim x y =
 
 pub open_grows : (unit : Unit) (delim : ℕ) (x y : List ℕ) → open_from unit delim x ≤ open_from unit delim (x ++ y)
 open_grows Bytes delim x y = omega (arith, length-append x y)
-open_grows Lines delim x y = open_grows_lines delim x y
+open_grows Lines delim x y = open_grows_lines _ x y
 
 -- a text that goes on has its open line after the last delimiter of what follows
 pub open_append : (delim : ℕ) (x y : List ℕ) → open_from Lines delim (x ++ y)

@@ -65,7 +65,7 @@ counted test a (suc n) zero within holds fails = rw (fails a (omega arith) (omeg
     (counted test (a + 1) n 0 (omega arith) (λ i from to. absurd (omega arith))
     (λ i from to. fails i (omega arith) (omega arith)))
 counted test a (suc n) (suc p) within holds fails = rw (holds a (omega arith) (omega arith))
-    (ap suc (counted test (a + 1) n p (omega arith) (λ i from to. holds i (omega arith) (omega arith))
+    (ap suc (counted _ _ n p (omega arith) (λ i from to. holds i (omega arith) (omega arith))
     (λ i from to. fails i (omega arith) (omega arith))))
 
 found : (n size at k : ℕ) → (p : ℕ) × (p ≤ k) × (chunk_start n size p ≤ at)
@@ -100,12 +100,12 @@ ended_only {chunks} {size} {x} {p} is = counted (has_ended chunks size x) 0 chun
     )))
 
 pub ended_is : (chunks : Chunks) (size : ℕ) (x : List ℕ) → HaveEnded chunks size x (ended chunks size x)
-ended_is chunks size x = let (p, within, from, next) = found chunks.count size (passed chunks size x) chunks.count in
+ended_is chunks size x = let (p, within, from, next) = found _ _ _ _ in
     let is : HaveEnded chunks size x p = record { within = within; before = from; next = next } in
     rw (ended_only is) is
 
 pub ended_within : (chunks : Chunks) (size : ℕ) (x : List ℕ) → ended chunks size x ≤ chunks.count
-ended_within chunks size x = (ended_is chunks size x).within
+ended_within chunks size x = (ended_is _ _ x).within
 
 -- those before that place have, and no other
 pub has_ended_before : (chunks : Chunks) (size : ℕ) (x : List ℕ) (place : ℕ) → place < ended chunks size x
@@ -250,19 +250,19 @@ pub ends_here : (chunks : Chunks) (size : ℕ) (x y : List ℕ) (more : ℕ) →
       rest = [];
     }
 ends_here chunks size x y more some within all ends =
-    chunks_are chunks size (x ++ y) some within there
+    chunks_are _ _ _ some within there
     ∙ ap (λ pieces. record { full = pieces; rest = left }) pieces
     ∙ ap (λ bytes. record { full = front ++ (drop (length begun) x ++ y) ∷ replicate more []; rest = bytes }) last
     ∙ ap (λ cut. record { full = cut.full ++ (cut.rest ++ y) ∷ replicate more []; rest = [] })
-    (sym (chunks_are chunks size x some less here)) where
+    (sym (chunks_are _ _ x some less here)) where
       place : ℕ
       place = ended chunks size x
 
       here : HaveEnded chunks size x place
-      here = ended_is chunks size x
+      here = ended_is _ _ x
 
       there : HaveEnded chunks size (x ++ y) (place + suc more)
-      there = subst (HaveEnded chunks size (x ++ y)) (sym ends) (ended_is chunks size (x ++ y))
+      there = subst (HaveEnded chunks size (x ++ y)) (sym ends) (ended_is _ _ _)
 
       less : length x ≤ size
       less = omega (arith, length-append x y)
@@ -280,7 +280,7 @@ ends_here chunks size x y more some within all ends =
       left = drop (length (before_chunk chunks size (place + suc more) (x ++ y))) (x ++ y)
 
       later : (i : ℕ) → place + 1 ≤ i → before_chunk chunks size i (x ++ y) ≡ x ++ y
-      later i from = before_later chunks size (x ++ y) (place + 1) i from all
+      later i from = before_later _ _ _ _ i from all
 
       last : left ≡ []
       last = ap (λ begun. drop (length begun) (x ++ y)) (later (place + suc more) (omega arith))
@@ -288,19 +288,19 @@ ends_here chunks size x y more some within all ends =
 
       one : f (0 + place) ≡ drop (length begun) x ++ y
       one = ap f (omega arith) ∙ ap (drop (length (before_chunk chunks size place (x ++ y)))) all
-          ∙ ap (λ low. drop (length low) (x ++ y)) (before_stays chunks size place x y within here.before)
-          ∙ drop-append-le (length begun) x y (begun_within chunks.unit chunks.delim _ x)
+          ∙ ap (λ low. drop (length low) (x ++ y)) (before_stays _ _ _ x y within here.before)
+          ∙ drop-append-le (length begun) x y (begun_within _ _ _ x)
 
       none : map f (range_with_len (0 + place + 1) more) ≡ replicate more []
-      none = empty_pieces f (0 + place + 1) more
-          (λ i from to. chunk_none chunks size (x ++ y) i (later i (omega arith)))
+      none = empty_pieces f _ _
+          (λ i from to. chunk_none _ _ _ i (later i (omega arith)))
 
       pieces : map f (range_with_len 0 (place + suc more)) ≡ front ++ (drop (length begun) x ++ y) ∷ replicate more []
-      pieces = map_parts f 0 place more
+      pieces = map_parts f 0 _ _
           ∙ ap (λ piece. map f (range_with_len 0 place) ++ piece ∷ map f (range_with_len (0 + place + 1) more)) one
           ∙ ap (λ rest. map f (range_with_len 0 place) ++ (drop (length begun) x ++ y) ∷ rest) none
           ∙ ap (λ before. before ++ (drop (length begun) x ++ y) ∷ replicate more [])
-          (full_stays chunks size place x y within here.before)
+          (full_stays _ _ _ x y within here.before)
 
 -- All chunks together
 
@@ -350,7 +350,7 @@ cut_all chunks size x some full =
 
 pub rest_none : (chunks : Chunks) (size : ℕ) (x : List ℕ) → 0 < chunks.count → size ≤ length x
     → (chunks_of chunks size x).rest ≡ []
-rest_none chunks size x some full = ap (λ cut. cut.rest) (cut_all chunks size x some full)
+rest_none chunks size x some full = ap (λ cut. cut.rest) (cut_all _ _ x some full)
 
 -- where it can still grow
 
@@ -368,9 +368,9 @@ pub decided_grows : (chunks : Chunks) (first : ℕ) (x y : List ℕ) → 0 < chu
     → IsBeginning (before_chunk chunks (length x) first x) (before_chunk chunks (length (x ++ y)) first (x ++ y))
 decided_grows chunks first x y some within =
     let at = chunk_start chunks.count (length (x ++ y)) first in begins_trans _ _ _
-    (begun_monotone chunks.unit chunks.delim x
-    (start_by_size chunks.count (length x) (length (x ++ y)) first some within (omega (arith, length-append x y))))
-    (begun_grows chunks.unit chunks.delim at x y)
+    (begun_monotone _ _ x
+    (start_by_size _ _ _ _ some within (omega (arith, length-append x y))))
+    (begun_grows _ _ _ x y)
 
 -- what stands before a chunk of a whole text is the pieces before it
 pub first_pieces : (chunks : Chunks) (first : ℕ) (x : List ℕ) → 0 < chunks.count → first ≤ chunks.count

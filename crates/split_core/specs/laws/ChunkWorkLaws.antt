@@ -38,7 +38,7 @@ use Rattle.split_core.specs.{
 -- A text that is cut up goes on
 
 goes_itself : (cut : CutUp) → GoesOn cut cut
-goes_itself cut = record { more = []; full = sym (append-nil cut.full); rest = begins_itself cut.rest }
+goes_itself cut = record { more = []; full = sym (append-nil cut.full); rest = begins_itself _ }
 
 drop_begins : (k : ℕ) (low high : List ℕ) → k ≤ length low → IsBeginning low high
     → IsBeginning (drop k low) (drop k high)
@@ -119,8 +119,8 @@ chunks_go_on chunks size x y some = by (begun_grows Bytes 0 size x y) where
 pub decided_goes_on : (chunks : Chunks) (first : ℕ) (said : Option ℕ) (x y : List ℕ) → 0 < chunks.count
     → first ≤ chunks.count → GoesOn (decided chunks first said x) (decided chunks first said (x ++ y))
 decided_goes_on chunks first None x y some within =
-    record { more = []; full = refl; rest = decided_grows chunks first x y some within }
-decided_goes_on chunks first (Some size) x y some within = chunks_go_on chunks size x y some
+    record { more = []; full = refl; rest = decided_grows _ _ x y some within }
+decided_goes_on chunks first (Some size) x y some within = chunks_go_on _ _ x y some
 
 begins_pieces : (f : ℕ → List ℕ) (n : ℕ) (low last : List ℕ) → 0 < n → IsBeginning low (f 0)
     → BeginsFirst low (map f (range_with_len 0 n)) last
@@ -130,7 +130,7 @@ begins_pieces f (suc n) low last some begins = begins
 -- and in the end
 pub decided_ends : (chunks : Chunks) (said : Option ℕ) (x : List ℕ) → 0 < chunks.count
     → GoesOn (decided chunks 1 said x) (in_the_end chunks said x)
-decided_ends chunks (Some size) x some = goes_itself (chunks_of chunks size x)
+decided_ends chunks (Some size) x some = goes_itself _
 decided_ends chunks None x some =
     grind (arith, common_steps, start_first, begun_first_place, take_all, cut_all, begins_pieces, begins_itself)
 
@@ -200,7 +200,7 @@ piece_step : (front more : List (List ℕ)) (low high : List ℕ) (place : ℕ) 
 piece_step [] [] low high zero begins = begins
 piece_step [] (piece ∷ more) low high zero begins = begins
 piece_step [] more low high (suc place) begins = nothing_begins _
-piece_step (first ∷ front) more low high zero begins = begins_itself first
+piece_step (first ∷ front) more low high zero begins = begins_itself _
 piece_step (first ∷ front) more low high (suc place) begins = piece_step front more low high place begins
 
 pieces_on : {low high : CutUp} (on : GoesOn low high)
@@ -264,7 +264,7 @@ chunk_lawful place chunks said within = record {
 
 pub turn_lawful : (place count delim : ℕ) → IsLawful (turn_work place count delim)
 turn_lawful place count delim = record {
-  grows = λ x y. out_begins _ _ (_, dealt_append delim count place 0 x y);
+  grows = λ x y. out_begins _ _ (_, dealt_append _ _ _ 0 x y);
   ends = λ x. out_begins _ _ (begins_itself _);
   stays = λ x y never. absurd (false≢true never);
 }

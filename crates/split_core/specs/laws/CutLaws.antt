@@ -34,7 +34,7 @@ pub short_some : (limit : Limit) (x : List ℕ) → is_full limit x ≡ false �
 short_some limit x short some = search rules
 
 pub measure-append : (limit : Limit) (x y : List ℕ) → measure limit (x ++ y) ≡ measure limit x + measure limit y
-measure-append (Lines n delim) x y = delimiters-append delim x y
+measure-append (Lines n delim) x y = delimiters-append _ x y
 measure-append limit x y = length-append x y
 
 pub full-append : (limit : Limit) (x y : List ℕ) → is_full limit x ≡ true → is_full limit (x ++ y) ≡ true
@@ -62,7 +62,7 @@ whole_some delim x some = by (nat_lt 0 (delimiters delim x)) refl where
       → 0 < length (cond has (first_lines delim (delimiters delim x) x) x)
   by true is =
       let lines : delimiters delim (first_lines delim (delimiters delim x) x) ≡ delimiters delim x =
-      delimiters-first_lines delim (delimiters delim x) x (omega arith) in
+      delimiters-first_lines _ _ x (omega arith) in
       omega (arith, delimiters-le-length, ltb-true)
   by false is = some
 
@@ -70,7 +70,7 @@ length-take_few : (n : ℕ) (x : List ℕ) → length (take n x) ≤ length x
 length-take_few n x = omega (arith, length-take n x)
 
 pub first_within : (limit : Limit) (x : List ℕ) → length (first_part limit x) ≤ length x
-first_within (Lines n delim) x = length-first_lines-le delim n x
+first_within (Lines n delim) x = length-first_lines-le _ n x
 first_within (Bytes n) x = length-take_few n x
 first_within (LineBytes n delim) x = omega (arith, whole_within, length-take_few)
 
@@ -87,7 +87,7 @@ first_some limit x full = first_some_by limit x (full_some limit x full).0 (full
 
 first-append_by : (limit : Limit) (x y : List ℕ) → most limit ≤ measure limit x
     → first_part limit (x ++ y) ≡ first_part limit x
-first-append_by (Lines n delim) x y enough = first_lines-full delim n x y enough
+first-append_by (Lines n delim) x y enough = first_lines-full _ n x y enough
 first-append_by (Bytes n) x y enough = take-append-le n x y enough
 first-append_by (LineBytes n delim) x y enough = grind (arith, common_steps)
 
@@ -122,7 +122,7 @@ cuts_within {limit} (suc bound) {x} within =
       by false is more = stops x is
 
 pub cuts_up : {limit : Limit} {x : List ℕ} → Cuts limit x (cut_up limit x).full (cut_up limit x).rest
-cuts_up {x} = cuts_within (length x) (omega arith)
+cuts_up {x} = cuts_within _ (omega arith)
 
 once_within : {limit : Limit} (bound : ℕ) {x : List ℕ} {parts : List (List ℕ)} {rest : List ℕ} → length x ≤ bound
     → Cuts limit x parts rest → cut_within bound limit x ≡ cut_so parts rest
@@ -135,7 +135,7 @@ once_within {limit} (suc bound) {x} within (goes _ parts rest full more) = cc
 -- a text is cut in one way
 pub cut_once : (limit : Limit) {x : List ℕ} {parts : List (List ℕ)} {rest : List ℕ} → Cuts limit x parts rest
     → cut_up limit x ≡ cut_so parts rest
-cut_once limit {x} cuts = once_within (length x) (omega arith) cuts
+cut_once limit {x} cuts = once_within _ (omega arith) cuts
 
 pub cuts_on : {limit : Limit} (x y : List ℕ) {parts : List (List ℕ)} (more : List (List ℕ)) {rest left : List ℕ}
     → Cuts limit x parts rest
@@ -150,12 +150,12 @@ cuts_on {limit} x y more {left} (goes _ parts _ full after) then =
 pub cut_on : (limit : Limit) (x y : List ℕ)
     → cut_up limit (x ++ y) ≡ cut_so ((cut_up limit x).full ++ (cut_up limit ((cut_up limit x).rest ++ y)).full)
     (cut_up limit ((cut_up limit x).rest ++ y)).rest
-cut_on limit x y = cut_once limit (cuts_on x y _ (cuts_up) (cuts_up))
+cut_on limit x y = cut_once _ (cuts_on x y _ (cuts_up) (cuts_up))
 
 left_short : (limit : Limit) (x : List ℕ) {parts : List (List ℕ)} {rest : List ℕ} → Cuts limit x parts rest
     → is_full limit rest ≡ false
 left_short limit x (stops _ short) = short
-left_short limit x (goes _ parts _ full after) = left_short limit (after_first limit x) after
+left_short limit x (goes _ parts _ full after) = left_short _ _ after
 
 -- what is left has no full part
 pub rest_short : (limit : Limit) (x : List ℕ) → is_full limit (cut_up limit x).rest ≡ false
@@ -168,9 +168,9 @@ cut_none limit x short = search rules
 
 -- what is left is what is settled of it, and what waits
 pub settled_then_waiting : (limit : Limit) (rest : List ℕ) → settled_rest limit rest ++ waiting_rest limit rest ≡ rest
-settled_then_waiting (LineBytes n delim) rest = whole_then_open delim
+settled_then_waiting (LineBytes n delim) rest = whole_then_open _
 settled_then_waiting limit rest = append-nil rest
 
 pub settled_some : (limit : Limit) (rest : List ℕ) → 0 < length rest → 0 < length (settled_rest limit rest)
-settled_some (LineBytes n delim) rest some = whole_some delim rest some
+settled_some (LineBytes n delim) rest some = whole_some _ _ some
 settled_some limit rest some = some

@@ -41,14 +41,14 @@ pub dealt_append : (delim n file place : ℕ) (x y : List ℕ)
 dealt_append delim n file place [] y = grind (arith, common_steps)
 dealt_append delim n file place (byte ∷ x) y =
     let next = cond (eqb byte delim) (place + 1) place in
-    dealt_first (eqb byte delim) n file place byte (lines_of delim (x ++ y))
+    dealt_first _ n _ _ _ _
     ∙ ap (λ those. cond (eqb (place % n) file) (byte ∷ those) those) (dealt_append delim n file next x y)
     ∙ goes_on (eqb (place % n) file) byte (dealt n file next (lines_of delim x))
     (dealt n file (next + delimiters delim x) (lines_of delim y))
     ∙ ap (λ those. those ++ dealt n file (next + delimiters delim x) (lines_of delim y))
-    (sym (dealt_first (eqb byte delim) n file place byte (lines_of delim x)))
+    (sym (dealt_first _ n _ _ _ _))
     ∙ ap (λ at. dealt n file place (lines_of delim (byte ∷ x)) ++ dealt n file at (lines_of delim y))
-    (next_place (eqb byte delim) place (delimiters delim x))
+    (next_place _ _ _)
 
 -- Which files have a line
 
@@ -70,7 +70,7 @@ dealt_some : (n file place : ℕ) (lines : List (List ℕ)) → EachSome lines �
 dealt_some n file place [] each from before within = absurd (omega arith)
 dealt_some n file place (line ∷ lines) each from before within = elim (cases_eq place file) [
   | inl here ↦ found here
-  | inr other ↦ some_either (eqb (place % n) file) line (dealt n file (place + 1) lines)
+  | inr other ↦ some_either _ _ _
       (dealt_some n file (place + 1) lines each.1 (omega arith) (omega arith) within)
 ] where
   found : place ≡ file → 0 < length (dealt n file place (line ∷ lines))
@@ -85,7 +85,7 @@ each_step false byte lines each = search rules
 
 pub each_line : (delim : ℕ) (x : List ℕ) → EachSome (lines_of delim x)
 each_line delim [] = tt
-each_line delim (byte ∷ x) = each_step (eqb byte delim) byte (lines_of delim x) (each_line delim x)
+each_line delim (byte ∷ x) = each_step _ _ _ (each_line _ x)
 
 pub has_bytes_of : (bytes : List ℕ) → 0 < length bytes → has_bytes bytes ≡ true
 has_bytes_of [] some = absurd (omega arith)
@@ -93,7 +93,7 @@ has_bytes_of (byte ∷ bytes) some = refl
 
 pub share_none : (delim n : ℕ) (x : List ℕ) (file : ℕ) → line_count delim x ≤ file → file < n
     → share_of delim n x file ≡ []
-share_none delim n x file short within = dealt_none n file 0 (lines_of delim x) (omega arith) within
+share_none delim n x file short within = dealt_none n _ 0 _ (omega arith) within
 
 pub share_some : (delim n : ℕ) (x : List ℕ) (file : ℕ) → file < line_count delim x → file < n
     → has_bytes (share_of delim n x file) ≡ true
@@ -105,7 +105,7 @@ filter_first : (f : ℕ → List ℕ) (n end : ℕ) → ((file : ℕ) → file <
     → filter has_bytes (map f (range_with_len 0 n)) ≡ map f (range_with_len 0 (min n end))
 filter_first f zero end some none = grind (arith, common_steps)
 filter_first f (suc n) end some none =
-    let before = filter_first f n end (λ file within. some file (omega arith))
+    let before = filter_first f n _ (λ file within. some file (omega arith))
     (λ file within. none file (omega arith)) in
     let next : suc n ≡ n + 1 = omega arith in
     ap (λ k. filter has_bytes (map f (range_with_len 0 k))) next ∙ filter_of_map_range_with_len_more has_bytes f 0 n n

@@ -44,7 +44,7 @@ kept_file filing place one other (inr same) = search rules
 -- what standard output is told of them as well
 pub told_begins : (verbose : Bool) (low high : List File) → FilesBegin low high
     → IsBeginning (told_of_files (output_by verbose) low) (told_of_files (output_by verbose) high)
-told_begins false low high begins = begins_itself []
+told_begins false low high begins = begins_itself _
 told_begins true low high begins = openings_begin opening_line low high begins
 
 pub part_begins : (filing : Filing) (low high : List Share) → SharesBegin low high
@@ -63,9 +63,9 @@ pub first_lines_begin : (delim k n : ℕ) (x : List ℕ) → k ≤ n
     → IsBeginning (first_lines delim k x) (first_lines delim n x)
 first_lines_begin delim k n x less = (
   joined (drop k (lines_of delim (first_lines delim n x))),
-  sym (first_lines_then_rest delim k (first_lines delim n x))
+  sym (first_lines_then_rest _ k _)
       ∙ ap (λ (lines : List (List ℕ)). joined lines ++ joined (drop k (lines_of delim (first_lines delim n x))))
-      (ap (take k) (lines_of-first_lines delim n x) ∙ take-take k n (lines_of delim x) less),
+      (ap (take k) (lines_of-first_lines _ n x) ∙ take-take k n (lines_of delim x) less),
 )
 
 whole_begins_by : (delim : ℕ) (x y : List ℕ) (k m : ℕ) → delimiters delim x ≡ k → delimiters delim (x ++ y) ≡ m
@@ -76,18 +76,18 @@ whole_begins_by delim x y (suc k) (suc m) here all = rw (← (whole_of_lines del
     (sym (whole_of_lines delim (x ++ y) (omega arith)))
     (first_lines_begin delim (delimiters delim x) (delimiters delim (x ++ y)) (x ++ y)
     (omega (arith, delimiters-append))))
-whole_begins_by delim x y zero (suc m) here all = rw (whole_of_none delim x here) (
+whole_begins_by delim x y zero (suc m) here all = rw (whole_of_none _ x here) (
   _,
   whole_of_lines delim (x ++ y) (omega arith) ∙ first_lines-append delim (delimiters delim (x ++ y)) x y
       ∙ ap (λ front. front ++ first_lines delim (delimiters delim (x ++ y) - delimiters delim x) y)
-      (first_lines-short delim (delimiters delim (x ++ y)) x (omega arith)),
+      (first_lines-short _ _ x (omega arith)),
 )
 whole_begins_by delim x y zero zero here all =
-    rw (whole_of_none delim x here) (y, whole_of_none delim (x ++ y) all)
+    rw (whole_of_none _ x here) (y, whole_of_none _ _ all)
 whole_begins_by delim x y (suc k) zero here all = absurd (omega (arith, delimiters-append))
 
 pub whole_begins : (delim : ℕ) (x y : List ℕ) → IsBeginning (whole_lines delim x) (whole_lines delim (x ++ y))
-whole_begins delim x y = whole_begins_by delim x y (delimiters delim x) (delimiters delim (x ++ y)) refl refl
+whole_begins delim x y = whole_begins_by _ x y _ _ refl refl
 
 take_begins_long : (n : ℕ) (x y : List ℕ) → length x < n → (more : List ℕ) × (take n (x ++ y) ≡ x ++ more)
 take_begins_long n [] y short = (take n y, refl)
@@ -101,21 +101,21 @@ settled_in_full : (limit : Limit) (x y : List ℕ) → measure limit x < most li
     → IsBeginning (settled_rest limit x) (first_part limit (x ++ y))
 settled_in_full (Lines n delim) x y short = (
   _,
-  first_lines-append delim n x y ∙ ap (λ front. front ++ first_lines delim (n - delimiters delim x) y)
-      (first_lines-short delim n x short),
+  first_lines-append _ n x y ∙ ap (λ front. front ++ first_lines delim (n - delimiters delim x) y)
+      (first_lines-short _ n x short),
 )
 settled_in_full (Bytes n) x y short = take_begins_long n x y short
 settled_in_full (LineBytes n delim) x y short =
     let taken = take_begins_long n x y short in subst
     (λ those. IsBeginning (whole_lines delim x) (whole_lines delim those)) (sym taken.1)
-    (whole_begins delim x taken.0)
+    (whole_begins _ x _)
 
 settled_in_rest : (limit : Limit) (x y : List ℕ) → IsBeginning (settled_rest limit x) (settled_rest limit (x ++ y))
-settled_in_rest (LineBytes n delim) x y = whole_begins delim x y
+settled_in_rest (LineBytes n delim) x y = whole_begins _ x y
 settled_in_rest limit x y = begins_more x y
 
 pub settled_in_whole : (limit : Limit) (x : List ℕ) → IsBeginning (settled_rest limit x) x
-settled_in_whole limit x = (_, sym (settled_then_waiting limit x))
+settled_in_whole limit x = (_, sym (settled_then_waiting _ x))
 
 -- what files get of a text that goes on: the full parts of the text, and then what they get of the rest and what
 -- follows
@@ -133,7 +133,7 @@ parts_on limit x y = grind (arith, common_steps, cut_on, append_assoc)
 pub cut_first : (limit : Limit) (x : List ℕ) → is_full limit x ≡ true
     → cut_up limit x ≡ cut_so (first_part limit x ∷ (cut_up limit (after_first limit x)).full)
     (cut_up limit (after_first limit x)).rest
-cut_first limit x full = cut_once limit (goes x _ _ full (cuts_up))
+cut_first limit x full = cut_once _ (goes x _ _ full (cuts_up))
 
 rest_begins_by : (limit : Limit) (rest y : List ℕ) (full : Bool) → is_full limit (rest ++ y) ≡ full
     → is_full limit rest ≡ false

@@ -92,8 +92,8 @@ none_lawful work = grind (arith, common_steps, part_begins_itself, stays)
 pub work_lawful : (on : Course) (chunks : Chunking) (said : Option ℕ) → can_cut on chunks.count ≡ true
     → IsLawful (work_on on chunks said)
 work_lawful (in_files filing elide) chunks said can =
-    chunks_lawful (record { chunks = chunks; elide = elide; filing = filing }) said (ltb-true _ _ can)
-work_lawful (in_output chunk) chunks said can = chunk_lawful chunk chunks said (ltb-true _ _ can)
+    chunks_lawful _ _ (ltb-true _ _ can)
+work_lawful (in_output chunk) chunks said can = chunk_lawful _ _ _ (ltb-true _ _ can)
 
 chunks_so : (on : Course) (chunks : Chunking) (said : Option ℕ)
     → IsLawful (made_if (can_cut on chunks.count) (work_on on chunks said))
@@ -102,7 +102,7 @@ chunks_so on chunks said = grind (arith, common_steps, work_lawful, none_lawful)
 -- All ways
 
 pub lawful : (way : Splitter) → IsLawful (work way)
-lawful (Parts state) = parts_lawful state.limit (filing_of state)
+lawful (Parts state) = parts_lawful _ _
 lawful (Chunks state) = chunks_so (course state.cutter) state.cutter.chunks state.said
-lawful (Turn state) = turn_lawful state.place state.count state.delim
+lawful (Turn state) = turn_lawful _ _ _
 lawful (Round state) = round_lawful state.delim state.count state.elide (filing_in state.files)

@@ -3,7 +3,7 @@ use Rattle.split_core.proofs.TargetLemmas.{file_ends, file_stops}
 use Rattle.split_core.proofs.chunk_target.end_file.Goals as goal
 
 pub returns-in_err-make_empty : goal.returns-in_err-make_empty
-returns-in_err-make_empty g c = rw (handed_on _ _ c.from_residual.ensures.1) (file_stops c.args.elide c.in_err-make_empty.ensures)
+returns-in_err-make_empty g c = rw (handed_on _ _ c.from_residual.ensures.1) (file_stops _ c.in_err-make_empty.ensures)
 
 pub returns : goal.returns
-returns g c = file_ends c.args.elide c.in_ok-make_empty.ensures c.next.ensures.goes
+returns g c = file_ends _ c.in_ok-make_empty.ensures c.next.ensures.goes

@@ -3,4 +3,4 @@ use Rattle.split_core.proofs.TargetLemmas.{emptied}
 use Rattle.split_core.proofs.chunk_target.make_empty.Goals as goal
 
 pub returns : goal.returns
-returns g c = emptied c.args.elide c.if-elide.false (sym c.if-is_open.ensures) c.next.ensures.goes
+returns g c = emptied _ c.if-elide.false (sym c.if-is_open.ensures) c.next.ensures.goes

@@ -3,8 +3,8 @@ use Rattle.split_core.proofs.laws.agreed_is_settled.Goals as goal
 
 pub returns : goal.returns
 returns c = record {
-  outputs = λ plan some x. agreed_at plan.cut plan.elide plan.filing some;
-  waits = λ plan some x. undecided_at plan.cut plan.elide plan.filing some;
-  placed = λ plan some quiet. placed_quiet plan.cut plan.elide plan.filing some quiet;
-  files = λ plan some. placed_at plan.cut plan.elide plan.filing some;
+  outputs = λ plan some x. agreed_at _ _ _ some;
+  waits = λ plan some x. undecided_at _ _ _ some;
+  placed = λ plan some quiet. placed_quiet _ _ _ some quiet;
+  files = λ plan some. placed_at _ _ _ some;
 }

@@ -8,6 +8,6 @@ use Rattle.split_core.proofs.laws.line_byte_parts.Goals as goal
 pub returns : goal.returns
 returns c = record {
   are = line_bytes_are_parts;
-  once = λ delim n x those some are. line_bytes_once some are (line_bytes_are_parts delim n x some);
-  within = λ delim n x some. line_bytes_within delim n x (parts (LineBytes n delim) x) some (line_bytes_are_parts delim n x some);
+  once = λ delim n x those some are. line_bytes_once some are (line_bytes_are_parts _ n x some);
+  within = λ delim n x some. line_bytes_within _ n x _ some (line_bytes_are_parts _ n x some);
 }

@@ -14,5 +14,5 @@ returns-in_err-cut g c =
 
 pub returns : goal.returns
 returns g c = rw (c.clear.ensures, ← c.len.ensures)
-    (held_ends (fault_in c.end.result) (rw c.len.ensures refl) c.in_ok-end_full.ensures
+    (held_ends _ (rw c.len.ensures refl) c.in_ok-end_full.ensures
     (rw c.bytes.ensures at c.in_ok-cut.ensures) c.end.ensures.brings refl refl)

@@ -23,8 +23,8 @@ returns-in_err-end_full g c =
 
 pub returns-in_ok-end_full : goal.returns-in_ok-end_full
 returns-in_ok-end_full g c =
-    steps_so c.args.text.now (rw c.end_of-end.ensures at c.in_ok-n.ensures) c.in_ok-end_full.ensures
+    steps_so _ (rw c.end_of-end.ensures at c.in_ok-n.ensures) c.in_ok-end_full.ensures
 
 pub returns-else-self-end : goal.returns-else-self-end
-returns-else-self-end g c = steps_short c.args.text.now c.requires.some
+returns-else-self-end g c = steps_short _ c.requires.some
     (rw c.end_of-end.ensures at c.in_ok-n.ensures) (omega arith)

@@ -3,7 +3,7 @@ use Rattle.split_core.proofs.TargetLemmas.{files_next, output_next}
 use Rattle.split_core.proofs.chunk_target.Target.next.Goals as goal
 
 pub returns-in-Files-clause-sends : goal.returns-in-Files-clause-sends
-returns-in-Files-clause-sends g c = rw c.in-Files.is (files_next (fault_in c.end_file.result) (rw c.in-Files.is at c.requires.ready) c.end_file.ensures)
+returns-in-Files-clause-sends g c = rw c.in-Files.is (files_next _ (rw c.in-Files.is at c.requires.ready) c.end_file.ensures)
 
 pub returns-in-Output-clause-sends : goal.returns-in-Output-clause-sends
 returns-in-Output-clause-sends g c = rw c.in-Output.is (output_next (rw c.in-Output.is at c.requires.ready))

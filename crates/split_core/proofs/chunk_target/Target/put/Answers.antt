@@ -3,7 +3,7 @@ use Rattle.split_core.proofs.TargetLemmas.{files_put, output_put}
 use Rattle.split_core.proofs.chunk_target.Target.put.Goals as goal
 
 pub returns-in-Files-clause-sends : goal.returns-in-Files-clause-sends
-returns-in-Files-clause-sends g c = rw c.in-Files.is (files_put c.args.bytes.now (fault_in c.put.result) (rw c.in-Files.is at c.requires) c.put.ensures.goes)
+returns-in-Files-clause-sends g c = rw c.in-Files.is (files_put _ _ (rw c.in-Files.is at c.requires) c.put.ensures.goes)
 
 pub returns-in-Output-clause-sends : goal.returns-in-Output-clause-sends
-returns-in-Output-clause-sends g c = rw c.in-Output.is (output_put c.args.bytes.now (fault_in c.write_where.result) (rw c.in-Output.is at c.requires) c.write_where.ensures)
+returns-in-Output-clause-sends g c = rw c.in-Output.is (output_put _ _ (rw c.in-Output.is at c.requires) c.write_where.ensures)

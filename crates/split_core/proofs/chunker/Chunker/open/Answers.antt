@@ -2,5 +2,5 @@ use Rattle.split_core.{specs.inner.Seen.seen_target, proofs.FreshLemmas.holds_no
 use Rattle.split_core.proofs.chunker.Chunker.open.Goals as goal
 
 pub returns-clause-holds : goal.returns-clause-holds
-returns-clause-holds c = holds_none c.args.chunks (seen_target c.args.target) c.requires.can c.requires.all c.requires.fresh c.args.said
+returns-clause-holds c = holds_none _ _ c.requires.can c.requires.all c.requires.fresh c.args.said
     c.new.result c.new.ensures c.requires.long

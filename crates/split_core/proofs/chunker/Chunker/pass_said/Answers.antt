@@ -19,7 +19,7 @@ returns-then-is_each g c = rw (← c.self.view_is) (changed_more _ c.args.piece.
     (omega arith) (sym c.if-is_each.ensures))
 
 pub returns : goal.returns
-returns g c = rw (← c.self.view_is) (passes_said c.args.piece.now (rw (← c.self.view_is) at c.requires.said)
+returns g c = rw (← c.self.view_is) (passes_said _ (rw (← c.self.view_is) at c.requires.said)
     c.self.invariant.0 _ refl c.in_ok-past.ensures (elim c.else-past-gt0.branch [
       | else-past-gt0-via-then-past-gt0+else-is_each w ↦ inr (sym w.if-is_each.ensures)
       | else-past-gt0-via-else-past-gt0 w ↦ inl (omega arith)

@@ -9,7 +9,7 @@ use Rattle.split_core.proofs.deal.Deal.gather.Goals as goal
 
 pub lines-preserved-then-next-count : goal.lines-preserved-then-next-count
 lines-preserved-then-next-count c = (
-  line_goes_on c.lines.reached _ c.lines.invariant.0 (by_delimiter _ _ _ c.lines.invariant.2 c.in-Some.ensures.some)
+  line_goes_on _ _ c.lines.invariant.0 (by_delimiter _ _ _ c.lines.invariant.2 c.in-Some.ensures.some)
       (c.in_ok-append_to.ensures.ok ∙ ap (λ (line : List ℕ). changed_at c.lines.next (λ had. had ++ line) c.lines.self-inside.gathered.items) (first_taken _ (by_delimiter _ _ _ c.lines.invariant.2 c.in-Some.ensures.some) c.lines.invariant.1))
       (omega (arith, ap (λ (deal : DealState). length deal.gathered) c.self.view_is)) c.if-next-count.true,
   c.rest-left.ensures,
@@ -20,7 +20,7 @@ lines-preserved-then-next-count c = (
 
 pub lines-preserved : goal.lines-preserved
 lines-preserved c = (
-  line_goes_round c.lines.reached _ c.lines.invariant.0 (by_delimiter _ _ _ c.lines.invariant.2 c.in-Some.ensures.some)
+  line_goes_round _ _ c.lines.invariant.0 (by_delimiter _ _ _ c.lines.invariant.2 c.in-Some.ensures.some)
       (c.in_ok-append_to.ensures.ok ∙ ap (λ (line : List ℕ). changed_at c.lines.next (λ had. had ++ line) c.lines.self-inside.gathered.items) (first_taken _ (by_delimiter _ _ _ c.lines.invariant.2 c.in-Some.ensures.some) c.lines.invariant.1))
       (omega (arith, ap (λ (deal : DealState). length deal.gathered) c.self.view_is)) (omega arith),
   c.rest-left.ensures,

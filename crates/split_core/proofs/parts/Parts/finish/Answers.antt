@@ -7,7 +7,7 @@ use Rattle.split_core.{
 use Rattle.split_core.proofs.parts.Parts.finish.Goals as goal
 
 pub returns-then-not-is_open : goal.returns-then-not-is_open
-returns-then-not-is_open g c = finishes_none g.O.Outs.told c.args.self.now c.requires (c.if-not-is_open.ensures ∙ ap (λ (parts : PartsState). is_file parts.writer.current) c.self.view_is)
+returns-then-not-is_open g c = finishes_none _ _ c.requires (c.if-not-is_open.ensures ∙ ap (λ (parts : PartsState). is_file parts.writer.current) c.self.view_is)
 
 pub returns-in_err-put_waiting : goal.returns-in_err-put_waiting
 returns-in_err-put_waiting g c = let ends = c.in_err-put_waiting.ensures in
@@ -15,5 +15,5 @@ returns-in_err-put_waiting g c = let ends = c.in_err-put_waiting.ensures in
     (held_stops refl ends.goes (ends.broke (sym c.if-not-is_open.ensures)))
 
 pub returns : goal.returns
-returns g c = rw (← c.self.view_is) (held_ends (fault_in c.end.result) refl c.in_ok-put_waiting.ensures.goes
-    c.end.ensures.goes (some_broke c.end.result c.end.ensures.broke))
+returns g c = rw (← c.self.view_is) (held_ends _ refl c.in_ok-put_waiting.ensures.goes
+    c.end.ensures.goes (some_broke _ c.end.ensures.broke))

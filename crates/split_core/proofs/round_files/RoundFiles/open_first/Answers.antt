@@ -14,4 +14,4 @@ returns-in_err-reach g c = result_is (Opens _ _ _ _ _ _ _) _ _ c.from_residual.e
 })
 
 pub loop-place-preserved : goal.loop-place-preserved
-loop-place-preserved g c = adds_then (Ok tt) c.loop-place.invariant c.in_ok-reach.ensures.adds (omega arith) (omega arith) (omega arith)
+loop-place-preserved g c = adds_then _ c.loop-place.invariant c.in_ok-reach.ensures.adds (omega arith) (omega arith) (omega arith)

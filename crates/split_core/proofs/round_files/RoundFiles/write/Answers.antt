@@ -21,4 +21,4 @@ loop-place-preserved g c = sent_next _ c.loop-place.invariant
     (gets c.args.gathered.now c.loop-place.place c.loop-place-test.true c.index-gathered-place.is c.bytes.ensures) (Ok tt) c.in_ok-send.ensures
 
 pub returns : goal.returns
-returns g c = sent_all c.loop-place.place _ (λ i past. get_or_past c.args.gathered.now i [] past) (omega arith) c.loop-place.invariant
+returns g c = sent_all _ _ (λ i past. get_or_past c.args.gathered.now i [] past) (omega arith) c.loop-place.invariant

@@ -10,7 +10,7 @@ use Rattle.split_core.{
 use Rattle.split_core.proofs.round_splitter.RoundSplitter.open.Goals as goal
 
 pub returns-in_err-deal-clause-cut : goal.returns-in_err-deal-clause-cut
-returns-in_err-deal-clause-cut g c = fault_is _ _ _ c.from_residual.ensures.1 (λ before at. stopped_here _ g.O.Outs.told before nothing _ Memory _ _ at (nothing_begins_part _) refl tt tt)
+returns-in_err-deal-clause-cut g c = fault_is _ _ _ c.from_residual.ensures.1 (λ before at. stopped_here _ _ _ _ _ _ _ _ at (nothing_begins_part _) refl tt tt)
 
 pub returns-in_err-open_first-clause-cut : goal.returns-in_err-open_first-clause-cut
 returns-in_err-open_first-clause-cut g c = fault_is _ _ _ c.from_residual-in_err-open_first.ensures.1 (λ before at. (opens_all g.O.Outs.told c.args.naming c.args.tells c.new-files.ensures c.in_err-open_first.ensures
@@ -24,4 +24,4 @@ pub returns-clause-does : goal.returns-clause-does
 returns-clause-does g c =
     ap (λ d. round_work (round_plan d (length c.in_ok-deal.deal.gathered) c.args.elide (filing_in c.open_first.new.self))) c.in_ok-deal.ensures.delim
     ∙ ap (λ n. round_work (round_plan c.args.delim n c.args.elide (filing_in c.open_first.new.self))) c.in_ok-deal.ensures.count
-    ∙ does_all c.args.delim (record { names = c.args.naming; verbose = is_verbose c.args.tells }) (filing_in c.open_first.new.self) c.args.elide c.args.count c.requires.enough (c.in_ok-open_first.ensures.adds.filing ∙ ap filing_in c.new-files.ensures)
+    ∙ does_all _ _ _ _ _ c.requires.enough (c.in_ok-open_first.ensures.adds.filing ∙ ap filing_in c.new-files.ensures)

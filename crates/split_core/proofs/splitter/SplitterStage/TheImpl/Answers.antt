@@ -3,7 +3,7 @@ use Rattle.split_core.proofs.RoundLemmas.{held_is}
 use Rattle.split_core.proofs.splitter.SplitterStage.TheImpl.Goals as goal
 
 pub waits-tells : goal.waits-tells
-waits-tells c x few holds = c.ensures ∙ held_is c.args.self.now x holds
+waits-tells c x few holds = c.ensures ∙ held_is _ x holds
 
 pub is_done-tells : goal.is_done-tells
 is_done-tells c = record {
