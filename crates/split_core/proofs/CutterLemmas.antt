@@ -299,7 +299,9 @@ pub fulls_are : (more : ℕ) (cut : CutUp)
     → with_fulls (suc more) cut ≡ record { full = cut.full ++ cut.rest ∷ replicate more []; rest = [] }
 fulls_are zero cut = refl
 fulls_are (suc more) cut = ap with_full (fulls_are more cut)
-    ∙ ap (λ full. record { full = full; rest = [] }) (append_assoc cut.full (cut.rest ∷ replicate more []) ([] ∷ []) ∙ ap (λ rest. cut.full ++ cut.rest ∷ rest) (more_empty _))
+    ∙ ap (λ full. record { full = full; rest = [] })
+    (append_assoc cut.full (cut.rest ∷ replicate more []) ([] ∷ []) ∙ ap (λ rest. cut.full ++ cut.rest ∷ rest)
+    (more_empty _))
 
 pub cut_of : (chunks : Chunks) (size : ℕ) (x : List ℕ) → length x ≤ size
     → chunks_of chunks size x ≡ chunks_within chunks size x
@@ -450,7 +452,9 @@ pub both_cut : {told : Bool} {cutter mid : CutterState} {next : TargetState} {si
     (λ x. with_fulls (ended mid.chunks size x.0 - mid.target.place) x.1) wet new next fault
     → Sends told cutter.target (CutsOn cutter size y) (chunks_within cutter.chunks size)
     (λ x. chunks_within cutter.chunks size (x ++ y)) old new next fault
-both_cut {y = y} fault is changes ends = sends_then (sends_as (λ x. x) _ (λ x so. (so.0, so.1)) (λ x so. refl) (λ x so. refl) (changes_cut y _ changes)) (λ x so has. (so, has)) (ends_cut _ is ends)
+both_cut {y = y} fault is changes ends = sends_then
+    (sends_as (λ x. x) _ (λ x so. (so.0, so.1)) (λ x so. refl) (λ x so. refl) (changes_cut y _ changes))
+    (λ x so has. (so, has)) (ends_cut _ is ends)
 
 pub has_cut : {cutter next : CutterState} {x : List ℕ} (y : List ℕ) {from to : CutUp} → next.chunks ≡ cutter.chunks
     → course next ≡ course cutter → next.at ≡ cutter.at + length y
@@ -590,7 +594,9 @@ pub cuts_nothing : {told : Bool} {cutter : CutterState} {size : ℕ} {slots : Li
 cuts_nothing {told} {cutter} {size} {slots} ready = record {
   chunks = refl;
   bound = omega arith;
-  brings = brings_as (λ x. x) _ (λ x so. so) (λ x so. refl) (λ x so. ap (part_so cutter size) (sym (append-nil x))) (sends_none {target = cutter.target} {So = λ x. IsCut cutter size x × (length (x ++ []) ≤ size)} {from = chunks_within cutter.chunks size} ready (λ x so. so.0.cut.carries)).brings;
+  brings = brings_as (λ x. x) _ (λ x so. so) (λ x so. refl) (λ x so. ap (part_so cutter size) (sym (append-nil x)))
+      (sends_none {target = cutter.target} {So = λ x. IsCut cutter size x × (length (x ++ []) ≤ size)}
+      {from = chunks_within cutter.chunks size} ready (λ x so. so.0.cut.carries)).brings;
   stands = λ x is within. rw (append-nil x) is;
 }
 

@@ -466,8 +466,10 @@ owned_unopened : {told : Bool} (files : FilesState) (names : Names) {old new : L
     → files.names.drawn ≡ length files.outputs → OpensNone told files.tells files.names names old new why
     → KeepsFiles files old (record files { names = names }) new
 owned_unopened files names drawn (no_memory same) first owns = record { stand = owns.stand; last = λ also. owns.last drawn ∙ sym (ap length same) }
-owned_unopened {told} files names {old} {new} drawn (no_line n few has cut) first owns = record { stand = owns.stand; last = λ also. owns.last drawn ∙ sym (short_size _ 0 _ _ _ _ (short.broke n cut)) }
-owned_unopened {told} files names {old} drawn (no_number few has same) first owns = record { stand = owns.stand; last = λ also. owns.last drawn ∙ sym (written_size 0 _ _ _ same) }
+owned_unopened {told} files names {old} {new} drawn (no_line n few has cut) first owns = record
+    { stand = owns.stand; last = λ also. owns.last drawn ∙ sym (short_size _ 0 _ _ _ _ (short.broke n cut)) }
+owned_unopened {told} files names {old} drawn (no_number few has same) first owns = record
+    { stand = owns.stand; last = λ also. owns.last drawn ∙ sym (written_size 0 _ _ _ same) }
 owned_unopened files names drawn (no_name few none same) first owns = record { stand = owns.stand; last = λ also. owns.last drawn ∙ sym (ap length same) }
 owned_unopened files names drawn (no_file slot kept reason at few has drew is made) first owns =
     record { stand = owns.stand; last = λ also. absurd (omega (arith, ap (λ (those : Names). those.drawn) drew)) }
@@ -668,7 +670,8 @@ written told {files} {old} {new} place bytes (Ok done) ready within is = record 
   sound = keeps_write _ _ _ _ is;
   caused = tt;
   outside = none_outside _ _;
-  leaves = λ before had has at are. rw (let count : length files.outputs ≡ max (length files.outputs) (place + 1) = omega arith in count) at (writes _ _ _ within is at are);
+  leaves = λ before had has at are. rw (let count : length files.outputs ≡ max (length files.outputs) (place + 1) =
+      omega arith in count) at (writes _ _ _ within is at are);
 }
 written told {files} {old} {new} place bytes (Err _) ready within (short.broke n cut) = record {
   filing = refl;

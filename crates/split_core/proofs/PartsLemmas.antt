@@ -276,7 +276,8 @@ takes_not {told} {state} {taken = taken} {change} {new = new} begins moves = rec
   limit = moves.limit;
   leaves = moves.goes.leaves;
   stands = tt;
-  reaches = λ x stands. stops_wider (moves.goes.reaches (manner_of (filing_of state)) (draft_of state.limit x) stands.writes) (part_begins _ _ _ (begins x stands));
+  reaches = λ x stands. stops_wider (moves.goes.reaches (manner_of (filing_of state))
+      (draft_of state.limit x) stands.writes) (part_begins _ _ _ (begins x stands));
   short = λ is x stands.
       let ran = moves.goes.short is (manner_of (filing_of state)) (draft_of state.limit x) stands.writes in record {
         none = short_count (filing_of state) (change (draft_of state.limit x)) (settled_parts state.limit (x ++ taken)) ran.none (begins x stands) ran.begun;

@@ -192,7 +192,8 @@ line_bytes_once {delim} {n} some (more x these enough past) (more _ those _ othe
 line_bytes_first : (delim n : ℕ) (x : List ℕ) → 0 < n → n ≤ length x
     → (0 < length (whole_lines delim (take n x))) × (length (whole_lines delim (take n x)) ≤ n)
 line_bytes_first delim n x some enough =
-    let both : length (whole_lines delim (take n x)) + length (open_line delim (take n x)) ≡ length (take n x) = sym (length-append (whole_lines delim (take n x)) (open_line delim (take n x))) ∙ ap length (whole_then_open _) in
+    let both : length (whole_lines delim (take n x)) + length (open_line delim (take n x)) ≡ length (take n x) = sym
+    (length-append (whole_lines delim (take n x)) (open_line delim (take n x))) ∙ ap length (whole_then_open _) in
     (whole_some delim (take n x) (omega (arith, length-take-le n x enough)), omega (arith, length-take-le n x enough))
 
 -- none is empty, and none has more than n bytes

@@ -457,6 +457,13 @@ placed_at (cut.Round n delim) elide filing some = round_placed _ n _ _ some
 -- where nothing is told, that is all of it
 pub placed_quiet : (cut : Cut) (elide : Bool) (filing : Filing) → IsPositive cut → filing.verbose ≡ false
     → ArePlaced (split_work (plan_by cut elide filing)) (split_spots (plan_by cut elide filing))
-placed_quiet cut elide filing some is = subst (λ verbose. ArePlaced (with_told verbose) (split_spots (plan_by cut elide filing))) (sym is) (placed_at _ _ _ some) where
-  with_told : Bool → Work
-  with_told verbose = record (split_work (plan_by cut elide filing)) { whole = λ x. record { out = told_of_files (output_by verbose) (whole_by (plan_by cut elide filing) x).files; files = (whole_by (plan_by cut elide filing) x).files } }
+placed_quiet cut elide filing some is = subst
+    (λ verbose. ArePlaced (with_told verbose) (split_spots (plan_by cut elide filing))) (sym is)
+    (placed_at _ _ _ some) where
+      with_told : Bool → Work
+      with_told verbose = let plan = plan_by cut elide filing in record (split_work plan) {
+        whole = λ x. record {
+          out = told_of_files (output_by verbose) (whole_by plan x).files;
+          files = (whole_by plan x).files;
+        };
+      }

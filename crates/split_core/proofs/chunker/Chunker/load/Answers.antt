@@ -13,7 +13,8 @@ returns-in_default-clause-loads g c = loads_none _ _
 
 pub returns-then-not-pass_over-clause-loads : goal.returns-then-not-pass_over-clause-loads
 returns-then-not-pass_over-clause-loads g c = loads_still _
-    (holds_itself terms {stage = way.Chunks c.args.self.now} c.requires.fresh) c.requires.none (passes_by _ _ c.if-not-pass_over.true c.pass_over.ensures.passes)
+    (holds_itself terms {stage = way.Chunks c.args.self.now} c.requires.fresh) c.requires.none
+    (passes_by _ _ c.if-not-pass_over.true c.pass_over.ensures.passes)
 
 pub returns-clause-loads : goal.returns-clause-loads
 returns-clause-loads g c = passes_so _

@@ -7,7 +7,8 @@ use Rattle.split_core.{
 use Rattle.split_core.proofs.parts.Parts.finish.Goals as goal
 
 pub returns-then-not-is_open : goal.returns-then-not-is_open
-returns-then-not-is_open g c = finishes_none _ _ c.requires (c.if-not-is_open.ensures ∙ ap (λ (parts : PartsState). is_file parts.writer.current) c.self.view_is)
+returns-then-not-is_open g c = finishes_none _ _ c.requires
+    (c.if-not-is_open.ensures ∙ ap (λ (parts : PartsState). is_file parts.writer.current) c.self.view_is)
 
 pub returns-in_err-put_waiting : goal.returns-in_err-put_waiting
 returns-in_err-put_waiting g c = let ends = c.in_err-put_waiting.ensures in
