@@ -21,8 +21,8 @@ use Rattle.csplit_core.specs.{
   Csplit.verdict_of,
   Input.{all_lines, marked, newline},
   Output.{file_in, manner_of, naming_of, shares_in, state_in},
-  Plan.{State, start, line_after, operands_after, step_of, Step, Ending, below, Runs, is_used_up, misses, is_above},
-  Plan.{is_below, cuts},
+  Plan.{State, line_after, operands_after, step_of, Step, Ending, below, Runs, is_used_up, misses, is_above, is_below},
+  Plan.cuts,
   Planned.plan,
   Section.{Section, section_of, bytes_of, is_final, is_last_kept, lines_between, lines_in, whole_sections},
   laws.{PlanLaws.plan_runs, SectionLaws.{are_within, bytes-append}},
@@ -346,7 +346,7 @@ none_missing : (suppress : Bool) (operands : List Operand) {lines : List Line}
 none_missing suppress operands {lines} live =
     let plan' = plan suppress operands lines in
     let runs = plan_runs suppress operands lines in
-    let some = (are_within suppress lines (start operands) _ _ _ runs (omega arith)).1 in
+    let some = (are_within runs (omega arith)).1 in
     ap (in_turn suppress lines plan'.steps) (ap (λ end. lines_between plan'.last.current end lines) (ends_after_all (length lines) plan'.ending live) ∙ rest_is_all lines _ some)
     ∙ all_in_turn runs (omega arith)
 
