@@ -1,16 +1,19 @@
 -- Chunks of an input, as a stage.
+use Rattle.std.proofs.Common.{rules}
+use Rattle.std.proofs.lemmas.Grind.{common_steps}
 use Rattle.std.proofs.{
   lemmas.{
-    Bool.{cases_lt, eq-eqb, false≢true, le-leb, le-ltb, lt-ltb, ltb-true, Decides.eqb_tells},
+    Bool.{cases_lt, eq-eqb, false≢true, le-leb, le-ltb, lt-ltb, ltb-true},
     List.{append-nil, drop_all, take_at, take-append-drop, length-append, length-drop, length-take},
   },
-  Common.{◌≡◌, ℕ, ◌+◌, ◌-◌, ◌<◌, ◌≤◌, min, Bool, true, false, eqb, nat_lt, List, [], ◌++◌, ◌⊎◌, length, take, drop},
-  Common.{Option, Some, None, Ok, Err, inl, inr, refl, sym, ◌∙◌, ap, subst, arith, append_assoc},
+  Common.{◌≡◌, ℕ, ◌+◌, ◌-◌, ◌<◌, ◌≤◌, min, Bool, true, false, eqb, nat_lt, List, [], ◌++◌, ◌⊎◌, length, take},
+  Common.drop,
+  Common.{Option, Some, None, Ok, Err, inl, inr, refl, sym, ◌∙◌, ap, arith, append_assoc},
 }
 use Rattle.ports_core.{
   specs.{
     FileWriter.IsWrite,
-    Part.{Begins, Part},
+    Part.{Begins},
     Slot.Slot,
     Work.{IsLawful, IsNeeded, IsSpare, Work},
     declared.{fault.Fault.{Fault, TheVariants.Verdict}, verdict.Verdict.TheVariants.Changed},
@@ -19,14 +22,14 @@ use Rattle.ports_core.{
 }
 use Rattle.seg_core.specs.declared.cut.Chunks.{Chunks}
 use Rattle.split_core.specs.{
-  Chunks.{chunks_of, chunks_within, ended, has_ended},
-  ChunkerState.{AimState, ChunkerState, Course, CutterState, Holds, HoldsBy, IsAimed, IsSaid, TargetState, can_cut},
-  ChunkerState.{course, course_of, in_files, in_output, to_files, to_output, work_on, total},
+  Chunks.{chunks_within, ended, has_ended},
+  ChunkerState.{ChunkerState, Course, CutterState, Holds, IsAimed, IsSaid, TargetState, can_cut},
+  ChunkerState.{course, course_of, in_files, in_output, part_on, whole_on, work, work_on, total},
   inner.{
-    Chunker.{Comes, EndsAs, IsLike, PassesAs, made},
+    Chunker.{Comes, EndsAs, IsLike, PassesAs},
     Cutter.{Cuts, CutsAs, IsCut, part_so, said_work},
     Seen.{is_each_on, is_past_at, is_past_on},
-    Sends.{Ends as TargetEnds, part_on, whole_on},
+    Sends.{Brings, EndsAll},
   },
   Parts.CutUp,
   laws.{
@@ -37,63 +40,46 @@ use Rattle.split_core.specs.{
 }
 use Rattle.split_core.proofs.{
   ChunkerWays.{ends_at, ends_changed, passes_at, passes_changed},
-  CutterLemmas.{cut_of, placed_at},
-  TargetLemmas.{brings_as, brings_wider},
+  CutterLemmas.{placed_at},
+  TargetLemmas.brings_wider,
 }
 
 -- What is made
 
-settled_is : (on : Course) (chunks : Chunks) (size : ℕ) (x : List ℕ)
-    → (work_on on chunks (Some size)).settled x ≡ part_on on (chunks_of chunks size x)
-settled_is (in_files filing elide) chunks size x = refl
-settled_is (in_output chunk) chunks size x = refl
-
-whole_is : (on : Course) (chunks : Chunks) (size : ℕ) (x : List ℕ)
-    → (work_on on chunks (Some size)).whole x ≡ whole_on on (chunks_of chunks size x)
-whole_is (in_files filing elide) chunks size x = refl
-whole_is (in_output chunk) chunks size x = refl
-
 -- of a text within its size
 settled_within : (on : Course) (chunks : Chunks) (size : ℕ) (x : List ℕ) → length x ≤ size
     → part_on on (chunks_within chunks size x) ≡ (work_on on chunks (Some size)).settled x
-settled_within on chunks size x fits = rw (settled_is _ _ _ x, cut_of _ _ x fits) refl
+settled_within on chunks size x fits = grind (arith, common_steps)
 
 pub whole_within : (on : Course) (chunks : Chunks) (size : ℕ) (x : List ℕ) → length x ≤ size
     → whole_on on (chunks_within chunks size x) ≡ (work_on on chunks (Some size)).whole x
-whole_within on chunks size x fits = rw (whole_is _ _ _ x, cut_of _ _ x fits) refl
+whole_within on chunks size x fits = grind (arith, common_steps)
 
 -- Where the size was said
 
 -- the output is complete just where the one chunk that is written has ended
-past_at : (chunks : Chunks) (size place : ℕ) (aim : AimState) (x : List ℕ) → can_cut (course_of aim) chunks.count ≡ true
+past_at : (chunks : Chunks) (size place : ℕ) (on : Course) (x : List ℕ) → can_cut on chunks.count ≡ true
     → length x ≤ size → ended chunks size x ≡ place
-    → is_past_at aim place ≡ (work_on (course_of aim) chunks (Some size)).is_complete x
-past_at chunks size place (to_files writer elide) x can fits is = sym (le-ltb _ _ fits)
-past_at chunks size place (to_output chunk) x can fits is = elim (cases_lt chunk place) [
-  | inl before ↦ lt-ltb _ _ before ∙ sym (has_ended_before _ _ x _ (omega arith))
-  | inr past ↦ le-ltb _ _ past ∙ sym (by (has_ended chunks size x chunk) refl past)
-] where
-  by : (has : Bool) → has_ended chunks size x chunk ≡ has → place ≤ chunk → has_ended chunks size x chunk ≡ false
-  by true has past = absurd (omega (arith, ended_after _ _ x _ (ltb-true _ _ can) has))
-  by false has past = has
+    → is_past_at on place ≡ (work_on on chunks (Some size)).is_complete x
+past_at chunks size place (in_files filing elide) x can fits is = sym (le-ltb _ _ fits)
+past_at chunks size place (in_output chunk) x can fits is = grind (arith, common_steps, cases_lt, lt-ltb, has_ended_before, le-ltb, ended_after, ltb-true)
 
 pub past_is : {cutter : CutterState} {size : ℕ} {x : List ℕ} → IsCut cutter size x
     → is_past_on cutter.target ≡ (said_work cutter size).is_complete x
 past_is {cutter} {size} {x} is = past_at _ _ _ _ x is.cut.can is.fits (placed_at is)
 
 -- and where a text has its size
-full_at : (chunks : Chunks) (size : ℕ) (aim : AimState) (x : List ℕ)
-    → can_cut (course_of aim) chunks.count ≡ true → is_each_on aim ≡ false → size ≤ length x
-    → (work_on (course_of aim) chunks (Some size)).is_complete x ≡ true
-full_at chunks size (to_files writer elide) x can one full = absurd (false≢true (sym one))
-full_at chunks size (to_output chunk) x can one full =
+full_at : (on : Course) (chunks : Chunks) (size : ℕ) (x : List ℕ) → can_cut on chunks.count ≡ true
+    → is_each_on on ≡ false → size ≤ length x → (work_on on chunks (Some size)).is_complete x ≡ true
+full_at (in_files filing elide) chunks size x can one full = absurd (false≢true (sym one))
+full_at (in_output chunk) chunks size x can one full =
     let within : chunk + 1 ≤ chunks.count = omega (arith, ltb-true _ _ can) in
     let start = start_within chunks.count size (chunk + 1) (omega arith) within in
     le-leb _ _ (omega (arith, passed_full chunks size x full))
 
 -- all was used if none is left
 used_all : {work : Work} {x : List ℕ} {n : ℕ} (spare : IsSpare work x n) → spare.rest ≡ [] → x ≡ spare.used
-used_all spare none = spare.joined ∙ ap (λ rest. spare.used ++ rest) none ∙ append-nil spare.used
+used_all spare none = grind (arith, common_steps)
 
 -- what is written of what came in is what is written of what was used of it
 so_used : {work : Work} {x : List ℕ} {n : ℕ} → IsLawful work → (spare : IsSpare work x n)
@@ -105,17 +91,13 @@ so_used {work} {x} lawful spare = elim spare.enough [
 
 pub cut_is : {chunker : ChunkerState} {size : ℕ} {x : List ℕ} (has : IsSaid chunker size x)
     → IsCut chunker.cutter size has.spare.used
-cut_is has = record { cut = has.cut; fits = has.within }
+cut_is has = grind (arith, common_steps)
 
-used_is : {chunker : ChunkerState} {size : ℕ} {x : List ℕ} (has : IsSaid chunker size x)
-    → take chunker.cutter.at x ≡ has.spare.used
-used_is has = rw has.spare.joined (take_at has.spare.used has.spare.rest _ (sym has.cut.at))
-
-part_is : {chunker : ChunkerState} {size : ℕ} {x : List ℕ} → IsSaid chunker size x
-    → part_so chunker.cutter size (take chunker.cutter.at x) ≡ (said_work chunker.cutter size).settled x
+part_is : {chunker : ChunkerState} {size : ℕ} {x : List ℕ} (has : IsSaid chunker size x)
+    → part_so chunker.cutter size has.spare.used ≡ (said_work chunker.cutter size).settled x
 part_is {chunker} {size} has = let on = course chunker.cutter in let chunks = chunker.cutter.chunks in
-    rw (used_is has) (settled_within on chunks size has.spare.used has.within
-    ∙ so_used (work_lawful on chunks (Some size) has.cut.can) has.spare)
+    settled_within on chunks size has.spare.used has.within
+    ∙ so_used (work_lawful on chunks (Some size) has.cut.can) has.spare
 
 -- A piece
 
@@ -125,13 +107,12 @@ within_size has = omega arith
 done_fits : {cutter next : CutterState} {size : ℕ} {piece : List ℕ} {told : Bool} {old new : List Slot} {past : ℕ}
     → CutsAs told cutter size piece old new next past → cutter.at ≤ size
     → cutter.at + length (take (length piece - past) piece) ≤ size
-done_fits {piece = piece} {past = past} takes within =
-    omega (arith, takes.fits within, length-take (length piece - past) piece)
+done_fits {piece = piece} {past = past} takes within = search rules
 
 module _ {chunker : ChunkerState} {next : CutterState} {size : ℕ} {piece : List ℕ} {x : List ℕ} {past : ℕ} {told : Bool}
     {old new : List Slot}
     (takes : CutsAs told chunker.cutter size piece old new next past)
-    (ok : (past ≡ 0) ⊎ (is_each_on next.target.aim ≡ false)) (has : IsSaid chunker size x) where
+    (ok : (past ≡ 0) ⊎ (is_each_on (course next) ≡ false)) (has : IsSaid chunker size x) where
   abbrev done : List ℕ
   done = take (length piece - past) piece
 
@@ -154,10 +135,7 @@ module _ {chunker : ChunkerState} {next : CutterState} {size : ℕ} {piece : Lis
   ]
 
   next_cut : IsCut next size (has.spare.used ++ done)
-  next_cut = takes.cuts.stands has.spare.used (cut_is has) fits_done
-
-  next_work : (said_work next size) ≡ (said_work chunker.cutter size)
-  next_work = rw (takes.cuts.brings.stays, takes.cuts.chunks) refl
+  next_cut = takes.cuts.leads has.spare.used (cut_is has) fits_done
 
   needed_so : IsNeeded (said_work chunker.cutter size).is_complete 1 (has.spare.used ++ done)
   needed_so = elim takes.needed [
@@ -171,10 +149,10 @@ module _ {chunker : ChunkerState} {next : CutterState} {size : ℕ} {piece : Lis
   enough_so = elim takes.enough [
     | inl none ↦ zero_past none
     | inr later ↦ elim later [
-      | inl ended ↦ inr (rw next_work at (sym (past_is next_cut) ∙ ended))
+      | inl ended ↦ inr (rw (takes.cuts.stays.course, takes.cuts.chunks) at (sym (past_is next_cut) ∙ ended))
       | inr full ↦ elim ok [
         | inl none ↦ zero_past none
-        | inr one ↦ inr (rw next_work at (full_at next.chunks size next.target.aim (has.spare.used ++ done)
+        | inr one ↦ inr (rw (takes.cuts.stays.course, takes.cuts.chunks) at (full_at (course next) next.chunks size (has.spare.used ++ done)
             next_cut.cut.can one (omega (arith, full, next_cut.cut.at))))
       ]
     ]
@@ -203,8 +181,8 @@ module _ {chunker : ChunkerState} {next : CutterState} {size : ℕ} {piece : Lis
       rest = has.spare.rest ++ over;
       joined = joined_so;
       long = spare_on.long ∙ sym is;
-      needed = rw (← next_work) at needed_so;
-      enough = rw (← next_work) at enough_so;
+      needed = rw (takes.cuts.stays.course, takes.cuts.chunks) needed_so;
+      enough = rw (takes.cuts.stays.course, takes.cuts.chunks) enough_so;
     };
     within = fits_done;
     cut = next_cut.cut;
@@ -219,45 +197,36 @@ module _ {chunker : ChunkerState} {next : CutterState} {size : ℕ} {piece : Lis
 
 pub is_said : {chunker : ChunkerState} {size : ℕ} {x : List ℕ} → chunker.said ≡ Some size → Holds chunker x
     → IsSaid chunker size x
-is_said {chunker} {size} {x} said holds = subst (λ said. HoldsBy said chunker x) said holds
+is_said {chunker} {size} {x} said holds = grind (arith, common_steps)
 
 said_is : {chunker : ChunkerState} {size : ℕ} {x : List ℕ} → chunker.said ≡ Some size → IsSaid chunker size x
     → Holds chunker x
-said_is {chunker} {size} {x} said is = subst (λ said. HoldsBy said chunker x) (sym said) is
+said_is {chunker} {size} {x} said is = grind (arith, common_steps)
 
-made_is : (chunker : ChunkerState) {size : ℕ} → chunker.said ≡ Some size
-    → work_on (course chunker.cutter) chunker.cutter.chunks (Some size) ≡ made chunker
-made_is chunker said = ap (work_on (course chunker.cutter) chunker.cutter.chunks) (sym said)
-
-module _ (chunker : ChunkerState) {size : ℕ} (said : chunker.said ≡ Some size)
-    (can : can_cut (course chunker.cutter) chunker.cutter.chunks.count ≡ true) where
-  low_is : (x : List ℕ) → Holds chunker x
-      → part_so chunker.cutter size (take chunker.cutter.at x) ≡ (made chunker).settled x
-  low_is x holds = rw (← made_is chunker said) (part_is (is_said said holds))
-
-  comes_cut : {next : CutterState} {bytes : List ℕ} {high : List ℕ → Part} {told : Bool} {old new : List Slot}
-      (fault : Option Fault) → Cuts told chunker.cutter size bytes old new next fault
-      → (chunker.cutter.at ≤ size → chunker.cutter.at + length bytes ≤ size)
-      → ((x : List ℕ) → Holds chunker x → part_so chunker.cutter size (take chunker.cutter.at x ++ bytes) ≡ high x)
-      → Comes told chunker high old new (record chunker { cutter = next }) fault
-  comes_cut {bytes = bytes} fault cuts fits high_is = brings_as (λ x. take chunker.cutter.at x) fault
-      (λ x holds. let has = is_said said holds in
-      let within = fits (within_size has) in
-      rw (used_is has) (cut_is has, omega (arith, length-append has.spare.used bytes)))
-      low_is high_is cuts.brings
+module _ {chunker : ChunkerState} {size : ℕ} where
+  cut_brings : {next : CutterState} {bytes : List ℕ} {told : Bool} {old new : List Slot} {fault : Option Fault}
+      → Cuts told chunker.cutter size bytes old new next fault
+      → (chunker.cutter.at ≤ size → chunker.cutter.at + length bytes ≤ size) → {x : List ℕ}
+      → (has : IsSaid chunker size x)
+      → Brings told (course chunker.cutter) chunker.cutter.target.aim next.target.aim
+      ((said_work chunker.cutter size).settled x)
+      (part_so chunker.cutter size (has.spare.used ++ bytes)) old new fault
+  cut_brings {bytes = bytes} cuts fits has = rw (part_is has) at (cuts.brings has.spare.used (cut_is has)
+      (omega (arith, fits (within_size has), has.cut.at, length-append has.spare.used bytes)))
 
   -- a fault came
-  to_all : (piece bytes more : List ℕ) → bytes ++ more ≡ piece → {x : List ℕ} → IsSaid chunker size x
+  to_all : (piece bytes more : List ℕ) → bytes ++ more ≡ piece → {x : List ℕ} → (has : IsSaid chunker size x)
       → chunker.cutter.at + length bytes ≤ size
-      → Begins (part_so chunker.cutter size (take chunker.cutter.at x ++ bytes)) ((made chunker).settled (x ++ piece))
+      → Begins (part_so chunker.cutter size (has.spare.used ++ bytes))
+      ((said_work chunker.cutter size).settled (x ++ piece))
   to_all piece bytes more both has fits =
       let on = course chunker.cutter in
       let chunks = chunker.cutter.chunks in
-      let lawful = work_lawful on chunks (Some size) can in
+      let lawful = work_lawful on chunks (Some size) has.cut.can in
       let used = has.spare.used in
       let rest = has.spare.rest in
       let within : length (used ++ bytes) ≤ size = omega (arith, length-append used bytes) in
-      rw (used_is has, settled_within on chunks size (used ++ bytes) within, ← made_is chunker said) (
+      rw (settled_within on chunks size (used ++ bytes) within) (
       elim has.spare.enough [
         | inl none ↦
             rw (used_all has.spare none, ← both, ← append_assoc used bytes more) (lawful.grows (used ++ bytes) more)
@@ -268,15 +237,17 @@ module _ (chunker : ChunkerState) {size : ℕ} (said : chunker.said ≡ Some siz
       ])
 
 module _ {chunker : ChunkerState} {next : CutterState} {size : ℕ} (piece : List ℕ) {told : Bool} {old new : List Slot}
-    (said : chunker.said ≡ Some size)
-    (can : can_cut (course chunker.cutter) chunker.cutter.chunks.count ≡ true) where
+    (said : chunker.said ≡ Some size) where
   pub passes_said : {past : ℕ} (after : ℕ) → after ≡ chunker.spare + past
-      → CutsAs told chunker.cutter size piece old new next past → (past ≡ 0) ⊎ (is_each_on next.target.aim ≡ false)
+      → CutsAs told chunker.cutter size piece old new next past → (past ≡ 0) ⊎ (is_each_on (course next) ≡ false)
       → PassesAs told chunker piece old new (record chunker { cutter = next; spare = after }) (Ok tt)
-  passes_said after is takes ok = passes_at (Ok tt) (record { can = can; said = refl; chunks = takes.cuts.chunks })
+  passes_said after is takes ok = passes_at (Ok tt) (record { said = refl; chunks = takes.cuts.chunks })
       (omega arith)
-      (comes_cut chunker said can None takes.cuts (done_fits takes) (λ x holds. let has = is_said said holds in
-      rw (used_is has, ← made_is chunker said) (part_on_said takes ok has)))
+      (record {
+        stays = takes.cuts.stays;
+        brings = λ x holds. let has = is_said said holds in
+            rw said (rw (part_on_said takes ok has) at (cut_brings takes.cuts (done_fits takes) has));
+      })
       (λ x holds. said_is said (said_on takes ok (is_said said holds) after is))
 
   pub passes_not : {why : Fault}
@@ -285,56 +256,57 @@ module _ {chunker : ChunkerState} {next : CutterState} {size : ℕ} (piece : Lis
   passes_not {why} cuts = let n = min (length piece) (size - chunker.cutter.at) in
       let fits : chunker.cutter.at ≤ size → chunker.cutter.at + length (take n piece) ≤ size =
       λ within. omega (arith, length-take n piece) in
-      passes_at (Err why) (record { can = can; said = refl; chunks = cuts.chunks })
+      passes_at (Err why) (record { said = refl; chunks = cuts.chunks })
       (omega (arith, length-take n piece))
-      (brings_wider (λ x holds. let has = is_said said holds in let within = fits (within_size has) in
-      to_all chunker said can piece (take n piece) (drop n piece) (take-append-drop n piece) has within)
-      (comes_cut chunker said can (Some why) cuts fits (λ x holds. refl))) tt
+      (record {
+        stays = cuts.stays;
+        brings = λ x holds. let has = is_said said holds in rw said (brings_wider
+            (to_all piece (take n piece) (drop n piece) (take-append-drop n piece) has (fits (within_size has)))
+            (cut_brings cuts fits has));
+      }) (λ x holds. tt)
 
 -- the input has more than it said
-each_course : (aim : AimState) (chunks : Chunks) (size : ℕ) → is_each_on aim ≡ true → (x : List ℕ)
-    → (work_on (course_of aim) chunks (Some size)).is_complete x ≡ nat_lt size (length x)
-each_course (to_files writer elide) chunks size each x = refl
-each_course (to_output chunk) chunks size each x = absurd (false≢true each)
+each_course : (on : Course) (chunks : Chunks) (size : ℕ) → is_each_on on ≡ true → (x : List ℕ)
+    → (work_on on chunks (Some size)).is_complete x ≡ nat_lt size (length x)
+each_course (in_files filing elide) chunks size each x = refl
+each_course (in_output chunk) chunks size each x = absurd (false≢true each)
 
-each_judges : (aim : AimState) (chunks : Chunks) (size : ℕ) → is_each_on aim ≡ true → (x : List ℕ)
-    → eqb (length x) size ≡ false → (work_on (course_of aim) chunks (Some size)).verdict x ≡ Some Changed
-each_judges (to_files writer elide) chunks size each x differs = rw differs refl
-each_judges (to_output chunk) chunks size each x differs = absurd (false≢true each)
+each_judges : (on : Course) (chunks : Chunks) (size : ℕ) → is_each_on on ≡ true → (x : List ℕ)
+    → eqb (length x) size ≡ false → (work_on on chunks (Some size)).verdict x ≡ Some Changed
+each_judges (in_files filing elide) chunks size each x differs = rw differs refl
+each_judges (in_output chunk) chunks size each x differs = absurd (false≢true each)
 
-each_same : (one two : AimState) → course_of two ≡ course_of one → is_each_on two ≡ is_each_on one
-each_same (to_files writer elide) (to_files other also) same = refl
-each_same (to_files writer elide) (to_output chunk) same = absurd (cc)
-each_same (to_output chunk) (to_files writer elide) same = absurd (cc)
-each_same (to_output chunk) (to_output other) same = refl
-
-never_past : (aim : AimState) (place : ℕ) → is_each_on aim ≡ true → is_past_at aim place ≡ false
-never_past (to_files writer elide) place each = refl
-never_past (to_output chunk) place each = absurd (false≢true each)
+never_past : (on : Course) (place : ℕ) → is_each_on on ≡ true → is_past_at on place ≡ false
+never_past (in_files filing elide) place each = refl
+never_past (in_output chunk) place each = cc
 
 module _ (chunker : ChunkerState) {next : CutterState} {size : ℕ} (piece : List ℕ) {past : ℕ} {told : Bool}
     {old new : List Slot}
-    (said : chunker.said ≡ Some size)
-    (can : can_cut (course chunker.cutter) chunker.cutter.chunks.count ≡ true)
-    (takes : CutsAs told chunker.cutter size piece old new next past) (some : 0 < past)
-    (each : is_each_on next.target.aim ≡ true) where
+    (said : chunker.said ≡ Some size) (takes : CutsAs told chunker.cutter size piece old new next past)
+    (some : 0 < past)
+    (each : is_each_on (course next) ≡ true) where
   abbrev cut_off : List ℕ
   cut_off = take (length piece - past) piece
 
-  this : is_each_on chunker.cutter.target.aim ≡ true
-  this = sym (each_same chunker.cutter.target.aim next.target.aim takes.cuts.brings.stays) ∙ each
+  this : is_each_on (course chunker.cutter) ≡ true
+  this = rw takes.cuts.stays.course at each
 
   all_used : (x : List ℕ) (has : IsSaid chunker size x) → has.spare.rest ≡ []
   all_used x has = elim has.spare.enough [
     | inl none ↦ none
-    | inr complete ↦ absurd (omega (arith, has.within, ltb-true _ _ (sym (each_course chunker.cutter.target.aim chunker.cutter.chunks size this has.spare.used) ∙ complete)))
+    | inr complete ↦ absurd (omega (
+      arith,
+      has.within,
+      ltb-true _ _
+          (sym (each_course (course chunker.cutter) chunker.cutter.chunks size this has.spare.used) ∙ complete),
+    ))
   ]
 
   full : size ≤ next.at
   full = elim takes.enough [
     | inl none ↦ absurd (omega (arith, none, some))
     | inr later ↦ elim later [
-      | inl closed ↦ absurd (false≢true (sym (never_past next.target.aim next.target.place each) ∙ closed))
+      | inl closed ↦ absurd (false≢true (sym (never_past (course next) next.target.place each) ∙ closed))
       | inr enough ↦ enough
     ]
   ]
@@ -353,105 +325,105 @@ module _ (chunker : ChunkerState) {next : CutterState} {size : ℕ} (piece : Lis
   taken x has = ap (take size) (all_so x has) ∙ take_at (has.spare.used ++ cut_off) _ size (size_is x has)
 
   longer_so : (x : List ℕ) (has : IsSaid chunker size x) → size < length (x ++ piece)
-  longer_so x has = omega (arith, ap length (all_so x has), length-append (has.spare.used ++ cut_off) (drop (length piece - past) piece), size_is x has, length-drop (length piece - past) piece, takes.few, some)
+  longer_so x has = omega (
+    arith,
+    ap length (all_so x has),
+    length-append (has.spare.used ++ cut_off)
+        (drop (length piece - past) piece),
+    size_is x has,
+    length-drop (length piece - past) piece,
+    takes.few,
+    some,
+  )
 
   pub changed_more : PassesAs told chunker piece old new (record chunker { cutter = next }) (Err (Verdict Changed))
-  changed_more = passes_changed (record { can = can; said = refl; chunks = takes.cuts.chunks }) (omega (arith, takes.at, takes.few))
-      (comes_cut chunker said can None takes.cuts (done_fits takes) (λ x holds. let has = is_said said holds in
-      rw (used_is has, ← made_is chunker said) (ap (part_so chunker.cutter size) (sym (taken x has))
-      ∙ sym (settled_is (course chunker.cutter) chunker.cutter.chunks size (x ++ piece)))))
-      (λ x holds. let has = is_said said holds in let longer : size < length (x ++ piece) = longer_so x has in rw (← made_is chunker said) (
-        each_course chunker.cutter.target.aim chunker.cutter.chunks size this (x ++ piece) ∙ lt-ltb _ _ longer,
-        each_judges chunker.cutter.target.aim chunker.cutter.chunks size this (x ++ piece) (longer_differs size (x ++ piece) longer),
+  changed_more = passes_changed (record { said = refl; chunks = takes.cuts.chunks }) (omega (arith, takes.at, takes.few))
+      (record {
+        stays = takes.cuts.stays;
+        brings = λ x holds. let has = is_said said holds in
+            rw said (rw (← taken x has) at (cut_brings takes.cuts (done_fits takes) has));
+      })
+      (λ x holds. let has = is_said said holds in let longer : size < length (x ++ piece) = longer_so x has in rw said (
+        each_course (course chunker.cutter) chunker.cutter.chunks size this (x ++ piece) ∙ lt-ltb _ _ longer,
+        each_judges (course chunker.cutter) chunker.cutter.chunks size this (x ++ piece) (longer_differs size (x ++ piece) longer),
       ))
 
 -- The end of an input that said its length
 
 shorter_differs : (size n : ℕ) → n < size → eqb n size ≡ false
-shorter_differs size n less = elim (eqb_tells n size) [
-  | inl (same, is) ↦ absurd (omega arith)
-  | inr (differs, apart) ↦ differs
-]
+shorter_differs size n less = grind (arith, common_steps)
 
 -- where the output is complete, it was one chunk's
 complete_whole : (on : Course) (chunks : Chunks) (size : ℕ) (x : List ℕ) → length x ≤ size
     → (work_on on chunks (Some size)).is_complete x ≡ true → (cut : CutUp) → part_on on cut ≡ whole_on on cut
-complete_whole (in_files filing elide) chunks size x fits complete = absurd (omega (arith, ltb-true _ _ complete))
+complete_whole (in_files filing elide) chunks size x fits complete = grind (arith, common_steps)
 complete_whole (in_output chunk) chunks size x fits complete = λ cut. refl
 
 -- and it is the whole, whatever else comes
 pub complete_all : (on : Course) (chunks : Chunks) (size : ℕ) (used rest : List ℕ) → can_cut on chunks.count ≡ true
     → length used ≤ size → (work_on on chunks (Some size)).is_complete used ≡ true
     → whole_on on (chunks_within chunks size used) ≡ (work_on on chunks (Some size)).whole (used ++ rest)
-complete_all on chunks size used rest can fits complete = sym (complete_whole on chunks size used fits complete (chunks_within chunks size used))
-    ∙ settled_within on chunks size used fits
-    ∙ sym ((work_lawful on chunks (Some size) can).stays used rest complete).whole_stays
+complete_all on chunks size used rest can fits complete = grind (arith, common_steps, complete_whole, settled_within, work_lawful)
 
-whole_said : {chunker : ChunkerState} {size : ℕ} {x : List ℕ} → IsSaid chunker size x
-    → whole_on (course chunker.cutter) (chunks_within chunker.cutter.chunks size (take chunker.cutter.at x))
+whole_said : {chunker : ChunkerState} {size : ℕ} {x : List ℕ} (has : IsSaid chunker size x)
+    → whole_on (course chunker.cutter) (chunks_within chunker.cutter.chunks size has.spare.used)
     ≡ (said_work chunker.cutter size).whole x
-whole_said {chunker} {size} has =
-    let on = course chunker.cutter in let chunks = chunker.cutter.chunks in let used = has.spare.used in
-    rw (used_is has) (elim has.spare.enough [
-      | inl none ↦ rw (used_all has.spare none) (whole_within on chunks size used has.within)
-      | inr complete ↦
-          rw has.spare.joined (complete_all _ _ _ _ _ has.cut.can has.within complete)
-    ])
+whole_said {chunker} {size} has = grind (arith, common_steps, used_all, whole_within, complete_all)
 
-ends_well : (aim : AimState) (chunks : Chunks) (size : ℕ) (x : List ℕ) {n : ℕ}
-    → (spare : IsSpare (work_on (course_of aim) chunks (Some size)) x n) → can_cut (course_of aim) chunks.count ≡ true
+ends_well : (on : Course) (chunks : Chunks) (size : ℕ) (x : List ℕ) {n : ℕ}
+    → (spare : IsSpare (work_on on chunks (Some size)) x n) → can_cut on chunks.count ≡ true
     → length spare.used ≤ size
-    → ((work_on (course_of aim) chunks (Some size)).is_complete spare.used ≡ true) ⊎ (size ≤ length spare.used)
-    → (work_on (course_of aim) chunks (Some size)).verdict x ≡ None
-ends_well (to_files writer elide) chunks size x spare can fits ends = elim spare.enough [
+    → ((work_on on chunks (Some size)).is_complete spare.used ≡ true) ⊎ (size ≤ length spare.used)
+    → (work_on on chunks (Some size)).verdict x ≡ None
+ends_well (in_files filing elide) chunks size x spare can fits ends = elim spare.enough [
   | inr complete ↦ absurd (omega (arith, ltb-true _ _ complete))
   | inl none ↦ elim ends [
     | inl complete ↦ absurd (omega (arith, ltb-true _ _ complete))
     | inr full ↦ rw (eq-eqb (length x) size (omega (arith, ap length (used_all spare none)))) refl
   ]
 ]
-ends_well (to_output chunk) chunks size x spare can fits ends = rw all refl where
+ends_well (in_output chunk) chunks size x spare can fits ends = rw all refl where
   complete : has_ended chunks size spare.used chunk ≡ true
   complete = elim ends [
     | inl done ↦ done
-    | inr full ↦ full_at chunks size (to_output chunk) spare.used can refl full
+    | inr full ↦ full_at (in_output chunk) chunks size spare.used can refl full
   ]
 
   all : has_ended chunks size x chunk ≡ true
-  all = let lawful = work_lawful (in_output chunk) chunks (Some size) can in
-      rw spare.joined (lawful.stays spare.used spare.rest complete).still
+  all = rw spare.joined ((work_lawful (in_output chunk) chunks (Some size) can).stays spare.used spare.rest complete).still
 
-ends_badly : (aim : AimState) (chunks : Chunks) (size : ℕ) (x : List ℕ) → length x < size
-    → (work_on (course_of aim) chunks (Some size)).is_complete x ≡ false
-    → (work_on (course_of aim) chunks (Some size)).verdict x ≡ Some Changed
-ends_badly (to_files writer elide) chunks size x short open_still = rw (shorter_differs _ _ short) refl
-ends_badly (to_output chunk) chunks size x short open_still = rw (open_still, shorter_differs _ _ short) refl
+ends_badly : (on : Course) (chunks : Chunks) (size : ℕ) (x : List ℕ) → length x < size
+    → (work_on on chunks (Some size)).is_complete x ≡ false → (work_on on chunks (Some size)).verdict x ≡ Some Changed
+ends_badly (in_files filing elide) chunks size x short open_still = rw (shorter_differs _ _ short) refl
+ends_badly (in_output chunk) chunks size x short open_still = rw (open_still, shorter_differs _ _ short) refl
 
 module _ {chunker next : ChunkerState} {size : ℕ} {told : Bool} {old new : List Slot} (said : chunker.said ≡ Some size)
     (same : IsLike chunker next) (bound : total next ≤ total chunker) where
-  end_comes : (fault : Option Fault) → TargetEnds told chunker.cutter.target old new next.cutter.target fault
-      → Comes told chunker (made chunker).whole old new next fault
-  end_comes fault ends = brings_as (λ x. chunks_within chunker.cutter.chunks size (take chunker.cutter.at x)) fault
-      (λ x holds. let has = is_said said holds in rw (← used_is has) at has.cut.carries)
-      (low_is chunker said same.can) (λ x holds. rw (← made_is chunker said) (whole_said (is_said said holds))) ends
+  end_comes : (fault : Option Fault) → EndsAll told chunker.cutter.target old new next.cutter.target fault
+      → Comes told chunker (work chunker).whole old new next fault
+  end_comes fault ends = record {
+    stays = ends.stays;
+    brings = λ x holds. let has = is_said said holds in
+        rw said (rw (part_is has, whole_said has) at (ends.brings _ has.cut.carries));
+  }
 
   pub said_stops : {why : Fault} → IsAimed chunker.cutter.target.aim old
-      → TargetEnds told chunker.cutter.target old new next.cutter.target (Some why) → IsWrite why
+      → EndsAll told chunker.cutter.target old new next.cutter.target (Some why) → IsWrite why
       → EndsAs told chunker old new next (Err why)
-  said_stops {why} aimed ends broke = ends_at (Err why) aimed same bound (end_comes (Some why) ends) tt (λ some. broke)
+  said_stops {why} aimed ends broke = ends_at (Err why) aimed same bound (end_comes (Some why) ends) (λ x holds. tt) (λ some. broke)
 
   pub said_ends : IsAimed chunker.cutter.target.aim old
-      → TargetEnds told chunker.cutter.target old new next.cutter.target None
+      → EndsAll told chunker.cutter.target old new next.cutter.target None
       → (is_past_on chunker.cutter.target ≡ true) ⊎ (size ≤ chunker.cutter.at)
       → EndsAs told chunker old new next (Ok tt)
   said_ends aimed ends full = ends_at (Ok tt) aimed same bound (end_comes None ends)
-      (λ x holds. let has = is_said said holds in rw (← made_is chunker said)
-      (ends_well chunker.cutter.target.aim chunker.cutter.chunks size x has.spare same.can has.within (elim full [
+      (λ x holds. let has = is_said said holds in rw said
+      (ends_well (course chunker.cutter) chunker.cutter.chunks size x has.spare has.cut.can has.within (elim full [
         | inl past ↦ inl (sym (past_is (cut_is has)) ∙ past)
         | inr all ↦ inr (omega arith)
       ]))) (λ some. tt)
 
-  pub said_changed : TargetEnds told chunker.cutter.target old new next.cutter.target None
+  pub said_changed : EndsAll told chunker.cutter.target old new next.cutter.target None
       → is_past_on chunker.cutter.target ≡ false → chunker.cutter.at < size
       → EndsAs told chunker old new next (Err (Verdict Changed))
   said_changed ends going short = ends_changed same bound (end_comes None ends) (λ x holds. let has = is_said said holds in
@@ -460,15 +432,9 @@ module _ {chunker next : ChunkerState} {size : ℕ} {told : Bool} {old new : Lis
         | inl none ↦ used_all has.spare none
         | inr complete ↦ absurd (false≢true (sym open_still ∙ complete))
       ] in
-      rw (all, ← made_is chunker said) (ends_badly chunker.cutter.target.aim chunker.cutter.chunks size has.spare.used
+      rw (said, all) (ends_badly (course chunker.cutter) chunker.cutter.chunks size has.spare.used
       (omega arith) open_still))
-
-past_so : (one two : AimState) (place : ℕ) → course_of two ≡ course_of one → is_past_at two place ≡ is_past_at one place
-past_so (to_files writer elide) (to_files other also) place same = refl
-past_so (to_files writer elide) (to_output chunk) place same = absurd (cc)
-past_so (to_output chunk) (to_files writer elide) place same = absurd (cc)
-past_so (to_output chunk) (to_output other) place same = ap (λ chunk. nat_lt chunk place) (cc)
 
 pub past_same : (one two : TargetState) → course_of two.aim ≡ course_of one.aim → two.place ≡ one.place
     → is_past_on two ≡ is_past_on one
-past_same one two same place = ap (is_past_at two.aim) place ∙ past_so _ _ _ same
+past_same one two same place = rw (same, place) refl

@@ -1,9 +1,11 @@
 -- Lemmas on chunks of an input, as one of the ways to split.
+use Rattle.std.proofs.Common.{rules}
 use Rattle.std.{
   specs.Option.is_none,
-  proofs.lemmas.{Grind.common_steps, Bool.{ltb-true, Decides.nat_tests}, List.length-append},
-  proofs.Common.{◌≡◌, ℕ, ◌+◌, ◌≤◌, Bool, true, false, IsTrue, List, ◌++◌, length, Option, Some, None, Result, Ok, Err},
-  proofs.Common.{IfNone, IfSome, inl, inr, refl, sym, ◌∙◌, ap, subst, arith, if◌then◌else◌},
+  proofs.lemmas.{Grind.common_steps},
+  proofs.Common.{◌≡◌, ℕ, ◌+◌, ◌≤◌, Bool, true, false, IsTrue, List, ◌++◌, length, Option, Some, None, Result, Ok},
+  proofs.Common.Err,
+  proofs.Common.{IfNone, IfSome, refl, sym, ap, subst, arith},
 }
 use Rattle.ports_core.specs.{
   Engine.{IsMet, StandsAt},
@@ -18,39 +20,29 @@ use Rattle.ports_core.specs.{
   },
   inner.Part.HasLines,
 }
-use Rattle.ports_core.proofs.{PartLemmas.{stopped_here, stopped_in_turn}, ShareLemmas.has_told, SpareLemmas.all_used}
+use Rattle.ports_core.proofs.{PartLemmas.stopped_in_turn, ShareLemmas.has_told, SpareLemmas.all_used}
 use Rattle.seg_core.specs.declared.cut.Chunks.{Chunks}
 use Rattle.split_core.specs.{
-  ChunkerState.{AimState, ChunkerState, Course, Holds, HoldsBy, IsAimed, can_cut, course, course_of, first_on},
-  ChunkerState.{to_files, to_output, in_files, in_output, made_if, total, work, work_on},
-  Chunks.{is_longer, undecided},
-  Split.{Filing, manner_of},
-  inner.{Chunker.{Comes, EndsAs, IsLike, PassesAs, made}, Sends.{AtAim, IsOf, manner_on, output_on}},
-  laws.WorkLaws.lawful,
+  ChunkerState.{AimState, ChunkerState, Course, Holds, HoldsBy, IsAimed, course, course_of},
+  ChunkerState.{to_files, to_output, in_files, in_output, total, work, work_on},
+  Split.{manner_of},
+  inner.{Chunker.{Comes, EndsAs, IsLike, PassesAs}, Sends.{AtAim, IsOf, manner_on, output_on}},
 }
-use Rattle.split_core.proofs.PartsLemmas.{met_files, told_writable, unjudged}
+use Rattle.split_core.proofs.{PartsLemmas.{met_files, unjudged}, WayLemmas.passes_lacking}
 use Rattle.ports_core.specs.Engine as engine
 use Rattle.split_core.specs.Ways as ways
 use Rattle.split_core.specs.declared.splitter.Splitter.TheVariants as way
 
 -- What is made
 
-pub works_so : (state : ChunkerState) → can_cut (course state.cutter) state.cutter.chunks.count ≡ true
-    → work state ≡ made state
-works_so state is = ap (λ can. made_if can (made state)) is
-
 -- the same was asked for
 same_work : (state next : ChunkerState) → IsLike state next → course next.cutter ≡ course state.cutter
     → work next ≡ work state
-same_work state next like stays = grind (arith, common_steps)
+same_work state next like stays = cc
 
 output_is : (on : Course) (chunks : Chunks) (said : Option ℕ) → (work_on on chunks said).means.output ≡ output_on on
 output_is (in_files filing elide) chunks said = refl
 output_is (in_output chunk) chunks said = refl
-
-clears_none : (on : Course) (chunks : Chunks) (said : Option ℕ) → (work_on on chunks said).clears ≡ false
-clears_none (in_files filing elide) chunks said = refl
-clears_none (in_output chunk) chunks said = refl
 
 feeds_memory : (on : Course) (chunks : Chunks) {said : Option ℕ} → said ≡ None
     → (work_on on chunks said).means.feeding.memory ≡ true
@@ -69,7 +61,7 @@ met_output : (memory : Bool) (needs : Needs) (Lacks : Type 0) (Why : Judgement �
     (chunk : ℕ) (fault : Fault)
     → Breaks (manner_on (in_output chunk)) old new fault → fault ≡ Write 0
     → IsMet (on_output memory) needs Lacks Why old new fault
-met_output memory needs Lacks Why old new chunk (Write slot) breaks is = ((λ none. refl), (λ none. cc), breaks.1)
+met_output memory needs Lacks Why old new chunk (Write slot) breaks is = grind (arith, common_steps)
 met_output memory needs Lacks Why old new chunk fault breaks is = absurd (cc)
 
 module _ (chunks : Chunks) (Why : Judgement → Type 0) (old new : List Slot) (fault : Fault)
@@ -98,224 +90,149 @@ module _ (chunks : Chunks) (Why : Judgement → Type 0) (old new : List Slot) (f
 -- What a piece leaves
 
 at_aim : {told : Bool} {state : ChunkerState} {start : List Slot} {x : List ℕ} {now : List Slot}
-    → can_cut (course state.cutter) state.cutter.chunks.count ≡ true
     → StandsAt ways.terms (way.Chunks state) told start x now
-    → AtAim told state.cutter.target.aim start ((made state).settled x) now
-at_aim {told} {state} {start} {x} {now} can at = record {
-  owns = at.owns;
-  outputs = rw (works_so state can) at at.outputs;
-}
+    → AtAim told state.cutter.target.aim start ((work state).settled x) now
+at_aim at = grind (arith, common_steps)
 
 -- How a call leaves the outputs that were to come to what is due.
-module _ {told : Bool} {old : ChunkerState} (new : ChunkerState) {before after : List Slot} (due : Work → List ℕ → Part)
-    (can : can_cut (course old.cutter) old.cutter.chunks.count ≡ true) where
-  went_out : Comes told old (due (made old)) before after new None
-      → engine.PutsOut ways.terms (way.Chunks old) (due (work old)) told before after
-  went_out comes start x at = rw (← works_so old can) at (comes.reaches x at.holds start (at_aim can at)).outputs
+module _ {told : Bool} {old : ChunkerState} (new : ChunkerState) {before after : List Slot} {due : List ℕ → Part} where
+  went_out : Comes told old due before after new None
+      → engine.PutsOut ways.terms (way.Chunks old) due told before after
+  went_out comes start x at = ((comes.brings x at.holds).reaches start (at_aim at)).outputs
 
-  was_cut : {why : Fault} → Comes told old (due (made old)) before after new (Some why)
-      → engine.CutsOff ways.terms (way.Chunks old) (due (work old)) told before after why
-  was_cut {why} comes start x at = subst
-      (λ (those : Work). engine.Ended those.means.output told start (those.settled x) (due those x) those.clears why after)
-      (sym (works_so old can))
-      (engine.cut (unjudged (manner_on (course old.cutter)) before after why comes.slots (λ is. comes.named is x at.holds))
-      (rw (output_is (course old.cutter) old.cutter.chunks old.said)
-      (stopped_in_turn (output_on (course old.cutter)) told start _ _ why after (settled_lines (course old.cutter) old.cutter.chunks old.said x)
-      (comes.reaches x at.holds start (at_aim can at)))))
+  was_cut : {why : Fault} → Comes told old due before after new (Some why)
+      → engine.CutsOff ways.terms (way.Chunks old) due told before after why
+  was_cut {why} comes start x at = let on = course old.cutter in
+      engine.cut (unjudged (manner_on on) before after why comes.stays.slots (comes.brings x at.holds).named)
+      (rw (output_is on old.cutter.chunks old.said)
+      (stopped_in_turn (output_on on) told start _ _ why after (settled_lines on old.cutter.chunks old.said x)
+      ((comes.brings x at.holds).reaches start (at_aim at))))
 
-  was_judged : Comes told old (due (made old)) before after new None
-      → engine.CutsOff ways.terms (way.Chunks old) (due (work old)) told before after (Verdict Changed)
-  was_judged comes start x at = subst
-      (λ (those : Work). engine.Ended those.means.output told start (those.settled x) (due those x) those.clears (Verdict Changed) after)
-      (sym (works_so old can))
-      (engine.judged refl after (comes.reaches x at.holds start (at_aim can at)).outputs (rw (clears_none (course old.cutter) old.cutter.chunks old.said) refl))
+  was_judged : Comes told old due before after new None
+      → engine.CutsOff ways.terms (way.Chunks old) due told before after (Verdict Changed)
+  was_judged comes start x at = engine.judged refl after ((comes.brings x at.holds).reaches start (at_aim at)).outputs refl
 
 module _ {told : Bool} {old new : ChunkerState} {piece : List ℕ} {before after : List Slot} where
   pub passes_at : (result : Result (Unit {0}) Fault) → IsLike old new → total new ≤ total old + length piece
-      → Comes told old (λ x. (made old).settled (x ++ piece)) before after new (fault_in result)
-      → IfNone (fault_in result) ((x : List ℕ) → Holds old x → Holds new (x ++ piece))
+      → Comes told old (λ x. (work old).settled (x ++ piece)) before after new (fault_in result)
+      → ((x : List ℕ) → Holds old x → IfNone (fault_in result) (Holds new (x ++ piece)))
       → PassesAs told old piece before after new result
   passes_at (Ok done) same bound comes stands = record {
-    same = same_work old new same comes.stays;
+    same = same_work old new same comes.stays.course;
     size = bound;
     holds = stands;
-    outputs = went_out new (λ work x. work.settled (x ++ piece)) same.can comes;
-    ready = comes.ready;
-    owns = comes.owns;
+    outputs = went_out new comes;
+    ready = comes.stays.ready;
+    owns = comes.stays.owns;
     there = λ are. tt;
     cut = tt;
     met = tt;
   }
   passes_at (Err why) same bound comes stands = record {
-    same = same_work old new same comes.stays;
+    same = same_work old new same comes.stays.course;
     size = bound;
     holds = tt;
     outputs = tt;
     ready = tt;
-    owns = comes.owns;
+    owns = comes.stays.owns;
     there = λ are. tt;
-    cut = was_cut new (λ work x. work.settled (x ++ piece)) same.can comes;
-    met = rw (works_so old same.can) (met_feeding old.cutter.chunks _ before after why
-        (λ is x holds. absurd (comes.named is x holds)) (course old.cutter) old.said comes.slots comes.only);
+    cut = was_cut new comes;
+    met = met_feeding old.cutter.chunks _ before after why
+        (λ is x holds. absurd ((comes.brings x holds).named is)) (course old.cutter) old.said comes.stays.slots comes.stays.only;
   }
 
   -- the input has changed: all is written
   pub passes_changed : IsLike old new → total new ≤ total old + length piece
-      → Comes told old (λ x. (made old).settled (x ++ piece)) before after new None
-      → ((x : List ℕ) → Holds old x → IsSettled (made old) (x ++ piece) Changed)
+      → Comes told old (λ x. (work old).settled (x ++ piece)) before after new None
+      → ((x : List ℕ) → Holds old x → IsSettled (work old) (x ++ piece) Changed)
       → PassesAs told old piece before after new (Err (Verdict Changed))
   passes_changed same bound all judged = record {
-    same = same_work old new same all.stays;
+    same = same_work old new same all.stays.course;
     size = bound;
     holds = tt;
     outputs = tt;
     ready = tt;
-    owns = all.owns;
+    owns = all.stays.owns;
     there = λ are. tt;
-    cut = was_judged new (λ work x. work.settled (x ++ piece)) same.can all;
-    met = λ x holds. rw (← works_so old same.can) at (judged x holds);
+    cut = was_judged new all;
+    met = judged;
   }
 
 -- bytes wait, and there was no room for the piece: nothing was written
-pub passes_lacking : {told : Bool} (old : ChunkerState) {piece : List ℕ} {slots : List Slot} → old.said ≡ None
-    → can_cut (course old.cutter) old.cutter.chunks.count ≡ true → PassesAs told old piece slots slots old (Err Memory)
-passes_lacking {told} old {piece} {slots} unsaid can = record {
-  same = refl;
-  size = omega arith;
-  holds = tt;
-  outputs = tt;
-  ready = tt;
-  owns = λ first owns. owns;
-  there = λ are. tt;
-  cut = λ start x at. engine.cut refl (stopped_here (work old).means.output told start ((work old).settled x) ((work old).settled (x ++ piece))
-      Memory slots slots at.outputs ((lawful (way.Chunks old)).grows x piece) refl tt tt);
-  met = rw (works_so old can) (feeds_memory (course old.cutter) old.cutter.chunks unsaid, refl);
-}
+pub lacks_room : {told : Bool} (old : ChunkerState) {piece : List ℕ} {slots : List Slot} → old.said ≡ None
+    → PassesAs told old piece slots slots old (Err Memory)
+lacks_room old unsaid = passes_lacking (way.Chunks old) _ _ refl (omega arith) (λ first owns. owns)
+    (feeds_memory (course old.cutter) old.cutter.chunks unsaid)
 
 -- And the end
 
 aimed_writable : (aim : AimState) (chunks : Chunks) (said : Option ℕ) (slots : List Slot) → IsAimed aim slots
     → writes (work_on (course_of aim) chunks said).means.output ≡ true → IsTrue (is_writable slots 0)
-aimed_writable (to_files writer elide) chunks said slots aimed told = told_writable _ _ aimed.0.output told
+aimed_writable (to_files writer elide) chunks said slots aimed told = search rules
 aimed_writable (to_output chunk) chunks said slots aimed told = aimed
 
 module _ {told : Bool} {old new : ChunkerState} {before after : List Slot} where
   pub ends_at : (result : Result (Unit {0}) Fault) → IsAimed old.cutter.target.aim before → IsLike old new
-      → total new ≤ total old → Comes told old (made old).whole before after new (fault_in result)
-      → IfNone (fault_in result) ((x : List ℕ) → Holds old x → (made old).verdict x ≡ None)
+      → total new ≤ total old → Comes told old (work old).whole before after new (fault_in result)
+      → ((x : List ℕ) → Holds old x → IfNone (fault_in result) ((work old).verdict x ≡ None))
       → (is_none old.said ≡ false → IfSome (fault_in result) IsWrite) → EndsAs told old before after new result
   ends_at (Ok done) aimed same bound comes well only_write = record {
-    same = same_work old new same comes.stays;
+    same = same_work old new same comes.stays.course;
     size = bound;
-    well = λ x holds. rw (← works_so old same.can) at (well x holds);
-    outputs = went_out new (λ work. work.whole) same.can comes;
-    writable = rw (works_so old same.can) (λ told_is. comes.output (aimed_writable old.cutter.target.aim old.cutter.chunks old.said before aimed told_is));
-    owns = comes.owns;
+    well = well;
+    outputs = went_out new comes;
+    writable = λ told_is. comes.stays.output (aimed_writable old.cutter.target.aim old.cutter.chunks old.said before aimed told_is);
+    owns = comes.stays.owns;
     there = λ are. tt;
     cut = tt;
     met = tt;
   }
   ends_at (Err why) aimed same bound comes well only_write = record {
-    same = same_work old new same comes.stays;
+    same = same_work old new same comes.stays.course;
     size = bound;
     well = tt;
     outputs = tt;
     writable = tt;
-    owns = comes.owns;
+    owns = comes.stays.owns;
     there = λ are. tt;
-    cut = was_cut new (λ work. work.whole) same.can comes;
-    met = rw (works_so old same.can) (met_closing old.cutter.chunks _ before after why
-        (λ is x holds. absurd (comes.named is x holds)) (course old.cutter) old.said comes.slots comes.only only_write);
+    cut = was_cut new comes;
+    met = met_closing old.cutter.chunks _ before after why
+        (λ is x holds. absurd ((comes.brings x holds).named is)) (course old.cutter) old.said comes.stays.slots comes.stays.only only_write;
   }
 
-  pub ends_changed : IsLike old new → total new ≤ total old → Comes told old (made old).whole before after new None
-      → ((x : List ℕ) → Holds old x → Judges (made old) x Changed)
+  pub ends_changed : IsLike old new → total new ≤ total old → Comes told old (work old).whole before after new None
+      → ((x : List ℕ) → Holds old x → Judges (work old) x Changed)
       → EndsAs told old before after new (Err (Verdict Changed))
   ends_changed same bound all judged = record {
-    same = same_work old new same all.stays;
+    same = same_work old new same all.stays.course;
     size = bound;
     well = tt;
     outputs = tt;
     writable = tt;
-    owns = all.owns;
+    owns = all.stays.owns;
     there = λ are. tt;
-    cut = was_judged new (λ work. work.whole) same.can all;
-    met = λ x holds. rw (← works_so old same.can) at (judged x holds);
+    cut = was_judged new all;
+    met = judged;
   }
 
 -- what waits, and what isn't used
 
-waiting_is : (on : Course) (chunks : Chunks) (said : Option ℕ) (x : List ℕ)
-    → (work_on on chunks said).waiting x ≡ undecided chunks (first_on on) said x
-waiting_is (in_files filing elide) chunks said x = refl
-waiting_is (in_output chunk) chunks said x = refl
-
-pub holds_can : (said : Option ℕ) (state : ChunkerState) (x : List ℕ) → HoldsBy said state x
-    → can_cut (course state.cutter) state.cutter.chunks.count ≡ true
-holds_can None state x holds = holds.cut.can
-holds_can (Some size) state x holds = holds.cut.can
-
-said_waits : (said : Option ℕ) (state : ChunkerState) (x : List ℕ) → HoldsBy said state x
-    → state.waiting ≡ undecided state.cutter.chunks (first_on (course state.cutter)) said x
-said_waits None state x holds = holds.waits
-said_waits (Some size) state x holds = holds.waits
-
 pub chunks_wait : (state : ChunkerState) (x : List ℕ) → Holds state x
     → length state.waiting ≡ length ((work state).waiting x)
-chunks_wait state x holds = ap length (said_waits _ _ x holds
-    ∙ sym (waiting_is (course state.cutter) state.cutter.chunks state.said x)
-    ∙ ap (λ (those : Work). those.waiting x) (sym (works_so state (holds_can state.said state x holds))))
+chunks_wait state x holds = search rules
 
 -- no chunk wants a name that isn't there
-if_suffixes : (test : Bool) → (if test then None else Some Changed) ≡ Some Suffixes → ⊥
-if_suffixes true is = cc
-if_suffixes false is = cc
-
-suffixes_on : (on : Course) (chunks : Chunks) (said : Option ℕ) (x : List ℕ)
-    → Judges (work_on on chunks said) x Suffixes → ⊥
-suffixes_on (in_files filing elide) chunks said x is = if_suffixes _ is
-suffixes_on (in_output chunk) chunks said x is = if_suffixes _ is
-
-suffixes_if : (can : Bool) (those : Work) (x : List ℕ) → (Judges those x Suffixes → ⊥)
-    → Judges (made_if can those) x Suffixes → ⊥
-suffixes_if true those x none is = none is
-suffixes_if false those x none is = cc
 
 pub no_suffixes : (state : ChunkerState) (x : List ℕ) → Judges (work state) x Suffixes → ⊥
-no_suffixes state x = suffixes_if _ (made state) x (suffixes_on (course state.cutter) state.cutter.chunks state.said x)
+no_suffixes state x = grind (arith, common_steps)
 
 -- where all go to files, more can come until there is more than was said
-files_open : (filing : Filing) (elide : Bool) (chunks : Chunks) (said : Option ℕ) (state : ChunkerState) (z : List ℕ)
-    → course state.cutter ≡ in_files filing elide → state.cutter.chunks ≡ chunks → HoldsBy said state z
-    → is_longer said z ≡ false
-files_open filing elide chunks None state z on same holds = refl
-files_open filing elide chunks (Some size) state z on same holds = elim holds.spare.enough [
-  | inl none ↦
-      let all : length z ≤ size =
-      omega (
-        arith,
-        ap length holds.spare.joined ∙ length-append holds.spare.used holds.spare.rest,
-        ap length none,
-      ) in
-      grind (arith, nat_tests, all)
-  | inr complete ↦
-      let over : is_longer (Some size) holds.spare.used ≡ true = sym (ap (λ on. (work_on on state.cutter.chunks (Some size)).is_complete holds.spare.used) on) ∙ complete in
-      absurd (omega (arith, ltb-true _ _ over))
-]
 
 -- what doesn't write bytes of its own to standard output isn't complete
 pub open_beside : (state : ChunkerState) (z : List ℕ) (those : Work) → work state ≡ those
     → (those.means.output ≡ gets_bytes → ⊥)
     → Holds state z → those.is_complete z ≡ false
-open_beside state z those same beside holds = by (course state.cutter) refl where
-  is : work state ≡ made state
-  is = works_so state (holds_can state.said state z holds)
-
-  by : (on : Course) → course state.cutter ≡ on → those.is_complete z ≡ false
-  by (in_files filing elide) on = ap (λ (those : Work). those.is_complete z) (sym same ∙ is ∙ ap (λ on. work_on on state.cutter.chunks state.said) on)
-      ∙ files_open _ _ _ _ _ z on refl holds
-  by (in_output chunk) on = absurd (beside (ap (λ (those : Work). those.means.output)
-      (sym same ∙ is ∙ ap (λ on. work_on on state.cutter.chunks state.said) on)))
+open_beside state z those same beside holds = grind (arith, common_steps)
 
 pub unsaid_open : (on : Course) (chunks : Chunks) (x : List ℕ) → (work_on on chunks None).is_complete x ≡ false
 unsaid_open (in_files filing elide) chunks x = refl
@@ -327,5 +244,4 @@ spare_by None state x holds = rw holds.spare (all_used _ x (unsaid_open _ _ x))
 spare_by (Some size) state x holds = holds.spare
 
 pub chunks_spare : (state : ChunkerState) (x : List ℕ) → Holds state x → IsSpare (work state) x state.spare
-chunks_spare state x holds =
-    rw (← works_so state (holds_can state.said state x holds)) at (spare_by state.said state x holds)
+chunks_spare state x holds = spare_by state.said state x holds

@@ -1,10 +1,13 @@
 -- Where a text is cut into chunks, and what goes where of it.
+use Rattle.std.proofs.Common.{rules}
+use Rattle.std.proofs.lemmas.Grind.{common_steps}
 use Rattle.std.proofs.{
   lemmas.Bool.{cases_lt, false≢true, le-ltb, lt-leb, lt-ltb, ltb-false, ltb-true, Decides.nat_tests},
   lemmas.List.{append-nil, take_all, take_at, take-append-drop, take-take, length-append, length-drop, length-take},
   lemmas.List.FromFn.length-map-range_with_len,
   Math.Seq.take-add,
-  Common.{◌≡◌, ℕ, ◌+◌, ◌-◌, ◌<◌, ◌≤◌, min, zero, suc, Bool, true, false, cond, nat_lt, List, [], ◌∷◌, ◌++◌, ◌⊎◌},
+  Common.{◌≡◌, ℕ, ◌+◌, ◌-◌, ◌<◌, ◌≤◌, min, zero, suc, Bool, true, false, cond, nat_lt, List, [], ◌∷◌, ◌++◌},
+  Common.◌⊎◌,
   Common.{length, take, drop, replicate, Option, Some, None, Ok, inl, inr, refl, sym, ◌∙◌, ap, subst, arith},
   Common.append_assoc,
 }
@@ -20,23 +23,23 @@ use Rattle.ports_core.{
 }
 use Rattle.seg_core.{
   specs.{
-    Line.{delimiters, first_lines, joined, lines_of},
+    Line.{delimiters, first_lines, lines_of},
     declared.{cut.Chunks.Chunks, unit.Unit.{Unit, TheVariants.{Bytes, Lines}}},
   },
   proofs.FirstLines.{delimiters-first_lines, first_lines-is_take, lines_of-first_lines},
 }
 use Rattle.split_core.specs.{
-  Chunks.{before_chunk, begun_before, chunk_at, chunk_start, chunks_of, chunks_within, ended, is_within, open_from},
-  Chunks.{passed, pieces_in},
-  ChunkWork.{draft_by, piece_at},
-  ChunkerState.{AimState, Carries, Course, CutterState, HasAll, HasCut, IsAimed, can_cut, course_of, to_files},
-  ChunkerState.{to_output, work_on, TargetState, course, in_files, in_output},
+  Chunks.{before_chunk, begun_before, chunk_start, chunks_of, chunks_within, ended, is_within, open_from},
+  Chunks.{passed},
+  ChunkWork.{draft_by},
+  ChunkerState.{Carries, Course, CutterState, HasAll, HasCut, IsAimed, can_cut},
+  ChunkerState.{part_on, work_on, TargetState, course, in_files, in_output},
   Parts.CutUp,
   Split.manner_of,
-  inner.Cutter.{Cuts, CutsAs, EndsFull, IsCut, IsCutOff, IsOpen, Steps, WritesTo, cut_to, part_so, said_work},
+  inner.Cutter.{Cuts, CutsAs, EndsFull, IsCut, IsCutOff, IsOpen, Steps, WritesTo, cut_to, said_work},
   inner.Chunks.GoesOn as Goes,
   inner.Seen.{is_past_at, is_past_on},
-  inner.Sends.{Brings, Changes, GoesOn, HasName, Sends, with_full, with_fulls, with_rest, part_on},
+  inner.Sends.{Changes, Gives, HasName, Stays, with_full, with_fulls, with_rest},
   laws.BegunLaws.{begun_begins, begun_long, begun_some, begun_stays, begun_within, open_append, open_within},
   laws.ChunkLaws.{ended_grows, ended_is, ended_only, ends_here, goes_on, passed_full, passed_open, piece_all},
   laws.ChunkLaws.{start_grows, start_past, start_within},
@@ -44,9 +47,8 @@ use Rattle.split_core.specs.{
   laws.ShareLaws.part_begins,
 }
 use Rattle.split_core.proofs.{
-  RoundLemmas.named_fewer,
-  TargetLemmas.{brings_as, brings_then, brings_wider, ends_begin, ends_full, piece_full, sends_as, sends_none},
-  TargetLemmas.{sends_then, sends_wider},
+  TargetLemmas.{brings_none, brings_then, brings_wider, ends_begin, ends_full, gives_then, piece_full, stays_none},
+  TargetLemmas.stays_then,
 }
 
 -- The lines that begin before a place
@@ -56,23 +58,14 @@ first_of : (delim : ℕ) {rest first : List ℕ} (more : List ℕ) → rest ≡ 
     → (0 < length rest → lines_of delim rest ≡ first ∷ lines_of delim more) → first_lines delim 1 rest ≡ first
 first_of delim {rest = []} {first = []} more is line = refl
 first_of delim {rest = []} {first = byte ∷ first} more is line = absurd (cc)
-first_of delim {rest = byte ∷ rest} {first} more is line =
-    ap (λ lines. joined (take 1 lines)) (line (omega arith)) ∙ append-nil first
+first_of delim {rest = byte ∷ rest} {first} more is line = grind (arith, common_steps)
 
 pub cut_lines : (delim q w : ℕ) (x : List ℕ) {rest first : List ℕ} (more : List ℕ) → w ≤ length x → w ≤ q
     → (w < q → w ≡ length x)
     → rest ≡ drop w x → rest ≡ first ++ more → (0 < length rest → lines_of delim rest ≡ first ∷ lines_of delim more)
     → take (w + length first) x ≡ begun_before Lines delim (suc q) x
-cut_lines delim q w x {rest} {first} more within low all is split line = elim (cases_lt w q) [
-  | inl short ↦ (let e : w ≡ length x = all short in
-      take_all (w + length first) x (omega arith)
-      ∙ sym (begun_long Lines delim (suc q) x (omega arith)))
-  | inr long ↦ (let e : w ≡ q = omega arith in
-      take-add w (length first) x
-      ∙ ap (λ past. take w x ++ past) (ap (take (length first)) (sym is ∙ split) ∙ take_at first more (length first) refl
-      ∙ sym (first_of _ _ split line) ∙ ap (first_lines delim 1) is)
-      ∙ ap (λ n. take n x ++ first_lines delim 1 (drop n x)) e)
-]
+cut_lines delim q w x {rest} {first} more within low all is split line =
+    grind (arith, common_steps, cases_lt, take_all, begun_long, take-add, take_at, first_of)
 
 -- Where a line is open
 
@@ -87,13 +80,11 @@ begins_early unit delim place x y all some = elim (cases_lt (open_from unit deli
 
 open_of_whole : (delim : ℕ) (x : List ℕ)
     → open_from Lines delim (first_lines delim (delimiters delim x) x) ≡ open_from Lines delim x
-open_of_whole delim x = let d = delimiters delim x in let first = first_lines delim d x in
-    ap (λ n. length (first_lines delim n first)) (delimiters-first_lines _ d x (omega arith))
-    ∙ ap length (ap joined (ap (take d) (lines_of-first_lines _ d x) ∙ take-take d d (lines_of delim x) (omega arith)))
+open_of_whole delim x = grind (arith, common_steps, delimiters-first_lines, lines_of-first_lines, take-take)
 
 pub open_early : (unit : Unit) (delim place : ℕ) (x : List ℕ) → begun_before unit delim place x ≡ x
     → is_within unit delim x ≡ true → open_from unit delim x < place
-open_early Bytes delim place x all within = absurd (omega (arith, ltb-true _ _ within))
+open_early Bytes delim place x all within = grind (arith, common_steps)
 open_early Lines delim place x all within = let first = first_lines delim (delimiters delim x) x in
     let rest = drop (length first) x in
     let both : first ++ rest ≡ x = ap (λ front. front ++ rest) (first_lines-is_take delim (delimiters delim x) x)
@@ -133,14 +124,7 @@ still_ended chunks size place x short all within from = let is = ended_is chunks
 -- else just those before the text's end
 passed_all : (chunks : Chunks) (size : ℕ) (x : List ℕ) → length x ≤ size
     → (is_within chunks.unit chunks.delim x ≡ true → size ≤ length x) → passed chunks size x ≡ length x
-passed_all chunks size x fits whole = elim (cases_lt (length x) size) [
-  | inl short ↦ passed_open chunks size x short ∙ by (is_within chunks.unit chunks.delim x) refl short
-  | inr full ↦ omega (arith, passed_full chunks size x full)
-] where
-  by : (within : Bool) → is_within chunks.unit chunks.delim x ≡ within → length x < size
-      → open_from chunks.unit chunks.delim x ≡ length x
-  by true is short = absurd (omega (arith, whole is))
-  by false none short = no_line chunks.unit chunks.delim x none
+passed_all chunks size x fits whole = grind (arith, common_steps, cases_lt, passed_open, passed_full, no_line)
 
 pub ends_open : {told : Bool} {cutter : CutterState} {size : ℕ} {slots : List Slot} → IsAimed cutter.target.aim slots
     → cutter.is_within ≡ true → cutter.at < size → EndsFull told cutter size slots slots cutter None
@@ -148,12 +132,13 @@ ends_open {told} {cutter} {size} {slots} ready within short = record {
   chunks = refl;
   at = refl;
   within = refl;
-  sends = sends_as (λ x. x) _ (λ x so. so) (λ x so. refl) (λ x so.
-      let less : length x.0 < size = omega arith in
+  stays = stays_none ready;
+  gives = λ x cut so.
+      let less : length x < size = omega arith in
       let line = sym so.within ∙ within in
       let is = still_ended _ _ _ _ less (so.begun line less) line so.from in
-      let e : ended cutter.chunks size x.0 - cutter.target.place ≡ 0 = omega arith in
-      ap (λ n. with_fulls n x.1) (sym e)) (sends_none ready (λ x so. so.carries));
+      let e : ended cutter.chunks size x - cutter.target.place ≡ 0 = omega arith in
+      rw e (record { brings = brings_none; carries = so.carries });
 }
 
 -- Chunks end one after another
@@ -165,9 +150,11 @@ pub record Ending (told : Bool) (cutter : CutterState) (size : ℕ) (old slots :
   pub at : now.at ≡ cutter.at
   pub within : now.is_within ≡ cutter.is_within
   pub from : cutter.target.place ≤ now.target.place
-  pub sends : Sends told cutter.target (IsCutOff cutter size) (λ x. x.1)
-      (λ x. with_fulls (now.target.place - cutter.target.place) x.1) old slots now.target None
-  pub low : (x : List ℕ × CutUp) → IsCutOff cutter size x → now.target.place ≤ ended cutter.chunks size x.0
+  pub stays : Stays (course cutter) cutter.target.aim now.target.aim old slots None
+  pub gives : (x : List ℕ) (cut : CutUp) → IsCutOff cutter size x cut
+      → Gives told (course cutter) cutter.target now.target cut
+      (with_fulls (now.target.place - cutter.target.place) cut) old slots None
+  pub low : (x : List ℕ) (cut : CutUp) → IsCutOff cutter size x cut → now.target.place ≤ ended cutter.chunks size x
 
 pub ends_none : {told : Bool} {cutter : CutterState} {size : ℕ} {slots : List Slot} → IsAimed cutter.target.aim slots
     → Ending told cutter size slots slots cutter
@@ -176,12 +163,14 @@ ends_none {told} {cutter} {size} {slots} ready = record {
   at = refl;
   within = refl;
   from = omega arith;
-  sends = let e : cutter.target.place - cutter.target.place ≡ 0 = omega arith in rw e (sends_none ready (λ x so. so.carries));
-  low = λ x so. so.from;
+  stays = stays_none ready;
+  gives = λ x cut so. let e : cutter.target.place - cutter.target.place ≡ 0 = omega arith in
+      rw e (record { brings = brings_none; carries = so.carries });
+  low = λ x cut so. so.from;
 }
 
 pub name_of : (on : Course) (count place : ℕ) → HasAll on count → place < count → HasName on place
-name_of (in_files filing elide) count place all less = named_fewer filing.names (suc place) count all less
+name_of (in_files filing elide) count place all less = grind (arith, common_steps)
 name_of (in_output chunk) count place all less = tt
 
 full_begins : (on : Course) (cut : CutUp) → Begins (part_on on cut) (part_on on (with_full cut))
@@ -195,10 +184,10 @@ fulls_begin on cut few zero = let e : few + 0 ≡ few = omega arith in rw e (par
 fulls_begin on cut few (suc more) = let e : few + suc more ≡ suc (few + more) = omega arith in
     rw e (part_trans _ _ _ (fulls_begin on cut few more) (full_begins on (with_fulls (few + more) cut)))
 
-passed_at : (cutter : CutterState) (size : ℕ) → (cutter.is_within ≡ true → size ≤ cutter.at) → (x : List ℕ × CutUp)
-    → IsCutOff cutter size x → passed cutter.chunks size x.0 ≡ cutter.at
-passed_at cutter size whole x so = passed_all cutter.chunks size x.0 so.fits
-    (λ is. omega (arith, whole (so.within ∙ is))) ∙ sym so.at
+passed_at : {cutter : CutterState} {size : ℕ} {x : List ℕ} {cut : CutUp}
+    → (cutter.is_within ≡ true → size ≤ cutter.at) → IsCutOff cutter size x cut
+    → passed cutter.chunks size x ≡ cutter.at
+passed_at {cutter} {size} {x} whole so = grind (arith, common_steps, passed_all)
 
 module _ {told : Bool} {cutter now : CutterState} {size : ℕ} {old slots : List Slot}
     (whole : cutter.is_within ≡ true → size ≤ cutter.at) (so_far : Ending told cutter size old slots now)
@@ -207,70 +196,80 @@ module _ {told : Bool} {cutter now : CutterState} {size : ℕ} {old slots : List
   abbrev k : ℕ
   k = now.target.place - cutter.target.place
 
-  later : (x : List ℕ × CutUp) → IsCutOff cutter size x → now.target.place + 1 ≤ ended cutter.chunks size x.0
-  later x so = elim (cases_lt now.target.place (ended cutter.chunks size x.0)) [
+  later : {x : List ℕ} {cut : CutUp} → IsCutOff cutter size x cut → now.target.place + 1 ≤ ended cutter.chunks size x
+  later {x} so = elim (cases_lt now.target.place (ended cutter.chunks size x)) [
     | inl before ↦ omega arith
-    | inr past ↦ (let e : ended cutter.chunks size x.0 ≡ now.target.place = omega (arith, so_far.low x so) in
-        let next = (rw e at (ended_is cutter.chunks size x.0)).next (rw so_far.chunks at less) in
-        absurd (omega (arith, rw so_far.chunks at ends, passed_at cutter size whole x so)))
+    | inr past ↦ (let e : ended cutter.chunks size x ≡ now.target.place = omega (arith, so_far.low x _ so) in
+        let next = (rw e at (ended_is cutter.chunks size x)).next (rw so_far.chunks at less) in
+        absurd (omega (arith, rw so_far.chunks at ends, passed_at whole so)))
   ]
 
-  pub next_sends : {next : TargetState} {new : List Slot} (fault : Option Fault)
+  next_gives : {next : TargetState} {new : List Slot} {fault : Option Fault}
+      → Changes told now.target with_full slots new next fault → (x : List ℕ) (cut : CutUp) → IsCutOff cutter size x cut
+      → Gives told (course cutter) cutter.target next cut (with_fulls (suc k) cut) old new fault
+  next_gives went x cut so = let done = so_far.gives x cut so in
+      let name = name_of (course cutter) _ _ so.all (rw so_far.chunks at less) in
+      gives_then done (rw so_far.stays.course at (went.gives _ (done.carries, rw so_far.stays.course name)))
+
+  next_stays : {next : TargetState} {new : List Slot} {fault : Option Fault}
       → Changes told now.target with_full slots new next fault
-      → Sends told cutter.target (IsCutOff cutter size) (λ x. x.1) (λ x. with_fulls (suc k) x.1) old new next fault
-  next_sends {next} {new} fault went = sends_then so_far.sends
-      (λ x so has. let name = name_of (course cutter) _ _ so.all (rw so_far.chunks at less) in
-      (has, rw so_far.sends.brings.stays name))
-      (sends_as {Also = λ x. GoesOn now.target (with_fulls k x.1)} (λ x. with_fulls k x.1) fault (λ x so. so) (λ x so. refl) (λ x so. refl) went)
+      → Stays (course cutter) cutter.target.aim next.aim old new fault
+  next_stays went = stays_then so_far.stays (rw so_far.stays.course at went.stays)
 
   pub ends_next : {next : CutterState} {new : List Slot} → next.chunks ≡ now.chunks → next.at ≡ now.at
       → next.is_within ≡ now.is_within → next.target.place ≡ now.target.place + 1
       → Changes told now.target with_full slots new next.target None → Ending told cutter size old new next
-  ends_next {next} {new} chunks at within place went = record {
+  ends_next {next} chunks at within place went = record {
     chunks = chunks ∙ so_far.chunks;
     at = at ∙ so_far.at;
     within = within ∙ so_far.within;
     from = omega arith;
-    sends = let e : next.target.place - cutter.target.place ≡ suc k = omega arith in rw e (next_sends None went);
-    low = λ x so. omega (arith, later x so);
+    stays = next_stays went;
+    gives = let e : next.target.place - cutter.target.place ≡ suc k = omega arith in rw e (next_gives went);
+    low = λ x cut so. omega (arith, later so);
   }
 
-  pub ends_stopped : {next : CutterState} {new : List Slot} {why : Fault} → next.chunks ≡ now.chunks → next.at ≡ now.at
-      → next.is_within ≡ now.is_within
+  pub ends_stopped : {next : CutterState} {new : List Slot} {why : Fault} → next.chunks ≡ now.chunks
+      → next.at ≡ now.at → next.is_within ≡ now.is_within
       → Changes told now.target with_full slots new next.target (Some why)
       → EndsFull told cutter size old new next (Some why)
-  ends_stopped {next} {new} {why} chunks at within stopped = record {
+  ends_stopped chunks at within stopped = record {
     chunks = chunks ∙ so_far.chunks;
     at = at ∙ so_far.at;
     within = within ∙ so_far.within;
-    sends = sends_wider (λ x so. let more = ended cutter.chunks size x.0 - (now.target.place + 1) in
-        let e : suc k + more ≡ ended cutter.chunks size x.0 - cutter.target.place = omega (arith, later x so) in
-        rw e at (fulls_begin (course cutter) x.1 (suc k) more)) (next_sends (Some why) stopped);
+    stays = next_stays stopped;
+    gives = λ x cut so. let more = ended cutter.chunks size x - (now.target.place + 1) in
+        let e : suc k + more ≡ ended cutter.chunks size x - cutter.target.place = omega (arith, later so) in record {
+          brings = brings_wider (rw e at (fulls_begin (course cutter) cut (suc k) more)) (next_gives stopped x cut so).brings;
+          carries = tt;
+        };
   }
 
 pub ends_so : {told : Bool} {cutter now : CutterState} {size : ℕ} {old slots : List Slot}
     → (cutter.is_within ≡ true → size ≤ cutter.at) → Ending told cutter size old slots now
     → (now.target.place < now.chunks.count → now.at < chunk_start now.chunks.count size (now.target.place + 1))
     → EndsFull told cutter size old slots now None
-ends_so {told} {cutter} {now} {size} whole so_far last = record {
+ends_so {told} {cutter} {now} {size} {old} {slots} whole so_far last = record {
   chunks = so_far.chunks;
   at = so_far.at;
   within = so_far.within;
-  sends = sends_as (λ x. x) None (λ x so. so) (λ x so. refl) (λ x so. ap (λ p. with_fulls (p - cutter.target.place) x.1) (same x so)) so_far.sends;
+  stays = so_far.stays;
+  gives = λ x cut so. subst (λ place. Gives told (course cutter) cutter.target now.target cut (with_fulls (place - cutter.target.place) cut) old slots None)
+      (same so) (so_far.gives x cut so);
 } where
-  same : (x : List ℕ × CutUp) → IsCutOff cutter size x → now.target.place ≡ ended cutter.chunks size x.0
-  same x so = let is = ended_is cutter.chunks size x.0 in elim (cases_lt now.target.place (ended cutter.chunks size x.0)) [
+  same : {x : List ℕ} {cut : CutUp} → IsCutOff cutter size x cut → now.target.place ≡ ended cutter.chunks size x
+  same {x} so = let is = ended_is cutter.chunks size x in elim (cases_lt now.target.place (ended cutter.chunks size x)) [
     | inl before ↦ absurd
         (omega (
           arith,
           last (omega (arith, before, is.within, ap (λ (chunks : Chunks). chunks.count) so_far.chunks)),
-          passed_at cutter size whole x so,
+          passed_at whole so,
           ap
               (λ (chunks : Chunks). chunk_start chunks.count size (now.target.place + 1)) so_far.chunks,
-          start_grows cutter.chunks.count size (now.target.place + 1) (ended cutter.chunks size x.0)
+          start_grows cutter.chunks.count size (now.target.place + 1) (ended cutter.chunks size x)
               (omega (arith, before)),
         ))
-    | inr past ↦ omega (arith, so_far.low x so)
+    | inr past ↦ omega (arith, so_far.low x _ so)
   ]
 
 -- none does before the end of the chunk that was begun
@@ -305,7 +304,7 @@ fulls_are (suc more) cut = ap with_full (fulls_are more cut)
 
 pub cut_of : (chunks : Chunks) (size : ℕ) (x : List ℕ) → length x ≤ size
     → chunks_of chunks size x ≡ chunks_within chunks size x
-cut_of chunks size x within = ap (chunks_within chunks size) (take_all size x within)
+cut_of chunks size x within = grind (arith, common_steps)
 
 pub grown : (chunks : Chunks) (size : ℕ) (x y : List ℕ) → 0 < chunks.count → length (x ++ y) ≤ size
     → before_chunk chunks size (ended chunks size x + 1) (x ++ y) ≡ x ++ y
@@ -353,14 +352,14 @@ pub record Place (cutter : CutterState) (size : ℕ) (x : List ℕ) : Type 0 whe
 
 pub some_of : (on : Course) (count : ℕ) → can_cut on count ≡ true → 0 < count
 some_of (in_files filing elide) count can = ltb-true _ _ can
-some_of (in_output chunk) count can = omega (arith, ltb-true _ _ can)
+some_of (in_output chunk) count can = search rules
 
 pub some_in : {cutter : CutterState} {x : List ℕ} {cut : CutUp} → HasCut cutter x cut → 0 < cutter.chunks.count
 some_in {cutter} has = some_of _ _ has.can
 
 pub placed_at : {cutter : CutterState} {size : ℕ} {x : List ℕ} → IsCut cutter size x
     → ended cutter.chunks size x ≡ cutter.target.place
-placed_at {cutter} {size} {x} is = sym (length-map-range_with_len (chunk_at cutter.chunks size x) 0 (ended cutter.chunks size x)) ∙ is.cut.carries.placed
+placed_at {cutter} {size} {x} is = grind (arith, common_steps, length-map-range_with_len)
 
 pub place_of : {cutter : CutterState} {size : ℕ} {x : List ℕ} (y : List ℕ) → IsCut cutter size x → 0 < length y
     → length (x ++ y) ≤ size → Place cutter size x
@@ -391,99 +390,62 @@ end_so cutter size = chunk_start cutter.chunks.count size (min (cutter.target.pl
 
 end_here : {cutter : CutterState} {size : ℕ} {x : List ℕ} → Place cutter size x
     → end_so cutter size ≡ chunk_start cutter.chunks.count size (cutter.target.place + 1)
-end_here {cutter} at = let place = cutter.target.place + 1 in
-    let e : min place cutter.chunks.count ≡ place = omega arith in rw e refl
+end_here {cutter} at = grind (arith, common_steps)
 
 -- all of it stands before that
 all_before : {cutter : CutterState} {size : ℕ} {x : List ℕ} (text : List ℕ) → IsCut cutter size x → Place cutter size x
     → before_chunk cutter.chunks size (ended cutter.chunks size x + 1) (x ++ cut_to cutter (end_so cutter size) text)
     ≡ x ++ cut_to cutter (end_so cutter size) text
-all_before {cutter} {size} {x} text is at = let chunks = cutter.chunks in let place = cutter.target.place in
-    let here = rw at.is at (ended_is chunks size x) in
-    rw (at.is, end_here at, is.cut.at) (piece_all chunks size x text at.short here at.less)
-
--- it goes to the chunk that was begun
-changes_cut : {told : Bool} {cutter : CutterState} {next : TargetState} {size : ℕ} (y : List ℕ) {old new : List Slot}
-    (fault : Option Fault) → Changes told cutter.target (with_rest y) old new next fault
-    → Sends told cutter.target (λ x. IsCut cutter size x
-    × Place cutter size x) (chunks_within cutter.chunks size)
-    (λ x. with_rest y (chunks_within cutter.chunks size x)) old new next fault
-changes_cut {cutter = cutter} {size = size} y fault changes = sends_as _ _
-    (λ x so. (so.0.cut.carries, name_of _ _ _ so.0.cut.all so.1.less)) (λ x so. refl) (λ x so. refl) changes
+all_before {cutter} {size} {x} text is at = grind (arith, common_steps, ended_is, end_here, piece_all)
 
 -- and the chunks end that have all then
 pub record Cutting (cutter mid : CutterState) (y : List ℕ) : Type 0 where
   pub some : 0 < length y
   pub chunks : mid.chunks ≡ cutter.chunks
   pub place : mid.target.place ≡ cutter.target.place
-  pub stays : course mid ≡ course cutter
+  pub course : course mid ≡ course cutter
   pub at : mid.at ≡ cutter.at + length y
   pub within : mid.is_within ≡ is_within cutter.chunks.unit cutter.chunks.delim y
-
-abbrev pub CutsOn : CutterState → ℕ → List ℕ → List ℕ → Type 0
-CutsOn cutter size y x = IsCut cutter size x × Place cutter size x × (length (x ++ y) ≤ size)
-    × (before_chunk cutter.chunks size (ended cutter.chunks size x + 1) (x ++ y) ≡ x ++ y)
-
-ends_cut : {told : Bool} {cutter mid : CutterState} {next : TargetState} {size : ℕ} {y : List ℕ} {old new : List Slot}
-    (fault : Option Fault) → Cutting cutter mid y
-    → Sends told mid.target (IsCutOff mid size) (λ x. x.1)
-    (λ x. with_fulls (ended mid.chunks size x.0 - mid.target.place) x.1) old new next fault
-    → Sends told mid.target (λ x. CutsOn cutter size y x
-    × Carries mid.target (with_rest y (chunks_within cutter.chunks size x)))
-    (λ x. with_rest y (chunks_within cutter.chunks size x))
-    (λ x. chunks_within cutter.chunks size (x ++ y)) old new next fault
-ends_cut {cutter = cutter} {mid} {size = size} {y} fault is ends = sends_as (λ x. (x ++ y, with_rest y (chunks_within cutter.chunks size x))) _
-    (λ x so. let (here, place, within, all) = so.0 in record {
-      carries = so.1;
-      all = rw (is.stays, is.chunks) here.cut.all;
-      at = omega (arith, length-append x y);
-      within = rw is.chunks (is.within ∙ sym (within_last _ _ x y is.some));
-      fits = within;
-      begun = λ open_line short. rw (is.chunks, is.place, ← place.is) all;
-      from = rw (is.chunks, is.place, ← place.is) (ended_grows _ _ x y);
-    }) (λ x so. refl)
-    (λ x so. let (here, place, within, all) = so.0 in
-    rw (is.chunks, is.place, ← place.is) (grown _ _ x y place.some within all)) ends
-
-pub both_cut : {told : Bool} {cutter mid : CutterState} {next : TargetState} {size : ℕ} {y : List ℕ}
-    {old wet new : List Slot} (fault : Option Fault) → Cutting cutter mid y
-    → Changes told cutter.target (with_rest y) old wet mid.target None
-    → Sends told mid.target (IsCutOff mid size) (λ x. x.1)
-    (λ x. with_fulls (ended mid.chunks size x.0 - mid.target.place) x.1) wet new next fault
-    → Sends told cutter.target (CutsOn cutter size y) (chunks_within cutter.chunks size)
-    (λ x. chunks_within cutter.chunks size (x ++ y)) old new next fault
-both_cut {y = y} fault is changes ends = sends_then
-    (sends_as (λ x. x) _ (λ x so. (so.0, so.1)) (λ x so. refl) (λ x so. refl) (changes_cut y _ changes))
-    (λ x so has. (so, has)) (ends_cut _ is ends)
 
 pub has_cut : {cutter next : CutterState} {x : List ℕ} (y : List ℕ) {from to : CutUp} → next.chunks ≡ cutter.chunks
     → course next ≡ course cutter → next.at ≡ cutter.at + length y
     → next.is_within ≡ is_within cutter.chunks.unit cutter.chunks.delim y → 0 < length y
     → HasCut cutter x from → Carries next.target to → HasCut next (x ++ y) to
-has_cut {cutter} {x = x} y chunks stays at within some has carries = record {
-  can = rw (stays, chunks) has.can;
-  all = rw (stays, chunks) has.all;
-  at = omega (arith, length-append x y);
-  within = rw chunks (within ∙ sym (within_last _ _ x y some));
-  carries = carries;
-}
+has_cut {cutter} {x = x} y chunks stays at within some has carries = grind (arith, common_steps, length-append, within_last)
 
 pub cuts_on : {told : Bool} {cutter mid next : CutterState} {size : ℕ} (text : List ℕ) {y : List ℕ}
     {old wet new : List Slot} (fault : Option Fault) → y ≡ cut_to cutter (end_so cutter size) text
     → Cutting cutter mid y → Changes told cutter.target (with_rest y) old wet mid.target None
     → EndsFull told mid size wet new next fault → Cuts told cutter size y old new next fault
-cuts_on {told} {cutter} {mid} {next} {size} text {y} {old} {new = new} fault is step changes ends =
-    let sends = both_cut fault step changes ends.sends in
-    let so : (x : List ℕ) → IsCut cutter size x × (length (x ++ y) ≤ size) → CutsOn cutter size y x = λ x has. let place = place_of y has.0 step.some has.1 in (has.0, place, has.1, rw is (all_before text has.0 place)) in record {
-      chunks = ends.chunks ∙ step.chunks;
-      bound = omega arith;
-      brings = brings_as (λ x. x) fault so (λ x has. refl) (λ x has. refl) sends.brings;
-      stands = where_well fault sends.carries (λ carries x has within. record {
-        cut = has_cut y (ends.chunks ∙ step.chunks) sends.brings.stays (ends.at ∙ step.at) (ends.within ∙ step.within) step.some has.cut
-            (rw (← (ends.chunks ∙ step.chunks)) at (carries x (so x (has, within))));
+cuts_on {told} {cutter} {mid} {next} {size} text {y} {old} {new = new} fault is step changes ends = record {
+  chunks = ends.chunks ∙ step.chunks;
+  bound = omega arith;
+  stays = stays_then changes.stays (rw step.course at ends.stays);
+  brings = λ x has within. (both x has within).brings;
+  leads = λ x has within. where_well fault (both x has within).carries (λ carries. record {
+    cut = has_cut y (ends.chunks ∙ step.chunks) (ends.stays.course ∙ step.course) (ends.at ∙ step.at) (ends.within ∙ step.within)
+        step.some has.cut (rw (← (ends.chunks ∙ step.chunks)) at carries);
+    fits = within;
+  });
+} where
+  both : (x : List ℕ) → IsCut cutter size x → length (x ++ y) ≤ size
+      → Gives told (course cutter) cutter.target next.target (chunks_within cutter.chunks size x)
+      (chunks_within cutter.chunks size (x ++ y)) old new fault
+  both x has within = let place = place_of y has step.some within in
+      let all : before_chunk cutter.chunks size (ended cutter.chunks size x + 1) (x ++ y) ≡ x ++ y = rw is (all_before text has place) in
+      let first = changes.gives _ (has.cut.carries, name_of _ _ _ has.cut.all place.less) in
+      let cut : with_fulls (ended mid.chunks size (x ++ y) - mid.target.place) (with_rest y (chunks_within cutter.chunks size x))
+      ≡ chunks_within cutter.chunks size (x ++ y) =
+      rw (step.chunks, step.place, ← place.is) (grown _ _ x y place.some within all) in
+      gives_then first (rw (step.course, cut) at (ends.gives (x ++ y) _ (record {
+        carries = first.carries;
+        all = rw (step.course, step.chunks) has.cut.all;
+        at = omega (arith, length-append x y);
+        within = rw step.chunks (step.within ∙ sym (within_last _ _ x y step.some));
         fits = within;
-      });
-    }
+        begun = λ line short. rw (step.chunks, step.place, ← place.is) all;
+        from = rw (step.chunks, step.place, ← place.is) (ended_grows _ _ x y);
+      })))
 
 -- a fault came as it was written
 fulls_follow : (on : Course) (low : CutUp) {high : CutUp} (n : ℕ) → with_fulls n low ≡ high
@@ -497,16 +459,14 @@ pub cuts_not : {told : Bool} {cutter next : CutterState} {size : ℕ} (text : Li
 cuts_not {cutter = cutter} {size = size} text {y} {why = why} is some chunks at stopped = record {
   chunks = chunks;
   bound = omega arith;
-  brings = brings_wider (λ x so. let here = place x so in
-      fulls_follow (course cutter) _ (ended cutter.chunks size (x ++ y) - ended cutter.chunks size x)
-      (grown cutter.chunks size x y here.some so.1 (rw is (all_before text so.0 here))))
-      (brings_as (λ x. x) (Some why) (λ x so. (so.0, place x so)) (λ x so. refl) (λ x so. refl)
-      (changes_cut y (Some why) stopped).brings);
-  stands = tt;
-} where
-  place : (x : List ℕ) → IsCut cutter size x × (length (x ++ y) ≤ size) → Place cutter size x
-  place x (has, within) =
-      place_of y has (rw is (begun_some cutter.chunks.unit cutter.chunks.delim _ text (omega arith) some)) within
+  stays = stopped.stays;
+  brings = λ x has within. let some : 0 < length y = rw is (begun_some cutter.chunks.unit cutter.chunks.delim _ text (omega arith) some) in
+      let here = place_of y has some within in
+      brings_wider (fulls_follow (course cutter) _ (ended cutter.chunks size (x ++ y) - ended cutter.chunks size x)
+      (grown cutter.chunks size x y here.some within (rw is (all_before text has here))))
+      (stopped.gives _ (has.cut.carries, name_of _ _ _ has.cut.all here.less)).brings;
+  leads = λ x has within. tt;
+}
 
 -- on the way to all of a text
 pub cuts_all : {told : Bool} {cutter next : CutterState} {size : ℕ} (text : List ℕ) {y : List ℕ}
@@ -517,21 +477,20 @@ cuts_all {cutter = cutter} {size = size} text {y} {why = why} is cuts =
     let all : (x : List ℕ) → (x ++ y) ++ rest ≡ x ++ text = λ x. append_assoc x y rest ∙ ap (λ more. x ++ more) (sym both) in record {
       chunks = cuts.chunks;
       bound = omega (arith, ap length both, length-append y rest);
-      brings = brings_wider (λ x so. rw (all x) at
-          (so_grows (course cutter) cutter.chunks size (x ++ y) rest (some_in so.0.cut) (rw (all x) so.1)))
-          (brings_as (λ x. x) (Some why)
-          (λ x so. (so.0, omega (arith, ap length (all x), length-append (x ++ y) rest)))
-          (λ x so. refl) (λ x so. refl) cuts.brings);
-      stands = tt;
+      stays = cuts.stays;
+      brings = λ x has within. brings_wider (rw (all x) at
+          (so_grows (course cutter) cutter.chunks size (x ++ y) rest (some_in has.cut) (rw (all x) within)))
+          (cuts.brings x has (omega (arith, ap length (all x), length-append (x ++ y) rest)));
+      leads = λ x has within. tt;
     }
 
 -- one byte less doesn't complete what is written
 
-not_yet : (chunks : Chunks) (size place : ℕ) (aim : AimState) (z : List ℕ) → length z < size
-    → open_from chunks.unit chunks.delim z < chunk_start chunks.count size (place + 1) → is_past_at aim place ≡ false
-    → (work_on (course_of aim) chunks (Some size)).is_complete z ≡ false
-not_yet chunks size place (to_files writer elide) z short early past = le-ltb _ _ (omega arith)
-not_yet chunks size place (to_output chunk) z short early past = lt-leb _ _
+not_yet : (chunks : Chunks) (size place : ℕ) (on : Course) (z : List ℕ) → length z < size
+    → open_from chunks.unit chunks.delim z < chunk_start chunks.count size (place + 1) → is_past_at on place ≡ false
+    → (work_on on chunks (Some size)).is_complete z ≡ false
+not_yet chunks size place (in_files filing elide) z short early past = le-ltb _ _ (omega arith)
+not_yet chunks size place (in_output chunk) z short early past = lt-leb _ _
     (omega (
       arith,
       passed_open chunks size z short,
@@ -559,14 +518,7 @@ needed_in {cutter} {size} {x} text n going some few is has within = let chunks =
 -- where a stretch was written
 pub cutting : {told : Bool} {cutter mid : CutterState} {end n : ℕ} (text : List ℕ) {old new : List Slot}
     → WritesTo told cutter end text old new mid (Ok n) → Cutting cutter mid (take n text)
-cutting {n = n} text writes = record {
-  some = omega (arith, length-take n text);
-  chunks = writes.chunks;
-  place = writes.place;
-  stays = writes.sends.brings.stays;
-  at = omega (arith, length-take n text);
-  within = rw writes.count.2 writes.within;
-}
+cutting {n = n} text writes = grind (arith, common_steps)
 
 -- what was written of a text goes with the chunk that was begun, and what is full has ended
 pub steps_so : {told : Bool} {cutter mid next : CutterState} {size n : ℕ} (text : List ℕ) {old wet new : List Slot}
@@ -576,7 +528,7 @@ steps_so {n = n} text writes ends = let is = writes.count.2 in (
   writes.count.0,
   writes.count.1,
   omega arith,
-  cuts_on _ _ is (cutting _ writes) (rw (← is) at writes.sends) ends,
+  cuts_on _ _ is (cutting _ writes) (rw (← is) at writes.changes) ends,
   λ going x within has. needed_in _ n going writes.count.0 writes.count.1 is within has,
 )
 
@@ -585,20 +537,13 @@ pub steps_short : {told : Bool} {cutter next : CutterState} {size n : ℕ} (text
     → 0 < cutter.chunks.count → WritesTo told cutter (end_so cutter size) text old new next (Ok n)
     → next.at < end_so cutter size → Steps told cutter size text old new next (Ok n)
 steps_short {size = size} text some writes short = steps_so _ writes
-    (ends_short writes.sends.brings.ready (rw writes.chunks some) (rw (writes.chunks, writes.place) short))
+    (ends_short writes.changes.stays.ready (rw writes.chunks some) (rw (writes.chunks, writes.place) short))
 
 -- Stretch after stretch
 
 pub cuts_nothing : {told : Bool} {cutter : CutterState} {size : ℕ} {slots : List Slot} → IsAimed cutter.target.aim slots
     → Cuts told cutter size [] slots slots cutter None
-cuts_nothing {told} {cutter} {size} {slots} ready = record {
-  chunks = refl;
-  bound = omega arith;
-  brings = brings_as (λ x. x) _ (λ x so. so) (λ x so. refl) (λ x so. ap (part_so cutter size) (sym (append-nil x)))
-      (sends_none {target = cutter.target} {So = λ x. IsCut cutter size x × (length (x ++ []) ≤ size)}
-      {from = chunks_within cutter.chunks size} ready (λ x so. so.0.cut.carries)).brings;
-  stands = λ x is within. rw (append-nil x) is;
-}
+cuts_nothing {told} {cutter} {size} {slots} ready = search (rules, stays_none, append-nil, brings_none)
 
 pub cuts_again : {told : Bool} {cutter mid next : CutterState} {size : ℕ} (first more : List ℕ)
     {old wet new : List Slot} (fault : Option Fault) → Cuts told cutter size first old wet mid None
@@ -607,14 +552,12 @@ pub cuts_again : {told : Bool} {cutter mid next : CutterState} {size : ℕ} (fir
 cuts_again {told} {cutter} {mid} {next} {size} first more {wet = wet} {new} fault one other = record {
   chunks = other.chunks ∙ one.chunks;
   bound = omega (arith, length-append first more);
-  brings = brings_then (brings_as (λ x. x) None (λ x so. (so.0, low x so.1)) (λ x so. refl) (λ x so. refl) one.brings) (λ x so. so)
-      (brings_as (λ x. x ++ first) fault
-      (λ x so. (one.stands x so.0 (low x so.1), omega (arith, ap length (append_assoc x first more))))
-      (λ x so. rw one.chunks refl) (λ x so. rw (one.chunks, append_assoc x first more) refl)
-      (subst (λ on. Brings told on mid.target.aim next.target.aim (λ x. IsCut mid size x × (length (x ++ more) ≤ size)) (λ x. part_on on (chunks_within mid.chunks size x)) (λ x. part_on on (chunks_within mid.chunks size (x ++ more))) wet new fault) one.brings.stays other.brings));
-  stands = where_well fault other.stands
-      (λ later x is within. rw (← append_assoc x first more)
-      (later (x ++ first) (one.stands x is (low x within)) (omega (arith, ap length (append_assoc x first more)))));
+  stays = stays_then one.stays (rw one.stays.course at other.stays);
+  brings = λ x has within. brings_then (one.brings x has (low x within))
+      (rw (one.stays.course, one.chunks, append_assoc x first more) at
+      (other.brings (x ++ first) (one.leads x has (low x within)) (rw (append_assoc x first more) within)));
+  leads = λ x has within. rw (append_assoc x first more) at
+      (other.leads (x ++ first) (one.leads x has (low x within)) (rw (append_assoc x first more) within));
 } where
   low : (x : List ℕ) → length (x ++ (first ++ more)) ≤ size → length (x ++ first) ≤ size
   low x within = omega (arith, length-append x (first ++ more), length-append first more, length-append x first)
@@ -660,7 +603,7 @@ module _ {told : Bool} {cutter now : CutterState} {size : ℕ} {text left : List
           length-append z left,
           length-append x so_far.done,
         ) in
-        let here = so_far.cuts.stands x has (omega (arith, length-append z left)) in
+        let here = so_far.cuts.leads x has (omega (arith, length-append z left)) in
         let front : take (n - 1) (take n left) ≡ take (n - 1) left = take-take (n - 1) n left (omega arith) in
         let last = drop (n - 1) (take n left) in
         inr (
@@ -669,7 +612,7 @@ module _ {told : Bool} {cutter now : CutterState} {size : ℕ} {text left : List
           rw (append_assoc z (take (n - 1) left) last, ← front, take-append-drop (n - 1) (take n left))
               (sym (append_assoc x so_far.done (take n left))),
           omega (arith, length-drop (n - 1) (take n left), length-take n left),
-          rw (so_far.cuts.brings.stays, so_far.cuts.chunks) at (going not_past z here all),
+          rw (so_far.cuts.stays.course, so_far.cuts.chunks) at (going not_past z here all),
         ));
   }
 

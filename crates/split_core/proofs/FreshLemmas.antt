@@ -1,6 +1,8 @@
 -- Lemmas on chunks of an input of which no byte came in yet.
+use Rattle.std.proofs.Common.{rules}
 use Rattle.std.proofs.{
-  Common.{◌≡◌, ℕ, ◌<◌, Bool, true, false, List, [], Option, Some, None, IfSome, refl, sym, ◌∙◌, ap, subst, arith, inl},
+  Common.{◌≡◌, ℕ, ◌<◌, Bool, true, false, List, [], Option, Some, None, IfSome, refl, sym, ◌∙◌, ap, subst, arith},
+  Common.inl,
   Common.{zero, suc, max},
   Math.Seq.{drop-nil, take-nil},
 }
@@ -48,7 +50,7 @@ module _ (chunks : Chunks) (target : TargetState) (can : can_cut (course_of targ
 
 none_decided : (chunks : Chunks) (first : ℕ) (said : Option ℕ) → 0 < chunks.count → IfSome said (λ size. 0 < size)
     → decided chunks first said [] ≡ uncut []
-none_decided chunks first None count long = ap uncut (begun_of_none _ _ _)
+none_decided chunks first None count long = search rules
 none_decided chunks first (Some size) count long =
     ap (chunks_within chunks size) (take-nil size) ∙ none_within _ _ count long
 
@@ -63,6 +65,7 @@ no_file filing false = nothing_part _
 pub settled_none : (on : Course) (chunks : Chunks) (said : Option ℕ) → can_cut on chunks.count ≡ true
     → IfSome said (λ size. 0 < size) → (work_on on chunks said).settled [] ≡ nothing
 settled_none (in_files filing elide) chunks said can long =
-    ap (λ cut. draft_part (manner_of filing) (draft_by elide cut)) (none_decided chunks 1 said (some_of (in_files filing elide) _ can) long) ∙ no_file filing elide
+    ap (λ cut. draft_part (manner_of filing) (draft_by elide cut)) (none_decided chunks 1 said (some_of (in_files filing elide) _ can) long)
+    ∙ no_file filing elide
 settled_none (in_output chunk) chunks said can long =
     ap (piece_at chunk) (none_decided chunks (max chunk 1) said (some_of (in_output chunk) _ can) long) ∙ no_piece chunk

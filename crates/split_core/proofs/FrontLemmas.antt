@@ -26,7 +26,6 @@ use Rattle.split_core.{
     ChunkerLemmas.is_said,
     FreshLemmas.settled_none,
     UnsaidLemmas.{past_pieces, start_some},
-    WantedLemmas.made_by,
   },
 }
 use Rattle.split_core.specs.Ways as ways
@@ -52,20 +51,20 @@ module _ {chunker : ChunkerState} {size chunk : ℕ} (asks : AsksFor chunker siz
   abbrev start : ℕ → ℕ
   start = chunk_start chunks.count size
 
-  on : course chunker.cutter ≡ in_output chunk
-  on = ap course_of asks.aim
+  course_is : course chunker.cutter ≡ in_output chunk
+  course_is = ap course_of asks.aim
 
   none : IsSaid chunker size []
   none = is_said asks.said asks.fresh
 
   can : nat_lt chunk chunks.count ≡ true
-  can = sym (ap (λ on. can_cut on chunks.count) on) ∙ none.cut.can
+  can = sym (ap (λ on. can_cut on chunks.count) course_is) ∙ none.cut.can
 
   less : chunk < chunks.count
   less = ltb-true _ _ can
 
   it : work chunker ≡ chunk_work chunk chunks (Some size)
-  it = made_by chunker (in_output chunk) [] asks.fresh on ∙ ap (chunk_work chunk chunks) asks.said
+  it = ap (λ on. work_on on chunks chunker.said) course_is ∙ ap (chunk_work chunk chunks) asks.said
 
   spare_none : chunker.spare ≡ 0
   spare_none = omega
@@ -115,7 +114,7 @@ module _ {chunker : ChunkerState} {size chunk : ℕ} (asks : AsksFor chunker siz
             [],
             sym (append-nil z),
             omega arith,
-            ap (λ (those : Work). those.is_complete z) (ap (λ on. work_on on chunks (Some size)) on)
+            ap (λ (those : Work). those.is_complete z) (ap (λ on. work_on on chunks (Some size)) course_is)
                 ∙ goes_on chunk chunks size less z begins.some,
           );
           enough = inl refl;

@@ -11,6 +11,7 @@ pub mod CutLaws
 pub mod UndecidedLemmas
 pub mod FilesLemmas
 pub mod DealLemmas
+pub mod WayLemmas
 pub mod TurnLemmas
 pub mod ChunkerWays
 pub mod WantedLemmas

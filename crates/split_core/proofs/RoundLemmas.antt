@@ -1,36 +1,27 @@
 -- Lemmas on dealing lines in turn, as a stage, and on what waits in the engine in each of its two ways to cut.
 use Rattle.std.proofs.{
-  Common.{◌≡◌, ℕ, ◌+◌, ◌%◌, ◌<◌, ◌≤◌, zero, suc, min, max, Bool, true, false, not, cond, List, [], ◌∷◌, ◌++◌, length},
-  Common.{map, take, drop, get_or, Some, None, refl, sym, ◌∙◌, ap, subst, arith, Ok, Err, OnOk, IfErr, Result, rules},
+  Common.{◌⊎◌, inl, inr, ◌≡◌, ℕ, ◌+◌, ◌%◌, ◌<◌, ◌≤◌, zero, suc, max, Bool, true, false, cond, List, [], ◌∷◌},
+  Common.{◌++◌, length, map, get_or, Some, None, refl, sym, ◌∙◌, ap, arith, Ok, Err, OnOk, Result, rules},
   Math.{Nat.{mod-add-mod, mod-eq_of_lt, mod-mod, mod-le}, Path.fun_ext, Seq.drop-length},
-  lemmas.{
-    Bool.cases_lt,
-    List.{
-      append-nil,
-      length-map,
-      get_or_past,
-      FromFn.{length-map-range_with_len, get_or-map-range_with_len, take-map-range_with_len},
-    },
-    Grind.common_steps,
-  },
+  lemmas.Bool.{cases_lt, Decides.nat_tests},
+  lemmas.List.{append-nil, length-map, get_or_past, FromFn.{length-map-range_with_len, get_or-map-range_with_len}},
+  lemmas.Grind.common_steps,
 }
 use Rattle.std.specs.List.{filter, range_with_len}
 use Rattle.seg_core.{
-  specs.Line.{joined, delimiters, line_count},
+  specs.Line.{joined, delimiters},
   proofs.{Delimiters.delimiters-append, LineCounts.{line_count_near, line_count-front}},
 }
 use Rattle.ports_core.specs.{
   Name.{Naming, has_name},
   Slot.Slot,
-  Part.{Part, OutputsAt, StoppedBetween, gets_bytes, nothing},
-  Work.{IsSpare, Judges, Work},
-  declared.{
-    verdict.Verdict.TheVariants.Suffixes,
-    fault.Fault.Fault,
-    slot.State.{State, TheVariants.{Open, Closed}},
-    file_writer.Tells.Tells,
-  },
-  Engine.{MayGet, TakesIn, EndsWith, EndsThere, StandsAt, is_verdict, cut},
+  Part.{OutputsAt, StoppedBetween, gets_bytes, nothing},
+  Work.{Judges, Work},
+  declared.verdict.Verdict.TheVariants.Suffixes,
+  declared.fault.Fault.Fault,
+  declared.slot.State.{State, TheVariants.{Open, Closed}},
+  declared.file_writer.Tells.Tells,
+  Engine.{MayGet, EndsWith, EndsThere, StandsAt, is_verdict, cut},
   Draft.{part_of, part_with},
 }
 use Rattle.ports_core.proofs.{SpareLemmas.none_spare, PartLemmas.outputs_count, ShareLemmas.nothing_part}
@@ -39,15 +30,14 @@ use Rattle.split_core.specs.{
   laws.{WorkLaws.lawful, DealLaws.{dealt_append, dealt_none, dealt_files_are, share_none}},
   Parts.round_robin,
   inner.CutLaws.named,
-  inner.Dealt.{dealt_piece, dealt_first, reached_by, share_of},
+  inner.Dealt.{dealt_first, reached_by, share_of},
   inner.Ways.{EndsAs, PassesAs, held},
-  inner.Sharing.{file_at, files_by, always_named, part_by, all_open, closed_first, StandAt, Adds, Opens, Leaves},
-  inner.Sharing.ClosesAll,
+  inner.Sharing.{file_at, always_named, part_by, all_open, closed_first, StandAt, Adds, Opens, ClosesAll},
   Split.{Filing, share, manner_of, are_named, is_verbose, output_by, dealt_files, settled_by, is_short, has_bytes},
   Split.{split_work, bytes_in},
   FilesState.{FilesState, filing_in},
   RoundState.RoundState,
-  Round.{round_plan, round_work, work, opened_by, Holds, OwnsFiles},
+  Round.{round_plan, round_work, work, opened_by, Holds},
   declared.splitter.Splitter.Splitter,
   ChunkerState.ChunkerState,
   PartsState.{PartsState, Stands},
@@ -56,11 +46,10 @@ use Rattle.split_core.proofs.{
   AlikeLemmas.{complete_as, verdict_as, waiting_as},
   AgreedLemmas.{each_named, shared_bytes, waiting_is},
   CutLaws.{dealt_same, dealt_past},
-  FilesLemmas.{same_by, stopped_as, stops_in_order, shut_now, named_before},
+  FilesLemmas.{same_by, grow_same, named_before},
   SectionLemmas.all_dealt,
   ChunkerWays.{chunks_wait, no_suffixes, open_beside},
 }
-use Rattle.split_core.specs.Parts as cut
 use Rattle.split_core.specs.Ways as ways
 use Rattle.split_core.specs.declared.splitter.Splitter.TheVariants as way
 use Rattle.split_core.proofs.PartsLemmas as part
@@ -84,28 +73,26 @@ all_by : (filing : Filing) (n start count : ℕ) (state : State) (f : ℕ → Li
     → named filing start (map (share state) (map f (range_with_len start count)))
     ≡ map (λ i. file_at filing i (share state (f i))) (range_with_len start count)
 all_by filing n start zero state f are few = refl
-all_by filing n start (suc count) state f are few = cc (named_at filing.names n start are (omega arith), all_by filing n (start + 1) count state f are (omega arith))
+all_by filing n start (suc count) state f are few = cc (
+  named_at filing.names n start are (omega arith),
+  all_by filing n
+      (start + 1) count state f are (omega arith),
+)
 
 -- The files of a text
 
-filed_are : (delim : ℕ) (state : State) (filing : Filing) (elide : Bool) (n : ℕ) (x : List ℕ)
-    → are_named filing.names n ≡ true
-    → part_of (manner_of filing) (map (share state) (dealt_files delim elide n x))
-    ≡ part_by filing (λ i. share state (share_of delim n x i)) (opened_by delim elide n x)
-filed_are delim state filing elide n x are = ap (part_with (output_by filing.verbose)) files where
-  files : named filing 0 (map (share state) (dealt_files delim elide n x))
-      ≡ files_by filing (λ i. share state (share_of delim n x i)) (opened_by delim elide n x)
-  files = grind (arith, common_steps, dealt_files_are, all_by)
+module _ (delim : ℕ) (filing : Filing) (elide : Bool) (n : ℕ) (x : List ℕ) (are : are_named filing.names n ≡ true) where
+  filed_are : (state : State) {count : ℕ} → count ≡ opened_by delim elide n x
+      → part_by filing (λ i. share state (share_of delim n x i)) count
+      ≡ part_of (manner_of filing) (map (share state) (dealt_files delim elide n x))
+  filed_are state is = ap (part_with (output_by filing.verbose)) (grind (arith, common_steps, dealt_files_are, all_by))
 
-all_have : (delim : ℕ) (filing : Filing) (elide : Bool) (n : ℕ) (x : List ℕ) → are_named filing.names n ≡ true
-    → are_named filing.names (length (dealt_files delim elide n x)) ≡ true
-all_have delim filing elide n x are = grind (arith, common_steps, named_fewer, dealt_files_are, length-map-range_with_len)
+  all_have : are_named filing.names (length (dealt_files delim elide n x)) ≡ true
+  all_have = grind (arith, common_steps, named_fewer, dealt_files_are, length-map-range_with_len)
 
--- where all files have names, no text needs more
-pub not_short : (delim : ℕ) (filing : Filing) (elide : Bool) (n : ℕ) (x : List ℕ) → are_named filing.names n ≡ true
-    → false ≡ is_short (round_plan delim n elide filing) x
-not_short delim filing elide n x are = sym (ap not (ap (are_named filing.names) (length-map (dealt_files delim elide n x) (share Closed))
-    ∙ all_have delim filing elide n x are))
+  -- where all files have names, no text needs more
+  pub not_short : false ≡ is_short (round_plan delim n elide filing) x
+  not_short = cc (length-map (dealt_files delim elide n x) (share Closed), all_have)
 
 -- One more piece
 
@@ -114,71 +101,47 @@ pub none_yet : (delim : ℕ) (elide : Bool) (n : ℕ) (x : List ℕ) (file : ℕ
     → share_of delim n x file ≡ []
 none_yet delim elide n x file some past = search (rules, cases_lt, dealt_past, share_none)
 
-lines_after : (delim n : ℕ) (x y : List ℕ) → 0 < n
-    → max (min n (line_count delim x)) (min n (delimiters delim x % n + line_count delim y))
-    ≡ min n (line_count delim (x ++ y))
-lines_after delim n x [] some = search (rules, append-nil, line_count_near, mod-le)
-lines_after delim n x (byte ∷ y) some = grind (arith, common_steps, line_count-front, line_count_near, cases_lt, mod-eq_of_lt)
-
-pub opened_after : (delim : ℕ) (elide : Bool) (n : ℕ) (x y : List ℕ) → 0 < n
+opened_after : (delim : ℕ) (elide : Bool) (n : ℕ) (x y : List ℕ) → 0 < n
     → max (opened_by delim elide n x) (reached_by delim n (delimiters delim x % n) y) ≡ opened_by delim elide n (x ++ y)
-opened_after delim true n x y some = lines_after _ n x y some
+opened_after delim true n x [] some = search (rules, append-nil, line_count_near, mod-le)
+opened_after delim true n x (byte ∷ y) some =
+    grind (arith, common_steps, line_count-front, line_count_near, cases_lt, mod-eq_of_lt)
 opened_after delim false n x y some = omega arith
 
 -- what a file has of a text that goes on
 share_after : (delim n : ℕ) (x y : List ℕ) → 0 < n → (i : ℕ)
     → share_of delim n (x ++ y) i ≡ share_of delim n x i ++ get_or (dealt_first delim n (delimiters delim x % n) y) i []
 share_after delim n x y some i =
-    grind (arith, common_steps, dealt_append, dealt_same, mod-mod, get_or-map-range_with_len, get_or_past, length-map-range_with_len, dealt_none, dealt_past)
-
--- The gathered piece
-
-pub first_gathered : (delim n start : ℕ) {reached : ℕ} (piece : List ℕ) {gathered : List (List ℕ)}
-    → gathered ≡ dealt_piece delim n start piece → reached ≡ reached_by delim n start piece
-    → take reached gathered ≡ dealt_first delim n start piece
-first_gathered delim n start {reached} piece is reached_is = search (rules, take-map-range_with_len)
+    grind (
+      arith,
+      common_steps,
+      dealt_append,
+      dealt_same,
+      mod-mod,
+      get_or-map-range_with_len,
+      get_or_past,
+      length-map-range_with_len,
+      dealt_none,
+      dealt_past,
+    )
 
 -- What a piece leaves
 
--- what the stage has written, where it can have been fed x
-stands_is : {round : RoundState} {x : List ℕ} → Holds round x
-    → part_by (filing_in round.files) (all_open (share_of round.delim round.count x)) (length round.files.outputs)
-    ≡ (work round).settled x
-stands_is {round} {x} holds = ap (part_by (filing_in round.files) (all_open (share_of round.delim round.count x))) holds.opened ∙ sym (filed_are round.delim Open (filing_in round.files) round.elide round.count x holds.named)
+-- what of a text the stage has written
+stands_is : {round : RoundState} {x : List ℕ} → Holds round x → (y : List ℕ) {count : ℕ}
+    → count ≡ opened_by round.delim round.elide round.count y
+    → part_by (filing_in round.files) (all_open (share_of round.delim round.count y)) count ≡ (work round).settled y
+stands_is {round} holds y is = filed_are round.delim (filing_in round.files) round.elide round.count y holds.named Open is
 
-stand_at : (told : Bool) (round : RoundState) {before : List Slot} {x : List ℕ} {now : List Slot}
+stand_at : {told : Bool} {round : RoundState} {before : List Slot} {x : List ℕ} {now : List Slot}
     → StandsAt ways.terms (way.Round round) told before x now
     → StandAt told round.files before (share_of round.delim round.count x) now
-stand_at told round {before} {x} {now} at = search (rules, stands_is, none_yet)
+stand_at at = search (rules, stands_is, none_yet)
 
 count_is : {round : RoundState} {x : List ℕ} (piece : List ℕ) → Holds round x
     → max (length round.files.outputs) (length (dealt_first round.delim round.count round.next piece))
     ≡ opened_by round.delim round.elide round.count (x ++ piece)
-count_is {round} {x} piece holds = search (rules, length-map-range_with_len, opened_after)
-
-module _ (told : Bool) (round : RoundState) (piece : List ℕ) {old before : List Slot} {x : List ℕ}
-    (at : StandsAt ways.terms (way.Round round) told before x old) where
-  made_is : part_by (filing_in round.files) (all_open (share_of round.delim round.count (x ++ piece)))
-      (max (length round.files.outputs) (length (dealt_first round.delim round.count round.next piece)))
-      ≡ (work round).settled (x ++ piece)
-  made_is = ap (part_by (filing_in round.files) (all_open (share_of round.delim round.count (x ++ piece)))) (count_is piece at.holds) ∙ sym (filed_are round.delim Open (filing_in round.files) round.elide round.count (x ++ piece) at.holds.named)
-
-  left_by : {next : FilesState} {new : List Slot} (result : Result (Unit {0}) Fault)
-      → Adds told round.files (λ i. get_or (dealt_first round.delim round.count round.next piece) i []) 0
-      (length (dealt_first round.delim round.count round.next piece)) old next new result
-      → Leaves told before (filing_in round.files) (all_open (share_of round.delim round.count x))
-      (length round.files.outputs) (all_open (share_of round.delim round.count (x ++ piece)))
-      (max (length round.files.outputs) (length (dealt_first round.delim round.count round.next piece))) 0
-      (length (dealt_first round.delim round.count round.next piece)) new result
-  left_by result adds = adds.leaves before _ _ (stand_at told round at) (λ i. rw at.holds.next (share_after round.delim round.count x piece at.holds.some i))
-
-takes_in : (told : Bool) (round : RoundState) (piece : List ℕ) {place : ℕ} {next : FilesState}
-    {before after : List Slot}
-    → place ≡ (round.next + delimiters round.delim piece) % round.count
-    → Adds told round.files (λ i. get_or (dealt_first round.delim round.count round.next piece) i []) 0
-    (length (dealt_first round.delim round.count round.next piece)) before next after (Ok tt)
-    → TakesIn ways.Holds piece (way.Round round) (way.Round (record round { files = next; next = place }))
-takes_in told round piece is adds x holds = grind (arith, common_steps, mod-add-mod, delimiters-append, count_is)
+count_is piece holds = search (rules, length-map-range_with_len, opened_after)
 
 pub passes_at : (told : Bool) (round : RoundState) (piece : List ℕ) {place : ℕ} {next : FilesState}
     {before after : List Slot} (result : Result (Unit {0}) Fault)
@@ -188,10 +151,12 @@ pub passes_at : (told : Bool) (round : RoundState) (piece : List ℕ) {place : �
     → PassesAs told (way.Round round) piece before after (way.Round (record round { files = next; next = place }))
     result
 passes_at told round piece (Ok u) is adds = record {
-  same = ap (λ filing. round_work (round_plan round.delim round.count round.elide filing)) adds.filing;
+  same = cc adds.filing;
   size = omega arith;
-  holds = takes_in _ _ _ is adds;
-  outputs = λ start x at. rw (made_is told round piece at) at (left_by _ round piece at (Ok u) adds);
+  holds = λ x holds. grind (arith, common_steps, mod-add-mod, delimiters-append, count_is);
+  outputs = λ start x at. rw (stands_is at.holds (x ++ piece) (count_is piece at.holds)) at
+      (adds.leaves start _ (share_of round.delim round.count (x ++ piece)) (stand_at at)
+      (λ i. rw at.holds.next (share_after round.delim round.count x piece at.holds.some i)));
   ready = adds.ready;
   owns = adds.owned;
   there = λ are. tt;
@@ -200,7 +165,7 @@ passes_at told round piece (Ok u) is adds = record {
 }
 passes_at told round piece {before = before} {after} (Err why) is adds =
     let tells = is_verbose round.files.tells in let lacks = part.none_lacks tells before after adds.caused in record {
-      same = ap (λ filing. round_work (round_plan round.delim round.count round.elide filing)) adds.filing;
+      same = cc adds.filing;
       size = omega arith;
       holds = tt;
       outputs = tt;
@@ -208,8 +173,9 @@ passes_at told round piece {before = before} {after} (Err why) is adds =
       owns = adds.owned;
       there = λ are. tt;
       cut = λ start x at. cut (part.unjudged (always_named tells) before after why adds.caused lacks)
-          (stopped_as _ _ (stands_is at.holds) (made_is told round piece at)
-          (stops_in_order (left_by _ round piece at (Err why) adds)));
+          (rw (stands_is at.holds x at.holds.opened, stands_is at.holds (x ++ piece) (count_is piece at.holds)) at
+          ((adds.leaves start _ (share_of round.delim round.count (x ++ piece)) (stand_at at)
+          (λ i. rw at.holds.next (share_after round.delim round.count x piece at.holds.some i))).stops _ _ _ _ 0 grow_same grow_same));
       met = part.met_files false _ _ (EndsWith ways.terms piece (way.Round round)) (always_named tells) tells
           before after why (refl, refl) refl refl adds.caused (λ is. absurd (lacks is));
     }
@@ -223,23 +189,13 @@ closed_part {round} {x} holds =
     let n = length round.files.outputs in let has = share_of round.delim round.count x in let filing = filing_in round.files in
     ap (part_with (output_by filing.verbose))
     (same_by (λ i. file_at filing i (closed_first n has i)) (λ i. file_at filing i (share Closed (has i))) 0 n
-    (λ i low high. ap (λ state. file_at filing i (share state (has i))) (shut_now i n (omega arith))))
-    ∙ ap (part_by filing (λ i. share Closed (has i))) holds.opened ∙ sym (filed_are round.delim Closed filing round.elide round.count x holds.named)
+    (λ i low high. grind (arith, nat_tests)))
+    ∙ filed_are round.delim filing round.elide round.count x holds.named Closed holds.opened
 
 pub finishes_by : (told : Bool) (round : RoundState) (old new : List Slot) (result : Result (Unit {0}) Fault)
     → ClosesAll told round.files old new result
     → EndsAs told (way.Round round) old new (way.Round round) result
-finishes_by told round old new (Ok u) closes = record {
-  same = refl;
-  size = omega arith;
-  well = λ x holds. refl;
-  outputs = λ before x at. rw (closed_part at.holds) at (closes.closed before _ (stand_at _ _ at));
-  writable = part.told_writable round.files.tells new closes.output;
-  owns = closes.owned;
-  there = λ are. tt;
-  cut = tt;
-  met = tt;
-}
+finishes_by told round old new (Ok u) closes = search (rules, closes, closed_part, stand_at, part.told_writable)
 finishes_by told round old new (Err why) closes = record {
   same = refl;
   size = omega arith;
@@ -248,68 +204,60 @@ finishes_by told round old new (Err why) closes = record {
   writable = tt;
   owns = closes.owned;
   there = λ are. tt;
-  cut = λ before x at. cut (ap is_verdict closes.caused.1) (stopped_as _ _ (stands_is at.holds) (closed_part at.holds) (closes.cut before _ (stand_at _ _ at)));
+  cut = λ before x at. cut (ap is_verdict closes.caused.1)
+      (rw (stands_is at.holds x at.holds.opened, closed_part at.holds) at (closes.cut before _ (stand_at at)));
   met = part.met_closing (is_verbose round.files.tells) (EndsThere ways.terms (way.Round round)) old new closes.caused;
 }
 
 -- The start
 
--- no line has come in yet
-pub starts_with : (delim : ℕ) (elide : Bool) (n : ℕ) → cond elide 0 n ≡ opened_by delim elide n []
-starts_with delim true n = omega arith
-starts_with delim false n = refl
-
 -- no file is open yet, and the next will be the next output
 abbrev pub no_files : Naming → Tells → FilesState
 no_files names tells = record { names = record { naming = names; drawn = 0 }; tells = tells; outputs = [] }
 
-none_owned : (names : Naming) (tells : Tells) {slots : List Slot}
-    → OwnsFiles (no_files names tells) (length slots) slots
-none_owned names tells = record { stand = λ place within. absurd (omega arith); last = λ same. omega arith }
+starts_at : {told : Bool} (names : Naming) (tells : Tells) {before slots : List Slot}
+    → OutputsAt told before nothing slots → StandAt told (no_files names tells) before (λ i. []) slots
+starts_at names tells at = record {
+  owns = grind (arith, outputs_count _ _ _ _ at);
+  outputs = rw (← nothing_part (output_by (is_verbose tells))) at at;
+  none = λ i past. refl;
+}
 
-pub at_start : (delim : ℕ) (elide : Bool) (filing : Filing) (n : ℕ) {count : ℕ} → are_named filing.names n ≡ true
-    → count ≡ opened_by delim elide n []
-    → part_by filing (all_open (λ i. [])) (max 0 count) ≡ settled_by (round_plan delim n elide filing) []
-at_start delim elide filing n {count} are counted = ap (part_by filing (all_open (λ i. []))) (let all : max 0 count ≡ count = omega arith in all ∙ counted)
-    ∙ sym (filed_are delim Open filing elide n [] are)
+-- no line has come in yet
+starts_with : (delim : ℕ) (elide : Bool) (n : ℕ) {count : ℕ} → count ≡ cond elide 0 n
+    → max 0 count ≡ opened_by delim elide n []
+starts_with delim elide n is = grind (arith, nat_tests)
 
-module _ (told : Bool) (names : Naming) (tells : Tells) {count : ℕ} {files next : FilesState} {old new : List Slot}
-    {result : Result (Unit {0}) Fault} (is : files ≡ no_files names tells)
-    (opens : Opens told files 0 count old next new result) where
-  -- what is there then is all that must be written of no input
-  pub opens_all : {part : Part} → part_by (filing_in (no_files names tells)) (all_open (λ i. [])) (max 0 count) ≡ part
-      → (before : List Slot) → OutputsAt told before nothing old
-      → (OnOk result (OutputsAt told before part new))
-      × (IfErr result (λ why. StoppedBetween (output_by (is_verbose tells)) told before nothing part why new))
-  opens_all {part} made before at = by result ((rw is at opens).adds.leaves before (λ i. []) (λ i. []) (record {
-    owns = subst (λ place. OwnsFiles (no_files names tells) place old) (omega (arith, outputs_count _ _ _ _ at)) (none_owned _ _);
-    outputs = rw (← nothing_part (output_by (is_verbose tells))) at at;
-    none = λ i past. refl;
-  }) (λ i. refl)) where
-    by : (result : Result (Unit {0}) Fault)
-        → Leaves told before (filing_in (no_files names tells)) (all_open (λ i. [])) 0 (all_open (λ i. []))
-        (max 0 count) 0 count new result
-        → (OnOk result (OutputsAt told before part new))
-        × (IfErr result (λ why. StoppedBetween (output_by (is_verbose tells)) told before nothing part why new))
-    by (Ok done) leaves = (rw made at leaves, tt)
-    by (Err why) leaves = (tt, stopped_as _ _ (nothing_part _) made (stops_in_order leaves))
+-- what is there once the first were opened is all that must be written of no input
+module _ {told : Bool} (names : Naming) (tells : Tells) (delim : ℕ) (elide : Bool) (n : ℕ) {count : ℕ}
+    {files next : FilesState} {before old new : List Slot} (is : files ≡ no_files names tells)
+    (are : are_named names n ≡ true) (counted : count ≡ cond elide 0 n) (at : OutputsAt told before nothing old) where
+  pub opens_so : Opens told files 0 count old next new (Ok tt)
+      → OutputsAt told before (settled_by (round_plan delim n elide (filing_in (no_files names tells))) []) new
+  opens_so opens = let made = filed_are delim (filing_in (no_files names tells)) elide n [] are Open (starts_with delim elide n counted) in
+      rw made at ((rw is at opens).adds.leaves before _ (λ i. []) (starts_at names tells at) (λ i. refl))
+
+  pub opens_cut : {why : Fault} → Opens told files 0 count old next new (Err why)
+      → StoppedBetween (output_by (is_verbose tells)) told before nothing
+      (settled_by (round_plan delim n elide (filing_in (no_files names tells))) []) why new
+  opens_cut opens = let made = filed_are delim (filing_in (no_files names tells)) elide n [] are Open (starts_with delim elide n counted) in
+      rw (nothing_part (output_by (is_verbose tells)), made) at
+      (((rw is at opens).adds.leaves before _ (λ i. []) (starts_at names tells at) (λ i. refl)).stops _ _ _ _ 0 grow_same grow_same)
 
 -- where all files have names, the work is what was asked for
 pub does_all : (delim : ℕ) (filing others : Filing) (elide : Bool) (n : ℕ) → are_named filing.names n ≡ true
     → others ≡ filing → round_work (round_plan delim n elide others) ≡ split_work (round_plan delim n elide filing)
-does_all delim filing others elide n are same = ap (λ those. round_work (round_plan delim n elide those)) same ∙ ap work_by never where
-  never : ◌≡◌ {A = List ℕ → Bool} (λ x. false) (is_short (round_plan delim n elide filing))
-  never = fun_ext (λ x. not_short delim filing elide n x are)
-
-  work_by : (List ℕ → Bool) → Work
-  work_by short = record (split_work (round_plan delim n elide filing)) { is_complete = short; verdict = λ x. cond (short x) (Some Suffixes) None }
+does_all delim filing others elide n are same = rw same (ap (λ (short : List ℕ → Bool). record (split_work (round_plan delim n elide filing)) {
+  is_complete = short;
+  verdict = λ x. cond (short x) (Some Suffixes) None;
+}) (fun_ext (λ x. not_short delim filing elide n x are)))
 
 -- nothing waits
 
 pub joined_some : (these : List (List ℕ)) → joined (filter has_bytes these) ≡ joined these
 joined_some [] = refl
 joined_some ([] ∷ these) = joined_some these
-joined_some ((byte ∷ bytes) ∷ these) = ap (λ rest. (byte ∷ bytes) ++ rest) (joined_some these)
+joined_some ((byte ∷ bytes) ∷ these) = cc (joined_some these)
 
 pub joined_files : (delim : ℕ) (elide : Bool) (n : ℕ) (x : List ℕ)
     → joined (dealt_files delim elide n x) ≡ joined (round_robin delim n x)
@@ -322,21 +270,11 @@ pub dealt_all : (delim n : ℕ) (elide : Bool) (filing : Filing) (x : List ℕ) 
     → length (bytes_in (settled_by (round_plan delim n elide filing) x)) ≡ length x
 dealt_all delim n elide filing x some are = search (rules, shared_bytes, each_named, joined_files, all_dealt)
 
-pub none_waits : {round : RoundState} {x : List ℕ} → Holds round x → 0 ≡ length ((work round).waiting x)
-none_waits {round} {x} holds = sym (ap (λ n. length (drop n x)) (dealt_all round.delim round.count round.elide (filing_in round.files) x holds.some (all_have round.delim (filing_in round.files) round.elide round.count x holds.named)) ∙ ap length (drop-length x))
-
 -- Both ways to cut
-
--- what waits in a stage that cuts off parts
-pub parts_wait : {parts : PartsState} {x : List ℕ} → Stands parts x
-    → length parts.waiting ≡ length ((parts_state.work parts).waiting x)
-parts_wait {parts} {x} stands = ap length (stands.waits ∙ sym (waiting_is parts.limit (parts_state.filing_of parts) x
-    (ap (are_named (parts_state.filing_of parts).names) (sym (length-map (cut.parts parts.limit x) (share Closed))) ∙ part.all_have_names stands)))
 
 -- as long as the engine goes on, all files have names
 named_of : (splitter : Splitter) (x : List ℕ) → ways.Holds splitter x → Judges (ways.work splitter) x Suffixes → ⊥
-named_of (way.Parts parts) x holds judged =
-    absurd (let well = ap (λ (has : Bool). cond (not has) (Some Suffixes) None) (part.all_have_names holds) in cc)
+named_of (way.Parts parts) x holds judged = cc (part.all_have_names holds)
 named_of (way.Round round) x holds judged = cc
 named_of (way.Chunks state) x holds judged = no_suffixes state x judged
 named_of (way.Turn turn) x holds judged = cc
@@ -345,29 +283,23 @@ pub all_named : (splitter : Splitter) (x : List ℕ) → (as_if ways.terms).Hold
     → Judges (ways.work splitter) x Suffixes → ⊥
 all_named splitter x is judged = named_of _ _ is.holds (sym (verdict_as is.alike) ∙ judged)
 
--- and unless it writes what one file would have, more can come
+-- and unless it writes what one file would have, or only one chunk, more can come
 open_of : (splitter : Splitter) (x : List ℕ) → ways.Holds splitter x
-    → ((ways.work splitter).means.output ≡ gets_bytes → ⊥) → (ways.work splitter).is_complete x ≡ false
-open_of (way.Parts parts) x holds beside = sym (part.never_done holds)
-open_of (way.Round round) x holds beside = refl
-open_of (way.Chunks state) x holds beside = open_beside _ x _ refl beside holds
-open_of (way.Turn turn) x holds beside = refl
+    → ((ways.work splitter).means.output ≡ gets_bytes → ⊥) ⊎ ((state : ChunkerState) → splitter ≡ way.Chunks state → ⊥)
+    → (ways.work splitter).is_complete x ≡ false
+open_of (way.Parts parts) x holds which = sym (part.never_done holds)
+open_of (way.Round round) x holds which = refl
+open_of (way.Chunks state) x holds (inl beside) = open_beside _ x _ refl beside holds
+open_of (way.Chunks state) x holds (inr other) = absurd (other state refl)
+open_of (way.Turn turn) x holds which = refl
 
 pub goes_on : (splitter : Splitter) (x : List ℕ) → (as_if ways.terms).Holds splitter x
     → ((ways.work splitter).means.output ≡ gets_bytes → ⊥) → (ways.work splitter).is_complete x ≡ false
-goes_on splitter x is beside = complete_as is.alike ∙ open_of _ _ is.holds beside
-
--- only one chunk can be complete
-never_of : (splitter : Splitter) → ((state : ChunkerState) → splitter ≡ way.Chunks state → ⊥) → (x : List ℕ)
-    → ways.Holds splitter x → (ways.work splitter).is_complete x ≡ false
-never_of (way.Parts parts) other x holds = sym (part.never_done holds)
-never_of (way.Round round) other x holds = refl
-never_of (way.Chunks state) other x holds = absurd (other state refl)
-never_of (way.Turn turn) other x holds = refl
+goes_on splitter x is beside = complete_as is.alike ∙ open_of _ _ is.holds (inl beside)
 
 pub never_done : (splitter : Splitter) → ((state : ChunkerState) → splitter ≡ way.Chunks state → ⊥) → (x : List ℕ)
     → (as_if ways.terms).Holds splitter x → (ways.work splitter).is_complete x ≡ false
-never_done splitter other x is = complete_as is.alike ∙ never_of _ other _ is.holds
+never_done splitter other x is = complete_as is.alike ∙ open_of _ _ is.holds (inr other)
 
 -- a split into parts isn't complete where any engine of it goes on
 told_beside : (verbose : Bool) → output_by verbose ≡ gets_bytes → ⊥
@@ -377,30 +309,31 @@ told_beside false is = cc
 pub open_after : (those : Work) (verbose : Bool) → those.means.output ≡ output_by verbose
     → (after : Splitter) (z : List ℕ) → ways.work after ≡ those → (as_if ways.terms).Holds after z
     → those.is_complete z ≡ false
-open_after those verbose told after z same is = ap (λ (those : Work). those.is_complete z) (sym same)
-    ∙ goes_on _ z is (λ bytes. told_beside _
-    (sym told ∙ ap (λ (those : Work). those.means.output) (sym same) ∙ bytes))
-
-spares : (splitter after : Splitter) (z : List ℕ) (n : ℕ) → ways.work after ≡ ways.work splitter
-    → (ways.work splitter).is_complete z ≡ false
-    → IsSpare (ways.work splitter) z n → n ≤ (ways.work splitter).ahead
-spares splitter after z n same going spare = omega (arith, none_spare _ z n (lawful splitter) going spare)
+open_after those verbose told after z same is = rw (← same) (goes_on _ z is (λ bytes. told_beside verbose (cc)))
 
 pub spares_none : (most : ℕ) (splitter : Splitter) → ((state : ChunkerState) → splitter ≡ way.Chunks state → ⊥)
     → MayGet (as_if ways.terms) splitter most
 spares_none most (way.Parts parts) other x piece after n holds going within same later spare =
-    spares (way.Parts parts) after (x ++ piece) n same
-    (open_after _ (parts_state.filing_of parts).verbose refl after (x ++ piece) same later) spare
+    omega (
+      arith,
+      none_spare _ (x ++ piece) n (lawful (way.Parts parts) _ holds.holds)
+          (open_after _ (parts_state.filing_of parts).verbose refl after (x ++ piece) same later) spare,
+    )
 spares_none most (way.Round round) other x piece after n holds going within same later spare =
-    spares (way.Round round) after (x ++ piece) n same refl spare
+    omega (arith, none_spare _ (x ++ piece) n (lawful (way.Round round) _ holds.holds) refl spare)
 spares_none most (way.Turn turn) other x piece after n holds going within same later spare =
-    spares (way.Turn turn) after (x ++ piece) n same refl spare
+    omega (arith, none_spare _ (x ++ piece) n (lawful (way.Turn turn) _ holds.holds) refl spare)
 spares_none most (way.Chunks state) other x piece after n holds going within same later spare = absurd (other state refl)
 
 held_of : (splitter : Splitter) (x : List ℕ) → ways.Holds splitter x
     → held splitter ≡ length ((ways.work splitter).waiting x)
-held_of (way.Parts parts) x holds = parts_wait holds
-held_of (way.Round round) x holds = none_waits holds
+held_of (way.Parts parts) x holds = ap length (holds.waits ∙ sym (waiting_is parts.limit (parts_state.filing_of parts) x
+    (rw length-map at (part.all_have_names holds))))
+held_of (way.Round round) x holds = rw (
+  dealt_all round.delim round.count round.elide (filing_in round.files) x holds.some
+      (all_have round.delim (filing_in round.files) round.elide round.count x holds.named),
+  drop-length,
+) refl
 held_of (way.Chunks state) x holds = chunks_wait _ x holds
 held_of (way.Turn turn) x holds = refl
 

@@ -2,32 +2,32 @@
 use Rattle.std.proofs.{
   lemmas.{Grind.common_steps, List.FromFn.get_or-map-range_with_len},
   Common.{◌≡◌, ℕ, ◌+◌, ◌%◌, ◌<◌, Bool, IsTrue, List, [], ◌++◌, get_or, Ok, Err, Result, refl, arith},
-  Math.Nat.{mod-add-mod, mod-mod},
+  Math.Nat.{mod-add-mod},
 }
 use Rattle.seg_core.{proofs.Delimiters.delimiters-append, specs.Line.{delimiters, lines_of}}
 use Rattle.ports_core.{
   specs.{
-    Engine.{TakesIn, cut},
-    Part.gets_bytes,
+    Engine.{cut},
     Slot.{Slot, is_writable},
     Turn.fault_in,
     inner.Write.Wrote,
     declared.fault.Fault.{Fault, TheVariants.Memory},
   },
-  proofs.{PartLemmas.{out_cut, out_more, stopped_here}, SlotSteps.{write_rose, written_writable}},
+  proofs.{PartLemmas.{out_cut, out_more}, SlotSteps.{write_rose, written_writable}},
 }
 use Rattle.split_core.{
   specs.{
     inner.{Dealt.dealt_piece, Ways.{EndsAs, PassesAs}},
     Parts.dealt,
-    laws.{WorkLaws.lawful, DealLaws.dealt_append},
+    laws.DealLaws.dealt_append,
     Turn.{Holds, TurnState, work},
   },
-  proofs.CutLaws.dealt_same,
+  proofs.{CutLaws.dealt_same, WayLemmas.passes_lacking},
 }
 use Rattle.ports_core.specs.inner.Write as short
 use Rattle.split_core.specs.Ways as ways
 use Rattle.split_core.specs.declared.splitter.Splitter.TheVariants as way
+use Rattle.ports_core.specs.Engine.{PutsOut, CutsOff}
 
 -- what a piece adds, and where it leaves the stage
 abbrev pub due : TurnState → List ℕ → List ℕ
@@ -39,7 +39,7 @@ passed turn piece = record turn { next = (turn.next + delimiters turn.delim piec
 -- what the file has of a gathered piece
 pub picked : (turn : TurnState) (piece : List ℕ) {gathered : List (List ℕ)} → turn.place < turn.count
     → gathered ≡ dealt_piece turn.delim turn.count turn.next piece → get_or gathered turn.place [] ≡ due turn piece
-picked turn piece within is = grind (arith, common_steps, get_or-map-range_with_len)
+picked turn piece within is = grind (arith, get_or-map-range_with_len)
 
 -- What a piece leaves
 
@@ -47,65 +47,27 @@ picked turn piece within is = grind (arith, common_steps, get_or-map-range_with_
 went_out : {turn : TurnState} {x : List ℕ} (piece : List ℕ) → Holds turn x
     → record ((work turn).settled x) { out = ((work turn).settled x).out ++ due turn piece }
     ≡ (work turn).settled (x ++ piece)
-went_out {turn} {x} piece holds =
-    grind (arith, common_steps, dealt_append, dealt_same, mod-mod)
-
-takes_in : (turn : TurnState) (piece : List ℕ) → TakesIn ways.Holds piece (way.Turn turn) (way.Turn (passed turn piece))
-takes_in turn piece x holds = grind (arith, common_steps, mod-add-mod, delimiters-append)
+went_out {turn} {x} piece holds = grind (arith, dealt_append, dealt_same)
 
 pub passes_at : (told : Bool) (turn : TurnState) (piece : List ℕ) {before after : List Slot}
     (result : Result (Unit {0}) Fault) → IsTrue (is_writable before 0)
     → Wrote told 0 (due turn piece) before after (fault_in result)
     → PassesAs told (way.Turn turn) piece before after (way.Turn (passed turn piece)) result
-passes_at told turn piece {before} {after} (Ok u) can wrote = record {
-  same = refl;
-  size = omega arith;
-  holds = takes_in _ _;
-  outputs = λ start x at. rw (went_out _ at.holds) at (out_more _ _ _ _ _ _ at.outputs wrote);
-  ready = written_writable _ _ 0 0 _ can wrote;
-  owns = λ first own. tt;
-  there = λ are. tt;
-  cut = tt;
-  met = tt;
-}
-passes_at told turn piece {before} {after} (Err why) can (short.broke n broke) = record {
-  same = refl;
-  size = omega arith;
-  holds = tt;
-  outputs = tt;
-  ready = tt;
-  owns = λ first own. tt;
-  there = λ are. tt;
-  cut = λ start x at. cut refl (rw (went_out _ at.holds) at (out_cut _ _ _ _ _ _ n at.outputs broke));
-  met = ((λ is. refl), (λ is. refl), write_rose _ 0 _ n _ _ can broke);
-}
+passes_at told turn piece {before} {after} (Ok u) can wrote =
+    let outputs : PutsOut ways.terms (way.Turn turn) (λ x. (work turn).settled (x ++ piece)) told before after =
+    λ start x at. rw (went_out _ at.holds) at (out_more _ _ _ _ _ _ at.outputs wrote) in
+    let ready = written_writable _ _ 0 0 _ can wrote in grind (arith, mod-add-mod, delimiters-append)
+passes_at told turn piece {before} {after} (Err why) can (short.broke n broke) =
+    let cuts : CutsOff ways.terms (way.Turn turn) (λ x. (work turn).settled (x ++ piece)) told before after why =
+    λ start x at. cut refl (rw (went_out _ at.holds) at (out_cut _ _ _ _ _ _ n at.outputs broke)) in
+    let rose = write_rose _ 0 _ n _ _ can broke in grind (arith, common_steps)
 
 -- there was no room for it
 pub lacks_room : {told : Bool} (turn : TurnState) (next : ℕ) (piece : List ℕ) {slots : List Slot}
     → PassesAs told (way.Turn turn) piece slots slots (way.Turn (record turn { next = next })) (Err Memory)
-lacks_room {told} turn next piece {slots} = record {
-  same = refl;
-  size = omega arith;
-  holds = tt;
-  outputs = tt;
-  ready = tt;
-  owns = λ first own. tt;
-  there = λ are. tt;
-  cut = λ start x at. cut refl (stopped_here gets_bytes told start _ _ Memory slots slots at.outputs ((lawful (way.Turn turn)).grows x piece) refl tt tt);
-  met = (refl, refl);
-}
+lacks_room turn next piece = passes_lacking (way.Turn turn) _ piece refl (omega arith) (λ first own. tt) refl
 
 -- At the end nothing is left to be written.
 pub finishes_by : (told : Bool) (turn : TurnState) (slots : List Slot) → IsTrue (is_writable slots 0)
     → EndsAs told (way.Turn turn) slots slots (way.Turn turn) (Ok tt)
-finishes_by told turn slots can = record {
-  same = refl;
-  size = omega arith;
-  well = λ x holds. refl;
-  outputs = λ before x at. at.outputs;
-  writable = λ writes. can;
-  owns = λ first own. tt;
-  there = λ are. tt;
-  cut = tt;
-  met = tt;
-}
+finishes_by told turn slots can = grind arith

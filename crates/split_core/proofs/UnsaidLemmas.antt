@@ -1,39 +1,48 @@
 -- Chunks of an input that doesn't say its length.
+use Rattle.std.proofs.Common.{rules}
+use Rattle.std.proofs.lemmas.Grind.{common_steps}
 use Rattle.std.specs.{Option.is_none, List.range_with_len}
 use Rattle.std.proofs.{
   lemmas.Bool.{cases_lt, false≢true, ltb-false, ltb-true, or_cases, or_parts},
   lemmas.List.{append-nil, get_or_past, drop_at, take_all, take-append-drop, length-append, length-drop, length-take},
   lemmas.List.nil_from_length,
   lemmas.List.FromFn.{get_or-map-range_with_len, length-map-range_with_len, map-range_with_len_more},
-  lemmas.Nat.div-add-mod',
-  Common.{◌≡◌, ℕ, ◌+◌, ◌-◌, ◌<◌, ◌≤◌, max, min, zero, suc, Bool, true, false, ◌||◌, nat_lt, List, [], ◌∷◌, ◌++◌, ◌⊎◌},
-  Common.{length, map, take, drop, replicate, get_or, ◌/◌, ◌*◌, Option, Some, None, Result, Ok, Err, inl, inr, refl},
-  Common.{sym, ◌∙◌, ap, subst, arith, append_assoc},
+  Common.{◌≡◌, ℕ, ◌+◌, ◌-◌, ◌<◌, ◌≤◌, max, min, zero, suc, Bool, true, false, ◌||◌, nat_lt, List, [], ◌∷◌},
+  Common.{◌++◌, ◌⊎◌},
+  Common.{IfNone, length, map, take, drop, replicate, get_or, Option, Some, None, Result, Ok, Err, inl},
+  Common.{inr, refl},
+  Common.{sym, ◌∙◌, ap, arith, append_assoc},
   Math.Seq.{drop-append-add, drop-nil},
 }
 use Rattle.ports_core.{
   specs.{
-    Part.{Begins, IsBeginning, only_out},
+    Part.{Begins, IsBeginning},
     Slot.Slot,
     declared.{fault.Fault.Fault, file_writer.Opening.TheVariants.Never},
     Turn.fault_in,
   },
-  proofs.{PartLemmas.{part_begins_itself, part_trans}, ShareLemmas.next_begins, FileWriterLemmas.{in_any, where_well}},
+  proofs.{
+    PartLemmas.{part_begins_itself, part_trans},
+    ShareLemmas.next_begins,
+    FileWriterLemmas.{in_any, where_well},
+  },
 }
 use Rattle.seg_core.specs.declared.{cut.Chunks.Chunks, unit.Unit.Unit as Counted}
 use Rattle.split_core.specs.{
-  Chunks.{before_chunk, pieces_in, begun_before, chunk_at, chunk_start, chunks_of, chunks_within, decided, ended},
+  Chunks.{before_chunk, pieces_in, begun_before, chunk_at, chunk_start, chunks_within, ended},
   Chunks.{is_within, open_from},
   Parts.{CutUp, uncut},
-  ChunkerState.{AimState, Carries, ChunkerState, Course, course_of, to_files, to_output, CutterState, Holds, HoldsBy},
-  ChunkerState.{IsAimed, IsUnsaid, TargetState, can_cut, course, first_on, in_files, in_output, work_on},
+  ChunkerState.{AimState, Carries, ChunkerState, Course, course_of, to_files, to_output, CutterState, Holds},
+  ChunkerState.{IsAimed, IsUnsaid, TargetState, can_cut, course, first_on, in_files, in_output, part_on, whole_on},
+  ChunkerState.{work, work_on},
   Split.manner_of,
   ChunkWork.draft_by,
-  inner.Chunker.{EndsAs, PassesAs, made},
-  inner.Cutter.{BeginsBefore, Cuts, CutsAs, EndsFull, EndsHeld, IsCut, IsCutOff, IsSettled, part_so, Settles, WritesTo},
+  inner.Chunker.{EndsAs, PassesAs},
+  inner.Cutter.{BeginsBefore, Cuts, CutsAs, EndsFull, EndsHeld, IsCut, IsCutOff, IsFront, Settles, WritesTo},
   inner.Cutter.{all_before, cut_to},
-  inner.Sends.{Brings, Changes, Ends as TargetEnds, Sends, with_fulls, with_rest, part_on, whole_on},
-  laws.ChunkLaws.{chunk_none, cut_all, ended_all, passed_open, ended_only, start_first, begin_then_rest, start_by_size},
+  inner.Sends.{Brings, Changes, EndsAll, Gives, Stays, with_fulls, with_rest},
+  laws.ChunkLaws.{chunk_none, cut_all, ended_all, passed_open, ended_only, start_first, begin_then_rest},
+  laws.ChunkLaws.start_by_size,
   laws.BegunLaws.{begun_of_none, begun_again, begun_begins, begun_monotone, begun_on, begun_some, begun_stays},
   laws.BegunLaws.open_within,
 }
@@ -41,7 +50,7 @@ use Rattle.split_core.proofs.{
   ChunkerWays.{ends_at, passes_at},
   CutterLemmas.{cut_of, so_grows, fulls_are, grown, cutting, has_cut, name_of, no_line, open_early, some_in},
   ChunkerLemmas.{complete_all, past_is, whole_within},
-  TargetLemmas.{whole_draft, piece_full, brings_as, brings_then, brings_wider, sends_as, sends_none},
+  TargetLemmas.{brings_none, brings_then, brings_wider, piece_full, stays_none, stays_then, whole_draft},
 }
 
 -- What is settled is written
@@ -49,10 +58,7 @@ use Rattle.split_core.proofs.{
 -- what comes goes on with what was cut off
 goes_on_so : (cutter : CutterState) (end : ℕ) (w : List ℕ) → BeginsBefore cutter end w
     → true ≡ (nat_lt cutter.at end || cutter.is_within) → open_from cutter.chunks.unit cutter.chunks.delim w < end
-goes_on_so cutter end w (has, all) short = elim (or_cases (nat_lt cutter.at end) cutter.is_within (sym short)) [
-  | inl before ↦ omega (arith, ltb-true _ _ before, open_within cutter.chunks.unit cutter.chunks.delim w)
-  | inr within ↦ open_early _ _ _ w all (sym has.within ∙ within)
-]
+goes_on_so cutter end w (has, all) short = grind (arith, common_steps, or_cases, ltb-true, open_within, open_early)
 
 writes_on : (cutter : CutterState) (end : ℕ) (w front : List ℕ) → BeginsBefore cutter end w
     → true ≡ (nat_lt cutter.at end || cutter.is_within)
@@ -63,10 +69,8 @@ writes_on cutter end w front so short =
 -- nothing waits, or it goes with what comes later
 still_all : (cutter : CutterState) (waiting : List ℕ) (end : ℕ) (z : List ℕ) → BeginsBefore cutter end z
     → (length waiting ≡ 0) ⊎ (false ≡ (nat_lt cutter.at end || cutter.is_within)) → all_before cutter waiting end z ≡ z
-still_all cutter waiting end z (has, all) (inl none) = rw (nil_from_length waiting none, append-nil z) all
-still_all cutter waiting end z (has, all) (inr stops) = let (before, within) = or_parts (nat_lt cutter.at end) cutter.is_within (sym stops) in
-    let open_at = no_line _ _ z (sym has.within ∙ within) in
-    begun_stays _ _ _ z _ (omega (arith, ltb-false _ _ before)) ∙ all
+still_all cutter waiting end z (has, all) (inl none) = grind (arith, common_steps)
+still_all cutter waiting end z (has, all) (inr stops) = grind (arith, common_steps, or_parts, no_line, begun_stays, ltb-false)
 
 pub settles_none : {told : Bool} {cutter : CutterState} {waiting : List ℕ} {end : ℕ} {slots : List Slot}
     → IsAimed cutter.target.aim slots
@@ -75,37 +79,34 @@ pub settles_none : {told : Bool} {cutter : CutterState} {waiting : List ℕ} {en
 settles_none {cutter = cutter} {waiting} {end} ready ends = record {
   chunks = refl;
   bound = omega arith;
-  sends = sends_as (λ z. z) _ (λ z so. so) (λ z so. refl)
-      (λ z so. ap uncut (sym (still_all _ _ _ z so ends)))
-      (sends_none {So = BeginsBefore cutter end} {from = uncut} ready (λ z so. so.0.carries));
-  stands = λ z so. rw (still_all _ _ _ z so ends) (so.0, sym (drop_at z waiting (length z) refl));
+  stays = stays_none ready;
+  brings = λ z so. rw (still_all _ _ _ z so ends) brings_none;
+  leads = λ z so. rw (still_all _ _ _ z so ends) (so.0, sym (drop_at z waiting (length z) refl));
 }
 
 module _ {told : Bool} {cutter : CutterState} (waiting : List ℕ) (end : ℕ) {old : List Slot}
     (short : true ≡ (nat_lt cutter.at end || cutter.is_within)) where
-  sends_on : {next : TargetState} {new : List Slot} (fault : Option Fault)
-      → Changes told cutter.target (with_rest (cut_to cutter end waiting)) old new next fault
-      → Sends told cutter.target (BeginsBefore cutter end) (λ z. uncut z)
-      (λ z. uncut (all_before cutter waiting end z)) old new next fault
-  sends_on fault changes = sends_as (λ z. uncut z) _
-      (λ z (has, all). let less : cutter.target.place < cutter.chunks.count =
-      omega (arith, some_in has) in
-      (has.carries, name_of _ _ _ has.all less))
-      (λ z so. refl) (λ z so. ap uncut (sym (writes_on _ _ z _ so short))) changes
+  gives_on : {next : TargetState} {new : List Slot} {fault : Option Fault}
+      → Changes told cutter.target (with_rest (cut_to cutter end waiting)) old new next fault → (z : List ℕ)
+      → BeginsBefore cutter end z
+      → Gives told (course cutter) cutter.target next (uncut z) (uncut (all_before cutter waiting end z)) old new fault
+  gives_on changes z so = let has = so.0 in let less : cutter.target.place < cutter.chunks.count = omega (arith, some_in has) in
+      rw (writes_on _ _ z _ so short) (changes.gives (uncut z) (has.carries, name_of _ _ _ has.all less))
 
   pub settles_on : {next : CutterState} {left : List ℕ} {new : List Slot} {n : ℕ}
       → WritesTo told cutter end waiting old new next (Ok n) → left ≡ drop n waiting
       → Settles told cutter waiting end old new next left None
   settles_on {next} {left} {new} {n} writes is = let y = cut_to cutter end waiting in let step = cutting _ writes in
       let long : length y ≡ n = omega (arith, ap length writes.count.2, length-take n waiting) in
-      let sends = sends_on _ writes.sends in record {
+      record {
         chunks = writes.chunks;
         bound = omega (arith, ap length is, length-drop n waiting);
-        sends = sends;
-        stands = λ z so. let all = writes_on _ _ z _ so short in
+        stays = writes.changes.stays;
+        brings = λ z so. (gives_on writes.changes z so).brings;
+        leads = λ z so. let all = writes_on _ _ z _ so short in
             let both : length (z ++ y) ≡ length z + n = omega (arith, length-append z y) in (
-              rw all (has_cut y writes.chunks step.stays (omega arith) writes.within
-                  (omega arith) so.0 (rw all at (sends.carries z so))),
+              rw all (has_cut y writes.chunks step.course (omega arith) writes.within
+                  (omega arith) so.0 (rw all at (gives_on writes.changes z so).carries)),
               is ∙ sym (ap (λ x. drop (length x) (z ++ waiting)) all ∙ ap (λ k. drop k (z ++ waiting)) both ∙ drop-append-add z waiting n),
             );
       }
@@ -116,8 +117,9 @@ module _ {told : Bool} {cutter : CutterState} (waiting : List ℕ) (end : ℕ) {
   settles_not {why = why} writes = record {
     chunks = writes.chunks;
     bound = omega arith;
-    sends = sends_on _ writes.sends;
-    stands = tt;
+    stays = writes.changes.stays;
+    brings = λ z so. (gives_on writes.changes z so).brings;
+    leads = λ z so. tt;
   }
 
 -- A piece
@@ -127,36 +129,35 @@ begun_later : (unit : Counted) (delim : ℕ) {place other : ℕ} (x : List ℕ) 
 begun_later unit delim {place} {other} x within all = same (begun_monotone _ _ x within) (begun_begins _ _ _ x) where
   same : IsBeginning (begun_before unit delim place x) (begun_before unit delim other x)
       → IsBeginning (begun_before unit delim other x) x → begun_before unit delim other x ≡ x
-  same (more, is) (rest, both) = let none : length rest ≡ 0 = omega (arith, ap length is, length-append (begun_before unit delim place x) more, ap length all, ap length both, length-append (begun_before unit delim other x) rest) in
+  same (more, is) (rest, both) = let none : length rest ≡ 0 = omega (
+    arith,
+    ap length is,
+    length-append (begun_before unit delim place x) more,
+    ap length all,
+    ap length both,
+    length-append
+        (begun_before unit delim other x) rest,
+  ) in
       sym (rw (nil_from_length rest none, append-nil (begun_before unit delim other x)) at both)
 
-decided_is : (on : Course) (chunks : Chunks) (x : List ℕ)
-    → (work_on on chunks None).settled x ≡ part_on on (decided chunks (first_on on) None x)
-decided_is (in_files filing elide) chunks x = refl
-decided_is (in_output chunk) chunks x = refl
-
 pub first_fits : (on : Course) (count : ℕ) → can_cut on count ≡ true → first_on on ≤ count
-first_fits (in_files filing elide) count can = omega (arith, ltb-true _ _ can)
-first_fits (in_output chunk) count can = omega (arith, ltb-true _ _ can)
+first_fits (in_files filing elide) count can = search rules
+first_fits (in_output chunk) count can = search rules
 
 pub is_unsaid : {chunker : ChunkerState} {x : List ℕ} → chunker.said ≡ None → Holds chunker x → IsUnsaid chunker x
-is_unsaid {chunker} {x} said holds = subst (λ said. HoldsBy said chunker x) said holds
+is_unsaid {chunker} {x} said holds = grind (arith, common_steps)
 
 unsaid_is : {chunker : ChunkerState} {x : List ℕ} → chunker.said ≡ None → IsUnsaid chunker x → Holds chunker x
-unsaid_is {chunker} {x} said is = subst (λ said. HoldsBy said chunker x) (sym said) is
-
-made_none : (chunker : ChunkerState) → chunker.said ≡ None
-    → work_on (course chunker.cutter) chunker.cutter.chunks None ≡ made chunker
-made_none chunker said = ap (work_on (course chunker.cutter) chunker.cutter.chunks) (sym said)
+unsaid_is {chunker} {x} said is = grind (arith, common_steps)
 
 -- what was cut off, of what came in
 abbrev pub cut_front : ChunkerState → List ℕ → List ℕ
 cut_front chunker x = before_chunk chunker.cutter.chunks (length x) (first_on (course chunker.cutter)) x
 
 settled_none : (chunker : ChunkerState) (x : List ℕ) → chunker.said ≡ None
-    → part_on (course chunker.cutter) (uncut (cut_front chunker x)) ≡ (made chunker).settled x
+    → part_on (course chunker.cutter) (uncut (cut_front chunker x)) ≡ (work chunker).settled x
 settled_none chunker x said =
-    rw (← made_none chunker said) (sym (decided_is (course chunker.cutter) chunker.cutter.chunks x))
+    rw said refl
 
 module _ {chunker : ChunkerState} {x : List ℕ} (has : IsUnsaid chunker x) where
   all_came : cut_front chunker x ++ chunker.waiting ≡ x
@@ -194,32 +195,29 @@ module _ (chunker : ChunkerState) (piece : List ℕ) {end : ℕ}
 
 module _ {told : Bool} {chunker next : ChunkerState} {piece : List ℕ} {end : ℕ} {old new : List Slot}
     (said : chunker.said ≡ None) (same : next.said ≡ chunker.said)
-    (can : can_cut (course chunker.cutter) chunker.cutter.chunks.count ≡ true)
     (spare : next.spare ≡ chunker.spare)
     (ends : end ≡ chunk_start chunker.cutter.chunks.count (chunker.cutter.at + length (chunker.waiting ++ piece))
     (first_on (course chunker.cutter))) where
   pub passes_unsaid : (result : Result (Unit {0}) Fault)
       → Settles told chunker.cutter (chunker.waiting ++ piece) end old new next.cutter next.waiting (fault_in result)
       → PassesAs told chunker piece old new next result
-  passes_unsaid result settles = passes_at result (record { can = can; said = same; chunks = settles.chunks })
+  passes_unsaid result settles = passes_at result (record { said = same; chunks = settles.chunks })
       (omega (arith, length-append chunker.waiting piece))
-      (brings_as (cut_front chunker) fault (λ x holds. before (is_unsaid said holds))
-      (λ x holds. settled_none chunker x said)
-      (λ x holds. rw (to_is chunker piece ends (is_unsaid said holds)) (settled_none chunker (x ++ piece) said))
-      settles.sends.brings)
-      (where_well fault settles.stands (λ later x holds. let has = is_unsaid said holds in
-      let (cut, left) = later (cut_front chunker x) (before has) in
+      (record {
+        stays = settles.stays;
+        brings = λ x holds. let has = is_unsaid said holds in
+            rw (to_is chunker piece ends has, settled_none chunker x said, settled_none chunker (x ++ piece) said) at
+            (settles.brings _ (before has));
+      })
+      (λ x holds. let has = is_unsaid said holds in
       let to = to_is chunker piece ends has in
       let on : cut_front next (x ++ piece) ≡ cut_front chunker (x ++ piece) =
-      rw (settles.chunks, settles.sends.brings.stays) refl in
-      unsaid_is (same ∙ said) (record {
-        cut = rw on (rw to at cut);
-        waits = rw on (rw (to, came_more has piece) at left);
+      rw (settles.chunks, settles.stays.course) refl in
+      where_well (fault_in result) (settles.leads _ (before has)) (λ led. unsaid_is (same ∙ said) (record {
+        cut = rw on (rw to at led.0);
+        waits = rw on (rw (to, came_more has piece) at led.1);
         spare = spare ∙ has.spare;
       }))) where
-        fault : Option Fault
-        fault = fault_in result
-
         before : {x : List ℕ} → IsUnsaid chunker x → BeginsBefore chunker.cutter end (cut_front chunker x)
         before has = rw (end_is chunker piece ends has) (front_before has piece)
 
@@ -230,15 +228,19 @@ none_waits : (unit : Counted) (delim place : ℕ) (z waiting : List ℕ) → beg
     → is_within unit delim z ≡ true → length waiting ≡ 0
 none_waits unit delim place z waiting is within = elim (cases_lt 0 (length waiting)) [
   | inr none ↦ omega arith
-  | inl some ↦ (let early = open_early unit delim place z (ap (begun_before unit delim place) (sym is) ∙ begun_again unit delim place (z ++ waiting) ∙ is) within in
-      absurd (omega (arith, begun_some unit delim (max (place - length z) 1) waiting (omega arith) some, ap length (sym is ∙ begun_on unit delim place z waiting early), length-append z (begun_before unit delim (max (place - length z) 1) waiting))))
+  | inl some ↦ (let early = open_early unit delim place z
+      (ap (begun_before unit delim place) (sym is) ∙ begun_again unit delim place (z ++ waiting) ∙ is) within in
+      absurd (omega (
+        arith,
+        begun_some unit delim (max (place - length z) 1) waiting (omega arith) some,
+        ap length
+            (sym is ∙ begun_on unit delim place z waiting early),
+        length-append z (begun_before unit delim (max (place - length z) 1) waiting),
+      )))
 ]
 
 pub start_some : (n size : ℕ) → 0 < n → 0 < size → 0 < chunk_start n size 1
-start_some n size count some = elim (cases_lt 0 (size / n)) [
-  | inl more ↦ omega arith
-  | inr none ↦ (let e : size / n ≡ 0 = omega arith in omega (arith, div-add-mod' size n, ap (λ q. q * n) e))
-]
+start_some n size count some = grind (arith, common_steps)
 
 none_of : (chunks : Chunks) (size place : ℕ) → chunk_at chunks size [] place ≡ []
 none_of chunks size place = ap (drop (length (before_chunk chunks size place []))) (begun_of_none _ _ _) ∙ drop-nil _
@@ -251,8 +253,7 @@ none_ended chunks size count some = ended_only {chunks = chunks} {size = size} {
 })
 
 pub none_within : (chunks : Chunks) (size : ℕ) → 0 < chunks.count → 0 < size → chunks_within chunks size [] ≡ uncut []
-none_within chunks size count some = rw (none_ended chunks size count some)
-    (ap (λ rest. record { full = []; rest = rest }) (none_of chunks size 0))
+none_within chunks size count some = grind (arith, common_steps, none_ended, none_of)
 
 empty_map : (f : ℕ → List ℕ) (a n : ℕ) → ((i : ℕ) → f i ≡ []) → map f (range_with_len a n) ≡ replicate n []
 empty_map f a zero none = refl
@@ -263,7 +264,8 @@ all_empty chunks count = by chunks.count refl count where
   by : (n : ℕ) → chunks.count ≡ n → 0 < n → with_fulls n (uncut []) ≡ chunks_within chunks 0 []
   by zero is some = absurd (omega arith)
   by (suc n) is some = fulls_are n (uncut [])
-      ∙ ap (λ full. record { full = full; rest = [] }) (sym (empty_map (chunk_at chunks 0 []) 0 (suc n) (none_of chunks 0)) ∙ ap (λ n. map (chunk_at chunks 0 []) (range_with_len 0 n)) (sym is))
+      ∙ ap (λ full. record { full = full; rest = [] })
+      (sym (empty_map (chunk_at chunks 0 []) 0 (suc n) (none_of chunks 0)) ∙ ap (λ n. map (chunk_at chunks 0 []) (range_with_len 0 n)) (sym is))
       ∙ sym (cut_all chunks 0 [] (omega arith) (omega arith))
 
 -- the first chunk of a text is what stands before the second
@@ -274,7 +276,8 @@ first_cut chunks size z count fits all = by (cases_lt 0 size) where
   by (inl some) = let none = none_ended chunks size count some in
       let n : ended chunks size z - ended chunks size [] ≡ ended chunks size z = omega arith in
       let place : ended chunks size [] + 1 ≡ 1 = omega arith in
-      ap (λ n. with_fulls n (uncut z)) (sym n) ∙ ap (λ cut. with_fulls (ended chunks size z - ended chunks size []) (with_rest z cut)) (sym (none_within chunks size count some))
+      ap (λ n. with_fulls n (uncut z)) (sym n)
+      ∙ ap (λ cut. with_fulls (ended chunks size z - ended chunks size []) (with_rest z cut)) (sym (none_within chunks size count some))
       ∙ grown chunks size [] z count fits (ap (λ place. before_chunk chunks size place z) place ∙ all)
   by (inr empty) = let none : z ≡ [] = nil_from_length z (omega arith) in let e : size ≡ 0 = omega arith in
       rw (none, e) (ap (λ n. with_fulls n (uncut [])) (ended_all chunks {size = 0} [] count (omega arith)) ∙ all_empty chunks count)
@@ -288,21 +291,15 @@ fulls_past chunk (suc n) cut = piece_full (pieces_in (with_fulls n cut)) chunk �
 
 pub past_pieces : (chunks : Chunks) (size chunk : ℕ) (z : List ℕ) → before_chunk chunks size chunk z ≡ z
     → get_or (pieces_in (chunks_within chunks size z)) chunk [] ≡ []
-past_pieces chunks size chunk z all = let f = chunk_at chunks size z in let n = ended chunks size z in
-    ap (λ pieces. get_or pieces chunk []) (sym (map-range_with_len_more f 0 n n (omega arith))) ∙ by (cases_lt chunk (n + 1)) where
-      by : (chunk < ended chunks size z + 1) ⊎ (ended chunks size z + 1 ≤ chunk)
-          → get_or (map (chunk_at chunks size z) (range_with_len 0 (ended chunks size z + 1))) chunk [] ≡ []
-      by (inl within) = get_or-map-range_with_len (chunk_at chunks size z) 0 (ended chunks size z + 1) chunk chunk [] within (omega arith) ∙ chunk_none chunks size z chunk all
-      by (inr past) = get_or_past (map (chunk_at chunks size z) (range_with_len 0 (ended chunks size z + 1))) chunk []
-          (omega (arith, length-map-range_with_len (chunk_at chunks size z) 0 (ended chunks size z + 1)))
+past_pieces chunks size chunk z all =
+    grind (arith, common_steps, map-range_with_len_more, cases_lt, get_or-map-range_with_len, chunk_none, get_or_past, length-map-range_with_len)
 
 part_same : (on : Course) (chunks : Chunks) (size : ℕ) (z : List ℕ) → 0 < chunks.count → length z ≤ size
     → before_chunk chunks size (first_on on) z ≡ z
     → part_on on (with_fulls (ended chunks size z) (uncut z)) ≡ part_on on (chunks_within chunks size z)
 part_same (in_files filing elide) chunks size z count fits all = ap (part_on (in_files filing elide)) (first_cut _ _ z count fits all)
 part_same (in_output zero) chunks size z count fits all = ap (part_on (in_output zero)) (first_cut _ _ z count fits all)
-part_same (in_output (suc chunk)) chunks size z count fits all = let e : max (suc chunk) 1 ≡ suc chunk = omega arith in
-    ap only_out (fulls_past (suc chunk) (ended chunks size z) (uncut z) ∙ sym (past_pieces chunks size (suc chunk) z (ap (λ place. before_chunk chunks size place z) (sym e) ∙ all)))
+part_same (in_output (suc chunk)) chunks size z count fits all = grind (arith, common_steps, fulls_past, past_pieces)
 
 fulls_long : (n : ℕ) (cut : CutUp) → length (with_fulls n cut).full ≡ length cut.full + n
 fulls_long zero cut = omega arith
@@ -314,15 +311,7 @@ carries_same : (chunks : Chunks) (size : ℕ) (z : List ℕ) (place : ℕ) (aim 
     → Carries (record { place = place; aim = aim }) (chunks_within chunks size z)
 carries_same chunks size z place (to_files writer elide) count fits all carries =
     rw (first_cut _ _ z count fits all) at carries
-carries_same chunks size z place (to_output chunk) count fits all carries = record {
-  placed = omega (
-    arith,
-    length-map-range_with_len (chunk_at chunks size z) 0 (ended chunks size z),
-    fulls_long
-        (ended chunks size z) (uncut z),
-  );
-  has = tt;
-}
+carries_same chunks size z place (to_output chunk) count fits all carries = grind (arith, common_steps, length-map-range_with_len, fulls_long)
 
 -- all of it
 
@@ -331,109 +320,89 @@ whole_begins (in_files filing elide) cut =
     rw (whole_draft filing elide cut) at (next_begins (manner_of filing) Never (draft_by elide cut))
 whole_begins (in_output chunk) cut = part_begins_itself _
 
-settled_cut : {cutter : CutterState} {waiting : List ℕ} {size : ℕ} {z : List ℕ} → IsSettled cutter waiting size z
+settled_cut : {cutter : CutterState} {waiting : List ℕ} {size : ℕ} {z : List ℕ} → IsFront cutter waiting size z
     → before_chunk cutter.chunks size (first_on (course cutter)) z ≡ z
-settled_cut {cutter} {waiting} {size} {z} so = let at = chunk_start cutter.chunks.count size (first_on (course cutter)) in
-    rw so.is at (begun_again cutter.chunks.unit cutter.chunks.delim at (z ++ waiting))
+settled_cut {cutter} {waiting} {size} {z} so = grind (arith, common_steps, begun_again)
 
-cut_off_so : {cutter : CutterState} {waiting : List ℕ} {size : ℕ} {z : List ℕ} → IsSettled cutter waiting size z
-    → IsCutOff cutter size (z, uncut z)
-cut_off_so {cutter} {waiting} {size} {z} so = record {
-  carries = so.cut.carries;
-  all = so.cut.all;
-  at = so.cut.at;
-  within = so.cut.within;
-  fits = omega arith;
-  begun = λ within short. absurd
-      (omega (
-        arith,
-        none_waits _ _
-            _ z _ so.is within,
-      ));
-  from = omega arith;
-}
+cut_off_so : {cutter : CutterState} {waiting : List ℕ} {size : ℕ} {z : List ℕ} → IsFront cutter waiting size z
+    → IsCutOff cutter size z (uncut z)
+cut_off_so {cutter} {waiting} {size} {z} so = grind (arith, common_steps, none_waits)
 
-to_whole : {cutter : CutterState} {waiting : List ℕ} {size : ℕ} (z : List ℕ) → IsSettled cutter waiting size z
+to_whole : {cutter : CutterState} {waiting : List ℕ} {size : ℕ} (z : List ℕ) → IsFront cutter waiting size z
     → Begins (part_on (course cutter) (chunks_within cutter.chunks size z))
     (whole_on (course cutter) (chunks_within cutter.chunks size (z ++ waiting)))
 to_whole {cutter} {waiting} {size} z so = part_trans _ _ _ (so_grows (course cutter) cutter.chunks size z waiting
     (some_in so.cut) (omega (arith, length-append z waiting))) (whole_begins (course cutter) _)
 
 module _ {told : Bool} {cutter mid : CutterState} {waiting : List ℕ} {size : ℕ} {old wet : List Slot} where
-  ends_first : (fault : Option Fault) → EndsFull told cutter size old wet mid fault
-      → Sends told cutter.target (IsSettled cutter waiting size) (λ z. uncut z)
-      (λ z. with_fulls (ended cutter.chunks size z) (uncut z)) old wet mid.target fault
-  ends_first fault ends = sends_as (λ z. (z, uncut z)) fault (λ z so. cut_off_so so) (λ z so. refl) (λ z so.
-      let e : ended cutter.chunks size z - cutter.target.place ≡ ended cutter.chunks size z = omega arith in ap
-      (λ n. with_fulls n (uncut z)) e) ends.sends
-
-  brings_first : (fault : Option Fault) → EndsFull told cutter size old wet mid fault
-      → Brings told (course cutter) cutter.target.aim mid.target.aim (IsSettled cutter waiting size)
-      (λ z. part_on (course cutter) (uncut z))
-      (λ z. part_on (course cutter) (chunks_within cutter.chunks size z)) old wet fault
-  brings_first fault ends = brings_as (λ z. z) fault (λ z so. so) (λ z so. refl) (λ z so.
-      part_same (course cutter) cutter.chunks size z (some_in so.cut) (omega arith) (settled_cut so))
-      (ends_first fault ends).brings
+  gives_first : {fault : Option Fault} → EndsFull told cutter size old wet mid fault → {z : List ℕ}
+      → IsFront cutter waiting size z
+      → Gives told (course cutter) cutter.target mid.target (uncut z) (chunks_within cutter.chunks size z) old wet fault
+  gives_first {fault} ends {z} so =
+      let e : ended cutter.chunks size z - cutter.target.place ≡ ended cutter.chunks size z = omega (arith, so.cut.carries.placed) in
+      let full = rw e at (ends.gives z (uncut z) (cut_off_so so)) in let some = some_in so.cut in let all = settled_cut so in record {
+        brings = rw (part_same (course cutter) cutter.chunks size z some (omega arith) all) at full.brings;
+        carries = where_well fault full.carries
+            (carries_same cutter.chunks size z mid.target.place mid.target.aim some (omega arith) (rw ends.stays.course all));
+      }
 
   pub held_not_ended : {why : Fault} → EndsFull told cutter size old wet mid (Some why)
       → EndsHeld told cutter waiting size old wet mid waiting (Some why)
-  held_not_ended {why} ends = record {
+  held_not_ended ends = record {
     chunks = ends.chunks;
     bound = omega arith;
-    brings = brings_wider (λ z so. to_whole z so) (brings_first (Some why) ends);
+    stays = ends.stays;
+    brings = λ z so. brings_wider (to_whole z so) (gives_first ends so).brings;
   }
 
-  mid_cut : (done : List ℕ) → length done ≤ length waiting → EndsFull told cutter size old wet mid None → (z : List ℕ)
-      → IsSettled cutter waiting size z → IsCut mid size z × (length (z ++ done) ≤ size)
-  mid_cut done few ends z so = let sends = ends_first None ends in let stays = sends.brings.stays in (
-    record {
-      cut = record {
-        can = rw (stays, ends.chunks) so.cut.can;
-        all = rw (stays, ends.chunks) so.cut.all;
-        at = ends.at ∙ so.cut.at;
-        within = rw ends.chunks (ends.within ∙ so.cut.within);
-        carries = rw (← ends.chunks) at (carries_same cutter.chunks size z mid.target.place mid.target.aim
-            (some_in so.cut) (omega arith) (rw stays (settled_cut so)) (sends.carries z so));
-      };
-      fits = omega arith;
-    },
-    omega (arith, length-append z done),
-  )
-
-  brings_rest : {next : AimState} {new : List Slot} (fault : Option Fault) {done : List ℕ}
-      → length done ≤ length waiting → (ends : EndsFull told cutter size old wet mid None)
-      → Brings told (course mid) mid.target.aim next (λ z. IsCut mid size z
-      × (length (z ++ done) ≤ size)) (λ z. part_so mid size z) (λ z. part_so mid size (z ++ done)) wet new fault
-      → Brings told (course cutter) cutter.target.aim next (IsSettled cutter waiting size)
-      (λ z. part_on (course cutter) (uncut z))
-      (λ z. part_on (course cutter) (chunks_within cutter.chunks size (z ++ done))) old new fault
-  brings_rest fault {done} few ends brings = brings_then (brings_first None ends)
-      (rw ends.chunks at (mid_cut done few ends)) (rw ((ends_first None ends).brings.stays, ends.chunks) at brings)
+  module _ (ends : EndsFull told cutter size old wet mid None) {done : List ℕ} {next : CutterState} {new : List Slot}
+      {fault : Option Fault} (few : length done ≤ length waiting)
+      (cuts : Cuts told mid size done wet new next fault) where
+    rest_cut : (z : List ℕ) → IsFront cutter waiting size z
+        → Brings told (course cutter) cutter.target.aim next.target.aim (part_on (course cutter) (uncut z))
+        (part_on (course cutter) (chunks_within cutter.chunks size (z ++ done))) old new fault
+        × IfNone fault (IsCut next size (z ++ done))
+    rest_cut z so = let stays = ends.stays.course in let first = gives_first ends so in
+        let fits : length (z ++ done) ≤ size = omega (arith, length-append z done) in
+        let has : IsCut mid size z = record {
+          cut = record {
+            can = rw (stays, ends.chunks) so.cut.can;
+            all = rw (stays, ends.chunks) so.cut.all;
+            at = ends.at ∙ so.cut.at;
+            within = rw ends.chunks (ends.within ∙ so.cut.within);
+            carries = rw (← ends.chunks) at first.carries;
+          };
+          fits = omega arith;
+        } in (
+          brings_then first.brings (rw (stays, ends.chunks) at (cuts.brings z has fits)),
+          cuts.leads z has fits,
+        )
 
   pub held_not_cut : {next : CutterState} {new : List Slot} {why : Fault}
       → size ≡ cutter.at + length waiting → EndsFull told cutter size old wet mid None
       → Cuts told mid size (take (min (length waiting) (size - mid.at)) waiting) wet new next (Some why)
       → EndsHeld told cutter waiting size old new next [] (Some why)
-  held_not_cut {why = why} all ends stopped =
+  held_not_cut all ends stopped =
       let same = take_all (min (length waiting) (size - mid.at)) waiting (omega arith) in
       let cuts = rw same at stopped in record {
         chunks = cuts.chunks ∙ ends.chunks;
         bound = omega arith;
-        brings = brings_wider (λ z so. whole_begins (course cutter) _)
-            (brings_rest (Some why) (omega arith) ends cuts.brings);
+        stays = stays_then ends.stays (rw ends.stays.course at cuts.stays);
+        brings = λ z so. brings_wider (whole_begins (course cutter) _) (rest_cut ends (omega arith) cuts z so).0;
       }
 
   -- what is left once the output is complete changes nothing
   pub held_ends : {later next : CutterState} {left : ℕ} {between new : List Slot} (fault : Option Fault)
       → size ≡ cutter.at + length waiting → EndsFull told cutter size old wet mid None
       → CutsAs told mid size waiting wet between later left
-      → TargetEnds told later.target between new next.target fault → next.chunks ≡ later.chunks → next.at ≡ later.at
+      → EndsAll told later.target between new next.target fault → next.chunks ≡ later.chunks → next.at ≡ later.at
       → EndsHeld told cutter waiting size old new next [] fault
-  held_ends {later} {next} {left} {between} {new} fault all ends cuts last chunks at = record {
-    chunks = chunks ∙ cuts.cuts.chunks ∙ ends.chunks;
+  held_ends {later} {left = left} {between} fault all ends cuts last chunks at = record {
+    chunks = chunks ∙ is;
     bound = omega arith;
-    brings = brings_then first (λ z so. so) (brings_as (λ z. chunks_within cutter.chunks size (z ++ done)) fault
-        (λ z so. rw is at ((stands z so).cut.carries)) (λ z so. refl) whole (rw first.stays at last));
+    stays = stays_then first (rw first.course at last.stays);
+    brings = λ z so. let (brings, has) = rest_cut ends few cuts.cuts z so in
+        brings_then brings (rw (first.course, whole z so has) at (last.brings _ (rw is at has.cut.carries)));
   } where
     done : List ℕ
     done = take (length waiting - left) waiting
@@ -444,18 +413,13 @@ module _ {told : Bool} {cutter mid : CutterState} {waiting : List ℕ} {size : �
     is : later.chunks ≡ cutter.chunks
     is = cuts.cuts.chunks ∙ ends.chunks
 
-    first : Brings told (course cutter) cutter.target.aim later.target.aim (IsSettled cutter waiting size)
-        (λ z. part_on (course cutter) (uncut z))
-        (λ z. part_on (course cutter) (chunks_within cutter.chunks size (z ++ done))) old between None
-    first = brings_rest None few ends cuts.cuts.brings
+    first : Stays (course cutter) cutter.target.aim later.target.aim old between None
+    first = stays_then ends.stays (rw ends.stays.course at cuts.cuts.stays)
 
-    stands : (z : List ℕ) → IsSettled cutter waiting size z → IsCut later size (z ++ done)
-    stands z so = let (has, fits) = mid_cut done few ends z so in cuts.cuts.stands z has fits
-
-    whole : (z : List ℕ) → IsSettled cutter waiting size z
+    whole : (z : List ℕ) → IsFront cutter waiting size z → IsCut later size (z ++ done)
         → whole_on (course cutter) (chunks_within cutter.chunks size (z ++ done))
         ≡ whole_on (course cutter) (chunks_within cutter.chunks size (z ++ waiting))
-    whole z so = elim cuts.enough [
+    whole z so has = elim cuts.enough [
       | inl none ↦ used none
       | inr later ↦ elim later [
         | inl past ↦
@@ -463,9 +427,8 @@ module _ {told : Bool} {cutter mid : CutterState} {waiting : List ℕ} {size : �
             let rest = drop (length waiting - left) waiting in
             let both : (z ++ done) ++ rest ≡ z ++ waiting = append_assoc z done rest
             ∙ ap (λ those. z ++ those) (take-append-drop (length waiting - left) waiting) in
-            let complete : work.is_complete (z ++ done) ≡ true =
-            rw (first.stays, is) at (sym (past_is (stands z so)) ∙ past) in
-            complete_all on chunks size (z ++ done) rest so.cut.can (stands z so).fits complete ∙ ap work.whole both
+            let complete : work.is_complete (z ++ done) ≡ true = rw (first.course, is) at (sym (past_is has) ∙ past) in
+            complete_all on chunks size (z ++ done) rest so.cut.can has.fits complete ∙ ap work.whole both
             ∙ sym (whole_within on chunks size (z ++ waiting) (omega (arith, length-append z waiting)))
         | inr full ↦ used (omega arith)
       ]
@@ -477,11 +440,6 @@ module _ {told : Bool} {cutter mid : CutterState} {waiting : List ℕ} {size : �
 
 -- as the stage ends
 
-whole_none : (on : Course) (chunks : Chunks) (x : List ℕ)
-    → (work_on on chunks None).whole x ≡ whole_on on (chunks_of chunks (length x) x)
-whole_none (in_files filing elide) chunks x = refl
-whole_none (in_output chunk) chunks x = refl
-
 well_none : (on : Course) (chunks : Chunks) (x : List ℕ) → (work_on on chunks None).verdict x ≡ None
 well_none (in_files filing elide) chunks x = refl
 well_none (in_output chunk) chunks x = refl
@@ -489,22 +447,25 @@ well_none (in_output chunk) chunks x = refl
 pub ends_unsaid : {told : Bool} {chunker next : ChunkerState} {size : ℕ} {old new : List Slot}
     (result : Result (Unit {0}) Fault) → IsAimed chunker.cutter.target.aim old
     → chunker.said ≡ None → next.said ≡ chunker.said → next.spare ≡ chunker.spare
-    → can_cut (course chunker.cutter) chunker.cutter.chunks.count ≡ true
     → size ≡ chunker.cutter.at + length chunker.waiting
     → EndsHeld told chunker.cutter chunker.waiting size old new next.cutter next.waiting (fault_in result)
     → EndsAs told chunker old new next result
-ends_unsaid {chunker = chunker} {size = size} result aimed said same spare can size_is ends =
+ends_unsaid {chunker = chunker} {size = size} result aimed said same spare size_is ends =
     let fault = fault_in result in let on = course chunker.cutter in let chunks = chunker.cutter.chunks in
-    ends_at result aimed (record { can = can; said = same; chunks = ends.chunks }) (omega arith)
-    (brings_as (cut_front chunker) fault (λ x holds. let has = is_unsaid said holds in record {
-      cut = has.cut;
-      all = omega arith;
-      is = rw (all_came has, long x has) refl;
+    ends_at result aimed (record { said = same; chunks = ends.chunks }) (omega arith)
+    (record {
+      stays = ends.stays;
+      brings = λ x holds. let has = is_unsaid said holds in
+          let whole : whole_on on (chunks_within chunks size (cut_front chunker x ++ chunker.waiting)) ≡ (work chunker).whole x =
+          rw (all_came has, long x has, said)
+          (ap (whole_on on) (sym (cut_of chunks (length x) x (omega arith)))) in
+          rw (settled_none chunker x said, whole) at (ends.brings _ (record {
+            cut = has.cut;
+            all = omega arith;
+            is = rw (all_came has, long x has) refl;
+          }));
     })
-    (λ x holds. settled_none chunker x said)
-    (λ x holds. let has = is_unsaid said holds in rw (all_came has, long x has, ← made_none chunker said)
-    (ap (whole_on on) (sym (cut_of chunks (length x) x (omega arith))) ∙ sym (whole_none on chunks x))) ends.brings)
-    (in_any fault (λ x holds. rw (← made_none chunker said) (well_none on chunks x)))
+    (λ x holds. in_any fault (rw said (well_none on chunks x)))
     (λ some. absurd (false≢true (sym some ∙ ap is_none said))) where
       long : (x : List ℕ) → IsUnsaid chunker x → size ≡ length x
       long x has = omega (arith, length-append (cut_front chunker x) chunker.waiting, ap length (all_came has))

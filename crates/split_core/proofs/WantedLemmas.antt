@@ -1,4 +1,5 @@
 -- Lemmas on when one chunk is complete, and on how many bytes are wanted until then.
+use Rattle.std.proofs.lemmas.Grind.{common_steps}
 use Rattle.std.{
   proofs.Common.{◌≡◌, ℕ, ◌+◌, ◌-◌, ◌≤◌, max, nat_lt, take, Bool, true, false, List, ◌++◌, length, Option, Some, None},
   proofs.Common.{inl, inr, refl, sym, ◌∙◌, ap, subst, arith},
@@ -11,15 +12,14 @@ use Rattle.split_core.specs.{
   Alike.as_if,
   Chunks.{chunk_start, has_ended},
   ChunkWork.chunk_work,
-  ChunkerState.{ChunkerState, Course, Holds, HoldsBy, IsSaid, course, can_cut, in_files, in_output, work, work_on},
+  ChunkerState.{ChunkerState, Holds, HoldsBy, course, can_cut, in_files, in_output, work, work_on},
   Split.Filing,
   inner.{Cutter.said_work, Seen.is_past_on},
-  laws.{BegunLaws.open_within, ChunkLaws.{passed_full, passed_open}, WorkLaws.{lawful, work_lawful}},
+  laws.{BegunLaws.open_within, ChunkLaws.{passed_full, passed_open}, WorkLaws.{holds_can, lawful, work_lawful}},
 }
 use Rattle.split_core.proofs.{
   AlikeLemmas.complete_as,
   ChunkerLemmas.{cut_is, is_said, past_is},
-  ChunkerWays.{holds_can, unsaid_open, works_so},
   RoundLemmas.open_after,
 }
 use Rattle.split_core.specs.Ways as ways
@@ -28,7 +28,7 @@ use Rattle.split_core.specs.declared.splitter.Splitter.TheVariants as way
 -- what came in completes the output where what is used does
 complete_by : (said : Option ℕ) (state : ChunkerState) (x : List ℕ) → is_some said ≡ true → HoldsBy said state x
     → is_past_on state.cutter.target ≡ (work_on (course state.cutter) state.cutter.chunks said).is_complete x
-complete_by None state x some holds = absurd (false≢true some)
+complete_by None state x some holds = cc
 complete_by (Some size) state x some holds = past_is (cut_is holds) ∙ elim holds.spare.enough [
   | inl none ↦ ap (said_work state.cutter size).is_complete
       (sym (holds.spare.joined ∙ ap (λ rest. holds.spare.used ++ rest) none ∙ append-nil holds.spare.used))
@@ -40,28 +40,15 @@ complete_by (Some size) state x some holds = past_is (cut_is holds) ∙ elim hol
 pub complete_is : (state : ChunkerState) (x : List ℕ) → is_some state.said ≡ true → Holds state x
     → is_past_on state.cutter.target ≡ (work state).is_complete x
 complete_is state x some holds = complete_by state.said state x some holds
-    ∙ ap (λ (those : Work). those.is_complete x) (sym (works_so state (holds_can state.said state x holds)))
 
 -- where the input doesn't say its length, the output is never complete
-unsaid_by : (said : Option ℕ) → is_some said ≡ false → (on : Course) (chunks : Chunks) (x : List ℕ)
-    → (work_on on chunks said).is_complete x ≡ false
-unsaid_by None none on chunks x = unsaid_open _ _ x
-unsaid_by (Some size) none on chunks x = absurd (false≢true (sym none))
-
-pub unsaid_goes_on : (state : ChunkerState) (x z : List ℕ) → is_some state.said ≡ false → Holds state x
-    → (work state).is_complete z ≡ false
-unsaid_goes_on state x z none holds = ap (λ (those : Work). those.is_complete z) (works_so state (holds_can state.said state x holds))
-    ∙ unsaid_by state.said none (course state.cutter) state.cutter.chunks z
 
 -- How much is wanted
 
 -- a text that has all of a chunk reaches its end
 reaches : (chunks : Chunks) (size chunk : ℕ) (x : List ℕ) → has_ended chunks size x chunk ≡ true
     → chunk_start chunks.count size (chunk + 1) ≤ length x
-reaches chunks size chunk x has = elim (cases_lt (length x) size) [
-  | inl short ↦ omega (arith, leb-true _ _ has, passed_open chunks size x short, open_within chunks.unit chunks.delim x)
-  | inr full ↦ omega (arith, leb-true _ _ has, passed_full chunks size x full)
-]
+reaches chunks size chunk x has = grind (arith, common_steps, cases_lt, leb-true, passed_open, open_within, passed_full)
 
 few_missing : (chunk : ℕ) (chunks : Chunks) (size : ℕ) (x piece : List ℕ) (n : ℕ) → nat_lt chunk chunks.count ≡ true
     → length piece ≤ max (chunk_start chunks.count size (chunk + 1) - length x) 1
@@ -70,7 +57,16 @@ few_missing : (chunk : ℕ) (chunks : Chunks) (size : ℕ) (x piece : List ℕ) 
 few_missing chunk chunks size x piece n can few going spare = elim spare.enough [
   | inl none ↦ omega (arith, ap length none, spare.long)
   | inr complete ↦ elim (cases_lt (length x) (length spare.used)) [
-    | inl more ↦ omega (arith, reaches chunks size chunk spare.used complete, few, more, long, length-append spare.used spare.rest, length-append x piece, spare.long)
+    | inl more ↦ omega (
+      arith,
+      reaches chunks size chunk spare.used complete,
+      few,
+      more,
+      long,
+      length-append spare.used spare.rest,
+      length-append x piece,
+      spare.long,
+    )
     | inr within ↦
         let same : length spare.used ≡ length x = omega (
           arith,
@@ -79,9 +75,11 @@ few_missing chunk chunks size x piece n can few going spare = elim spare.enough 
           length-append spare.used spare.rest,
           length-append x piece,
           spare.long,
-          spare_within (chunk_work chunk chunks (Some size)) (length piece) n (x ++ piece) (work_lawful (in_output chunk) chunks (Some size) can) (inr (x, piece, refl, omega (arith), going)) spare,
+          spare_within (chunk_work chunk chunks (Some size)) (length piece) n (x ++ piece)
+              (work_lawful (in_output chunk) chunks (Some size) can) (inr (x, piece, refl, omega (arith), going)) spare,
         ) in
-        absurd (false≢true (sym going ∙ ap (λ x. has_ended chunks size x chunk) (sym (take_at x piece (length x) refl) ∙ ap (take (length x)) spare.joined ∙ take_at spare.used spare.rest (length x) same) ∙ complete))
+        absurd (false≢true (sym going ∙ ap (λ x. has_ended chunks size x chunk)
+        (sym (take_at x piece (length x) refl) ∙ ap (take (length x)) spare.joined ∙ take_at spare.used spare.rest (length x) same) ∙ complete))
   ]
 ] where
   long : length (x ++ piece) ≡ length (spare.used ++ spare.rest)
@@ -91,14 +89,7 @@ few_missing chunk chunks size x piece n can few going spare = elim spare.enough 
 all_cut : (state : ChunkerState) (size : ℕ) (x : List ℕ) → state.said ≡ Some size → (work state).is_complete x ≡ false
     → Holds state x
     → state.cutter.at ≡ length x
-all_cut state size x said going holds = let has : IsSaid state size x = is_said said holds in elim has.spare.enough [
-  | inl none ↦ omega (arith, ap length none, ap length has.spare.joined ∙ length-append has.spare.used has.spare.rest)
-  | inr complete ↦ absurd (false≢true (sym going ∙ sym (complete_is state x (ap is_some said) holds) ∙ past_is (cut_is has) ∙ complete))
-]
-
-pub made_by : (state : ChunkerState) (on : Course) (x : List ℕ) → Holds state x → course state.cutter ≡ on
-    → work state ≡ work_on on state.cutter.chunks state.said
-made_by state on x holds is = works_so state (holds_can state.said state x holds) ∙ ap (λ on. work_on on state.cutter.chunks state.said) is
+all_cut state size x said going holds = grind (arith, common_steps, is_said, length-append, false≢true, complete_is, past_is, cut_is)
 
 pub few_of_chunk : (state : ChunkerState) (size chunk most : ℕ) → state.said ≡ Some size
     → course state.cutter ≡ in_output chunk
@@ -108,7 +99,7 @@ few_of_chunk state size chunk most said on is x piece after n holds going within
     let z = holds.other in
     let chunks = state.cutter.chunks in
     let it : work state ≡ chunk_work chunk chunks (Some size) =
-    made_by _ _ z holds.holds on ∙ ap (chunk_work chunk chunks) said in
+    ap (λ on. work_on on chunks state.said) on ∙ ap (chunk_work chunk chunks) said in
     let can : nat_lt chunk chunks.count ≡ true =
     sym (ap (λ on. can_cut on chunks.count) on) ∙ holds_can _ _ z holds.holds in
     let still : (work state).is_complete z ≡ false = sym (complete_as holds.alike) ∙ going in
@@ -123,15 +114,12 @@ few_of_chunk state size chunk most said on is x piece after n holds going within
 pub few_of_files : (most : ℕ) (state : ChunkerState) (filing : Filing) (elide : Bool)
     → course state.cutter ≡ in_files filing elide → MayGet (as_if ways.terms) (way.Chunks state) most
 few_of_files most state filing elide on x piece after n holds going within same later spare =
-    let made = made_by state (in_files filing elide) holds.other holds.holds on in
     omega (
       arith,
-      none_spare (work state) (x ++ piece) n (lawful (way.Chunks state)) (open_after (work state) filing.verbose
-          (ap (λ (those : Work). those.means.output) made) after (x ++ piece) same later) spare,
+      none_spare (work state) (x ++ piece) n (lawful (way.Chunks state) _ holds.holds) (open_after (work state) filing.verbose
+          (ap (λ on. (work_on on state.cutter.chunks state.said).means.output) on) after (x ++ piece) same later) spare,
     )
 
 pub few_unsaid : (most : ℕ) (state : ChunkerState) → state.said ≡ None
     → MayGet (as_if ways.terms) (way.Chunks state) most
-few_unsaid most state said x piece after n holds going within same later spare =
-    let still = unsaid_goes_on state holds.other (x ++ piece) (ap is_some said) holds.holds in
-    omega (arith, none_spare (work state) (x ++ piece) n (lawful (way.Chunks state)) still spare)
+few_unsaid most state said x piece after n holds going within same later spare = grind (arith, common_steps)

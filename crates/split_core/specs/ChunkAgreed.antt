@@ -1,7 +1,8 @@
 -- What all continuations of an input agree on that is cut into chunks. In the end each of them makes all files, so what
 -- they agree on is said of each output by itself.
 use Rattle.std.specs.{
-  Prelude.{◌≡◌, ◌≢◌, ◌⊎◌, ℕ, ◌-◌, ◌<◌, ◌≤◌, suc, nat_lt, true, List, [], ◌∷◌, ◌++◌, get_or, length, take, Option},
+  Prelude.{◌≡◌, ◌≢◌, ◌⊎◌, ℕ, ◌-◌, ◌<◌, ◌≤◌, suc, nat_lt, true, List, [], ◌∷◌, ◌++◌, get_or, length, take},
+  Prelude.Option,
   Prelude.if◌then◌else◌,
 }
 use Rattle.seg_core.specs.{Line.joined, declared.cut.Chunks.Chunks}

@@ -1,18 +1,20 @@
 -- What contracts see of chunks of an input.
 use Rattle.std.specs.{
-  Prelude.{◌≡◌, ℕ, ◌+◌, ◌≤◌, max, nat_lt, Bool, true, false, List, [], length, Option, Some, None, IsTrue},
+  Prelude.{◌≡◌, ℕ, ◌+◌, ◌≤◌, max, nat_lt, Bool, true, false, List, [], length, map, Option, Some, None, IsTrue},
 }
 use Rattle.ports_core.specs.{
+  Draft.{draft_part, part_of, share},
   FileWriter.{WriterState, Writes, OwnsFiles, IsReady as CanWrite},
-  Part.nothing,
+  Part.Part,
   Slot.{Slot, is_writable},
-  Work.{Work, IsSpare, always_well},
+  Work.{Work, IsSpare},
+  declared.slot.State.TheVariants.Closed,
 }
 use Rattle.seg_core.specs.declared.cut.Chunks.{Chunks}
 use Rattle.split_core.specs.{
   Parts.CutUp,
-  Chunks.{before_chunk, chunks_within, decided, undecided, is_within},
-  ChunkWork.{chunk_work, chunks_work, draft_by},
+  Chunks.{before_chunk, chunks_within, decided, in_the_end, undecided, is_within},
+  ChunkWork.{chunk_work, chunks_work, draft_by, files_by, piece_at},
   Split.{Filing, TellsNoSizes, are_named, is_verbose, manner_of},
 }
 
@@ -47,11 +49,28 @@ abbrev pub first_on : Course → ℕ
 first_on (in_files filing elide) = 1
 first_on (in_output chunk) = max chunk 1
 
--- what is made of an input
-abbrev pub work_on : Course → Chunks → Option ℕ → Work
-work_on (in_files filing elide) chunks said =
+-- what is written of a text that is cut up, and in the end
+abbrev pub part_on : Course → CutUp → Part
+part_on (in_files filing elide) cut = draft_part (manner_of filing) (draft_by elide cut)
+part_on (in_output chunk) cut = piece_at chunk cut
+
+abbrev pub whole_on : Course → CutUp → Part
+whole_on (in_files filing elide) cut = part_of (manner_of filing) (map (share Closed) (files_by elide cut))
+whole_on (in_output chunk) cut = piece_at chunk cut
+
+-- what is made of an input, and in both ways what is decided of it is written
+abbrev way_on : Course → Chunks → Option ℕ → Work
+way_on (in_files filing elide) chunks said =
     chunks_work (record { chunks = chunks; elide = elide; filing = filing }) said
-work_on (in_output chunk) chunks said = chunk_work chunk chunks said
+way_on (in_output chunk) chunks said = chunk_work chunk chunks said
+
+abbrev pub work_on : Course → Chunks → Option ℕ → Work
+work_on on chunks said = record (way_on on chunks said) {
+  settled = λ x. part_on on (decided chunks (first_on on) said x);
+  whole = λ x. whole_on on (in_the_end chunks said x);
+  waiting = undecided chunks (first_on on) said;
+  clears = false;
+}
 
 -- there are names for the files of all chunks
 abbrev pub HasAll : Course → ℕ → Type 0
@@ -108,20 +127,8 @@ abbrev pub can_cut : Course → ℕ → Bool
 can_cut (in_files filing elide) count = nat_lt 0 count
 can_cut (in_output chunk) count = nat_lt chunk count
 
--- where there are none, nothing is made
-abbrev pub made_if : Bool → Work → Work
-made_if true work = work
-made_if false work = record work {
-  settled = λ x. nothing;
-  whole = λ x. nothing;
-  waiting = λ x. [];
-  is_complete = λ x. false;
-  verdict = always_well;
-}
-
 abbrev pub work : ChunkerState → Work
-work chunker = made_if (can_cut (course chunker.cutter) chunker.cutter.chunks.count)
-    (work_on (course chunker.cutter) chunker.cutter.chunks chunker.said)
+work chunker = work_on (course chunker.cutter) chunker.cutter.chunks chunker.said
 
 -- these bytes were cut off, and this is what they were cut up into
 pub record HasCut (cutter : CutterState) (x : List ℕ) (cut : CutUp) : Type 0 where

@@ -1,12 +1,13 @@
 -- How a text is cut into chunks, and which bytes or lines go with each: GNU coreutils manual, split, `-n N` and
 -- `-n l/N`.
 use Rattle.std.specs.{
-  Prelude.{ℕ, zero, suc, ◌+◌, ◌*◌, ◌/◌, ◌%◌, ◌==◌, ◌<◌, ◌≤◌, nat_lt, nat_le, min, Bool, true, false, List, [], ◌∷◌},
-  Prelude.{◌++◌, length, take, drop, map, filter, Option, Some, None, if◌then◌else◌},
-  List.range_with_len,
+  Prelude.{ℕ, zero, suc, ◌+◌, ◌*◌, ◌/◌, ◌%◌, ◌==◌, ◌<◌, ◌≤◌, nat_lt, nat_le, min, Bool, true, false, List, []},
+  Prelude.◌∷◌,
+  Prelude.{◌++◌, length, take, drop, map, filter, Option, Some, None, get_or, ◌≡◌, if◌then◌else◌},
+  List.{flat_map, range_with_len},
 }
 use Rattle.seg_core.specs.{
-  Line.{joined, delimiters, first_lines},
+  Line.{joined, delimiters, first_lines, line_count, lines_of},
   declared.{cut.Chunks.Chunks, unit.Unit.{Unit, TheVariants.{Bytes, Lines}}},
 }
 use Rattle.split_core.specs.Parts.{CutUp, uncut}
@@ -96,6 +97,21 @@ IsInChunk n size place at = (chunk_start n size place ≤ at) × (at < chunk_sta
 abbrev pub IsInPiece : List (List ℕ) → ℕ → ℕ → Type 0
 IsInPiece pieces place at =
     (length (joined (take place pieces)) ≤ at) × (at < length (joined (take (place + 1) pieces)))
+
+-- each piece has as many bytes as any other, or one more: the first ones do
+abbrev pub AreEven : ℕ → List ℕ → List (List ℕ) → Type 0
+AreEven n input pieces = (place : ℕ) → place < n
+    → length (get_or pieces place []) ≡ length input / n + (if nat_lt place (length input % n) then 1 else 0)
+
+-- their lines are those of the input, in their order, so none is cut
+abbrev pub KeepLines : ℕ → List ℕ → List (List ℕ) → Type 0
+KeepLines delim input pieces = flat_map (lines_of delim) pieces ≡ lines_of delim input
+
+-- each line is in the piece in whose chunk its first byte is
+abbrev pub BeginInChunks : ℕ → ℕ → List ℕ → List (List ℕ) → Type 0
+BeginInChunks delim n input pieces = (place i : ℕ) → place < n → i < line_count delim input
+    → IsInChunk n (length input) place (length (first_lines delim i input))
+    → IsInPiece pieces place (length (first_lines delim i input))
 
 -- what isn't decided yet: all that comes after
 abbrev pub undecided : Chunks → ℕ → Option ℕ → List ℕ → List ℕ

@@ -3,5 +3,6 @@ pub mod ChunkLaws
 pub mod ChunkWorkLaws
 pub mod CutLaws
 pub mod DealLaws
+pub mod LimitLaws
 pub mod ShareLaws
 pub mod WorkLaws

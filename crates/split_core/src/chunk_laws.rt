@@ -14,7 +14,7 @@ ghost use Rattle.seg_core.specs.{
   declared.{cut.{Chunks.Chunks, Cut.TheVariants.Round}, unit.Unit.TheVariants.{Bytes, Lines}},
 };
 ghost use Rattle.split_core.specs.{
-  Chunks.{IsInChunk, IsInPiece, chunk_start, chunks_in, is_as_said, is_longer},
+  Chunks.{AreEven, BeginInChunks, KeepLines, chunk_start, chunks_in, is_as_said, is_longer},
   ChunkAgreed.{AgreeAt, AreMade, CanFollow, TwoDiffer, chunk_spots, one_chunk_spots},
   Place.beside_output,
   ChunkWork.{ChunksPlan, chunk_work, chunks_settled, chunks_whole, chunks_work, turn_work, way_work},
@@ -35,18 +35,12 @@ pub fn chunks_are_even()
         → get_or (chunks_in chunks x) place []
         ≡ take (chunk_start chunks.count (length x) (place + 1) - chunk_start chunks.count (length x) place)
         (drop (chunk_start chunks.count (length x) place) x) }
-    ensures longer { (chunks : Chunks) (x : List ℕ) (place : ℕ) → place < chunks.count → chunks.unit ≡ Bytes
-        → place < length x % chunks.count
-        → length (get_or (chunks_in chunks x) place []) ≡ length x / chunks.count + 1 }
-    ensures shorter { (chunks : Chunks) (x : List ℕ) (place : ℕ) → place < chunks.count → chunks.unit ≡ Bytes
-        → length x % chunks.count ≤ place
-        → length (get_or (chunks_in chunks x) place []) ≡ length x / chunks.count }
+    ensures even { (chunks : Chunks) (x : List ℕ) → chunks.unit ≡ Bytes
+        → AreEven chunks.count x (chunks_in chunks x) }
     ensures lines { (chunks : Chunks) (x : List ℕ) → 0 < chunks.count → chunks.unit ≡ Lines
-        → flat_map (lines_of chunks.delim) (chunks_in chunks x) ≡ lines_of chunks.delim x }
-    ensures first_byte { (chunks : Chunks) (x : List ℕ) (place i : ℕ) → place < chunks.count → chunks.unit ≡ Lines
-        → i < line_count chunks.delim x
-        → IsInChunk chunks.count (length x) place (length (first_lines chunks.delim i x))
-        → IsInPiece (chunks_in chunks x) place (length (first_lines chunks.delim i x)) }
+        → KeepLines chunks.delim x (chunks_in chunks x) }
+    ensures first_byte { (chunks : Chunks) (x : List ℕ) → chunks.unit ≡ Lines
+        → BeginInChunks chunks.delim chunks.count x (chunks_in chunks x) }
 {}
 
 /// What one chunk alone, or the lines of one file alone, write to standard output is what the file at that place would

@@ -10,7 +10,7 @@ ghost use Rattle.split_core.specs.{
   ChunkerState.{IsAimed, course_of, first_on},
   inner.{
     Seen.{new_files, new_output, is_each_on, is_past_on, seen_target},
-    Sends.{Changes, Ends, Files, empties_by, ends_by, with_full, with_rest},
+    Sends.{Changes, EndsAll, Files, empties_by, ends_by, with_full, with_rest},
   },
 };
 
@@ -69,7 +69,7 @@ impl Target {
 
     /// Whether each chunk is written.
     pub(crate) fn is_each(&self) -> bool
-        ensures { result ≡ is_each_on (seen_target self.now).aim }
+        ensures { result ≡ is_each_on (course_of (seen_target self.now).aim) }
     {
         matches!(self.aim, Aim::Files { .. })
     }
@@ -129,8 +129,8 @@ impl Target {
     /// `Write` where its file broke.
     pub(crate) fn end<O: Outs>(&mut self, outs: &mut O) -> Result<(), Fault>
         requires { IsAimed (seen_target self.old).aim (O.slots outs.old) }
-        ensures brings { Ends O.told (seen_target self.old) (O.slots outs.old) (O.slots outs.new) (seen_target self.new)
-            (fault_in result) }
+        ensures brings { EndsAll O.told (seen_target self.old) (O.slots outs.old) (O.slots outs.new)
+            (seen_target self.new) (fault_in result) }
         ensures broke { IfErr result IsWrite }
         ensures place { (seen_target self.new).place ≡ (seen_target self.old).place }
     {

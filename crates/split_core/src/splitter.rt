@@ -186,7 +186,7 @@ impl Stage for Splitter {
         chunker.past()
     }
 
-    ghost lawful = { lawful };
+    ghost lawful = { λ splitter x holds. lawful splitter holds.other holds.holds };
 
     ghost there = { λ splitter first slots owns. tt };
 }

@@ -1,5 +1,8 @@
 -- What was seen of a text: where delimiters stand, and its first line.
-use Rattle.std.specs.{Prelude.{◌≡◌, ℕ, ◌+◌, ◌≤◌, eqb, List, length, take, drop, map, ◌<◌, ◌∷◌, ◌++◌}, Simd.Lanes.mask_l}
+use Rattle.std.specs.{
+  Prelude.{◌≡◌, ℕ, ◌+◌, ◌≤◌, eqb, List, length, take, drop, map, ◌<◌, ◌∷◌, ◌++◌},
+  Simd.Lanes.mask_l,
+}
 use Rattle.seg_core.specs.Line.{HasNone, lines_of, delimiters}
 use Rattle.split_core.specs.declared.complete_lines.Ahead.{Ahead}
 

@@ -1,18 +1,14 @@
 -- What private calls say: chunks of an input, as a stage.
-use Rattle.std.specs.Prelude.{◌≡◌, ℕ, Bool, true, List, length, Option, Result}
-use Rattle.ports_core.specs.{Engine.TookIn, Part.Part, Slot.Slot, Work.Work, declared.fault.Fault.Fault}
+use Rattle.std.specs.Prelude.{◌≡◌, ℕ, Bool, List, length, Option, Result}
+use Rattle.ports_core.specs.{Engine.TookIn, Part.Part, Slot.Slot, declared.fault.Fault.Fault}
 use Rattle.split_core.specs.{
   Alike.as_if,
-  ChunkerState.{ChunkerState, Holds, can_cut, course, work_on},
+  ChunkerState.{ChunkerState, Holds, course, work},
   Ways.terms,
   declared.splitter.Splitter.TheVariants.Chunks,
-  inner.Sends.Brings,
+  inner.Sends.{Brings, Stays},
 }
 use Rattle.split_core.specs.inner.Ways as ways
-
--- what it makes of its input
-abbrev pub made : ChunkerState → Work
-made chunker = work_on (course chunker.cutter) chunker.cutter.chunks chunker.said
 
 -- this number of bytes was passed over; the chunk at this place was begun with them, and they may end within a line
 abbrev pub passed_to : ChunkerState → ℕ → ℕ → Bool → ChunkerState
@@ -31,14 +27,16 @@ TakesFront chunker front = (x : List ℕ) → front.0 ≡ length x
 
 -- it was asked for the same
 pub record IsLike (chunker next : ChunkerState) : Type 0 where
-  pub can : can_cut (course chunker.cutter) chunker.cutter.chunks.count ≡ true
   pub said : next.said ≡ chunker.said
   pub chunks : next.cutter.chunks ≡ chunker.cutter.chunks
 
 -- the outputs have come from what is settled to this part, or a fault stopped them on the way
-abbrev pub Comes : Bool → ChunkerState → (List ℕ → Part) → List Slot → List Slot → ChunkerState → Option Fault → Type 0
-Comes told chunker high old new next fault = Brings told (course chunker.cutter) chunker.cutter.target.aim
-    next.cutter.target.aim (Holds chunker) (made chunker).settled high old new fault
+pub record Comes (told : Bool) (chunker : ChunkerState) (high : List ℕ → Part) (old new : List Slot)
+    (next : ChunkerState) (fault : Option Fault) : Type 0 where
+  pub stays : Stays (course chunker.cutter) chunker.cutter.target.aim next.cutter.target.aim old new fault
+  pub brings : (x : List ℕ) → Holds chunker x
+      → Brings told (course chunker.cutter) chunker.cutter.target.aim next.cutter.target.aim
+      ((work chunker).settled x) (high x) old new fault
 
 -- what it leaves that took in a piece, and at the end
 abbrev pub PassesAs : Bool → ChunkerState → List ℕ → List Slot → List Slot → ChunkerState → Result (Unit {0}) Fault

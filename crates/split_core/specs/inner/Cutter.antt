@@ -1,15 +1,16 @@
 -- What private calls say: cutting an input into chunks.
 use Rattle.std.specs.{
-  Prelude.{◌≡◌, ℕ, ◌+◌, ◌-◌, ◌<◌, ◌≤◌, ◌⊎◌, max, min, Bool, true, false, List, ◌++◌, length, take, drop, Option, Some},
+  Prelude.{◌≡◌, ℕ, ◌+◌, ◌-◌, ◌<◌, ◌≤◌, ◌⊎◌, max, min, Bool, true, false, List, ◌++◌, length, take, drop, Option},
+  Prelude.Some,
   Prelude.{None, IfNone, Result, Ok, Err, IfErr, IfOk, OnOk},
 }
 use Rattle.ports_core.specs.{Part.Part, Slot.Slot, Turn.fault_in, Work.{IsNeeded, Work}, declared.fault.Fault.Fault}
 use Rattle.split_core.specs.{
   Chunks.{before_chunk, begun_before, chunks_within, ended, is_within},
-  ChunkerState.{Carries, CutterState, HasAll, HasCut, course, first_on, work_on},
+  ChunkerState.{Carries, CutterState, HasAll, HasCut, course, first_on, part_on, whole_on, work_on},
   Parts.{CutUp, uncut},
   declared.chunk_cutter.ChunkCutter.ChunkCutter,
-  inner.{Seen.{is_past_on, seen_target}, Sends.{Brings, Changes, Sends, with_fulls, with_rest, part_on, whole_on}},
+  inner.{Seen.{is_past_on, seen_target}, Sends.{Brings, Changes, Gives, Stays, with_fulls, with_rest}},
 }
 
 abbrev pub seen_cutter : ChunkCutter → CutterState
@@ -29,7 +30,7 @@ pub record WritesTo (told : Bool) (cutter : CutterState) (end : ℕ) (text : Lis
     (next : CutterState) (result : Result ℕ Fault) : Type 0 where
   pub chunks : next.chunks ≡ cutter.chunks
   pub place : next.target.place ≡ cutter.target.place
-  pub sends : Changes told cutter.target (with_rest (cut_to cutter end text)) old new next.target (fault_in result)
+  pub changes : Changes told cutter.target (with_rest (cut_to cutter end text)) old new next.target (fault_in result)
   pub count : IfOk result (λ n. (0 < n) × (n ≤ length text) × (take n text ≡ cut_to cutter end text))
   pub at : IfOk result (λ n. next.at ≡ cutter.at + n)
   pub kept : IfErr result (λ fault. next.at ≡ cutter.at)
@@ -38,15 +39,15 @@ pub record WritesTo (told : Bool) (cutter : CutterState) (end : ℕ) (text : Lis
       (next.is_within ≡ is_within cutter.chunks.unit cutter.chunks.delim (cut_to cutter end text))
 
 -- a text was cut off, all of it before the end of the chunk that was begun, and is cut up like this
-pub record IsCutOff (cutter : CutterState) (size : ℕ) (x : List ℕ × CutUp) : Type 0 where
-  pub carries : Carries cutter.target x.1
+pub record IsCutOff (cutter : CutterState) (size : ℕ) (x : List ℕ) (cut : CutUp) : Type 0 where
+  pub carries : Carries cutter.target cut
   pub all : HasAll (course cutter) cutter.chunks.count
-  pub at : cutter.at ≡ length x.0
-  pub within : cutter.is_within ≡ is_within cutter.chunks.unit cutter.chunks.delim x.0
-  pub fits : length x.0 ≤ size
-  pub begun : is_within cutter.chunks.unit cutter.chunks.delim x.0 ≡ true → length x.0 < size
-      → before_chunk cutter.chunks size (cutter.target.place + 1) x.0 ≡ x.0
-  pub from : cutter.target.place ≤ ended cutter.chunks size x.0
+  pub at : cutter.at ≡ length x
+  pub within : cutter.is_within ≡ is_within cutter.chunks.unit cutter.chunks.delim x
+  pub fits : length x ≤ size
+  pub begun : is_within cutter.chunks.unit cutter.chunks.delim x ≡ true → length x < size
+      → before_chunk cutter.chunks size (cutter.target.place + 1) x ≡ x
+  pub from : cutter.target.place ≤ ended cutter.chunks size x
 
 -- the chunks ended that had all that goes with them
 pub record EndsFull (told : Bool) (cutter : CutterState) (size : ℕ) (old new : List Slot) (next : CutterState)
@@ -54,8 +55,10 @@ pub record EndsFull (told : Bool) (cutter : CutterState) (size : ℕ) (old new :
   pub chunks : next.chunks ≡ cutter.chunks
   pub at : next.at ≡ cutter.at
   pub within : next.is_within ≡ cutter.is_within
-  pub sends : Sends told cutter.target (IsCutOff cutter size) (λ x. x.1)
-      (λ x. with_fulls (ended cutter.chunks size x.0 - cutter.target.place) x.1) old new next.target fault
+  pub stays : Stays (course cutter) cutter.target.aim next.target.aim old new fault
+  pub gives : (x : List ℕ) (cut : CutUp) → IsCutOff cutter size x cut
+      → Gives told (course cutter) cutter.target next.target cut
+      (with_fulls (ended cutter.chunks size x - cutter.target.place) cut) old new fault
 
 -- what is made of an input that says that it has this size
 abbrev pub said_work : CutterState → ℕ → Work
@@ -74,11 +77,12 @@ pub record Cuts (told : Bool) (cutter : CutterState) (size : ℕ) (bytes : List 
     (next : CutterState) (fault : Option Fault) : Type 0 where
   pub chunks : next.chunks ≡ cutter.chunks
   pub bound : next.at ≤ cutter.at + length bytes
-  pub brings : Brings told (course cutter) cutter.target.aim next.target.aim
-      (λ x. IsCut cutter size x × (length (x ++ bytes) ≤ size)) (part_so cutter size)
-      (λ x. part_so cutter size (x ++ bytes)) old new fault
-  pub stands : IfNone fault ((x : List ℕ) → IsCut cutter size x → length (x ++ bytes) ≤ size
-      → IsCut next size (x ++ bytes))
+  pub stays : Stays (course cutter) cutter.target.aim next.target.aim old new fault
+  pub brings : (x : List ℕ) → IsCut cutter size x → length (x ++ bytes) ≤ size
+      → Brings told (course cutter) cutter.target.aim next.target.aim (part_so cutter size x)
+      (part_so cutter size (x ++ bytes)) old new fault
+  pub leads : (x : List ℕ) → IsCut cutter size x → length (x ++ bytes) ≤ size
+      → IfNone fault (IsCut next size (x ++ bytes))
 
 -- as long as its output isn't complete
 abbrev pub IsOpen : CutterState → ℕ → List ℕ → Type 0
@@ -125,14 +129,16 @@ pub record Settles (told : Bool) (cutter : CutterState) (waiting : List ℕ) (en
     (next : CutterState) (left : List ℕ) (fault : Option Fault) : Type 0 where
   pub chunks : next.chunks ≡ cutter.chunks
   pub bound : next.at + length left ≤ cutter.at + length waiting
-  pub sends : Sends told cutter.target (BeginsBefore cutter end) (λ z. uncut z)
-      (λ z. uncut (all_before cutter waiting end z)) old new next.target fault
-  pub stands : IfNone fault ((z : List ℕ) → BeginsBefore cutter end z
-      → HasCut next (all_before cutter waiting end z) (uncut (all_before cutter waiting end z))
+  pub stays : Stays (course cutter) cutter.target.aim next.target.aim old new fault
+  pub brings : (z : List ℕ) → BeginsBefore cutter end z
+      → Brings told (course cutter) cutter.target.aim next.target.aim (part_on (course cutter) (uncut z))
+      (part_on (course cutter) (uncut (all_before cutter waiting end z))) old new fault
+  pub leads : (z : List ℕ) → BeginsBefore cutter end z
+      → IfNone fault (HasCut next (all_before cutter waiting end z) (uncut (all_before cutter waiting end z))
       × (left ≡ drop (length (all_before cutter waiting end z)) (z ++ waiting)))
 
 -- What was cut off is what is settled of a text that has this size with what waits.
-pub record IsSettled (cutter : CutterState) (waiting : List ℕ) (size : ℕ) (z : List ℕ) : Type 0 where
+pub record IsFront (cutter : CutterState) (waiting : List ℕ) (size : ℕ) (z : List ℕ) : Type 0 where
   pub cut : HasCut cutter z (uncut z)
   pub all : length z + length waiting ≡ size
   pub is : before_chunk cutter.chunks size (first_on (course cutter)) (z ++ waiting) ≡ z
@@ -142,6 +148,7 @@ pub record EndsHeld (told : Bool) (cutter : CutterState) (waiting : List ℕ) (s
     (next : CutterState) (left : List ℕ) (fault : Option Fault) : Type 0 where
   pub chunks : next.chunks ≡ cutter.chunks
   pub bound : next.at + length left ≤ cutter.at + length waiting
-  pub brings : Brings told (course cutter) cutter.target.aim next.target.aim (IsSettled cutter waiting size)
-      (λ z. part_on (course cutter) (uncut z))
-      (λ z. whole_on (course cutter) (chunks_within cutter.chunks size (z ++ waiting))) old new fault
+  pub stays : Stays (course cutter) cutter.target.aim next.target.aim old new fault
+  pub brings : (z : List ℕ) → IsFront cutter waiting size z
+      → Brings told (course cutter) cutter.target.aim next.target.aim (part_on (course cutter) (uncut z))
+      (whole_on (course cutter) (chunks_within cutter.chunks size (z ++ waiting))) old new fault

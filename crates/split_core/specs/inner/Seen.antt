@@ -6,7 +6,7 @@ use Rattle.ports_core.specs.{
   declared.file_writer.{Keeps.TheVariants.Open, Tells.Tells},
 }
 use Rattle.split_core.specs.{
-  ChunkerState.{AimState, TargetState, to_files, to_output},
+  ChunkerState.{AimState, Course, TargetState, course_of, in_files, in_output, to_files, to_output},
   declared.chunk_target.{Aim.{Aim, TheVariants.{Files, Output}}, Target.Target},
 }
 
@@ -25,13 +25,13 @@ abbrev pub new_output : ℕ → TargetState
 new_output chunk = record { place = 0; aim = to_output chunk }
 
 -- the one chunk that is written has ended
-abbrev pub is_past_at : AimState → ℕ → Bool
-is_past_at (to_files writer elide) place = false
-is_past_at (to_output chunk) place = nat_lt chunk place
+abbrev pub is_past_at : Course → ℕ → Bool
+is_past_at (in_files filing elide) place = false
+is_past_at (in_output chunk) place = nat_lt chunk place
 
 abbrev pub is_past_on : TargetState → Bool
-is_past_on target = is_past_at target.aim target.place
+is_past_on target = is_past_at (course_of target.aim) target.place
 
-abbrev pub is_each_on : AimState → Bool
-is_each_on (to_files writer elide) = true
-is_each_on (to_output chunk) = false
+abbrev pub is_each_on : Course → Bool
+is_each_on (in_files filing elide) = true
+is_each_on (in_output chunk) = false

@@ -1,9 +1,9 @@
 -- What private calls say: what goes to the files of chunks, or to standard output where one of them goes there.
 use Rattle.std.specs.{
-  Prelude.{◌≡◌, ℕ, Bool, true, false, List, [], ◌∷◌, ◌++◌, length, map, zero, suc, Option, IfNone, IfSome, IsTrue},
+  Prelude.{◌≡◌, ℕ, Bool, true, false, List, [], ◌∷◌, ◌++◌, length, zero, suc, Option, IfNone, IfSome, IsTrue},
 }
 use Rattle.ports_core.specs.{
-  Draft.{Draft, Manner, draft_part, made_of, part_of, share, with_next},
+  Draft.{Draft, Manner, draft_part, made_of, with_next},
   FileWriter.{KeepsOrBreaks, Leaves, Reaches, Writes, WriterState},
   Part.{Output, Part, OutputsAt, Begins, gets_bytes},
   Slot.{Slot, is_writable},
@@ -13,24 +13,14 @@ use Rattle.ports_core.specs.{
     fault.Fault.{Fault, TheVariants.{Verdict, Write}},
     verdict.Verdict.TheVariants.Suffixes,
     file_writer.Opening.TheVariants.{Late, AtOnce},
-    slot.State.TheVariants.Closed,
   },
 }
 use Rattle.split_core.specs.{
-  ChunkWork.{draft_by, files_by, piece_at},
   Parts.CutUp,
   Split.manner_of,
-  ChunkerState.{AimState, Carries, Course, in_files, in_output, IsAimed, OwnsAim, TargetState, course_of},
+  ChunkerState.{AimState, Carries, Course, in_files, in_output, IsAimed, OwnsAim, TargetState, course_of, part_on},
+  ChunkerState.whole_on,
 }
-
--- what is written of a text that is cut up, and in the end
-abbrev pub part_on : Course → CutUp → Part
-part_on (in_files filing elide) cut = draft_part (manner_of filing) (draft_by elide cut)
-part_on (in_output chunk) cut = piece_at chunk cut
-
-abbrev pub whole_on : Course → CutUp → Part
-whole_on (in_files filing elide) cut = part_of (manner_of filing) (map (share Closed) (files_by elide cut))
-whole_on (in_output chunk) cut = piece_at chunk cut
 
 -- what is left of a text that is cut up gets more bytes, or ends
 abbrev pub with_rest : List ℕ → CutUp → CutUp
@@ -67,40 +57,48 @@ pub record AtAim (told : Bool) (aim : AimState) (before : List Slot) (part : Par
   pub owns : OwnsAim aim (length before) now
   pub outputs : OutputsAt told before part now
 
--- Whatever it is that so holds of: outputs that had the one part have the other, or a fault stopped them between the two.
-pub record Brings {X : Type 0} (told : Bool) (on : Course) (aim next : AimState) (So : X → Type 0) (low high : X → Part)
-    (old new : List Slot) (fault : Option Fault) : Type 0 where
-  pub stays : course_of next ≡ on
+-- What a call leaves, whatever was cut: it goes on as it did, with outputs of its own; or a fault stopped it.
+pub record Stays (on : Course) (aim next : AimState) (old new : List Slot) (fault : Option Fault) : Type 0 where
+  pub course : course_of next ≡ on
   pub owns : (first : ℕ) → OwnsAim aim first old → OwnsAim next first new
   pub slots : KeepsOrBreaks (manner_on on) old new fault
   pub only : IfSome fault (IsOf on)
-  pub named : IfSome fault (λ why. why ≡ Verdict Suffixes → (x : X) → So x → ⊥)
   pub output : IfNone fault (IsTrue (is_writable old 0) → IsTrue (is_writable new 0))
   pub ready : IfNone fault (IsAimed next new)
-  pub begins : (x : X) → So x → Begins (low x) (high x)
-  pub reaches : (x : X) → So x → (before : List Slot) → AtAim told aim before (low x) old
-      → IsThere (output_on on) told (AtAim told next before (high x) new) before (low x) (high x) new fault
+
+-- Outputs that had the one part have the other, or a fault stopped them between the two.
+pub record Brings (told : Bool) (on : Course) (aim next : AimState) (low high : Part) (old new : List Slot)
+    (fault : Option Fault) : Type 0 where
+  pub named : IfSome fault (λ why. why ≡ Verdict Suffixes → ⊥)
+  pub begins : Begins low high
+  pub reaches : (before : List Slot) → AtAim told aim before low old
+      → IsThere (output_on on) told (AtAim told next before high new) before low high new fault
 
 -- The same of what is written of texts that are cut up, and it can have been given the other then.
-pub record Sends {X : Type 0} (told : Bool) (target : TargetState) (So : X → Type 0) (from to : X → CutUp)
-    (old new : List Slot) (next : TargetState) (fault : Option Fault) : Type 0 where
-  pub brings : Brings told (course_of target.aim) target.aim next.aim So (λ x. part_on (course_of target.aim) (from x))
-      (λ x. part_on (course_of target.aim) (to x)) old new fault
-  pub carries : IfNone fault ((x : X) → So x → Carries next (to x))
+pub record Gives (told : Bool) (on : Course) (target next : TargetState) (from to : CutUp) (old new : List Slot)
+    (fault : Option Fault) : Type 0 where
+  pub brings : Brings told on target.aim next.aim (part_on on from) (part_on on to) old new fault
+  pub carries : IfNone fault (Carries next to)
 
 -- it can have been given this, and there is a name for the file of the chunk that was begun
 abbrev pub GoesOn : TargetState → CutUp → Type 0
 GoesOn target cut = Carries target cut × HasName (course_of target.aim) target.place
 
 -- of any text that it can have been given
-abbrev pub Changes : Bool → TargetState → (CutUp → CutUp) → List Slot → List Slot → TargetState → Option Fault → Type 0
-Changes told target change old new next fault =
-    Sends told target (GoesOn target) (λ cut. cut) change old new next fault
+pub record Changes (told : Bool) (target : TargetState) (change : CutUp → CutUp) (old new : List Slot)
+    (next : TargetState) (fault : Option Fault) : Type 0 where
+  pub stays : Stays (course_of target.aim) target.aim next.aim old new fault
+  pub gives : (cut : CutUp) → GoesOn target cut
+      → Gives told (course_of target.aim) target next cut (change cut) old new fault
 
 -- and all of it ended
-abbrev pub Ends : Bool → TargetState → List Slot → List Slot → TargetState → Option Fault → Type 0
-Ends told target old new next fault = Brings told (course_of target.aim) target.aim next.aim (Carries target)
-    (part_on (course_of target.aim)) (whole_on (course_of target.aim)) old new fault
+pub record EndsAll (told : Bool) (target : TargetState) (old new : List Slot)
+    (next : TargetState) (fault : Option Fault)
+    : Type 0 where
+  pub stays : Stays (course_of target.aim) target.aim next.aim old new fault
+  pub brings : (cut : CutUp) → Carries target cut
+      → Brings told (course_of target.aim) target.aim next.aim (part_on (course_of target.aim) cut)
+      (whole_on (course_of target.aim) cut) old new fault
 
 -- The files
 

@@ -23,7 +23,7 @@ IsWithin left has_line piece (Begins bytes) = (0 < bytes) × (bytes ≤ length p
 IsWithin left has_line piece Waits = (length piece < left) × (has_line ≡ true)
 
 -- all of this is settled, and no part is full yet
-pub record IsSettled (limit : Limit) (text : List ℕ) (left : ℕ) (has_line : Bool) : Type 0 where
+pub record IsBegun (limit : Limit) (text : List ℕ) (left : ℕ) (has_line : Bool) : Type 0 where
   pub short : is_full limit text ≡ false
   pub settled : settled_rest limit text ≡ text
   pub waits : waiting_rest limit text ≡ []
@@ -34,7 +34,7 @@ pub record IsTurned (limit : Limit) (text first next : List ℕ) : Type 0 where
   pub full : is_full limit text ≡ true
   pub first_is : first_part limit text ≡ first
   pub both : text ≡ first ++ next
-  pub begun : IsSettled limit next (most limit - length next) false
+  pub begun : IsBegun limit next (most limit - length next) false
 
 -- the piece settles nothing, and all of it waits
 pub record IsHeld (limit : Limit) (rest piece : List ℕ) (left : ℕ) (has_line : Bool) : Type 0 where
@@ -44,7 +44,7 @@ pub record IsHeld (limit : Limit) (rest piece : List ℕ) (left : ℕ) (has_line
   pub lacks : Lacks limit (rest ++ piece) (left - length piece) has_line
 
 abbrev pub Leads : Limit → List ℕ → ℕ → Bool → List ℕ → Step → Type 0
-Leads limit rest left has_line piece (Goes bytes less has) = IsSettled limit (rest ++ take bytes piece) less has
+Leads limit rest left has_line piece (Goes bytes less has) = IsBegun limit (rest ++ take bytes piece) less has
 Leads limit rest left has_line piece (Ends end bytes) =
     IsTurned limit (rest ++ take bytes piece) (rest ++ take end piece) (drop end (take bytes piece))
 Leads limit rest left has_line piece (Begins bytes) =

@@ -1,12 +1,10 @@
 -- Laws that traits cite: how the lines of a text that goes on are dealt, and which files have a line.
 use Rattle.std.proofs.{
-  lemmas.{
-    Grind.common_steps,
-    Bool.{cases_eq, cases_lt, eq-eqb, Decides.nat_tests},
-    List.{append-nil, FromFn.{filter_of_map_range_with_len_more, map-range_with_len_more}},
-  },
-  Common.{◌≡◌, ℕ, ◌+◌, ◌%◌, ◌<◌, ◌≤◌, zero, suc, min, Bool, true, false, cond, eqb, List, [], ◌∷◌, ◌++◌, length, map},
-  Common.{inl, inr, refl, sym, ◌∙◌, ap, arith, length-append, rules},
+  lemmas.Grind.common_steps,
+  lemmas.Bool.{cases_eq, cases_lt, Decides.nat_tests},
+  lemmas.List.{append-nil, FromFn.{filter_of_map_range_with_len_more, map-range_with_len_more}},
+  Common.{◌≡◌, ℕ, ◌+◌, ◌%◌, ◌<◌, ◌≤◌, zero, suc, min, Bool, true, false, cond, eqb, List, [], ◌∷◌, ◌++◌, length},
+  Common.{map, inl, inr, refl, ◌∙◌, ap, arith, length-append, rules},
   Math.Nat.{mod-eq_of_lt, zero-add},
 }
 use Rattle.std.specs.List.{filter, range_with_len, onto_first}
@@ -25,11 +23,6 @@ pub dealt_first : (ends : Bool) (n file place byte : ℕ) (lines : List (List �
 dealt_first true n file place byte lines = refl
 dealt_first false n file place byte lines = search rules
 
-goes_on : (gets : Bool) (byte : ℕ) (these more : List ℕ)
-    → cond gets (byte ∷ (these ++ more)) (these ++ more) ≡ cond gets (byte ∷ these) these ++ more
-goes_on true byte these more = refl
-goes_on false byte these more = refl
-
 pub next_place : (ends : Bool) (place count : ℕ)
     → cond ends (place + 1) place + count ≡ place + cond ends (count + 1) count
 next_place ends place count = grind (arith, nat_tests)
@@ -39,55 +32,42 @@ pub dealt_append : (delim n file place : ℕ) (x y : List ℕ)
     → dealt n file place (lines_of delim (x ++ y)) ≡ dealt n file place (lines_of delim x)
     ++ dealt n file (place + delimiters delim x) (lines_of delim y)
 dealt_append delim n file place [] y = grind (arith, common_steps)
-dealt_append delim n file place (byte ∷ x) y =
-    let next = cond (eqb byte delim) (place + 1) place in
+dealt_append delim n file place (byte ∷ x) y = let next = cond (eqb byte delim) (place + 1) place in
     dealt_first _ n _ _ _ _
-    ∙ ap (λ those. cond (eqb (place % n) file) (byte ∷ those) those) (dealt_append delim n file next x y)
-    ∙ goes_on (eqb (place % n) file) byte (dealt n file next (lines_of delim x))
-    (dealt n file (next + delimiters delim x) (lines_of delim y))
-    ∙ ap (λ those. those ++ dealt n file (next + delimiters delim x) (lines_of delim y))
-    (sym (dealt_first _ n _ _ _ _))
-    ∙ ap (λ at. dealt n file place (lines_of delim (byte ∷ x)) ++ dealt n file at (lines_of delim y))
-    (next_place _ _ _)
+    ∙ rw (dealt_append delim n file next x y, next_place, dealt_first) (grind (arith, nat_tests))
 
 -- Which files have a line
-
-differs : (n file place : ℕ) → place < file → file < n → eqb (place % n) file ≡ false
-differs n file place before within = grind (arith, common_steps)
 
 pub dealt_none : (n file place : ℕ) (lines : List (List ℕ)) → place + length lines ≤ file → file < n
     → dealt n file place lines ≡ []
 dealt_none n file place [] short within = refl
-dealt_none n file place (line ∷ lines) short within = cc
-    (differs n file place (omega arith) within, dealt_none n file (place + 1) lines (omega arith) within)
-
-some_either : (gets : Bool) (line rest : List ℕ) → 0 < length rest → 0 < length (cond gets (line ++ rest) rest)
-some_either true line rest some = omega (arith, length-append line rest)
-some_either false line rest some = some
+dealt_none n file place (line ∷ lines) short within =
+    grind (arith, common_steps, dealt_none n file (place + 1) lines (omega arith) within)
 
 dealt_some : (n file place : ℕ) (lines : List (List ℕ)) → EachSome lines → place ≤ file → file < place + length lines
     → file < n → 0 < length (dealt n file place lines)
 dealt_some n file place [] each from before within = absurd (omega arith)
 dealt_some n file place (line ∷ lines) each from before within = elim (cases_eq place file) [
-  | inl here ↦ found here
-  | inr other ↦ some_either _ _ _
-      (dealt_some n file (place + 1) lines each.1 (omega arith) (omega arith) within)
-] where
-  found : place ≡ file → 0 < length (dealt n file place (line ∷ lines))
-  found here =
-      let same : eqb (place % n) file ≡ true = eq-eqb (place % n) file (mod-eq_of_lt (omega arith) ∙ here) in
-      rw same (omega (arith, length-append line (dealt n file (place + 1) lines)))
+  | inl here ↦ grind (arith, common_steps, mod-eq_of_lt, length-append)
+  | inr other ↦ grind (
+    arith,
+    nat_tests,
+    length-append,
+    dealt_some n file
+        (place + 1) lines each.1 (omega arith) (omega arith) within,
+  )
+]
 
 each_step : (ends : Bool) (byte : ℕ) (lines : List (List ℕ)) → EachSome lines
     → EachSome (cond ends ((byte ∷ []) ∷ lines) (onto_first byte lines))
 each_step true byte lines each = (omega arith, each)
 each_step false byte lines each = search rules
 
-pub each_line : (delim : ℕ) (x : List ℕ) → EachSome (lines_of delim x)
+each_line : (delim : ℕ) (x : List ℕ) → EachSome (lines_of delim x)
 each_line delim [] = tt
 each_line delim (byte ∷ x) = each_step _ _ _ (each_line _ x)
 
-pub has_bytes_of : (bytes : List ℕ) → 0 < length bytes → has_bytes bytes ≡ true
+has_bytes_of : (bytes : List ℕ) → 0 < length bytes → has_bytes bytes ≡ true
 has_bytes_of [] some = absurd (omega arith)
 has_bytes_of (byte ∷ bytes) some = refl
 
@@ -95,7 +75,7 @@ pub share_none : (delim n : ℕ) (x : List ℕ) (file : ℕ) → line_count deli
     → share_of delim n x file ≡ []
 share_none delim n x file short within = dealt_none n _ 0 _ (omega arith) within
 
-pub share_some : (delim n : ℕ) (x : List ℕ) (file : ℕ) → file < line_count delim x → file < n
+share_some : (delim n : ℕ) (x : List ℕ) (file : ℕ) → file < line_count delim x → file < n
     → has_bytes (share_of delim n x file) ≡ true
 share_some delim n x file before within = grind (arith, common_steps, has_bytes_of, dealt_some, each_line)
 
@@ -113,12 +93,7 @@ filter_first f (suc n) end some none =
       | inl less ↦ (let all : min (suc n) end ≡ n + 1 = omega arith in let low : min n end ≡ n = omega arith in
           cc (before, some n (omega arith) less, map-range_with_len_more f 0 n n (zero-add n)))
       | inr past ↦ (let all : min (suc n) end ≡ min n end = omega arith in
-          cc (
-            before,
-            ap (λ bytes. cond (has_bytes bytes) (bytes ∷ []) []) (none n (omega arith) past),
-            append-nil
-                (map f (range_with_len 0 (min n end))),
-          ))
+          cc (before, none n (omega arith) past, append-nil (map f (range_with_len 0 (min n end)))))
     ]
 
 -- the files that have a line are the first ones
@@ -131,5 +106,4 @@ dealt_files_are delim false n x = refl
 
 pub opened_by-grows : (delim : ℕ) (elide : Bool) (n : ℕ) (x y : List ℕ)
     → opened_by delim elide n x ≤ opened_by delim elide n (x ++ y)
-opened_by-grows delim true n x y = omega (arith, line_count-grows)
-opened_by-grows delim false n x y = omega arith
+opened_by-grows delim elide n x y = grind (arith, nat_tests, line_count-grows)

@@ -1,20 +1,10 @@
 -- Laws that traits cite: laws of what files get: what is written once more came in, and in the end.
 use Rattle.std.proofs.{
-  lemmas.{Grind.common_steps, List.{map-append, length-map, take-take}},
-  Common.{◌≡◌, ℕ, ◌+◌, ◌-◌, ◌<◌, ◌≤◌, zero, suc, List, [], ◌∷◌, ◌++◌, length, map, take, drop, Bool, true, false, ◌⊎◌},
-  Common.{inl, inr, refl, sym, ◌∙◌, ap, subst, arith, append_assoc, rules},
+  lemmas.{Grind.common_steps, List.{map-append, length-map}},
+  Common.{◌≡◌, ℕ, ◌+◌, ◌<◌, ◌≤◌, suc, List, [], ◌∷◌, ◌++◌, length, map, Bool, true, false},
+  Common.{inl, refl, sym, arith, append_assoc, rules},
 }
-use Rattle.seg_core.{
-  specs.{
-    Line.{joined, lines_of, delimiters, first_lines},
-    declared.cut.Limit.{Limit, TheVariants.{Lines, Bytes, LineBytes}},
-    Cut.most,
-  },
-  proofs.{
-    Delimiters.delimiters-append,
-    FirstLines.{first_lines-append, first_lines-full, first_lines-short, first_lines_then_rest, lines_of-first_lines},
-  },
-}
+use Rattle.seg_core.{specs.declared.cut.Limit.{Limit}}
 use Rattle.ports_core.specs.{
   Name.{Naming, has_name},
   Draft.{opening_line, part_of, told_of_files},
@@ -24,24 +14,19 @@ use Rattle.ports_core.specs.{
 }
 use Rattle.ports_core.proofs.{
   ShareLemmas.{files_begin, files_stop, made_begin, openings_begin, shares_after},
-  PartLemmas.{begins_itself, begins_more},
+  PartLemmas.{begins_itself},
 }
 use Rattle.split_core.specs.{
-  Parts.{whole_lines, measure, is_full, first_part, after_first, cut_up, unless_empty, parts, settled_rest},
+  Parts.{is_full, first_part, after_first, cut_up, unless_empty, parts, settled_rest},
   Split.{Filing, Share, share, manner_of, are_named, output_by, settled_parts},
-  inner.{Sharing.file_at, CutLaws.{goes, cut_so, whole_parts, named}},
-  laws.CutLaws.{short_some, full_some, whole_of_lines, whole_of_none, settled_then_waiting, settled_some, cut_on},
+  inner.{CutLaws.{goes, cut_so, whole_parts, named}},
+  laws.CutLaws.{cut_on},
   laws.CutLaws.{cut_none, cut_once, cuts_up, rest_short},
 }
+use Rattle.split_core.specs.laws.{LimitLaws.{full_some, settled_some, settled_then_waiting, short_some}}
+use Rattle.split_core.specs.laws.LimitLaws.{settled_in_full, settled_in_rest}
 
--- the files of shares that begin others begin the files of those
-
-pub kept_file : (filing : Filing) (place : ℕ) (one other : Share) → (one.state ≡ Open) ⊎ (one ≡ other)
-    → ((file_at filing place one).state ≡ Open) ⊎ (file_at filing place one ≡ file_at filing place other)
-kept_file filing place one other (inl is) = inl is
-kept_file filing place one other (inr same) = search rules
-
--- what standard output is told of them as well
+-- what standard output is told of files that begin others begins what it is told of those
 pub told_begins : (verbose : Bool) (low high : List File) → FilesBegin low high
     → IsBeginning (told_of_files (output_by verbose) low) (told_of_files (output_by verbose) high)
 told_begins false low high begins = begins_itself _
@@ -57,64 +42,9 @@ pub named_short : (filing : Filing) (place : ℕ) (front rest : List Share)
     → named filing place (front ++ rest) ≡ named filing place front
 named_short filing place front rest none = files_stop (manner_of filing) place front rest none
 
--- the parts of whole texts
+-- The parts of whole texts
 
-pub first_lines_begin : (delim k n : ℕ) (x : List ℕ) → k ≤ n
-    → IsBeginning (first_lines delim k x) (first_lines delim n x)
-first_lines_begin delim k n x less = (
-  joined (drop k (lines_of delim (first_lines delim n x))),
-  sym (first_lines_then_rest _ k _)
-      ∙ ap (λ (lines : List (List ℕ)). joined lines ++ joined (drop k (lines_of delim (first_lines delim n x))))
-      (ap (take k) (lines_of-first_lines _ n x) ∙ take-take k n (lines_of delim x) less),
-)
-
-whole_begins_by : (delim : ℕ) (x y : List ℕ) (k m : ℕ) → delimiters delim x ≡ k → delimiters delim (x ++ y) ≡ m
-    → IsBeginning (whole_lines delim x) (whole_lines delim (x ++ y))
-whole_begins_by delim x y (suc k) (suc m) here all = rw (← (whole_of_lines delim x (omega arith)
-    ∙ sym (first_lines-full delim (delimiters delim x) x y (omega arith)))) at (subst
-    (λ high. IsBeginning (first_lines delim (delimiters delim x) (x ++ y)) high)
-    (sym (whole_of_lines delim (x ++ y) (omega arith)))
-    (first_lines_begin delim (delimiters delim x) (delimiters delim (x ++ y)) (x ++ y)
-    (omega (arith, delimiters-append))))
-whole_begins_by delim x y zero (suc m) here all = rw (whole_of_none _ x here) (
-  _,
-  whole_of_lines delim (x ++ y) (omega arith) ∙ first_lines-append delim (delimiters delim (x ++ y)) x y
-      ∙ ap (λ front. front ++ first_lines delim (delimiters delim (x ++ y) - delimiters delim x) y)
-      (first_lines-short _ _ x (omega arith)),
-)
-whole_begins_by delim x y zero zero here all =
-    rw (whole_of_none _ x here) (y, whole_of_none _ _ all)
-whole_begins_by delim x y (suc k) zero here all = absurd (omega (arith, delimiters-append))
-
-pub whole_begins : (delim : ℕ) (x y : List ℕ) → IsBeginning (whole_lines delim x) (whole_lines delim (x ++ y))
-whole_begins delim x y = whole_begins_by _ x y _ _ refl refl
-
-take_begins_long : (n : ℕ) (x y : List ℕ) → length x < n → (more : List ℕ) × (take n (x ++ y) ≡ x ++ more)
-take_begins_long n [] y short = (take n y, refl)
-take_begins_long zero (byte ∷ x) y short = absurd (omega arith)
-take_begins_long (suc n) (byte ∷ x) y short = let past = take_begins_long n x y (omega arith) in
-    (past.0, ap (λ rest. byte ∷ rest) past.1)
-
--- what is settled of a text without a full part begins the first part of the text that goes on
-
-settled_in_full : (limit : Limit) (x y : List ℕ) → measure limit x < most limit
-    → IsBeginning (settled_rest limit x) (first_part limit (x ++ y))
-settled_in_full (Lines n delim) x y short = (
-  _,
-  first_lines-append _ n x y ∙ ap (λ front. front ++ first_lines delim (n - delimiters delim x) y)
-      (first_lines-short _ n x short),
-)
-settled_in_full (Bytes n) x y short = take_begins_long n x y short
-settled_in_full (LineBytes n delim) x y short =
-    let taken = take_begins_long n x y short in subst
-    (λ those. IsBeginning (whole_lines delim x) (whole_lines delim those)) (sym taken.1)
-    (whole_begins _ x _)
-
-settled_in_rest : (limit : Limit) (x y : List ℕ) → IsBeginning (settled_rest limit x) (settled_rest limit (x ++ y))
-settled_in_rest (LineBytes n delim) x y = whole_begins _ x y
-settled_in_rest limit x y = begins_more x y
-
-pub settled_in_whole : (limit : Limit) (x : List ℕ) → IsBeginning (settled_rest limit x) x
+settled_in_whole : (limit : Limit) (x : List ℕ) → IsBeginning (settled_rest limit x) x
 settled_in_whole limit x = (_, sym (settled_then_waiting _ x))
 
 -- what files get of a text that goes on: the full parts of the text, and then what they get of the rest and what
@@ -138,11 +68,8 @@ cut_first limit x full = cut_once _ (goes x _ _ full (cuts_up))
 rest_begins_by : (limit : Limit) (rest y : List ℕ) (full : Bool) → is_full limit (rest ++ y) ≡ full
     → is_full limit rest ≡ false
     → SharesBegin (map (share Open) (unless_empty (settled_rest limit rest))) (settled_parts limit (rest ++ y))
-rest_begins_by limit rest y true full short = subst
-    (λ cut. SharesBegin (map (share Open) (unless_empty (settled_rest limit rest)))
-    (map (share Closed) cut.full ++ map (share Open) (unless_empty (settled_rest limit cut.rest))))
-    (sym (cut_first limit (rest ++ y) full))
-    (in_first (settled_rest limit rest) _
+rest_begins_by limit rest y true full short =
+    rw (cut_first limit (rest ++ y) full) (in_first (settled_rest limit rest) _
     (settled_in_full limit rest y (short_some limit rest short (full_some limit (rest ++ y) full).0))) where
       in_first : (low : List ℕ) (more : List Share) → IsBeginning low (first_part limit (rest ++ y))
           → SharesBegin (map (share Open) (unless_empty low)) (share Closed (first_part limit (rest ++ y)) ∷ more)
@@ -155,20 +82,16 @@ pub settled_grow : (limit : Limit) (x y : List ℕ) → SharesBegin (settled_par
 settled_grow limit x y = grind (arith, common_steps, settled_on, shares_after, rest_begins_by, rest_short)
 
 pub settled_end : (limit : Limit) (x : List ℕ) → SharesBegin (settled_parts limit x) (whole_parts limit x)
-settled_end limit x = subst (SharesBegin (settled_parts limit x))
-    (sym (map-append (share Closed) (cut_up limit x).full (unless_empty (cut_up limit x).rest)))
-    (shares_after (map (share Closed) (cut_up limit x).full) _ _
-    (made_begin Late Closed (settled_rest limit (cut_up limit x).rest) (cut_up limit x).rest
-    (settled_in_whole limit (cut_up limit x).rest)))
+settled_end limit x = rw (map-append (share Closed) (cut_up limit x).full (unless_empty (cut_up limit x).rest))
+    (shares_after _ _ _ (made_begin Late Closed _ _ (settled_in_whole limit (cut_up limit x).rest)))
 
 -- there are as many shares as the text has parts
 
 unless_count : (low high : List ℕ) → (0 < length high → 0 < length low) → (0 < length low → 0 < length high)
     → length (unless_empty low) ≡ length (unless_empty high)
 unless_count [] [] some back = refl
-unless_count [] (byte ∷ high) some back = grind (arith, common_steps)
-unless_count (byte ∷ low) [] some back = grind (arith, common_steps)
 unless_count (byte ∷ low) (first ∷ high) some back = refl
+unless_count low high some back = grind (arith, common_steps)
 
 pub settled_count : (limit : Limit) (x : List ℕ) → length (settled_parts limit x) ≡ length (parts limit x)
 settled_count limit x = grind (arith, common_steps, length-map, unless_count, settled_some, settled_in_whole)
@@ -177,9 +100,8 @@ settled_count limit x = grind (arith, common_steps, length-map, unless_count, se
 
 pub are_named_more : (names : Naming) (count more : ℕ) → are_named names count ≡ false → count ≤ more
     → are_named names more ≡ false
-are_named_more names zero more none few = cc
-are_named_more names (suc last) zero none few = search rules
 are_named_more names (suc last) (suc more) none few = grind (arith, common_steps)
+are_named_more names count more none few = search rules
 
 place_nameless : (names : Naming) (limit : Limit) (x : List ℕ) → are_named names (length (parts limit x)) ≡ false
     → has_name names (0 + length (map (share Closed) (cut_up limit x).full)) ≡ false
@@ -203,6 +125,5 @@ shares_fewer (share ∷ low) (whole ∷ high) begins = omega (arith, shares_fewe
 
 -- a text that goes on has no fewer parts
 pub parts_grow : (limit : Limit) (x y : List ℕ) → length (parts limit x) ≤ length (parts limit (x ++ y))
-parts_grow limit x y = rw (settled_count limit x) at (subst (λ n. length (settled_parts limit x) ≤ n)
-    (settled_count limit (x ++ y))
-    (shares_fewer _ _ (settled_grow limit x y)))
+parts_grow limit x y =
+    rw (settled_count limit x, settled_count limit (x ++ y)) at (shares_fewer _ _ (settled_grow limit x y))

@@ -1,33 +1,33 @@
 -- Laws that traits cite: those of the work of `split`, in each way to cut.
 use Rattle.std.{
-  proofs.lemmas.{Grind.common_steps, Bool.{false≢true, ltb-true, not-true}, List.{append-nil, length-map}},
-  proofs.Common.{◌≡◌, ℕ, ◌+◌, ◌≤◌, zero, suc, List, [], ◌∷◌, ◌++◌, map, Bool, true, false, cond, Option, arith, length},
-  proofs.Common.{sym, ◌∙◌, ap, rules},
+  proofs.lemmas.{Bool.{false≢true, ltb-true, not-true}, List.{append-nil, length-map}},
+  proofs.Common.{◌≡◌, ℕ, ◌+◌, ◌≤◌, zero, suc, List, [], ◌++◌, map, Bool, true, false, Option, arith, length},
+  proofs.Common.{Some, None, rules},
   specs.List.range_with_len,
 }
 use Rattle.ports_core.{
   specs.{
-    Part.{File, IsBeginning, FilesBegin, Begins},
-    Work.{IsLawful, IsComplete, Work},
+    Part.{IsBeginning, FilesBegin, Begins},
+    Work.{IsLawful, IsComplete},
     declared.slot.State.{State, TheVariants.{Open, Closed}},
     Draft.part_of,
   },
-  proofs.PartLemmas.{begins_itself, part_begins_itself},
+  proofs.PartLemmas.{begins_itself},
 }
 use Rattle.split_core.specs.{
   inner.{CutLaws.named, Dealt.share_of},
-  Split.{Filing, share, manner_of, dealt_files, are_named, settled_parts},
+  Split.{Filing, share, manner_of, dealt_files, are_named},
   Round.{round_plan, round_work, opened_by},
   laws.DealLaws.{dealt_append, dealt_files_are, opened_by-grows},
   laws.ShareLaws.{part_begins, told_begins, settled_grow, settled_end, files_settled, files_whole, parts_grow},
   laws.ShareLaws.are_named_more,
   laws.ChunkWorkLaws.{chunk_lawful, chunks_lawful, turn_lawful},
-  Parts.{cut_up, parts},
-  PartsState.{filing_of, parts_work},
+  Parts.{parts},
+  PartsState.{parts_work},
   FilesState.filing_in,
   declared.splitter.Splitter.{Splitter, TheVariants.{Parts, Round, Chunks, Turn}},
-  ChunkerState.{Course, can_cut, course, in_files, in_output, made_if, work_on},
-  Ways.work,
+  ChunkerState.{ChunkerState, Course, HoldsBy, can_cut, course, in_files, in_output, work_on},
+  Ways.{Holds, work},
 }
 use Rattle.seg_core.specs.declared.cut.{Limit.Limit, Chunks.Chunks as Chunking}
 
@@ -39,12 +39,7 @@ files_begin : (filing : Filing) (high : State) (f g : ℕ → List ℕ) → ((fi
 files_begin filing high f g begin place start zero n few = tt
 files_begin filing high f g begin place start (suc m) zero few = absurd (omega arith)
 files_begin filing high f g begin place start (suc m) (suc n) few =
-    grind (
-      arith,
-      common_steps,
-      files_begin filing high f g begin (place + 1) (start + 1) m n (omega
-          arith),
-    )
+    grind (arith, files_begin filing high f g begin (place + 1) (start + 1) m n (omega arith))
 
 -- each file only grows, and none is taken back
 dealt_begin : (delim : ℕ) (elide : Bool) (n : ℕ) (filing : Filing) (high : State) (x z : List ℕ)
@@ -53,7 +48,7 @@ dealt_begin : (delim : ℕ) (elide : Bool) (n : ℕ) (filing : Filing) (high : S
     → Begins (part_of (manner_of filing) (map (share Open) (dealt_files delim elide n x)))
     (part_of (manner_of filing) (map (share high) (dealt_files delim elide n z)))
 dealt_begin delim elide n filing high x z begin few =
-    grind (arith, common_steps, told_begins, dealt_files_are, files_begin)
+    grind (arith, told_begins, dealt_files_are, files_begin)
 
 pub round_lawful : (delim count : ℕ) (elide : Bool) (filing : Filing)
     → IsLawful (round_work (round_plan delim count elide filing))
@@ -68,26 +63,16 @@ round_lawful delim count elide filing = record {
 
 stays : (limit : Limit) (filing : Filing) (x y : List ℕ) → (parts_work limit filing).is_complete x ≡ true
     → IsComplete (parts_work limit filing) x y
-stays limit filing x y short = grind (arith, common_steps, none, more, here, files_settled, files_whole, not-true) where
-  none : are_named filing.names (length (parts limit x)) ≡ false
-  none = sym (ap (are_named filing.names) (length-map (parts limit x) (share Closed))) ∙ not-true _ short
-
-  more : are_named filing.names (length (map (share Closed) (parts limit (x ++ y)))) ≡ false
-  more = ap (are_named filing.names) (length-map (parts limit (x ++ y)) (share Closed)) ∙ are_named_more filing.names
-      (length (parts limit x)) _ none (parts_grow limit x y)
-
-  here : named filing 0 (settled_parts limit x) ≡ named filing 0 (map (share Closed) (cut_up limit x).full)
-  here = ap (λ all. named filing 0 (settled_parts limit all))
-      (sym (append-nil x)) ∙ files_settled filing limit x [] none
+stays limit filing x y short =
+    let none : are_named filing.names (length (parts limit x)) ≡ false = rw length-map at (not-true _ short) in
+    let more = are_named_more filing.names _ _ none (parts_grow limit x y) in
+    let here = rw (append-nil x) at (files_settled filing limit x [] none) in
+    grind (arith, length-map, files_settled, files_whole)
 
 pub parts_lawful : (limit : Limit) (filing : Filing) → IsLawful (parts_work limit filing)
 parts_lawful limit filing = search (rules, part_begins, settled_grow, settled_end, stays)
 
 -- Chunks
-
--- where there are none nothing is made
-none_lawful : (work : Work) → IsLawful (made_if false work)
-none_lawful work = grind (arith, common_steps, part_begins_itself, stays)
 
 pub work_lawful : (on : Course) (chunks : Chunking) (said : Option ℕ) → can_cut on chunks.count ≡ true
     → IsLawful (work_on on chunks said)
@@ -95,14 +80,15 @@ work_lawful (in_files filing elide) chunks said can =
     chunks_lawful _ _ (ltb-true _ _ can)
 work_lawful (in_output chunk) chunks said can = chunk_lawful _ _ _ (ltb-true _ _ can)
 
-chunks_so : (on : Course) (chunks : Chunking) (said : Option ℕ)
-    → IsLawful (made_if (can_cut on chunks.count) (work_on on chunks said))
-chunks_so on chunks said = grind (arith, common_steps, work_lawful, none_lawful)
+pub holds_can : (said : Option ℕ) (state : ChunkerState) (x : List ℕ) → HoldsBy said state x
+    → can_cut (course state.cutter) state.cutter.chunks.count ≡ true
+holds_can None state x holds = holds.cut.can
+holds_can (Some size) state x holds = holds.cut.can
 
 -- All ways
 
-pub lawful : (way : Splitter) → IsLawful (work way)
-lawful (Parts state) = parts_lawful _ _
-lawful (Chunks state) = chunks_so (course state.cutter) state.cutter.chunks state.said
-lawful (Turn state) = turn_lawful _ _ _
-lawful (Round state) = round_lawful state.delim state.count state.elide (filing_in state.files)
+pub lawful : (way : Splitter) (x : List ℕ) → Holds way x → IsLawful (work way)
+lawful (Parts state) x holds = parts_lawful _ _
+lawful (Chunks state) x holds = work_lawful _ _ _ (holds_can state.said state x holds)
+lawful (Turn state) x holds = turn_lawful _ _ _
+lawful (Round state) x holds = round_lawful state.delim state.count state.elide (filing_in state.files)

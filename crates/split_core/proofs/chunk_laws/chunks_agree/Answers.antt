@@ -19,7 +19,7 @@ returns c = record {
   waits = chunks_wait;
   placed = chunks_placed;
   chunk = chunk_agreed;
-  chunk_waits = chunk_waits;
+  chunk_waits = λ place chunks said x within. chunk_waits place chunks within said x;
   chunk_placed = chunk_placed;
   turn = λ place count delim x. agreed_now (turn_work place count delim) x
       (common (turn_work place count delim) (turn_lawful place count delim) x) refl;

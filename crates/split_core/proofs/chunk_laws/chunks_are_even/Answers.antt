@@ -1,6 +1,5 @@
-use Rattle.split_core.proofs.{
-  ChunkLemmas.{bytes_in_chunk, count_chunks, join_chunks, line_in_chunk, lines_in_chunks, longer_chunk, shorter_chunk},
-}
+use Rattle.split_core.proofs.ChunkLemmas.{begin_in_chunks, bytes_in_chunk, count_chunks, even_chunks, join_chunks}
+use Rattle.split_core.proofs.ChunkLemmas.{lines_in_chunks}
 use Rattle.split_core.proofs.chunk_laws.chunks_are_even.Goals as goal
 
 pub returns : goal.returns
@@ -8,8 +7,7 @@ returns c = record {
   count = count_chunks;
   all = join_chunks;
   bytes = bytes_in_chunk;
-  longer = longer_chunk;
-  shorter = shorter_chunk;
+  even = even_chunks;
   lines = lines_in_chunks;
-  first_byte = line_in_chunk;
+  first_byte = begin_in_chunks;
 }

@@ -1,4 +1,3 @@
-use Rattle.std.proofs.Common.{take}
 use Rattle.split_core.proofs.DealLemmas.{appended}
 use Rattle.split_core.proofs.deal.append_to.Goals as goal
 

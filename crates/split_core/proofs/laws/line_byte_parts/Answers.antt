@@ -1,8 +1,4 @@
-use Rattle.seg_core.specs.declared.cut.Limit.TheVariants.{LineBytes}
-use Rattle.split_core.{
-  specs.Parts.parts,
-  proofs.SectionLemmas.{line_bytes_are_parts, line_bytes_once, line_bytes_within},
-}
+use Rattle.split_core.{proofs.SectionLemmas.{line_bytes_are_parts, line_bytes_once, line_bytes_within}}
 use Rattle.split_core.proofs.laws.line_byte_parts.Goals as goal
 
 pub returns : goal.returns

@@ -7,5 +7,6 @@ pub returns : goal.returns
 returns c = record {
   settled = λ plan is x. ap (λ verbose. told_of_files (output_by verbose) (settled_by plan x).files) is;
   whole = λ plan is x. ap (λ verbose. told_of_files (output_by verbose) (whole_by plan x).files) is;
-  none = λ plan is x. ap (λ verbose. told_of_files (output_by verbose) (settled_by plan x).files ++ told_of_files (output_by verbose) (whole_by plan x).files) is;
+  none = λ plan is x. ap (λ verbose. told_of_files (output_by verbose) (settled_by plan x).files ++ told_of_files
+      (output_by verbose) (whole_by plan x).files) is;
 }

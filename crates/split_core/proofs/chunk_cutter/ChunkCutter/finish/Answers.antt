@@ -1,4 +1,4 @@
-use Rattle.ports_core.{proofs.HandedOn.handed_on, specs.Turn.fault_in}
+use Rattle.ports_core.{proofs.HandedOn.handed_on}
 use Rattle.std.proofs.Common.{refl}
 use Rattle.split_core.proofs.UnsaidLemmas.{held_ends, held_not_cut, held_not_ended}
 use Rattle.split_core.proofs.chunk_cutter.ChunkCutter.finish.Goals as goal

@@ -1,4 +1,3 @@
-use Rattle.ports_core.specs.Turn.{fault_in}
 use Rattle.split_core.proofs.TargetLemmas.{files_next, output_next}
 use Rattle.split_core.proofs.chunk_target.Target.next.Goals as goal
 

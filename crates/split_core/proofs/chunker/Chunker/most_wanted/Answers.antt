@@ -9,7 +9,8 @@ pub returns-in-Some-Output-clause-few : goal.returns-in-Some-Output-clause-few
 returns-in-Some-Output-clause-few c = few_of_chunk _ _ _ _
     (ap (λ (state : ChunkerState). state.said) (sym c.self.view_is) ∙ c.in-Some-Output.is-0)
     (ap (λ (state : ChunkerState). course state.cutter) (sym c.self.view_is) ∙ ap (λ aim. course_of (seen_aim aim)) c.in-Some-Output.is-1)
-    (rw (← c.self.view_is) (c.max.ensures ∙ ap (λ n. max n 1) (c.saturating_sub.ensures ∙ ap (λ n. n - c.self.inside.cutter.at) c.chunk_start-end.ensures)))
+    (rw (← c.self.view_is) (c.max.ensures
+    ∙ ap (λ n. max n 1) (c.saturating_sub.ensures ∙ ap (λ n. n - c.self.inside.cutter.at) c.chunk_start-end.ensures)))
 
 pub returns-in_default-clause-few : goal.returns-in_default-clause-few
 returns-in_default-clause-few c = few_of_files _ _ _ _

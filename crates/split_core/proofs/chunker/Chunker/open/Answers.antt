@@ -1,4 +1,4 @@
-use Rattle.split_core.{specs.inner.Seen.seen_target, proofs.FreshLemmas.holds_none}
+use Rattle.split_core.{proofs.FreshLemmas.holds_none}
 use Rattle.split_core.proofs.chunker.Chunker.open.Goals as goal
 
 pub returns-clause-holds : goal.returns-clause-holds

@@ -8,14 +8,15 @@ returns-in_err-reserve g c = result_is (Opens _ _ _ _ _ _ _) _ _ c.from_residual
     (reached_not _ _ _ (rw (← c.self.view_is) at c.requires.ready)
     (omega (arith, ap (λ (files : FilesState). length files.outputs) c.self.view_is))
     (rw (← c.self.view_is) at c.requires.named)
-    refl (λ has. no_memory refl)))
+    refl (no_memory refl)))
 
 pub returns-in_err-slot : goal.returns-in_err-slot
-returns-in_err-slot g c = result_is (Opens _ _ _ _ _ _ _) _ _ c.from_residual-in_err-slot.ensures.1 (rw (← c.self.view_is, c.in_ok-reserve.ensures.items)
+returns-in_err-slot g c = result_is (Opens _ _ _ _ _ _ _) _ _ c.from_residual-in_err-slot.ensures.1
+    (rw (← c.self.view_is, c.in_ok-reserve.ensures.items)
     (reached_not _ _ _ (rw (← c.self.view_is) at c.requires.ready)
     (omega (arith, ap (λ (files : FilesState). length files.outputs) c.self.view_is))
     (rw (← c.self.view_is) at c.requires.named)
-    c.open_next.ensures.same (λ has. c.in_err-slot.ensures.err)))
+    c.open_next.ensures.same c.in_err-slot.ensures.err))
 
 pub returns : goal.returns
 returns g c = rw (← c.self.view_is, c.put.ensures, c.in_ok-reserve.ensures.items, c.in_ok-slot.ensures.drew, c.in_ok-slot.ensures.slot)

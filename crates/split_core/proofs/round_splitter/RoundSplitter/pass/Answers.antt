@@ -1,8 +1,12 @@
-use Rattle.std.proofs.{Common.{◌∙◌, Err, []}, lemmas.List.get_or_past}
+use Rattle.std.proofs.{
+  Common.{◌+◌, ◌≤◌, min, length, Err, [], arith},
+  lemmas.List.{get_or_past, FromFn.take-map-range_with_len},
+}
+use Rattle.seg_core.specs.Line.{line_count}
 use Rattle.ports_core.{proofs.HandedOn.result_is, specs.declared.fault.Fault.TheVariants.Memory}
 use Rattle.split_core.{
   specs.inner.Ways.PassesAs,
-  proofs.{FilesLemmas.no_room, PartsLemmas.on_ok, RoundLemmas.{first_gathered, passes_at}},
+  proofs.{FilesLemmas.no_room, PartsLemmas.on_ok, RoundLemmas.passes_at},
 }
 use Rattle.split_core.proofs.round_splitter.RoundSplitter.pass.Goals as goal
 
@@ -13,7 +17,7 @@ returns-in_err-reached g c = result_is (PassesAs _ _ _ _ _ _) _ _ c.from_residua
 
 pub returns : goal.returns
 returns g c = let deal = c.self.inside.deal in let gathers = c.in_ok-reached.ensures.gathers in
-    let first = first_gathered deal.delim _ deal.next c.args.piece.now gathers.gathered_is gathers.reached_is in
+    let less : min (length deal.gathered) (deal.next + line_count deal.delim c.args.piece.now) ≤ length deal.gathered = omega arith in
     rw (← c.self.view_is, c.gather.ensures.delim, c.gather.ensures.count) (passes_at g.O.Outs.told
     _ c.args.piece.now c.write.result (on_ok c.write.result gathers.next_is)
-    (rw (c.first.ensures ∙ first) at c.write.ensures))
+    (rw (c.first.ensures, gathers.gathered_is, gathers.reached_is, take-map-range_with_len) at c.write.ensures))

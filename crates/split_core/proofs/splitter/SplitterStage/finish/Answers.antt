@@ -1,5 +1,5 @@
 use Rattle.std.proofs.Common.{Ok}
-use Rattle.split_core.{specs.Ways.terms, proofs.AlikeLemmas.finishes_as_if}
+use Rattle.split_core.{proofs.AlikeLemmas.finishes_as_if}
 use Rattle.split_core.proofs.PartsLemmas as part
 use Rattle.split_core.proofs.RoundLemmas as dealing
 use Rattle.split_core.proofs.TurnLemmas as turn

@@ -1,4 +1,4 @@
-use Rattle.split_core.{specs.Ways.terms, proofs.AlikeLemmas.passes_as_if}
+use Rattle.split_core.{proofs.AlikeLemmas.passes_as_if}
 use Rattle.split_core.proofs.PartsLemmas as part
 use Rattle.split_core.proofs.splitter.SplitterStage.pass.Goals as goal
 

@@ -5,10 +5,10 @@ use Rattle.split_core.proofs.turn.Turn.pass.Goals as goal
 
 pub returns-in_err-gather-clause-passes : goal.returns-in_err-gather-clause-passes
 returns-in_err-gather-clause-passes g c = result_is (PassesAs _ _ _ _ _ _) _ _ c.from_residual.ensures.1
-    (rw (← c.self.view_is, c.gather.ensures.delim, c.gather.ensures.count) (lacks_room _ c.gather.new.self.next c.args.piece.now))
+    (rw (← c.self.view_is, c.gather.ensures.delim, c.gather.ensures.count) (lacks_room _ _ c.args.piece.now))
 
 pub returns-clause-passes : goal.returns-clause-passes
 returns-clause-passes g c = let gathers = c.in_ok-gather.ensures.gathers in
     rw (← c.self.view_is, c.gather.ensures.delim, c.gather.ensures.count, gathers.next_is) (passes_at g.O.Outs.told
-    _ c.args.piece.now c.write_bytes.result c.requires
+    _ _ _ c.requires
     (rw (c.at.ensures ∙ picked _ c.args.piece.now c.self.invariant gathers.gathered_is) at c.write_bytes.ensures))
