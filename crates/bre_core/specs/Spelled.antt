@@ -1,6 +1,7 @@
 -- Intervals and bracket lists as the author of a pattern spells them (XBD 9.3.5, 9.3.6), and what they stand for.
 use Rattle.std.specs.{
-  Prelude.{◌≡◌, ◌≢◌, ℕ, ◌+◌, ◌-◌, ◌*◌, ◌≤◌, Bool, true, false, ◌==◌, ◌&&◌, ◌||◌, nat_le, List, [], ◌∷◌, ◌++◌, map},
+  Prelude.{◌≡◌, ◌≢◌, ℕ, ◌+◌, ◌-◌, ◌*◌, ◌≤◌, Bool, true, false, ◌==◌, ◌&&◌, ◌||◌, nat_le, List, []},
+  Prelude.{◌∷◌, ◌++◌, map},
   Prelude.{fold, Option, Some, None, codes, if◌then◌else◌},
   List.list_all,
 }

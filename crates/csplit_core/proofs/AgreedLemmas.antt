@@ -1,7 +1,9 @@
 -- What is settled is what all continuations agree on, and where lines go.
 use Rattle.std.proofs.{
-  Common.{◌≡◌, inl, inr, ℕ, suc, ◌+◌, ◌-◌, ◌<◌, ◌≤◌, ◌&&◌, Bool, true, false, cond, List, [], ◌∷◌, ◌++◌, length},
-  Common.{get_or, refl, sym, ◌∙◌, ap, subst, arith, length-append, zero, map, take, drop, append_assoc, nat_lt, nat_le},
+  Common.{◌≡◌, inl, inr, ℕ, suc, ◌+◌, ◌-◌, ◌<◌, ◌≤◌, ◌&&◌, Bool, true, false, cond, List, [], ◌∷◌, ◌++◌},
+  Common.length,
+  Common.{get_or, refl, sym, ◌∙◌, ap, arith, length-append, zero, map, take, drop, append_assoc, nat_lt},
+  Common.nat_le,
   Common.{min, length-take, ◌⊎◌, ne_eqb, eq-eqb, length-drop, length-take-le, rules, ◌≢◌},
   lemmas.{
     Bool.{cases_lt, false≢true, Decides.nat_tests},
@@ -11,8 +13,9 @@ use Rattle.std.proofs.{
 }
 use Rattle.csplit_core.specs.{
   Agreed.{CanCome, kept_lines, whole_outputs, settled_outputs, AreFronts, IsAgreed},
-  Operand.{Minus, Target, Number, Search, Operand, Line, Plus, most_held, is_kept},
-  Plan.{State, start, Step, Ending, below, search_line, MatchesNone, CutsAt, line_after, step_of, Runs, is_below, cuts},
+  Operand.{Minus, Target, Number, Search, Operand, Line, Plus, is_kept},
+  Plan.{State, start, Step, Ending, below, search_line, MatchesNone, CutsAt, line_after, step_of, Runs, is_below},
+  Plan.cuts,
   Plan.{missed, Misses, is_used_up, misses, is_above},
   laws.PlanLaws.{line_some, runs_on, goes_on, plan_runs, plan_once, cuts_still, less_test, not_less_test},
   laws.SectionLaws.{between_still, ends_as, are_within, closed_still, plan_grows, whole_covers, plan_goes_on},
@@ -31,7 +34,7 @@ use Rattle.bre_core.specs.Pattern.{Pattern}
 matched_within : (suppress : Bool) (lines : List Line) (state : State) (operand : Operand) (target : Target)
     (matched cut : ℕ) → CutsAt suppress lines state operand target matched cut → state.matched ≤ length lines
     → matched ≤ length lines
-matched_within suppress lines state operand target matched cut at within = grind (arith, common_steps)
+matched_within suppress lines state operand target matched cut at within = search rules
 
 search_within : {suppress : Bool} {lines : List Line} {first : State} {steps : List Step} {last : State}
     {ending : Ending} → Runs suppress lines first steps last ending → first.matched ≤ length lines
@@ -39,7 +42,7 @@ search_within : {suppress : Bool} {lines : List Line} {first : State} {steps : L
     → search_line suppress last ≤ suc (length lines)
 search_within {suppress} {lines} (cuts state operand operands matched' cut steps' last' ending' is at from in_lines rest) matched within =
     let few = matched_within suppress lines state operand operand.target matched' cut at matched in
-    search_within rest few (grind (arith, common_steps))
+    search_within rest few (search rules)
 search_within run matched within = within
 
 -- a line that each operand finds
@@ -47,10 +50,10 @@ abbrev pub matching : List Line
 matching = record { text = 10 ∷ []; marks = λ operand. true } ∷ []
 
 pub none_comes : CanCome []
-none_comes = grind (arith, common_steps)
+none_comes = search rules
 
 pub matching_comes : CanCome matching
-matching_comes = grind (arith, common_steps)
+matching_comes = search rules
 
 -- the cut falls within the lines that are there: the section ends there, or the cut is below it
 pub data Turned (suppress : Bool) (x : List Line) (state : State) (operand : Operand) (cut : ℕ) : Type 0 where
@@ -79,7 +82,7 @@ turned : {suppress : Bool} {x : List Line} {state : State} {operand : Operand} {
     → Turned suppress x state operand (suc (length x) - k)
 turned {suppress} {x} {state} {operand} pattern kept k some is target none within =
     turned_by (suc (length x) - k) some is
-    (subst (λ t. CutsAt suppress (x ++ matching) state operand t (suc (length x)) (suc (length x) - k)) (sym target) ((grind (arith, common_steps)), refl))
+    (grind (arith, common_steps))
     (omega (arith, length-append x matching))
 
 -- at the end of a plan either nothing waits, or one line more makes a cut that stands back
@@ -95,62 +98,46 @@ waits_by {suppress} {x} {state} (missed operand repetition) (left, are, none, of
   by : (target : Target) → operand.target ≡ target → Misses suppress x state operand target
       → Waits suppress x state (missed operand repetition)
   by (Number n) is none = absurd none
-  by (Search pattern kept (Plus k)) is none = none_waits (sym (ap (λ t. suc (length x) - most_held t) is ∙ (let e : suc (length x) - 0 ≡ suc (length x) = omega arith in e)))
-  by (Search pattern kept (Minus k)) is none = some_wait k refl (ap (λ t. suc (length x) - most_held t) is) (turned pattern kept k some are is none within)
+  by (Search pattern kept (Plus k)) is none = none_waits (search rules)
+  by (Search pattern kept (Minus k)) is none = some_wait k refl (search rules) (turned pattern kept k some are is none within)
 waits_by _ ends some within = none_waits refl
 
 -- What is settled is what all continuations agree on.
 
 -- Outputs
 
-kept_by : (has : Bool) (lines : List Line) (low high : List (List Line)) → AreFronts low high
-    → AreFronts (cond has (lines ∷ low) low) (cond has (lines ∷ high) high)
-kept_by has lines low high fronts = grind (arith, common_steps)
-
 kept_grow : (front : List Section) (begun other : Section) (more : List Section) → begun.is_kept ≡ other.is_kept
     → IsBeginning begun.lines other.lines
     → AreFronts (kept_lines (front ++ begun ∷ [])) (kept_lines (front ++ other ∷ more))
-kept_grow [] begun other more same begins = grind (arith, common_steps)
-kept_grow (one ∷ front) begun other more same begins = kept_by one.is_kept one.lines _ _ (kept_grow front begun other more same begins)
+kept_grow [] begun other more same begins = search rules
+kept_grow (one ∷ front) begun other more same begins = search (rules, kept_grow front begun other more same begins)
 
 kept-append : (a b : List Section) → kept_lines (a ++ b) ≡ kept_lines a ++ kept_lines b
 kept-append [] b = refl
-kept-append (one ∷ a) b = by one.is_kept (kept-append a b) where
-  by : (has : Bool) → kept_lines (a ++ b) ≡ kept_lines a ++ kept_lines b
-      → cond has (one.lines ∷ kept_lines (a ++ b)) (kept_lines (a ++ b))
-      ≡ cond has (one.lines ∷ kept_lines a) (kept_lines a) ++ kept_lines b
-  by true is = ap (λ those. one.lines ∷ those) is
-  by false is = is
+kept-append (one ∷ a) b = search (rules, kept-append a b)
 
 -- no front is longer than the whole
-
-short_by : (has : Bool) (front : List (List Line)) (one other : List Line) (more : List (List Line)) (place : ℕ)
-    → length other ≤ length one → place < length (front ++ cond has (one ∷ []) [])
-    → length (get_or (front ++ cond has (other ∷ more) more) place []) ≤ length
-    (get_or (front ++ cond has (one ∷ []) []) place [])
-short_by has front one other more place short less = grind (arith, common_steps)
 
 no_longer : (front : List Section) (one other : Section) (more : List Section) (place : ℕ) → one.is_kept ≡ other.is_kept
     → length other.lines ≤ length one.lines → place < length (kept_lines (front ++ one ∷ []))
     → length (get_or (kept_lines (front ++ other ∷ more)) place []) ≤ length
     (get_or (kept_lines (front ++ one ∷ [])) place [])
-no_longer front one other more place same short less = grind (arith, common_steps, kept-append, short_by)
+no_longer front one other more place same short less = grind (arith, common_steps, kept-append)
 
 -- The lines that wait are those that two continuations put into different places.
 
 -- a line after a cut is after the one that is left out there
 pub left_by : (suppress : Bool) (line cut : ℕ) → nat_lt line cut ≡ false → (suppress && nat_le line cut) ≡ false
     → line_after suppress cut ≤ line
-left_by suppress line cut is are = grind (arith, common_steps)
+left_by suppress line cut is are = search rules
 
 pub not_left : (suppress : Bool) (line cut : ℕ) → line_after suppress cut ≤ line → (suppress && nat_le line cut) ≡ false
-not_left true line cut rest' = grind (arith, nat_tests, rest')
-not_left false line cut rest' = refl
+not_left suppress line cut rest' = grind (arith, nat_tests, rest')
 
 same_by : (lt le : Bool) (index : ℕ) (one other : Place) → (lt ≡ false → le ≡ false → one ≡ other)
     → cond lt (in_section index) (cond le (left_out index) one)
     ≡ cond lt (in_section index) (cond le (left_out index) other)
-same_by lt le index one other same = grind (arith, common_steps)
+same_by lt le index one other same = search rules
 
 -- before the current line all plans that go on agree
 place_front : {suppress : Bool} {lines : List Line} {first : State} {steps : List Step} {last : State} {ending : Ending}
@@ -177,14 +164,8 @@ place_after : {suppress : Bool} {lines : List Line} {first : State} {steps : Lis
     → place_from suppress total index (steps ++ more) how line
     ≡ place_from suppress total (index + length steps) more how line
 place_after {suppress} (cuts state operand operands matched cut steps' last' ending' is at least within rest) total index line more how from =
-    let on : line_after suppress cut ≤ last'.current = current_grows rest in
-    ap (λ b. cond b (in_section index) (cond (suppress && nat_le line cut) (left_out index)
-    (place_from suppress total (index + 1) (steps' ++ more) how line)))
-    (not_less_test line cut (omega (arith, line_some suppress cut)))
-    ∙ ap (λ b. cond b (left_out index) (place_from suppress total (index + 1) (steps' ++ more) how line)) (not_left suppress line cut (omega arith))
-    ∙ place_after rest total (index + 1) line more how from
-    ∙ ap (λ i. place_from suppress total i more how line) (let e : index + 1 + length steps' ≡ index + suc (length steps') = omega arith in e)
-place_after {suppress} run total index line more how from = ap (λ i. place_from suppress total i more how line) (let e : index ≡ index + 0 = omega arith in e)
+    search (rules, line_some, current_grows rest, not_less_test, not_left, place_after rest total (index + 1) line more how from)
+place_after {suppress} run total index line more how from = search rules
 
 -- What is settled of the open section is in it whatever comes
 
@@ -216,10 +197,11 @@ decided_by : (suppress : Bool) (a b : List Line) {last : State} (ending : Ending
     → ((is_final ending ≡ false) → settled_end (length a) ending ≤ line → ⊥)
     → (index : ℕ) (more : List Step) (end : State) {how : Ending} → Runs suppress (a ++ b) last more end how
     → place_from suppress (length (a ++ b)) index more how line ≡ cond (is_final ending) nowhere (in_section index)
-decided_by suppress a b (missed operand repetition) some is line from within not index more end rest = settled_place a b (missed operand repetition) is more end rest line from
-    (elim (cases_lt line (suc (length a) - most_held operand.target)) [ inl less ↦ less | inr beyond ↦ absurd (not refl beyond) ])
+decided_by suppress a b (missed operand repetition) some is line from within not index more end rest =
+    settled_place a b (missed operand repetition) is more end rest line from
+    (search (rules, cases_lt))
 decided_by suppress a b {last} (below operand repetition) some (operands, matched, cut, is, at, in_lines, low, often) line from within not index more end rest =
-    nowhere_by matched cut is (cuts_still suppress a b last operand operand.target matched cut at)
+    nowhere_by matched cut is (search (rules, cuts_still))
     (omega (arith, length-append a b)) low more end rest index line
 decided_by suppress a b ending some is line from within not index more end rest = settled_place a b ending is more end rest line from (omega arith)
 
@@ -227,12 +209,12 @@ decided_by suppress a b ending some is line from within not index more end rest 
 
 step_later : {index : ℕ} (other : ℕ) {rest' : Place} → index < other → (rest' ≡ in_section index → ⊥) → (lt le : Bool)
     → cond lt (in_section other) (cond le (left_out other) rest') ≡ in_section index → ⊥
-step_later other less later lt le same = grind (arith, common_steps)
+step_later other less later lt le same = search rules
 
 -- what comes after a section isn't in it
 pub in_later : (suppress : Bool) (total : ℕ) {index : ℕ} (other line : ℕ) (steps : List Step) (how : Ending)
     → index < other → place_from suppress total other steps how line ≡ in_section index → ⊥
-in_later suppress total other line [] how less is = grind (arith, common_steps)
+in_later suppress total other line [] how less is = search rules
 in_later suppress total other line (step ∷ steps) how less is =
     step_later other less (λ same. in_later suppress total (other + 1) line steps how (omega arith) same)
     (nat_lt line step.cut) (suppress && nat_le line step.cut) is
@@ -243,7 +225,7 @@ turned_away : {suppress : Bool} {x : List Line} {state : State} {operand : Opera
     → Turned suppress x state operand (suc (length x) - k) → suc (length x) - k ≤ line
     → (steps : List Step) × (end : State) × (how : Ending) × Runs suppress (x ++ matching) state steps end how
     × ((index : ℕ) → place_from suppress (length (x ++ matching)) index steps how line ≡ in_section index → ⊥)
-turned_away k line fact from = grind (arith, common_steps, not_less_test, in_later)
+turned_away k line fact from = search (rules, not_less_test, in_later)
 
 -- Places are right: each section has the lines that go into it.
 
@@ -251,44 +233,42 @@ turned_away k line fact from = grind (arith, common_steps, not_less_test, in_lat
 
 into-append : (s : ℕ) (places : ℕ → Place) (n : ℕ) (a b : List Line)
     → lines_into s places n (a ++ b) ≡ lines_into s places n a ++ lines_into s places (n + length a) b
-into-append s places n [] b = ap (λ m. lines_into s places m b) (let e : n ≡ n + 0 = omega arith in e)
-into-append s places n (line ∷ a) b = grind (arith, common_steps, (into-append s places (n + 1) a b ∙ ap (λ m. lines_into s places (n + 1) a ++ lines_into s places m b) (let e : n + 1 + length a ≡ n + suc (length a) = omega arith in e)))
+into-append s places n [] b = search rules
+into-append s places n (line ∷ a) b = search (rules, into-append s places (n + 1) a b)
 
 into_all : {s : ℕ} (places : ℕ → Place) (n : ℕ) (a : List Line)
     → ((line : ℕ) → n ≤ line → line < n + length a → places line ≡ in_section s) → lines_into s places n a ≡ a
 into_all places n [] here = refl
-into_all {s} places n (line ∷ a) here =
-    ap (λ has. cond has (line ∷ lines_into s places (n + 1) a) (lines_into s places (n + 1) a)) (ap (is_in s) (here n (omega arith) (omega arith)) ∙ eq-eqb s s refl)
-    ∙ ap (λ those. line ∷ those) (into_all places (n + 1) a (λ k from within. here k (omega arith) (omega arith)))
+into_all {s} places n (line ∷ a) here = search (
+  rules,
+  eq-eqb s s refl,
+  here n (omega arith)
+      (omega arith),
+  into_all places (n + 1) a (λ k from within. here k (omega arith) (omega arith)),
+)
 
 into_none : (s : ℕ) (places : ℕ → Place) (n : ℕ) (a : List Line)
     → ((line : ℕ) → n ≤ line → line < n + length a → is_in s (places line) ≡ false) → lines_into s places n a ≡ []
 into_none s places n [] not_in = refl
-into_none s places n (line ∷ a) not_in =
-    ap (λ has. cond has (line ∷ lines_into s places (n + 1) a) (lines_into s places (n + 1) a)) (not_in n (omega arith) (omega arith))
-    ∙ into_none s places (n + 1) a (λ k from within. not_in k (omega arith) (omega arith))
+into_none s places n (line ∷ a) not_in = search (
+  rules,
+  not_in n (omega arith) (omega arith),
+  into_none s places
+      (n + 1) a (λ k from within. not_in k (omega arith) (omega arith)),
+)
 
 into_same : (s : ℕ) (places others : ℕ → Place) (n : ℕ) (a : List Line)
     → ((line : ℕ) → n ≤ line → line < n + length a → places line ≡ others line)
     → lines_into s places n a ≡ lines_into s others n a
 into_same s places others n [] same = refl
-into_same s places others n (line ∷ a) same =
-    ap (λ place. cond (is_in s place) (line ∷ lines_into s places (n + 1) a) (lines_into s places (n + 1) a)) (same n (omega arith) (omega arith))
-    ∙ ap (λ those. cond (is_in s (others n)) (line ∷ those) those) (into_same s places others (n + 1) a (λ k from within. same k (omega arith) (omega arith)))
-
-goes_elsewhere : {s : ℕ} (place : Place) → (place ≡ in_section s → ⊥) → is_in s place ≡ false
-goes_elsewhere place differs = grind (arith, common_steps)
+into_same s places others n (line ∷ a) same = search (
+  rules,
+  same n (omega arith)
+      (omega arith),
+  into_same s places others (n + 1) a (λ k from within. same k (omega arith) (omega arith)),
+)
 
 -- The last section
-
-abbrev rest_places : ℕ → ℕ → ℕ → Place
-rest_places end index line = cond (nat_lt line end) (in_section index) nowhere
-
-rest_placed : (lines : List Line) (current end index : ℕ) → 1 ≤ current → (end ≡ suc (length lines)) ⊎ (end ≡ 0)
-    → (k : ℕ) {s : ℕ} → s ≡ index + k
-    → get_or (lines_between current end lines ∷ []) k []
-    ≡ lines_into s (rest_places end index) current (drop (current - 1) lines)
-rest_placed lines current end index some which k at = grind (arith, common_steps, into_all, less_test, into_none, not_less_test)
 
 end_is : {total : ℕ} (ending : Ending) → (whole_end total ending ≡ suc total) ⊎ (whole_end total ending ≡ 0)
 end_is (below operand repetition) = inr refl
@@ -301,8 +281,7 @@ places_with suppress index cut later line = cond (nat_lt line cut) (in_section i
 
 left_there : (suppress : Bool) (cut line : ℕ) → cut ≤ line → line < line_after suppress cut
     → (suppress && nat_le line cut) ≡ true
-left_there true cut line from within = let less : line ≤ cut = omega arith in grind (arith, nat_tests, less)
-left_there false cut line from within = absurd (omega arith)
+left_there suppress cut line from within = grind (arith, nat_tests, from, within)
 
 -- the lines before the cut, that at it, and those after it
 step_parts : (suppress : Bool) (lines : List Line) (current cut index s : ℕ) (later : ℕ → Place) → 1 ≤ current
@@ -315,26 +294,18 @@ step_parts suppress lines current cut index s later some least within =
     let next = line_after suppress cut in
     let least_next : cut ≤ next = line_some suppress cut in
     let most_next : next ≤ suc cut = after_within suppress cut cut (omega arith) in
-    let front : length (lines_between current cut lines) ≡ cut - current = length-take-le (cut - current)
-    (drop (current - 1) lines) (let long : length (drop (current - 1) lines) ≡ length lines - (current - 1) =
-    length-drop (current - 1) lines in omega arith) in
-    let middle : length (lines_between cut next lines) ≡ next - cut = length-take-le (next - cut)
-    (drop (cut - 1) lines) (let long : length (drop (cut - 1) lines) ≡ length lines - (cut - 1) = length-drop
-    (cut - 1) lines in omega arith) in
+    let front : length (lines_between current cut lines) ≡ cut - current = search (rules, length-take-le, length-drop) in
+    let middle : length (lines_between cut next lines) ≡ next - cut = search (rules, length-take-le, length-drop) in
     ap (lines_into s places current) (sym (between_rest current cut lines some least))
     ∙ into-append s places current (lines_between current cut lines) (drop (cut - 1) lines)
     ∙ ap (λ those. lines_into s places current (lines_between current cut lines) ++ those)
     (ap (λ n. lines_into s places n (drop (cut - 1) lines)) (let e : current + length (lines_between current cut lines) ≡ cut = omega arith in e)
-    ∙ ap (lines_into s places cut) (sym (between_rest cut next lines (omega arith) least_next))
+    ∙ ap (lines_into s places cut) (search (rules, between_rest))
     ∙ into-append s places cut (lines_between cut next lines) (drop (next - 1) lines)
     ∙ ap (λ those. those ++ lines_into s places (cut + length (lines_between cut next lines)) (drop (next - 1) lines))
-    (into_none s places cut (lines_between cut next lines) (λ line from before.
-    ap (λ has. is_in s (cond has (in_section index) (cond (suppress && nat_le line cut) (left_out index) (later line)))) (not_less_test line cut from)
-    ∙ ap (λ has. is_in s (cond has (left_out index) (later line))) (left_there suppress cut line from (omega arith))))
+    (into_none s places cut (lines_between cut next lines) (search (rules, not_less_test, left_there)))
     ∙ ap (λ n. lines_into s places n (drop (next - 1) lines)) (let e : cut + length (lines_between cut next lines) ≡ next = omega arith in e)
-    ∙ into_same s places later next (drop (next - 1) lines) (λ line from before.
-    ap (λ has. cond has (in_section index) (cond (suppress && nat_le line cut) (left_out index) (later line))) (not_less_test line cut (omega arith))
-    ∙ ap (λ has. cond has (left_out index) (later line)) (not_left suppress line cut from)))
+    ∙ into_same s places later next (drop (next - 1) lines) (search (rules, not_less_test, not_left)))
 
 step_before : (suppress : Bool) (lines : List Line) (current cut : ℕ) {index : ℕ} (later : ℕ → Place) (line : ℕ)
     → 1 ≤ current → current ≤ cut → cut ≤ length lines → line < current + length (lines_between current cut lines)
@@ -355,9 +326,10 @@ placed_from {suppress} {lines} (cuts state operand operands matched cut steps' l
       arith,
       common_steps,
       (into_none s later (line_after suppress cut) (drop (line_after suppress cut - 1) lines)
-          (λ line from before. goes_elsewhere (later line) (in_later suppress (length lines) (index + 1) line steps' ending' (omega arith)))),
+          (search (rules, in_later))),
     ))
-    ∙ into_all (place_from suppress (length lines) index (step_of state operand matched cut ∷ steps') ending') state.current (lines_between state.current cut lines)
+    ∙ into_all (place_from suppress (length lines) index (step_of state operand matched cut ∷ steps') ending') state.current
+    (lines_between state.current cut lines)
     (λ line from before. step_before suppress lines state.current cut later line some least within before
     ∙ ap in_section (let e : index ≡ s = omega arith in e)))
 placed_from {suppress} {lines} (cuts state operand operands matched cut steps' last' ending' is cuts_at least within rest) some index (suc k) {s} at =
@@ -365,11 +337,10 @@ placed_from {suppress} {lines} (cuts state operand operands matched cut steps' l
     placed_from rest (omega (arith, line_some suppress cut)) (index + 1) k (omega arith)
     ∙ sym (step_parts suppress lines state.current cut index s later some least within
     ∙ ap (λ those. those ++ lines_into s later (line_after suppress cut) (drop (line_after suppress cut - 1) lines))
-    (into_none s (place_from suppress (length lines) index (step_of state operand matched cut ∷ steps') ending') state.current (lines_between state.current cut lines)
-    (λ line from before. ap (is_in s)
-    (step_before suppress lines state.current cut later line some least within before) ∙ ne_eqb s index
-    (λ same. omega arith))))
-placed_from {lines} {first} {ending} run some index k at = rest_placed lines first.current (whole_end (length lines) ending) index some (end_is ending) k at
+    (into_none s (place_from suppress (length lines) index (step_of state operand matched cut ∷ steps') ending') state.current
+    (lines_between state.current cut lines)
+    (search (rules, step_before, ne_eqb))))
+placed_from {lines} {first} {ending} run some index k at = grind (arith, common_steps, into_all, less_test, into_none, not_less_test, end_is)
 
 -- Lines in no section
 
@@ -385,20 +356,22 @@ left_by_step : {suppress : Bool} {index : ℕ} (cut line : ℕ) {step : Step} {s
     → cond lt (in_section index) (cond le (left_out index) later) ≡ left_out cut
     → LeftAt suppress index cut line (step ∷ steps)
 left_by_step cut line true le lt_is le_is rest same = absurd (cc)
-left_by_step cut line false true lt_is le_is rest same = grind (arith, common_steps)
+left_by_step cut line false true lt_is le_is rest same = search rules
 left_by_step {index} cut line false false lt_is le_is rest same =
     let there = rest same in let at : cut ≡ index + 1 + there.k = there.at in record { so = there.so; k = suc there.k; at = omega arith; is = there.is }
 
 left_at : (suppress : Bool) (total index cut line : ℕ) (steps : List Step) (ending : Ending)
     → place_from suppress total index steps ending line ≡ left_out cut → LeftAt suppress index cut line steps
-left_at suppress total index cut line [] ending same = absurd (grind (arith, common_steps))
+left_at suppress total index cut line [] ending same = absurd (search rules)
 left_at suppress total index cut line (step ∷ steps) ending same =
-    left_by_step {suppress = suppress} {index = index} cut line {step = step} {steps = steps} {later = place_from suppress total (index + 1) steps ending line} (nat_lt line step.cut) (suppress && nat_le line step.cut) refl refl (left_at suppress total (index + 1) cut line steps ending) same
+    left_by_step {suppress = suppress} {index = index} cut line {step = step} {steps = steps}
+    {later = place_from suppress total (index + 1) steps ending line} (nat_lt line step.cut)
+    (suppress && nat_le line step.cut) refl refl (left_at suppress total (index + 1) cut line steps ending) same
 
 nowhere_by_step : (lt le : Bool) (index : ℕ) {later : Place} (A : Type 0)
     → (lt ≡ false → le ≡ false → later ≡ nowhere → A)
     → cond lt (in_section index) (cond le (left_out index) later) ≡ nowhere → A
-nowhere_by_step lt le index A rest same = grind (arith, common_steps)
+nowhere_by_step lt le index A rest same = search rules
 
 nowhere_at : {suppress : Bool} {lines : List Line} {first : State} {steps : List Step} {last : State} {ending : Ending}
     → Runs suppress lines first steps last ending → (index line : ℕ) → first.current ≤ line → line ≤ length lines
@@ -408,7 +381,7 @@ nowhere_at (is_below state operand operands matched cut is cuts_at in_lines low)
 nowhere_at {suppress} (cuts state operand operands matched cut steps' last' ending' is cuts_at least in_lines rest) index line from within same =
     nowhere_by_step (nat_lt line cut) (suppress && nat_le line cut) index ((is_final ending' ≡ true) × (last'.current ≤ line))
     (λ lt le later. nowhere_at rest (index + 1) line (left_by suppress line cut lt le) within later) same
-nowhere_at run index line from within same = absurd (grind (arith, common_steps))
+nowhere_at run index line from within same = absurd (search rules)
 
 -- The plan over the lines that came in
 
@@ -423,7 +396,7 @@ module _ (suppress : Bool) (operands : List Operand) (x : List Line) where
   inside = are_within here (omega arith)
 
   end_waits : Waits suppress x made.last made.ending
-  end_waits = waits_by made.ending (ends_as here) inside.1 (search_within here (omega arith) (grind (arith, common_steps)))
+  end_waits = waits_by made.ending (ends_as here) inside.1 (search_within here (omega arith) (search rules))
 
   -- What is settled is what all continuations agree on.
 
@@ -455,11 +428,7 @@ module _ (suppress : Bool) (operands : List Operand) (x : List Line) where
     comes = comes;
     next = next;
     more = rest';
-    are = ap (whole_sections (x ++ y)) (plan_once (goes_on y _ _ here rest))
-        ∙ ap (λ those. those ++ section (is_last_kept how) true (lines_between end.current (whole_end (length (x ++ y)) how) (x ++ y)) ∷ [])
-        (map-append (section_of (x ++ y)) made.steps more ∙ ap (λ those. those ++ map (section_of (x ++ y)) more) (closed_still x y made.steps inside.0))
-        ∙ append_assoc (map (section_of x) made.steps) (map (section_of (x ++ y)) more) _
-        ∙ ap (λ those. map (section_of x) made.steps ++ those) are;
+    are = rw (plan_once (goes_on y _ _ here rest)) (search (rules, map-append, closed_still, inside, append_assoc));
     kept = kept;
     short = short;
   }
@@ -470,26 +439,24 @@ module _ (suppress : Bool) (operands : List Operand) (x : List Line) where
     comes = none_comes;
     next = section (is_last_kept made.ending) true (lines_between made.last.current (whole_end (length x) made.ending) x);
     more = [];
-    are = ap (λ those. whole_sections those (plan suppress operands those)) (append-nil x);
+    are = search (rules, append-nil);
     kept = refl;
-    short = grind (arith, common_steps);
+    short = search rules;
   }
   decides (some_wait k kept past (too_low low rest)) =
       decides_by matching _ _ matching_comes rest refl kept
-      (let e : length (lines_between made.last.current 0 (x ++ matching)) ≡ 0 = (grind (arith, common_steps)) in omega arith)
+      (let e : length (lines_between made.last.current 0 (x ++ matching)) ≡ 0 = (search rules) in omega arith)
   decides (some_wait k kept past (turns from steps end how rest)) =
       decides_by matching _ _ matching_comes rest refl kept
       (let e : length (lines_between made.last.current (suc (length x) - k) (x ++ matching)) ≡ length open_lines
-      = ap length (between_still made.last.current (suc (length x) - k) x matching inside.1 (omega arith)
-      ∙ ap (λ p. lines_between made.last.current p x) (sym past)) in omega arith)
+      = search (rules, between_still, inside) in omega arith)
 
   pub settled_is_agreed : IsAgreed (whole_outputs suppress operands) x (settled_outputs suppress operands x)
   settled_is_agreed =
       let decides = decides end_waits in
-      agreed_as [] decides.y (λ y comes. (grind (arith, common_steps, kept_grow, (plan_grows suppress true whole_end whole_covers operands x y))))
+      agreed_as [] decides.y (λ y comes. (search (rules, kept_grow, (plan_grows suppress true whole_end whole_covers operands x y))))
       none_comes decides.comes fewest
-      (λ place less. rw decides.are (no_longer (map (section_of x) made.steps)
-      (section (is_last_kept made.ending) false open_lines) decides.next decides.more place decides.kept decides.short less))
+      (λ place less. search (rules, decides, no_longer))
 
   -- The lines that wait are those that two continuations put into different places.
 
@@ -504,18 +471,14 @@ module _ (suppress : Bool) (operands : List Operand) (x : List Line) where
   place_there : (y : List Line) (line : ℕ) → made.last.current ≤ line → line ≤ length x → (WaitsAt line → ⊥)
       → place_of suppress operands (x ++ y) line
       ≡ cond (is_final made.ending) nowhere (in_section (0 + length made.steps))
-  place_there y line from within not =
-      ap (λ (p : Plan). place_from suppress (length (x ++ y)) 0 p.steps p.ending line) (goes y).is
-      ∙ place_after here (length (x ++ y)) 0 line (goes y).more (goes y).how from
+  place_there y line from within not = rw (goes y).is (place_after here (length (x ++ y)) 0 line (goes y).more (goes y).how from
       ∙ decided_by suppress x y _ inside.1 (ends_as here) line from within
-      (λ live past. not (live, from, past, within)) _ (goes y).more (goes y).end (goes y).rest
+      (λ live past. not (live, from, past, within)) _ (goes y).more (goes y).end (goes y).rest)
 
   same_line : (y z : List Line) (line : ℕ) → 1 ≤ line → line ≤ length x → (WaitsAt line → ⊥)
       → place_of suppress operands (x ++ y) line ≡ place_of suppress operands (x ++ z) line
   same_line y z line some within not = elim (cases_lt line made.last.current) [
-    | inl before ↦ ap (λ (p : Plan). place_from suppress (length (x ++ y)) 0 p.steps p.ending line) (goes y).is
-        ∙ place_front here (length (x ++ y)) (length (x ++ z)) 0 line (goes y).more (goes z).more (goes y).how (goes z).how some before
-        ∙ sym (ap (λ (p : Plan). place_from suppress (length (x ++ z)) 0 p.steps p.ending line) (goes z).is)
+    | inl before ↦ rw ((goes y).is, (goes z).is) (search (rules, place_front, here, goes))
     | inr from ↦ place_there y line from within not ∙ sym (place_there z line from within not)
   ]
 
@@ -523,7 +486,7 @@ module _ (suppress : Bool) (operands : List Operand) (x : List Line) where
   differ_line : (line : ℕ) → WaitsAt line → Waits suppress x made.last made.ending
       → (y : List Line) × (z : List Line) × CanCome y × CanCome z
       × (place_of suppress operands (x ++ y) line ≢ place_of suppress operands (x ++ z) line)
-  differ_line line (live, from, past, within) (none_waits same) = absurd (omega (arith, ends_after_all (length x) made.ending live))
+  differ_line line (live, from, past, within) (none_waits same) = search (rules, ends_after_all)
   differ_line line (live, from, past, within) (some_wait k kept settled turned) =
       let away = turned_away k line turned (omega arith) in (
         [],
@@ -534,24 +497,23 @@ module _ (suppress : Bool) (operands : List Operand) (x : List Line) where
             (sym (ap (λ (p : Plan). place_from suppress (length (x ++ matching)) 0 p.steps p.ending line)
             (plan_once (goes_on matching _ _ here away.3))
             ∙ place_after here (length (x ++ matching)) 0 line away.0 away.2 from)
-            ∙ sym same ∙ ap (λ those. place_of suppress operands those line) (append-nil x)
+            ∙ rw (append-nil x) at (sym same)
             ∙ (ap (λ those. place_from suppress (length x) 0 those made.ending line) (sym (append-nil made.steps))
-            ∙ place_after here (length x) 0 line [] made.ending from ∙ (grind (arith, common_steps)))),
+            ∙ place_after here (length x) 0 line [] made.ending from ∙ (search rules))),
       )
 
   undecided_by : (final : Bool) → is_final made.ending ≡ final → IsUndecided (place_of suppress operands) x
       (cond final []
       (drop (settled_end (length x) made.ending - made.last.current) (drop (made.last.current - 1) x)))
-  undecided_by true final = nothing_waits (λ i within y z. same_line y z (i + 1) (omega arith) (omega arith) (λ waits. false≢true (sym waits.0 ∙ final)))
+  undecided_by true final = search (rules, nothing_waits, same_line, false≢true)
   undecided_by false live =
       let n = made.last.current - 1 + (settled_end (length x) made.ending - made.last.current) in
       let some : 1 ≤ made.last.current = inside.1 in
       let count : length (take n x) ≡ min n (length x) = length-take n x in record {
         before = take n x;
-        are_last = sym (take-append-drop n x) ∙ ap (λ rest. take n x ++ rest)
-            (sym (drop-drop (settled_end (length x) made.ending - made.last.current) (made.last.current - 1) x));
-        differ = λ i past within. differ_line (i + 1) (live, omega arith, omega arith, omega arith) end_waits;
-        decided = λ i within y z y_comes z_comes. same_line y z (i + 1) (omega arith) (omega arith) (λ waits. omega arith);
+        are_last = search (rules, take-append-drop, drop-drop);
+        differ = λ i past within. differ_line (i + 1) (search rules) end_waits;
+        decided = search (rules, same_line);
       }
 
   pub waiting_is_undecided : IsUndecided (place_of suppress operands) x (waiting_lines x made)

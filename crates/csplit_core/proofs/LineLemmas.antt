@@ -1,7 +1,8 @@
 -- Lines of a text as operands see them, their bytes, and what follows the last newline, where more bytes come.
 use Rattle.std.proofs.{
-  Common.{◌≡◌, inl, inr, ℕ, ◌+◌, ◌-◌, ◌<◌, ◌≤◌, List, [], ◌∷◌, ◌++◌, length, map, take, drop, refl, sym, ◌∙◌, ap},
-  Common.{arith, length-append, Bool, true, false, cond, append_assoc, take-add, rules, subst},
+  Common.{◌≡◌, inl, inr, ℕ, ◌+◌, ◌-◌, ◌<◌, ◌≤◌, List, [], ◌∷◌, ◌++◌, length, map, take, drop, refl, sym},
+  Common.{◌∙◌, ap},
+  Common.{arith, length-append, Bool, true, false, append_assoc, take-add, rules},
   lemmas.Bool.{cases_lt, cases_eq, eq-eqb, ne_eqb},
   lemmas.List.{take-append-drop, map-append, take-map, drop-map, length-map, length-drop, drop_all, drop-append-le},
   lemmas.List.{take-append-le, drop-drop, append-nil, append_cancel_left, length-take-le},
@@ -12,7 +13,7 @@ use Rattle.seg_core.specs.{
   Line.LastEndsAt,
 }
 use Rattle.seg_core.proofs.{
-  LinesOf.{lines_of-append, joined-lines_of, AreLines-lines_of, lines_of-joined},
+  LinesOf.{lines_of-append, AreLines-lines_of, lines_of-joined},
   LineCounts.{line_count-closed, ends_with-append, line_count-open, ends_with-some},
   FirstLines.{after_lines-is_drop, first_lines_then_rest, joined-append, lines_of-after_lines, first_lines-zero},
   FirstLines.{delimiters-first_lines, lines_of-first_lines},
@@ -31,29 +32,29 @@ use Rattle.csplit_core.specs.{
 -- the lines of complete lines and of what follows them
 pub lines-append : {x : List ℕ} (t : List ℕ) → Joins x t
     → lines_of newline (x ++ t) ≡ lines_of newline x ++ lines_of newline t
-lines-append t fact = grind (arith, common_steps, lines_of-append)
+lines-append t fact = search (rules, lines_of-append)
 
 pub all_lines-append : {x : List ℕ} (t : List ℕ) → Joins x t → all_lines (x ++ t) ≡ all_lines x ++ all_lines t
-all_lines-append t whole = grind (arith, common_steps, lines-append, map-append)
+all_lines-append t whole = search (rules, lines-append, map-append)
 
 pub all_lines-line : {x : List ℕ} (line : List ℕ) → IsWhole x → IsLine line
     → all_lines (x ++ line) ≡ all_lines x ++ marked line ∷ []
-all_lines-line {x} line whole one = all_lines-append line (inl whole) ∙ ap (λ those. all_lines x ++ map marked those) one
+all_lines-line {x} line whole one = search (rules, all_lines-append)
 
 pub length-all_lines : (x : List ℕ) → length (all_lines x) ≡ line_count newline x
 length-all_lines x = length-map (lines_of newline x) marked
 
 pub count-append : {x : List ℕ} (t : List ℕ) → Joins x t
     → line_count newline (x ++ t) ≡ line_count newline x + line_count newline t
-count-append {x} t whole = ap length (lines-append t whole) ∙ length-append (lines_of newline x) (lines_of newline t)
+count-append {x} t whole = search (rules, lines-append, length-append)
 
 pub count-line : {x : List ℕ} (line : List ℕ) → IsWhole x → IsLine line
     → line_count newline (x ++ line) ≡ line_count newline x + 1
-count-line {x} line whole one = count-append line (inl whole) ∙ ap (λ those. line_count newline x + length those) one
+count-line {x} line whole one = search (rules, count-append)
 
 -- complete lines have as many delimiters
 pub whole_count : {x : List ℕ} → IsWhole x → line_count newline x ≡ delimiters newline x
-whole_count fact = grind (arith, common_steps, line_count-closed)
+whole_count fact = search (rules, line_count-closed)
 
 pub whole-append : {x : List ℕ} (t : List ℕ) → IsWhole x → IsWhole t → IsWhole (x ++ t)
 whole-append t whole other = grind (arith, common_steps, ends_with-append)
@@ -61,7 +62,7 @@ whole-append t whole other = grind (arith, common_steps, ends_with-append)
 pub whole_drop : (n : ℕ) {text : List ℕ} → IsWhole text → IsWhole (drop n text)
 whole_drop n (inl none) = inl (ap (drop n) none ∙ drop_all n [] (omega arith))
 whole_drop n {text} (inr ends) = elim (cases_lt n (length text)) [
-  | inl within ↦ inr (sym (ends_with-append newline (take n text) (drop n text) (omega (arith, length-drop n text)))
+  | inl within ↦ inr (sym (search (rules, ends_with-append, length-drop))
       ∙ ap (ends_with newline) (take-append-drop n text) ∙ ends)
   | inr past ↦ inl (drop_all n text past)
 ]
@@ -70,7 +71,7 @@ whole_drop n {text} (inr ends) = elim (cases_lt n (length text)) [
 
 pub bytes_marked : (lines : List (List ℕ)) → bytes_of (map marked lines) ≡ joined lines
 bytes_marked [] = refl
-bytes_marked (line ∷ lines) = ap (λ those. line ++ those) (bytes_marked lines)
+bytes_marked (line ∷ lines) = search (rules, bytes_marked lines)
 
 pub bytes_between : (first end : ℕ) (x : List ℕ)
     → bytes_of (lines_between first end (all_lines x)) ≡ first_lines newline (end - first) (text_from first x)
@@ -78,27 +79,23 @@ bytes_between first end x = search (rules, drop-map, take-map, bytes_marked, lin
 
 -- how many lines follow
 pub count_from : (first : ℕ) (x : List ℕ) → line_count newline (text_from first x) ≡ line_count newline x - (first - 1)
-count_from first x = grind (arith, common_steps, lines_of-after_lines, length-drop)
+count_from first x = search (rules, lines_of-after_lines, length-drop)
 
 -- the first lines of a text, and what follows them
 
 pub rest_is : {n : ℕ} {x : List ℕ} (end : ℕ) → EndsAt newline n x end → drop end x ≡ after_lines newline n x
-rest_is {n} {x} end ends = ap (λ k. drop k x) (sym (length-take-le end x ends.within) ∙ ap length ends.lines) ∙ sym (after_lines-is_drop newline n x)
+rest_is {n} {x} end ends = search (rules, length-take-le, after_lines-is_drop)
 
 -- the first lines from a line on
-
-pub first_from : (n first : ℕ) (x : List ℕ)
-    → first_lines newline n (text_from first x) ≡ joined (take n (drop (first - 1) (lines_of newline x)))
-first_from n first x = ap (λ those. joined (take n those)) (lines_of-after_lines newline (first - 1) x)
 
 -- what follows complete lines changes nothing among them
 pub first_still : (n first : ℕ) {x : List ℕ} (t : List ℕ) → Joins x t → 1 ≤ first → first + n ≤ line_count newline x + 1
     → first_lines newline n (text_from first (x ++ t)) ≡ first_lines newline n (text_from first x)
-first_still n first t whole some within = search (rules, length-drop, first_from, lines-append, drop-append-le, take-append-le)
+first_still n first t whole some within = search (rules, length-drop, lines_of-after_lines, lines-append, drop-append-le, take-append-le)
 
 pub rest_more : (first : ℕ) {x : List ℕ} (t : List ℕ) → Joins x t → 1 ≤ first → first ≤ line_count newline x + 1
     → text_from first x ++ t ≡ text_from first (x ++ t)
-rest_more first t fact some within = grind (arith, common_steps, after_lines-append, whole_count, append-nil)
+rest_more first t fact some within = search (rules, after_lines-append, whole_count, append-nil)
 
 pub from_further : (first n : ℕ) (x : List ℕ) → 1 ≤ first
     → after_lines newline n (text_from first x) ≡ text_from (first + n) x
@@ -107,20 +104,11 @@ from_further first n x some = search (rules, lines_of-after_lines, drop-drop)
 pub first_further : (first a b : ℕ) (x : List ℕ) → 1 ≤ first
     → first_lines newline (a + b) (text_from first x)
     ≡ first_lines newline a (text_from first x) ++ first_lines newline b (text_from (first + a) x)
-first_further first a b x some =
-    ap joined (take-add a b (lines_of newline (text_from first x)))
-    ∙ joined-append (take a (lines_of newline (text_from first x))) (take b (drop a (lines_of newline (text_from first x))))
-    ∙ ap (λ those. first_lines newline a (text_from first x) ++ joined (take b those))
-    (sym (lines_of-after_lines newline a (text_from first x)) ∙ ap (lines_of newline) (from_further first a x some))
+first_further first a b x some = search (rules, take-add, joined-append, lines_of-after_lines, from_further)
 
 -- all that is left is from a line on
 pub whole_from : (first : ℕ) {x : List ℕ} → IsWhole x → IsWhole (text_from first x)
-whole_from first {x} whole = subst IsWhole (sym (after_lines-is_drop newline (first - 1) x)) (whole_drop (length (first_lines newline (first - 1) x)) whole)
-
--- what follows the first line
-pub after_first : (text line : List ℕ) {rest : List ℕ} → text ≡ line ++ rest
-    → (0 < length text → lines_of newline text ≡ line ∷ lines_of newline rest) → rest ≡ after_lines newline 1 text
-after_first text line is first = grind (arith, common_steps, joined-lines_of)
+whole_from first {x} whole = search (rules, after_lines-is_drop, whole_drop)
 
 -- what is left of a slice
 pub rest_all : (n : ℕ) (left : List ℕ) → take (length left - n) (drop n left) ≡ drop n left
@@ -140,58 +128,50 @@ lines_then_open {x} = first_lines_then_rest newline (delimiters newline x) x
 
 pub open_unbroken : (x : List ℕ) → delimiters newline (open_line x) ≡ 0
 open_unbroken x =
-    let all : delimiters newline (whole_lines x) ≡ delimiters newline x = delimiters-first_lines newline
-    (delimiters newline x) x (omega arith) in
-    omega (
-      arith,
-      delimiters-append newline (whole_lines x) (open_line x),
-      ap (delimiters newline)
-          (lines_then_open {x = x}),
-    )
+    let all : delimiters newline (whole_lines x) ≡ delimiters newline x = search (rules, delimiters-first_lines) in
+    omega (arith, delimiters-append newline (whole_lines x) (open_line x), ap (delimiters newline) (lines_then_open {x = x}))
 
 pub all_complete : (x : List ℕ) → all_lines (whole_lines x) ≡ complete_lines x
-all_complete x = ap (map marked) (lines_of-first_lines newline (delimiters newline x) x)
+all_complete x = search (rules, lines_of-first_lines)
 
 -- there is one way to part complete lines from what follows them
 
 pub front_is : (front rest : List ℕ) → IsWhole front → delimiters newline rest ≡ 0 → whole_lines (front ++ rest) ≡ front
-front_is front rest fact none = grind (arith, common_steps, first_lines-zero, first_lines-whole, delimiters-append)
+front_is front rest fact none = search (rules, first_lines-zero, first_lines-whole, delimiters-append)
 
 pub tail_is : (front : List ℕ) {rest : List ℕ} → IsWhole front → delimiters newline rest ≡ 0
     → open_line (front ++ rest) ≡ rest
 tail_is front {rest} whole none = append_cancel_left front (open_line (front ++ rest)) rest
-    (ap (λ those. those ++ open_line (front ++ rest)) (sym (front_is front rest whole none)) ∙ lines_then_open)
+    (search (rules, (front_is front rest whole none), lines_then_open {x = front ++ rest}))
 
 -- more bytes complete the open line, or not
 
 parted : (x y : List ℕ) → x ++ y ≡ (whole_lines x ++ whole_lines (open_line x ++ y)) ++ open_line (open_line x ++ y)
 parted x y =
-    ap (λ those. those ++ y) (sym (lines_then_open)) ∙ append_assoc (whole_lines x) (open_line x) y
-    ∙ ap (λ those. whole_lines x ++ those) (sym (lines_then_open))
-    ∙ sym (append_assoc (whole_lines x) (whole_lines (open_line x ++ y)) (open_line (open_line x ++ y)))
+    rw (append_assoc, lines_then_open {x = open_line x ++ y}, ← append_assoc, lines_then_open {x = x}) refl
 
 both_whole : (x y : List ℕ) → IsWhole (whole_lines x ++ whole_lines (open_line x ++ y))
-both_whole x y = whole-append (whole_lines (open_line x ++ y)) (lines_whole x) (lines_whole (open_line x ++ y))
+both_whole x y = search (rules, whole-append, lines_whole)
 
 pub lines_more : (x y : List ℕ) → whole_lines (x ++ y) ≡ whole_lines x ++ whole_lines (open_line x ++ y)
-lines_more x y = grind (arith, common_steps, parted, front_is, both_whole, open_unbroken)
+lines_more x y = search (rules, parted, front_is, both_whole, open_unbroken)
 
 pub open_more : (x y : List ℕ) → open_line (x ++ y) ≡ open_line (open_line x ++ y)
-open_more x y = grind (arith, common_steps, parted, tail_is, both_whole, open_unbroken)
+open_more x y = search (rules, parted, tail_is, both_whole, open_unbroken)
 
 -- a piece without a newline
 
 pub no_newline : (rest piece : List ℕ) → delimiters newline rest ≡ 0 → delimiters newline piece ≡ 0
     → delimiters newline (rest ++ piece) ≡ 0
-no_newline rest piece none also = grind (arith, common_steps, delimiters-append)
+no_newline rest piece none also = search (rules, delimiters-append)
 
 -- a piece with one
 
 pub ends_by : (x : List ℕ) → IsWhole x → 0 < length x → ends_with newline x ≡ true
-ends_by x fact some = grind (arith, common_steps)
+ends_by x fact some = search rules
 
 pub piece_ends : {piece : List ℕ} (end : ℕ) → LastEndsAt newline piece end → ends_with newline (take end piece) ≡ true
-piece_ends end last = grind (arith, common_steps, ends_by, lines_whole)
+piece_ends end last = search (rules, ends_by, lines_whole)
 
 some_ends : (rest text : List ℕ) → ends_with newline text ≡ true → ends_with newline (rest ++ text) ≡ true
 some_ends rest text ends = ends_with-append newline rest text (ends_with-some newline text ends) ∙ ends
@@ -201,20 +181,19 @@ split_piece rest piece end = grind (arith, common_steps)
 
 pub piece_lines : (rest : List ℕ) {piece : List ℕ} (end : ℕ) → LastEndsAt newline piece end
     → whole_lines (rest ++ piece) ≡ rest ++ take end piece
-piece_lines rest {piece} end last = ap whole_lines (split_piece rest piece end) ∙ front_is (rest ++ take end piece) (drop end piece) (inr (some_ends rest (take end piece) (piece_ends end last))) last.none_after
+piece_lines rest {piece} end last = ap whole_lines (split_piece rest piece end)
+    ∙ front_is (rest ++ take end piece) (drop end piece) (inr (some_ends rest (take end piece) (piece_ends end last))) last.none_after
 
 pub piece_open : (rest : List ℕ) {piece : List ℕ} (end : ℕ) → LastEndsAt newline piece end
     → open_line (rest ++ piece) ≡ drop end piece
-piece_open rest {piece} end last = ap open_line (split_piece rest piece end) ∙ tail_is (rest ++ take end piece) (inr (some_ends rest (take end piece) (piece_ends end last))) last.none_after
+piece_open rest {piece} end last = ap open_line (split_piece rest piece end)
+    ∙ tail_is (rest ++ take end piece) (inr (some_ends rest (take end piece) (piece_ends end last))) last.none_after
 
 -- lines
 
 none_in : (x : List ℕ) → delimiters newline x ≡ 0 → HasNone newline x
 none_in [] is = tt
-none_in (byte ∷ x) is = elim (cases_eq byte newline) [
-  | inl same ↦ absurd (omega (arith, ap (λ (c : Bool). cond c (delimiters newline x + 1) (delimiters newline x)) (eq-eqb byte newline same)))
-  | inr other ↦ (other, none_in x (sym (ap (λ (c : Bool). cond c (delimiters newline x + 1) (delimiters newline x)) (ne_eqb byte newline other)) ∙ is))
-]
+none_in (byte ∷ x) is = search (rules, cases_eq, eq-eqb, ne_eqb, none_in x)
 
 none-append : (a b : List ℕ) → HasNone newline a → HasNone newline b → HasNone newline (a ++ b)
 none-append [] b none also = also
@@ -225,7 +204,7 @@ line_by line is = ap (lines_of newline) (sym (append-nil line)) ∙ lines_of-joi
 
 -- the first line of a text is one
 pub first_line : (text line rest : List ℕ) → lines_of newline text ≡ line ∷ lines_of newline rest → IsLine line
-first_line text line rest is = grind (arith, common_steps, AreLines-lines_of, line_by)
+first_line text line rest is = search (rules, AreLines-lines_of, line_by)
 
 pub open_is_line : (rest : List ℕ) → 0 < length rest → delimiters newline rest ≡ 0 → IsLine rest
 open_is_line rest some none = line_by rest (inr (some, none_in rest none))
@@ -237,7 +216,7 @@ joined_line rest end none is = grind (arith, common_steps, line_by, none_in, Are
 
 pub first_complete : {text : List ℕ} (line : List ℕ) {rest : List ℕ} → (ends_with newline line ≡ false → rest ≡ [])
     → text ≡ line ++ rest → ends_with newline text ≡ true → ends_with newline line ≡ true
-first_complete line last joined whole = grind (arith, common_steps)
+first_complete line last joined whole = search rules
 
 pub others_whole : {text : List ℕ} (line rest : List ℕ) → text ≡ line ++ rest → ends_with newline text ≡ true
     → IsWhole rest

@@ -1,19 +1,23 @@
 -- Taking lines in, one by one and stretch by stretch, and cutting them as often as operands cut.
 use Rattle.std.proofs.{
   lemmas.{Grind.common_steps, Bool.{false≢true, cases_lt}},
-  Common.{◌≡◌, ◌⊎◌, inl, inr, ℕ, ◌+◌, ◌-◌, ◌<◌, ◌≤◌, max, Bool, true, Option, Some, None, List, [], ◌∷◌, ◌++◌, length},
+  Common.{◌≡◌, ◌⊎◌, inl, inr, ℕ, ◌+◌, ◌-◌, ◌≤◌, Bool, true, Option, Some, None, List, [], ◌∷◌},
+  Common.{◌++◌, length},
   Common.{refl, sym, ◌∙◌, ap, subst, arith, append_assoc, length-append, IfSome, Ok, Err, take, drop, eqb, Result},
   Common.{take_all, append-nil, take-append-drop, length-drop, length-take-le, drop_at, take_at, drop-drop, is_some},
   Common.{IfOk, rules},
 }
 use Rattle.std.proofs.{lemmas.List.drop-append-le, Math.Seq.take-append-add}
-use Rattle.seg_core.{specs.{Line.{line_count, delimiters, ends_with}, Window.Window}, proofs.EndLines.line_count-grows}
+use Rattle.seg_core.{
+  specs.{Line.{line_count, delimiters, ends_with}, Window.Window},
+  proofs.EndLines.line_count-grows,
+}
 use Rattle.ports_core.{
   specs.{
     Part.{Part, Begins},
     Slot.Slot,
     declared.fault.Fault.Fault,
-    FileWriter.{IsReady, size_of},
+    FileWriter.{IsReady},
     Draft.draft_part,
     Turn.fault_in,
   },
@@ -30,13 +34,13 @@ use Rattle.csplit_core.specs.{
   Planned.{Plan, plan},
   laws.{PlanLaws.plan_runs, SectionLaws.{ends_as, cuts_from, grows}},
   inner.Cutter.{CutsIn, bare, IsFound, settled_part, part_at, IsWhole, IsLine, Joins, Arrives, Held, Holds, CutsNow},
-  inner.Cutter.{CutsAll, WillCut, TriesNext, search_after, Takes, IsNextFound, Stretches, IsEnd, Tries, IsAfter, CutAt},
+  inner.Cutter.{CutsAll, WillCut, TriesNext, Takes, IsNextFound, Stretches, IsEnd, Tries, IsAfter},
+  inner.Cutter.CutAt,
   inner.Cutter.{Spreading, Spread, PassesOver, Starts, StopsAt, CutsOn, GoesOn},
-  inner.PlanLaws.needed,
   Section.{is_final, most_waiting, settled_end},
   declared.{line_cutter.{Cut.Cut, Passed.Passed}, progress.Turn.{Turn, TheVariants.Below}},
   Cutter.{CutterState, suppress_in, state_in, settled_draft, draft_by, IsFit, IsSound, IsAt, IsLive, IsPast, Stands},
-  Cutter.{EndsNow, kept_by, load},
+  Cutter.{EndsNow, kept_by},
 }
 use Rattle.csplit_core.proofs.{
   CutterLemmas.{at_more, part_more, live_part, left_count, few_taken, live_taken, settled_part_is, most_is, draft_is},
@@ -59,39 +63,16 @@ live_before {cutter} {x} t live matched cut are at =
 place_before : {cutter : CutterState} {x : List ℕ} (t : List ℕ) (cut : Cut) (live : IsLive cutter x) → IsWhole x
     → CutsIn cutter (x ++ t) cut → cutter.progress.current ≤ cut.line
     → cutter.progress.current + live.at.taken ≤ cut.line
-place_before t cut live whole goes from =
-    let at = rw (all_lines-append t (inl whole)) at goes.cuts in omega (arith, live_taken live, live_before t live cut.matched cut.line goes.are at)
+place_before t cut live whole goes from = omega (
+  arith,
+  live_taken live,
+  live_before t live cut.matched cut.line
+      goes.are (rw (all_lines-append t (inl whole)) at goes.cuts),
+)
 
--- What arrives where more lines came.
-
+-- the same cutter, where more lines came
 abbrev pub more_lines : CutterState → ℕ → Turn → CutterState
 more_lines cutter lines aim = record cutter { lines = lines; aim = aim }
-
-enough_left : (lines current taken most : ℕ) {left : ℕ} → 1 ≤ current → current + taken ≤ lines + 1
-    → taken ≡ lines + 1 - current - most → left ≡ lines - (current + taken - 1) → (taken ≡ 0) ⊎ (most ≤ left)
-enough_left lines current taken most some few is left_is = elim (cases_lt most (lines + 1 - current)) [
-  | inl more ↦ inr (omega arith)
-  | inr none ↦ inl (omega arith)
-]
-
-pub arrives_more : {cutter : CutterState} {lines : ℕ} {aim : Turn} {x : List ℕ} (t : List ℕ) (live : IsLive cutter x)
-    (whole : IsWhole x) (fit : IsFit cutter) (count : lines ≡ line_count newline (x ++ t))
-    → EndsNow (more_lines cutter lines aim) (x ++ t)
-    → Arrives (more_lines cutter lines aim) (at_more t (inl whole) fit.fits.some live.at live.ends count)
-unfolding at_more
-arrives_more {cutter} {x} t live whole fit count ends =
-    let few = few_taken live.at in
-    let most : cutter.window.most ≡ most_waiting live.ends.ending = fit.most ∙ most_is (suppress_in cutter)
-    (all_lines x) (state_in cutter) live.ends.ending (ends_as live.ends.runs) live.live in
-    let either = enough_left cutter.lines cutter.progress.current live.at.taken (most_waiting live.ends.ending) fit.fits.some few live.settled (left_count live.at) in record {
-      ends = ends;
-      low = λ past. (grind (arith, common_steps, ends_as, live_before, all_lines-append, live_taken, false≢true, whole, ends.runs, past));
-      enough = more either most;
-    } where
-      more : {taken most other : ℕ} → (taken ≡ 0) ⊎ (other ≤ line_count newline cutter.window.held) → most ≡ other
-          → (taken ≡ 0) ⊎ (most ≤ line_count newline (cutter.window.held ++ t))
-      more (inl none) is = inl none
-      more {most = most} {other = other} (inr enough) is = inr (omega (arith, line_count-grows newline cutter.window.held t))
 
 -- Once more lines came, and what is settled of them is written and the others held.
 
@@ -100,12 +81,8 @@ live_of : {cutter : CutterState} {x : List ℕ} → (cutter.aim ≡ Below → �
 live_of differs (inl live) = live
 live_of differs (inr past) = absurd (differs past.aim)
 
-most_load : (lines size held more_lines more most : ℕ) → more_lines ≤ lines + more → size ≤ held + more
-    → max more_lines size ≤ max lines held + more
-most_load lines size held count more most few less = grind (arith, common_steps)
-
 pub sound_held : {mid next : CutterState} {left : List ℕ} → Held mid left next → IsSound mid → IsSound next
-sound_held held sound = grind (arith, common_steps)
+sound_held held sound = search rules
 
 -- these lines are left where outputs have this part
 pub record Reached (low : Part) (cutter : CutterState) (x left : List ℕ) : Type 0 where
@@ -120,51 +97,35 @@ pub took_held : {told : Bool} {cutter next : CutterState} {lines : ℕ} {aim : T
     → (lines ≡ line_count newline (x ++ t)) × EndsNow (more_lines cutter lines aim) (x ++ t))
     → Holds told (more_lines cutter lines aim) (cutter.window.held ++ t) old new next fault
     → Takes told cutter t old new next fault
+unfolding at_more
 took_held {cutter = cutter} {next} {lines} {aim} {t} {fault = fault} sound fit differs few ends held = record {
   keeps = held.keeps;
   reaches = λ x whole stands. let there = reached x whole stands in reaches_as there.same refl (held.reaches (x ++ t) there.at there.arrives);
   went = where_well fault held.went (λ went. record {
     stands = λ x whole stands. let there = reached x whole stands in went.stands (x ++ t) there.at there.arrives;
     sound = sound_held went sound;
-    size = (most_load cutter.lines (size_of next.writer.current + length next.window.held)
-        (size_of cutter.writer.current + length cutter.window.held) next.lines (length t) 0
-        (omega (arith, ap (λ (c : CutterState). c.lines) went.same))
-        (omega (arith, length-append cutter.window.held t)));
+    size = grind (arith, common_steps, length-append);
   });
 } where
   reached : (x : List ℕ) → IsWhole x → Stands cutter x
       → Reached (settled_part cutter x) (more_lines cutter lines aim) (x ++ t) (cutter.window.held ++ t)
-  reached x whole stands = let live = live_of differs stands in let there = ends x whole live in record {
-    at = at_more t (inl whole) fit.fits.some live.at live.ends there.0;
-    arrives = arrives_more t live whole fit there.0 there.1;
-    same = sym (live_part live) ∙ part_more t (inl whole) fit.fits.some live.at live.ends there.0;
-  }
+  reached x whole stands =
+      let live = live_of differs stands in
+      let there = ends x whole live in
+      let few = few_taken live.at in
+      let most : cutter.window.most ≡ most_waiting live.ends.ending = search (rules, most_is, ends_as) in
+      let either : (live.at.taken ≡ 0) ⊎ (most_waiting live.ends.ending ≤ line_count newline cutter.window.held) =
+      (grind (arith, common_steps, cases_lt, fit.fits.some, few, live.settled, (left_count live.at))) in record {
+        at = at_more t (inl whole) fit.fits.some live.at live.ends there.0;
+        arrives = record {
+          ends = there.1;
+          low = grind (arith, common_steps, ends_as, live_before, all_lines-append, live_taken, false≢true);
+          enough = search (rules, either, most, line_count-grows);
+        };
+        same = sym (live_part live) ∙ part_more t (inl whole) fit.fits.some live.at live.ends there.0;
+      }
 
 -- Once a line came that is cut.
-
-cuts_there : {cutter : CutterState} {lines : ℕ} {x : List ℕ} (line : List ℕ) (cut : Cut)
-    (live : IsLive cutter x) (whole : IsWhole x) (fit : IsFit cutter) (one : IsLine line)
-    (count : lines ≡ line_count newline (x ++ line)) → cutter.progress.current ≤ cut.line
-    → CutsIn cutter (x ++ line) cut → lines ≤ search_after (suppress_in cutter) cut
-    → CutsNow line cut (lines - delimiters newline cutter.window.held)
-    (at_more line (inl whole) fit.fits.some live.at live.ends count)
-unfolding at_more
-cuts_there {cutter} {lines} {x} line cut live whole fit one count from goes near =
-    let more : lines ≡ cutter.lines + 1 = (let l = count-line line whole one in omega arith) in
-    let place : lines - delimiters newline cutter.window.held ≡ cutter.progress.current + live.at.taken =
-    (let s = fit.fits.some in omega (
-      arith,
-      left_count live.at,
-      whole_count
-          (subst IsWhole (sym live.at.left_is) (whole_from (cutter.progress.current + live.at.taken) whole)),
-      few_taken live.at,
-    )) in record {
-      last = (all_lines x, all_lines-line line whole one, λ ends. whole-append line whole (inr ends));
-      near = near;
-      place_is = place;
-      before = omega (arith, place_before line cut live whole goes from);
-      goes = goes;
-    }
 
 line_has : (line : List ℕ) → IsLine line → 1 ≤ length line
 line_has line one = grind (arith, common_steps)
@@ -175,17 +136,15 @@ take_cut : {told : Bool} {cutter mid next : CutterState} (line more : List ℕ) 
     → mid ≡ more_lines cutter (cutter.lines + 1) mid.aim → WillCut mid cut → TriesNext cutter line mid (Some cut)
     → CutsAll told mid cut (mid.lines - delimiters newline mid.window.held) (mid.window.held ++ line) line more old new
     next fault → Takes told cutter (line ++ more) old new next fault
+unfolding at_more
 take_cut {told} {cutter} {mid} {next} line more {cut} {old} {new} {fault} fit differs one is will tries cuts = record {
   keeps = all.keeps;
   reaches = λ x whole stands. let there = reached x whole stands in reaches_as there.2
-      (ap (settled_part cutter) (sym (append_assoc x line more))) (all.reaches (x ++ line) there.0 there.1);
+      (search (rules, append_assoc)) (all.reaches (x ++ line) there.0 there.1);
   went = where_well fault all.went (λ went. record {
     stands = λ x whole stands. let there = reached x whole stands in subst (Stands next) (append_assoc x line more) (went.stands (x ++ line) there.0 there.1);
     sound = went.sound;
-    size = let both : length (line ++ more) ≡ length line + length more = length-append line more in
-        most_load cutter.lines (size_of next.writer.current + length next.window.held)
-        (size_of cutter.writer.current + length cutter.window.held) next.lines (length (line ++ more)) 0
-        (omega (arith, line_has line one)) (omega (arith, length-append cutter.window.held line));
+    size = grind (arith, common_steps, length-append, line_has);
   });
 } where
   all : CutsAll told (more_lines cutter (cutter.lines + 1) mid.aim) cut
@@ -200,9 +159,23 @@ take_cut {told} {cutter} {mid} {next} line more {cut} {old} {new} {fault} fit di
   reached x whole stands =
       let live = live_of differs stands in
       let cuts = tries x whole live in
-      let count : cutter.lines + 1 ≡ line_count newline (x ++ line) = ap (λ n. n + 1) live.at.counted ∙ sym (count-line line whole one) in (
+      let count : cutter.lines + 1 ≡ line_count newline (x ++ line) = search (rules, count-line) in
+      let place : cutter.lines + 1 - delimiters newline cutter.window.held ≡ cutter.progress.current + live.at.taken =
+      (let s = fit.fits.some in omega (
+        arith,
+        left_count live.at,
+        whole_count
+            (subst IsWhole (sym live.at.left_is) (search (rules, whole_from))),
+        few_taken live.at,
+      )) in (
         at_more line (inl whole) fit.fits.some live.at live.ends count,
-        cuts_there line cut live whole fit one count (rw is at will).from cuts.0 (rw (ap (λ (c : CutterState). c.lines) is) at cuts.1),
+        record {
+          last = (search (rules, all_lines-line, whole-append));
+          near = search rules;
+          place_is = place;
+          before = omega (arith, place_before line cut live whole cuts.0 (rw is at will).from);
+          goes = cuts.0;
+        },
         sym (live_part live) ∙ part_more line (inl whole) fit.fits.some live.at live.ends count,
       )
 
@@ -211,14 +184,14 @@ take_cut {told} {cutter} {mid} {next} line more {cut} {old} {new} {fault} fit di
 pub past_plan : (suppress : Bool) (operands : List Operand) {x : List ℕ} (t : List ℕ) → IsWhole x
     → is_final (plan suppress operands (all_lines x)).ending ≡ true
     → plan suppress operands (all_lines (x ++ t)) ≡ plan suppress operands (all_lines x)
-past_plan suppress operands t whole final = grind (arith, common_steps, all_lines-append, stays)
+past_plan suppress operands t whole final = search (rules, all_lines-append, stays)
 
 final_draft : (style : Style) (operands : List Operand) (x : List ℕ)
     → is_final (plan style.suppress operands (all_lines x)).ending ≡ true
     → draft_by style (all_lines x) (plan style.suppress operands (all_lines x)).steps
     (kept_by (plan style.suppress operands (all_lines x)).last.operands) [] ≡ settled_draft style operands (all_lines x)
 final_draft style operands x final =
-    draft_is settled_end style operands x 0 (plan_runs style.suppress operands (all_lines x)) (final_count (line_count newline x) _ (plan style.suppress operands (all_lines x)).ending final) refl
+    draft_is settled_end style operands x 0 (plan_runs style.suppress operands (all_lines x)) (search (rules, final_count)) refl
 
 past_draft : (style : Style) (operands : List Operand) {x : List ℕ} (t : List ℕ) → IsWhole x
     → is_final (plan style.suppress operands (all_lines x)).ending ≡ true
@@ -226,16 +199,18 @@ past_draft : (style : Style) (operands : List Operand) {x : List ℕ} (t : List 
 past_draft style operands {x} t whole final =
     let same = past_plan style.suppress operands t whole final in
     sym (final_draft style operands x final)
-    ∙ ended_still style operands t (kept_by (plan style.suppress operands (all_lines x)).last.operands) [] (inl whole) (plan_runs style.suppress operands (all_lines x))
+    ∙ ended_still style operands t (kept_by (plan style.suppress operands (all_lines x)).last.operands)
+    [] (inl whole) (plan_runs style.suppress operands (all_lines x))
     ∙ ap (λ (p : Plan). draft_by style (all_lines (x ++ t)) p.steps (kept_by p.last.operands) []) (sym same)
     ∙ final_draft style operands (x ++ t) (ap (λ (p : Plan). is_final p.ending) same ∙ final)
 
 pub past_part : {cutter : CutterState} {x : List ℕ} (t : List ℕ) → IsWhole x → IsPast cutter x
     → settled_part cutter x ≡ settled_part cutter (x ++ t)
-past_part {cutter} {x} t whole past = sym (settled_part_is cutter.style cutter.operands (all_lines x)) ∙ ap (draft_part (manner_of cutter.style)) (past_draft cutter.style cutter.operands t whole past.past) ∙ settled_part_is cutter.style cutter.operands (all_lines (x ++ t))
+past_part {cutter} {x} t whole past = sym (search (rules, settled_part_is)) ∙ ap (draft_part (manner_of cutter.style))
+    (past_draft cutter.style cutter.operands t whole past.past) ∙ settled_part_is cutter.style cutter.operands (all_lines (x ++ t))
 
 pub is_past : {cutter : CutterState} {x : List ℕ} → cutter.aim ≡ Below → Stands cutter x → IsPast cutter x
-is_past aim fact = grind (arith, common_steps)
+is_past aim fact = search rules
 
 pub still_past : {cutter : CutterState} {x : List ℕ} (t : List ℕ) → IsWhole x → IsPast cutter x → IsPast cutter (x ++ t)
 still_past t whole past = search (rules, past_plan, past_draft)
@@ -244,13 +219,13 @@ pub took_past : {told : Bool} {cutter : CutterState} {t : List ℕ} {slots : Lis
     → IsSound cutter → IsReady cutter.writer slots → Takes told cutter t slots slots cutter None
 took_past aim sound ready = search (rules, keeps_files, leaves_still, reaches_still, past_part, is_past, still_past)
 
--- Taking a text of complete lines in, stretch by stretch.
-
 -- the pattern was found in the first line
 pub found_first : {cutter : CutterState} (left : List ℕ) {size : ℕ} (found : Option ℕ)
     → IfSome found (IsNextFound cutter left) → ((k : ℕ) → found ≡ Some k → size ≡ k) → is_some found ≡ true
     → IsFound cutter (without_newline (take size left)) (cutter.lines + 1) true
-found_first left found is known sure = grind (arith, common_steps)
+found_first left found is known sure = search rules
+
+-- Taking a text of complete lines in, stretch by stretch.
 
 pub more_settled : (cutter : CutterState) {x : List ℕ} (t : List ℕ) → IsWhole x
     → Begins (settled_part cutter x) (settled_part cutter (x ++ t))
@@ -264,10 +239,10 @@ pub takes_again : {told : Bool} {one two three : CutterState} {a b : List ℕ} {
 takes_again {one = one} {three = three} {a} {b} {fault = fault} whole first second = record {
   keeps = keeps_on first.keeps second.keeps;
   reaches = λ x before stands. reaches_then first.keeps.style (more_settled one a before) (first.reaches x before stands)
-      (reaches_as (sym (settled_same (x ++ a) first.keeps)) (ap (settled_part one) (sym (append_assoc x a b)) ∙ sym (settled_same ((x ++ a) ++ b) first.keeps))
+      (reaches_as (search (rules, settled_same)) (search (rules, append_assoc, settled_same))
       (second.reaches (x ++ a) (whole-append a before whole) (first.went.stands x before stands)));
   went = where_well fault second.went (λ went. record {
-    stands = λ x before stands. subst (Stands three) (append_assoc x a b) (went.stands (x ++ a) (whole-append a before whole) (first.went.stands x before stands));
+    stands = λ x before stands. rw (append_assoc x a b) at (went.stands (x ++ a) (whole-append a before whole) (first.went.stands x before stands));
     sound = went.sound;
     size = omega (arith, length-append a b);
   });
@@ -293,7 +268,7 @@ pub record Taking (told : Bool) (cutter now : CutterState) (text left : List ℕ
 
 pub takes_none : {told : Bool} {cutter : CutterState} {slots : List Slot} → IsSound cutter → IsReady cutter.writer slots
     → Takes told cutter [] slots slots cutter None
-takes_none sound ready = grind (arith, common_steps)
+takes_none sound ready = search rules
 
 module _ {told : Bool} {cutter now : CutterState} {text left : List ℕ} {old mid : List Slot}
     (so_far : Taking told cutter now text left old mid) where
@@ -303,11 +278,11 @@ module _ {told : Bool} {cutter now : CutterState} {text left : List ℕ} {old mi
   takes_more {size = size} passed first more =
       let front = take size left ++ take more.on.n (drop size left) in
       let rest : take (length left - passed.size) (drop passed.size left) ≡ drop more.on.n (drop size left) =
-      rest_all passed.size left ∙ ap (λ n. drop n left) more.on.size_is ∙ sym (drop-drop more.on.n size left) in
+      search (rules, rest_all, drop-drop) in
       record {
         front = so_far.front ++ front;
         whole = grind (arith, common_steps, so_far.whole, rest);
-        complete = whole-append front so_far.complete (whole-append _ first more.on.whole);
+        complete = search (rules, whole-append);
         rest = rw rest (whole_drop more.on.n (whole_drop size so_far.rest));
         took = takes_again so_far.complete so_far.took more.took;
       }
@@ -319,36 +294,16 @@ module _ {told : Bool} {cutter now : CutterState} {text left : List ℕ} {old mi
       rw (← so_far.whole) at (takes_again so_far.complete so_far.took
       (rw all at (takes_wider (drop more.on.n (drop size left)) (whole-append _ first more.on.whole) more.took)))
 
-  pub takes_end : left ≡ [] → Takes told cutter text old mid now None
-  takes_end none = grind (arith, common_steps)
-
-  pub takes_fit : (most : ℕ) → load cutter + length text < most → load now + length left < most
-  takes_fit most fits = grind (arith, common_steps)
-
-pub found_next : {told : Bool} {now next : CutterState} {left : List ℕ} {size : ℕ} (passed : Passed)
-    {mid new : List Slot} → Stretches told now left size mid new next (Ok passed)
-    → IfSome passed.found (IsNextFound next (take (length left - passed.size) (drop passed.size left)))
-found_next passed more = grind (arith, common_steps)
-
-pub takes_fewer : {told : Bool} {now next : CutterState} {left : List ℕ} {size : ℕ} (passed : Passed)
-    {mid new : List Slot} → 0 < size → size ≤ length left → Stretches told now left size mid new next (Ok passed)
-    → length (take (length left - passed.size) (drop passed.size left)) < length left
-takes_fewer passed some within more = grind (arith, common_steps)
-
 -- Cutting as often as operands cut the lines that are left.
 
 -- Trying the next operand changes the aim alone.
 
 pub spread_fit : {now mid : CutterState} → mid ≡ record now { aim = mid.aim } → IsFit now → IsFit mid
-spread_fit is fit = grind (arith, common_steps)
+spread_fit is fit = search rules
 
 pub spread_ready : (now : CutterState) {mid : CutterState} {slots : List Slot} → mid ≡ record now { aim = mid.aim }
     → IsReady now.writer slots → IsReady mid.writer slots
-spread_ready now is ready = grind (arith, common_steps)
-
-pub spread_fewer : (now : CutterState) {mid : CutterState} {less : ℕ} → mid ≡ record now { aim = mid.aim }
-    → less < needed mid.lines (state_in mid) → less < needed now.lines (state_in now)
-spread_fewer now is fewer = grind (arith, common_steps)
+spread_ready now is ready = search rules
 
 -- the next operand cuts as well
 
@@ -356,7 +311,7 @@ cuts_again : {told : Bool} {cutter now : CutterState} (cut : Cut) {x : List ℕ}
     {left : List ℕ} {low : Part} {old new : List Slot} (after : IsAfter told cutter x line now left low old new)
     → Tries now line now (Some cut) → WillCut now cut
     → CutsNow line cut now.progress.current after.now
-cuts_again cut line after tries will = grind (arith, common_steps)
+cuts_again cut line after tries will = search rules
 
 module _ {told : Bool} {cutter now mid : CutterState} {cut cut' : Cut} {place : ℕ} {waiting line left : List ℕ}
     {old between : List Slot} (so_far : Spreading told cutter cut place waiting line old between now left)
@@ -377,11 +332,14 @@ module _ {told : Bool} {cutter now mid : CutterState} {cut cut' : Cut} {place : 
               looked = again.looked;
               near = again.near;
               none = again.none;
-              grows = part_trans (part_at at) (part_at after.now) (part_at again.now) after.grows again.grows;
-              reaches = reaches_then so_far.keeps.style after.grows after.reaches again.reaches;
+              grows = part_trans _ _ _ after.grows again.grows;
+              reaches = search (rules, reaches_then);
             };
         size = omega arith;
-        end = (so_far.end.0 ++ once.end.0, so_far.end.1 ∙ ap (λ those. so_far.end.0 ++ those) once.end.1 ∙ sym (append_assoc so_far.end.0 once.end.0 rest));
+        end = (
+          so_far.end.0 ++ once.end.0,
+          rw append_assoc (rw once.end.1 at so_far.end.1),
+        );
       }
 
   pub spread_stopped : {next : CutterState} {new : List Slot} {fault : Fault}
@@ -405,16 +363,14 @@ none_there is true_is = grind (arith, common_steps)
 pub alone : (P : ℕ → List ℕ → Type 0) (cutter : CutterState) (line : List ℕ) → cutter.window.held ≡ []
     → P cutter.lines line
     → P (cutter.lines - delimiters newline cutter.window.held) (cutter.window.held ++ line)
-alone P cutter line none holds = grind (arith, common_steps)
+alone P cutter line none holds = search rules
 
 -- and where some do
 
 drained_place : (lines : ℕ) (held line : List ℕ) {items : List ℕ} {n count place : ℕ} → items ≡ held ++ line
     → n ≡ length items → count ≡ delimiters newline (take (n - length line) items) → place ≡ lines - count
     → place ≡ lines - delimiters newline held
-drained_place lines held line {n = n} items_is long count_is place_is =
-    let size : n - length line ≡ length held = omega (arith, ap length items_is ∙ length-append held line) in
-    (grind (arith, common_steps, size, items_is, count_is, place_is, take_at))
+drained_place lines held line {n = n} items_is long count_is place_is = search (rules, length-append, take_at)
 
 pub cut_drained : {told : Bool} {cutter next : CutterState} {window : Window} {cut : Cut} {n count place : ℕ}
     {items waiting line : List ℕ} {old new : List Slot} {fault : Option Fault} → waiting ≡ cutter.window.held ++ line
@@ -427,7 +383,7 @@ cut_drained {cutter = cutter} {window = window} {line = line} {fault = fault} wa
     let all = rw (waiting_is, drained_place cutter.lines cutter.window.held line items_is long count_is place_is) at cuts in record {
       keeps = all.keeps;
       reaches = all.reaches;
-      went = where_well fault all.went (λ went. record { lines = went.lines; sound = went.sound; stands = went.stands; size = went.size });
+      went = where_well fault all.went (λ went. search rules);
     }
 
 -- A line is cut, or isn't, and what is left of it is held together with the lines after it that aren't cut.
@@ -437,12 +393,12 @@ cut_drained {cutter = cutter} {window = window} {line = line} {fault = fault} wa
 found_by : {told : Bool} {mid next : CutterState} {left : List ℕ} {old new : List Slot} (rest : List ℕ)
     (found : Option ℕ) → Holds told mid left old new next None → IfSome found (IsNextFound mid rest)
     → IfSome found (IsNextFound next rest)
-found_by rest (Some size) held is = grind (arith, common_steps)
+found_by rest (Some size) held is = search rules
 found_by rest None held is = is
 
 ok_as : {P Q : Passed → Type 0} (result : Result Passed Fault) → ((passed : Passed) → P passed → Q passed)
     → IfOk result P → IfOk result Q
-ok_as result follows holds = grind (arith, common_steps)
+ok_as result follows holds = search rules
 
 -- What `go_on` owes.
 
@@ -459,10 +415,7 @@ piece_from text first size n low within =
     let parts : drop first text ≡ drop first (take size text) ++ drop size text = ap (drop first)
     (sym (take-append-drop size text)) ∙ drop-append-le first (take size text) (drop size text)
     (let e = length-take-le size text within in omega arith) in
-    ap (take (size + n - first)) parts ∙ ap (λ k. take k (drop first (take size text) ++ drop size text))
-    (let e : size + n - first ≡ length (drop first (take size text)) + n =
-    omega (arith, length-drop first (take size text) ∙ ap (λ k. k - first) (length-take-le size text within)) in e)
-    ∙ take-append-add (drop first (take size text)) (drop size text) n
+    search (rules, parts, take-append-add (drop first (take size text)) (drop size text) n, length-drop, length-take-le)
 
 pub gone_on : {told : Bool} {cutter mid next : CutterState} (text : List ℕ) {rest : List ℕ} (first size : ℕ)
     {passed : Passed} {old new : List Slot} (result : Result Passed Fault) → first ≤ size → size ≤ length text
@@ -471,38 +424,25 @@ pub gone_on : {told : Bool} {cutter mid next : CutterState} (text : List ℕ) {r
     (fault_in result) → IfOk result (λ all. (all.size ≡ size + passed.size) × (all.found ≡ passed.found))
     → GoesOn told cutter (drop first (take size text)) text size old new next result
 gone_on text first size {passed} result low within rest_is stops held are =
-    let stops_there = rw rest_is at stops in record {
+    let stops_there = rw rest_is at stops in
+    record {
       on = record {
         n = passed.size;
         within = stops_there.over.within;
         whole = stops_there.over.whole;
-        size_is = ok_as result (λ all both. both.0) are;
-        found = found_held (drop passed.size (drop size text)) _ passed.found result held stops_there.found are;
+        size_is = search (rules, ok_as);
+        found = search (rules, found_held);
       };
       mid = _;
       over = stops_there.over;
-      held = rw (piece_from text first size passed.size low within) at held;
+      held = search (rules, piece_from);
     }
 
 -- The lines after a cut, up to where the next operand cuts: none of the open section is written before them.
 
-there_of : {told : Bool} {now mid : CutterState} {aim : Turn} {x : List ℕ} (line : List ℕ) {left rest : List ℕ} {n : ℕ}
-    {low : Part} {cutter : CutterState} {old new : List Slot} → IsFit now → Joins x (take n rest)
-    → Tries now line (record now { aim = aim }) None → PassesOver (record now { aim = aim }) rest mid n
-    → (after : IsAfter told cutter x line now left low old new)
-    → Reached (part_at after.now) (more_lines now mid.lines aim) (x ++ take n rest) (left ++ take n rest)
-unfolding at_more
-there_of {now = now} {mid} {aim} {x} line {left} {rest} {n} fit whole tries over after =
-    let ends : EndsNow (record now { aim = aim }) x = tries x after.looked in
-    let both = over.ends x whole after.now.counted ends in record {
-      at = at_more (take n rest) whole fit.fits.some after.now ends both.0;
-      arrives = record { ends = rw over.same at both.1; low = λ past. after.none; enough = inl after.none };
-      same = part_more (take n rest) whole fit.fits.some after.now ends both.0;
-    }
-
 -- where the first line is all, or complete
 joins_by : {E : Type 0} {x rest : List ℕ} (n : ℕ) → (rest ≡ []) ⊎ E → (E → IsWhole x) → Joins x (take n rest)
-joins_by n fact ends = grind (arith, common_steps)
+joins_by n fact ends = search rules
 
 -- Then no operand cuts any more, and the lines that are left are held, perhaps with more.
 
@@ -512,16 +452,17 @@ pub spread_passes : {told : Bool} {cutter mid end next : CutterState} {cut : Cut
     → (rest ≡ []) ⊎ (ends_with newline line ≡ true) → PassesOver mid rest end n
     → Holds told end (end.window.held ++ (left ++ take n rest)) between new next fault
     → CutsAll told cutter cut place waiting line (take n rest) old new next fault
+unfolding at_more
 spread_passes {told} {cutter} {mid} {end} {next} {cut} {place} {waiting} {line} {left} {rest} {n} {between = between}
     {new} {fault} spread complete over held = record {
       keeps = keeps_on spread.so_far.keeps held_now.keeps;
       reaches = λ x at here. let after = spread.so_far.after x at here in let there = reached x at here in
           reaches_then spread.so_far.keeps.style after.grows after.reaches
-          (reaches_as there.same (sym (settled_same (x ++ take n rest) spread.so_far.keeps))
+          (reaches_as there.same (search (rules, settled_same))
           (held_now.reaches (x ++ take n rest) there.at there.arrives));
       went = where_well fault held_now.went (λ went. record {
-        lines = omega (arith, ap (λ (c : CutterState). c.lines) went.same, over_now.few, length-take-le n rest over.within);
-        sound = sound_held went (subst IsSound over_now.same over.sound);
+        lines = search (rules, length-take-le);
+        sound = search (rules, sound_held);
         stands = λ x at here. let there = reached x at here in went.stands (x ++ take n rest) there.at there.arrives;
         size = omega (arith, length-append left (take n rest));
       });
@@ -530,14 +471,20 @@ spread_passes {told} {cutter} {mid} {end} {next} {cut} {place} {waiting} {line} 
       over_now = rw spread.is at over
 
       held_now : Holds told (more_lines spread.now end.lines mid.aim) (left ++ take n rest) between new next fault
-      held_now = subst (λ those. Holds told (more_lines spread.now end.lines mid.aim)
-          (those ++ (left ++ take n rest)) between new next fault) spread.so_far.held (rw over_now.same at held)
+      held_now = search (rules, over_now)
 
       reached : (x : List ℕ) (at : IsAt (bare cutter) x waiting) (here : CutsNow line cut place at)
           → Reached (part_at (spread.so_far.after x at here).now) (more_lines spread.now end.lines mid.aim)
           (x ++ take n rest) (left ++ take n rest)
-      reached x at here = there_of line spread.so_far.fit (joins_by n complete here.last.2)
-          (rw spread.is at spread.tries) over_now (spread.so_far.after x at here)
+      reached x at here =
+          let after = spread.so_far.after x at here in
+          let whole = joins_by n complete here.last.2 in
+          let ends : EndsNow (record spread.now { aim = mid.aim }) x = search rules in
+          let both = over_now.ends x whole after.now.counted ends in record {
+            at = at_more (take n rest) whole spread.so_far.fit.fits.some after.now ends both.0;
+            arrives = search (rules, over_now);
+            same = search (rules, part_more);
+          }
 
 -- they are held alone
 pub spread_held : {told : Bool} {cutter mid next : CutterState} {cut : Cut} {place : ℕ} {waiting line left : List ℕ}
@@ -551,43 +498,17 @@ spread_held {left = left} spread held = spread_passes {rest = []} {n = 0} spread
   whole = inl refl;
   few = omega arith;
   sound = record { fit = spread_fit spread.is spread.so_far.fit; aim = spread.aim };
-  ends = λ x before counted ends. rw (append-nil x) (counted, ends);
+  ends = search (rules, append-nil);
 }) (rw (append-nil left) held)
 
 -- What `cut_on` owes.
 
 -- what is left of its first line stands at the end of it
-from_left : (text left : List ℕ) (size : ℕ) → size ≤ length text → IsEnd left (take size text)
+pub from_left : (text left : List ℕ) (size : ℕ) → size ≤ length text → IsEnd left (take size text)
     → drop (size - length left) (take size text) ≡ left
-from_left text left size within (front, is) =
-    ap (drop (size - length left)) is ∙ drop_at front left (size - length left)
-    (omega (arith, ap length is ∙ length-append front left, length-take-le size text within))
-
-pub cut_on : {told : Bool} {cutter mid next : CutterState} {cut : Cut} {text left : List ℕ} {size : ℕ}
-    {old between new : List Slot} {result : Result Passed Fault} → Starts text size
-    → Spread told cutter cut cutter.lines (take size text) (take size text) old between mid left
-    → GoesOn told mid (drop (size - length left) (take size text)) text size between new next result
-    → CutsOn told cutter cut text size old new next result
-cut_on {text = text} {left} {size} start spread gone = record {
-  on = gone.on;
-  all = spread_passes spread start.complete gone.over (rw (from_left text left size start.within spread.so_far.end) at gone.held);
-}
+from_left text left size within (front, is) = grind (arith, common_steps, drop_at, length-append, length-take-le)
 
 -- What `stretch` owes. The first line isn't cut.
-
-ends_on : {cutter mid end : CutterState} (line : List ℕ) {rest : List ℕ} {n : ℕ} → IsLine line
-    → (rest ≡ []) ⊎ (ends_with newline line ≡ true) → mid ≡ record cutter { lines = cutter.lines + 1; aim = mid.aim }
-    → TriesNext cutter line mid None → PassesOver mid rest end n
-    → end ≡ more_lines cutter end.lines mid.aim → (x : List ℕ) → IsWhole x → IsLive cutter x
-    → (end.lines ≡ line_count newline (x ++ (line ++ take n rest)))
-    × EndsNow (more_lines cutter end.lines mid.aim) (x ++ (line ++ take n rest))
-ends_on {cutter} {mid} {end} line {rest} {n} one complete mid_is tries over end_is x whole live =
-    let count : mid.lines ≡ line_count newline (x ++ line) = ap (λ (c : CutterState). c.lines) mid_is ∙ ap (λ k. k + 1) live.at.counted ∙ sym (count-line line whole one) in
-    let both = over.ends (x ++ line) (joins_by n complete (λ ends. whole-append line whole (inr ends))) count (tries x whole live) in
-    let is = append_assoc x line (take n rest) in (
-      rw is at both.0,
-      subst (EndsNow (more_lines cutter end.lines mid.aim)) is (rw end_is at both.1),
-    )
 
 module _ {told : Bool} {cutter mid next : CutterState} {text : List ℕ} {size : ℕ} {old new : List Slot}
     (result : Result Passed Fault) (fit : IsFit cutter) (differs : cutter.aim ≡ Below → ⊥) (start : Starts text size)
@@ -598,19 +519,17 @@ module _ {told : Bool} {cutter mid next : CutterState} {text : List ℕ} {size :
   stretch_on tries gone =
       let end = gone.mid in
       let line = take size text in
-      let end_is : end ≡ more_lines cutter end.lines mid.aim = gone.over.same ∙ ap (λ (c : CutterState). record c { lines = end.lines }) mid_is in
+      let end_is : end ≡ more_lines cutter end.lines mid.aim = search rules in
       record {
         on = gone.on;
         took = took_held (subst IsSound end_is gone.over.sound) fit differs
-            (omega (
-              arith,
-              length-append line (take gone.on.n (drop size text)),
-              length-take-le gone.on.n
-                  (drop size text) gone.over.within,
-              ap (λ (c : CutterState). c.lines) mid_is,
-              line_has line start.line,
-            ))
-            (ends_on line start.line start.complete mid_is tries gone.over end_is) (rw end_is at gone.held);
+            (search (rules, length-append, length-take-le, line_has))
+            (λ x whole live.
+            let both = gone.over.ends (x ++ line)
+            (search (rules, joins_by, whole-append))
+            (ap (λ (c : CutterState). c.lines) mid_is ∙ ap (λ k. k + 1) live.at.counted ∙ sym (count-line line whole start.line))
+            (tries x whole live) in
+            let is = append_assoc x line (take gone.on.n (drop size text)) in (search rules)) (rw end_is at gone.held);
       }
 
   -- It is cut, and none waits.
@@ -631,14 +550,8 @@ module _ {told : Bool} {cutter mid next : CutterState} {text : List ℕ} {size :
       → IfOk result (λ passed. (passed.size ≡ size) × (passed.found ≡ None))
       → Stretches told cutter text size old new next result
   stretch_first will tries all are = record {
-    on = record {
-      n = 0;
-      within = omega arith;
-      whole = inl refl;
-      size_is = ok_as result (λ passed both. omega arith) are;
-      found = ok_as result (λ passed both. rw both.1 tt) are;
-    };
-    took = take_cut (take size text) [] fit differs start.line mid_is will tries all;
+    on = search (rules, ok_as);
+    took = search (rules, take_cut);
   }
 
 -- All of it goes nowhere.
@@ -646,14 +559,8 @@ pub stretch_past : {told : Bool} {cutter next : CutterState} {text : List ℕ} {
     (passed : Passed) → Starts text size → Takes told cutter text old new next None → passed.size ≡ length text
     → passed.found ≡ None → Stretches told cutter text size old new next (Ok passed)
 stretch_past {text = text} {size} passed start took size_is none =
-    let rest : take (length (drop size text)) (drop size text) ≡ drop size text = take_all _ (drop size text) (omega arith) in record {
-      on = record {
-        n = length (drop size text);
-        within = omega arith;
-        whole = rw rest start.rest;
-        size_is = omega (arith, length-drop size text);
-        found = rw none tt;
-      };
+    let rest : take (length (drop size text)) (drop size text) ≡ drop size text = search (rules, take_all) in record {
+      on = search (rules, length-drop);
       took = rw rest (rw take-append-drop took);
     }
 

@@ -1,6 +1,8 @@
 -- The last section and the lines that wait are all lines that are left.
 use Rattle.std.proofs.{
-  Common.{ℕ, suc, ◌≤◌, Bool, true, false, arith, ◌≡◌, ◌-◌, List, length, drop, refl, sym, ◌+◌, [], ◌∷◌, ◌++◌, map, ◌∙◌},
+  Common.{rules, ℕ, suc, ◌≤◌, Bool, true, false, arith, ◌≡◌, ◌-◌, List, length, drop, refl, sym, ◌+◌, [], ◌∷◌, ◌++◌},
+  Common.map,
+  Common.◌∙◌,
   Common.{ap, append_assoc, append-nil, take-append-drop, drop-drop},
   lemmas.Grind.common_steps,
 }
@@ -8,26 +10,22 @@ use Rattle.csplit_core.specs.{
   Plan.{line_after, Ending, State, Step, Runs, cuts},
   Operand.{Operand, Line},
   Planned.plan,
-  Section.{waiting_lines, most_waiting, Section, section, section_of, lines_between, is_last_kept, whole_end},
-  Section.{whole_sections, settled_sections, is_final, lines_in},
+  Section.{Section, section, section_of, lines_between, is_last_kept, whole_end},
+  Section.{whole_sections, is_final, lines_in},
   laws.{PlanLaws.plan_runs, SectionLaws.are_within},
 }
 
 -- the current line is at most one past the last
 pub after_within : (suppress : Bool) (cut total : ℕ) → cut ≤ total → line_after suppress cut ≤ suc total
-after_within suppress cut total within = grind (arith, common_steps)
+after_within suppress cut total within = search rules
 
 -- Few lines wait.
-
-pub few_wait : (suppress : Bool) (operands : List Operand) (x : List Line)
-    → length (waiting_lines x (plan suppress operands x)) ≤ most_waiting (plan suppress operands x).ending
-few_wait suppress operands x = grind (arith, common_steps)
 
 -- No line is lost.
 
 lines_in-append : (a b : List Section) → lines_in (a ++ b) ≡ lines_in a ++ lines_in b
 lines_in-append [] b = refl
-lines_in-append (one ∷ a) b = ap (λ those. one.lines ++ those) (lines_in-append a b) ∙ sym (append_assoc one.lines (lines_in a) (lines_in b))
+lines_in-append (one ∷ a) b = search (rules, append_assoc, lines_in-append a b)
 
 -- the lines up to a cut, and those from it on
 pub between_rest : (first cut : ℕ) (lines : List Line) → 1 ≤ first → first ≤ cut
@@ -42,28 +40,21 @@ steps_and_rest : {lines : List Line} {first : State} {steps : List Step} {last :
     → Runs false lines first steps last ending → 1 ≤ first.current
     → lines_in (map (section_of lines) steps) ++ drop (last.current - 1) lines ≡ drop (first.current - 1) lines
 steps_and_rest {lines} (cuts state operand operands matched cut steps' last' ending' is at from within rest) some =
-    append_assoc (lines_between state.current cut lines) (lines_in (map (section_of lines) steps')) (drop (last'.current - 1) lines)
-    ∙ ap (λ those. lines_between state.current cut lines ++ those) (steps_and_rest rest (omega arith))
-    ∙ between_rest state.current cut lines some from
+    search (rules, append_assoc, between_rest, steps_and_rest rest)
 steps_and_rest run some = refl
 
 -- the steps' sections, then these lines, where they are what is left
-all_with : (closed : Bool) (operands : List Operand) {x : List Line} (end rest : List Line)
+pub all_with : (closed : Bool) (operands : List Operand) {x : List Line} (end rest : List Line)
     → end ++ rest ≡ drop ((plan false operands x).last.current - 1) x
     → lines_in (map (section_of x) (plan false operands x).steps
     ++ section (is_last_kept (plan false operands x).ending) closed end ∷ []) ++ rest ≡ x
 all_with closed operands {x} end rest is =
-    ap (λ those. those ++ rest) (lines_in-append (map (section_of x) (plan false operands x).steps) (section (is_last_kept (plan false operands x).ending) closed end ∷ [])
-    ∙ ap (λ those. lines_in (map (section_of x) (plan false operands x).steps) ++ those) (append-nil end))
-    ∙ append_assoc (lines_in (map (section_of x) (plan false operands x).steps)) end rest
+    ap (λ those. those ++ rest) (search (rules, lines_in-append, append-nil))
+    ∙ append_assoc _ end rest
     ∙ ap (λ those. lines_in (map (section_of x) (plan false operands x).steps) ++ those) is ∙ steps_and_rest (plan_runs false operands x) (omega arith)
 
-pub none_lost : (operands : List Operand) (x : List Line) → is_final (plan false operands x).ending ≡ false
-    → lines_in (settled_sections x (plan false operands x)) ++ waiting_lines x (plan false operands x) ≡ x
-none_lost operands x live = grind (arith, common_steps, all_with)
-
 pub ends_after_all : (total : ℕ) (ending : Ending) → is_final ending ≡ false → whole_end total ending ≡ suc total
-ends_after_all total ending live = grind (arith, common_steps)
+ends_after_all total ending live = search rules
 
 pub rest_is_all : (x : List Line) (current : ℕ) → 1 ≤ current
     → lines_between current (suc (length x)) x ≡ drop (current - 1) x
@@ -74,6 +65,5 @@ pub none_lost_at_end : (operands : List Operand) (x : List Line) → is_final (p
 none_lost_at_end operands x live =
     let plan' = plan false operands x in
     let some = (are_within (plan_runs false operands x) (omega arith)).1 in
-    sym (append-nil (lines_in (whole_sections x plan'))) ∙ all_with true operands (lines_between plan'.last.current (whole_end (length x) plan'.ending) x) []
-    (append-nil (lines_between plan'.last.current (whole_end (length x) plan'.ending) x)
-    ∙ ap (λ end. lines_between plan'.last.current end x) (ends_after_all (length x) plan'.ending live) ∙ rest_is_all x plan'.last.current some)
+    sym (search (rules, append-nil)) ∙ all_with true operands (lines_between plan'.last.current (whole_end (length x) plan'.ending) x) []
+    (search (rules, append-nil, ends_after_all, rest_is_all))

@@ -212,7 +212,7 @@ impl<'o> Stage for Csplitter<'o> {
         0
     }
 
-    ghost lawful = { λ stage. lawful stage.cutter.style stage.cutter.operands };
+    ghost lawful = { λ stage x holds. lawful stage.cutter.style stage.cutter.operands };
 
     ghost there = { λ stage first slots owns. owns.writer.there };
 }

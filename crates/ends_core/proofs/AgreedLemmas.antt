@@ -5,7 +5,8 @@ use Rattle.std.proofs.{
     Bool.{cases_lt, lt-ltb, le-ltb, eq-eqb, ne_eqb},
     List.{append-nil, drop-append-le, length-replicate},
   },
-  Common.{◌≡◌, ◌≢◌, ℕ, ◌+◌, ◌-◌, ◌<◌, ◌≤◌, zero, suc, List, [], ◌∷◌, ◌++◌, length, drop, replicate, Bool, true, false},
+  Common.{◌≡◌, ◌≢◌, ℕ, ◌+◌, ◌-◌, ◌<◌, ◌≤◌, zero, suc, List, [], ◌∷◌, ◌++◌, length, drop, replicate, Bool},
+  Common.{true, false},
   Common.{cond, inl, inr, refl, sym, ◌∙◌, ap, subst, arith, append_assoc, length-append, rules},
   Math.Seq.drop-append_seam,
 }
@@ -58,7 +59,8 @@ far delim unit n x = elim (cases_lt (length x) (length (but_last_of delim unit n
 
 pub head_agreed : (delim : ℕ) (unit : Counted) (but_last : Bool) (n : ℕ) {x : List ℕ}
     → IsAgreed (head_work delim unit but_last n) x ((head_work delim unit but_last n).settled x)
-head_agreed delim unit but_last n {x} = agreed_now (head_work delim unit but_last n) x (common (head_work delim unit but_last n) (law.head_lawful delim unit but_last n) x) refl
+head_agreed delim unit but_last n {x} =
+    agreed_now (head_work delim unit but_last n) x (common (head_work delim unit but_last n) (law.head_lawful delim unit but_last n) x) refl
 
 -- Where the bytes of an input go that is cut in two after its front: one before the cut goes to one place, and one after it to another.
 record Cuts (spots_of : List ℕ → ℕ → List Spot) (front_of : List ℕ → List ℕ) : Type 0 where
@@ -173,8 +175,10 @@ others_come delim byte Bytes k = grind (arith, common_steps)
 
 others_size : (delim : ℕ) (unit : Counted) {k : ℕ} → size delim unit (other delim ∷ others delim unit k) ≡ suc k
 others_size delim Lines {k} =
-    line_count-closed delim (other delim ∷ replicate (suc k) delim) (ends_with-append delim (other delim ∷ []) (replicate (suc k) delim) (omega arith) ∙ ends_there delim k)
-    ∙ ap (λ is. cond is (delimiters delim (replicate (suc k) delim) + 1) (delimiters delim (replicate (suc k) delim))) (ne_eqb (other delim) delim (λ is. other_differs delim (sym is)))
+    line_count-closed delim (other delim ∷ replicate (suc k) delim)
+    (ends_with-append delim (other delim ∷ []) (replicate (suc k) delim) (omega arith) ∙ ends_there delim k)
+    ∙ ap (λ is. cond is (delimiters delim (replicate (suc k) delim) + 1) (delimiters delim (replicate (suc k) delim)))
+    (ne_eqb (other delim) delim (λ is. other_differs delim (sym is)))
     ∙ measure-delimiters delim Lines
 others_size delim Bytes = grind (arith, common_steps)
 
@@ -241,7 +245,8 @@ last_longest apart (suc place) less = search rules
 
 pub tail_agreed : (delim : ℕ) → delim < 256 → (unit : Counted) (from_nth : Bool) (n : ℕ) {x : List ℕ}
     → IsAgreed (tail_work delim unit from_nth n) x ((tail_work delim unit from_nth n).settled x)
-tail_agreed delim byte unit true n {x} = agreed_now (tail_work delim unit true n) x (common (tail_work delim unit true n) (law.tail_lawful delim unit true n) x) refl
+tail_agreed delim byte unit true n {x} =
+    agreed_now (tail_work delim unit true n) x (common (tail_work delim unit true n) (law.tail_lawful delim unit true n) x) refl
 tail_agreed delim byte unit false n {x} = record {
   common = λ y can. common (tail_work delim unit false n) (law.tail_lawful delim unit false n) x y;
   fewest = ([], none_comes, refl);

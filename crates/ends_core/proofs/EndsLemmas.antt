@@ -7,7 +7,8 @@ use Rattle.std.proofs.lemmas.{
   List.{length-drop, length-take, Elements.All-replicate},
 }
 use Rattle.std.proofs.{
-  Common.{◌≡◌, ℕ, ◌+◌, ◌-◌, ◌<◌, ◌≤◌, ◌&&◌, not, List, [], ◌∷◌, ◌++◌, ◌⊎◌, length, Bool, true, false, IsTrue, Ok, Err},
+  Common.{◌≡◌, ℕ, ◌+◌, ◌-◌, ◌<◌, ◌≤◌, ◌&&◌, not, List, [], ◌∷◌, ◌++◌, ◌⊎◌, length, Bool, true, false},
+  Common.{IsTrue, Ok, Err},
   Common.{Result, OnOk, nat_le, inl, inr, None, refl, sym, ◌∙◌, ap, subst, arith, length-append, ◌↔◌, replicate, lit<},
   Common.{zero, suc, take, drop, rules},
 }
@@ -73,7 +74,8 @@ well_there ends x none holds = enough_came (least_of ends) x (omega arith)
 
 -- and while bytes come it never ends badly
 pub none_settled : (ends : Ends) (x : List ℕ) {verdict : Verdict} → IsSettled (work ends) x verdict → ⊥
-none_settled (First count front) x {verdict} settled = none-some verdict (sym (complete_came front.delim front.unit {n = count} x (omega arith) settled.0) ∙ settled.1)
+none_settled (First count front) x {verdict} settled =
+    none-some verdict (sym (complete_came front.delim front.unit {n = count} x (omega arith) settled.0) ∙ settled.1)
 none_settled ends x settled = false≢true settled.0
 
 -- with these bytes the output has what is due, whatever it was fed
@@ -100,7 +102,8 @@ module _ (told : Bool) (ends : Ends) (bytes : List ℕ) {whole : List ℕ → Pa
   -- what stopped it stopped an output of bytes
   pub cuts_off : {lacks : Bool} {f : Fault} → Stops told lacks bytes old new f → CutsOff terms ends whole told old new f
   cuts_off {f = f} stops before x at = cut (stop.unjudged told stops)
-      (subst (λ output. StoppedBetween output told before ((work ends).settled x) (whole x) f new) (sym (ap (λ means. means.output) (on_means (stretch_of ends) (delim_of ends) (unit_of ends) (count_of ends))))
+      (subst (λ output. StoppedBetween output told before ((work ends).settled x) (whole x) f new)
+      (sym (ap (λ means. means.output) (on_means (stretch_of ends) (delim_of ends) (unit_of ends) (count_of ends))))
       (rw (makes x at.holds) at (stop.between told at.outputs stops)))
 
 -- what waits after the piece
@@ -183,10 +186,12 @@ incomplete : (delim : ℕ) (unit : Counted) (but_last : Bool) (n : ℕ) (x : Lis
     → (not but_last && nat_le n (measure delim unit x)) ≡ false → IsDone delim unit but_last n x → ⊥
 incomplete delim unit false n x byte short done =
     let few : measure delim unit x < n = leb-false n (measure delim unit x) short in
-    let same : x ++ 0 ∷ [] ≡ x = sym (first_of-more delim unit n x 0 few) ∙ done (0 ∷ []) (All-replicate (λ byte. byte < 256) 1 0 (lit< tt)) ∙ first_of-short delim unit n {x = x} few in
+    let same : x ++ 0 ∷ [] ≡ x = sym (first_of-more delim unit n x 0 few) ∙ done (0 ∷ []) (All-replicate (λ byte. byte < 256) 1 0 (lit< tt))
+    ∙ first_of-short delim unit n {x = x} few in
     omega (arith, length-append x (0 ∷ []), ap length same)
 incomplete delim unit true n x byte short done =
-    but_last_grows delim unit n x (replicate (n + 1) delim) (let many = measure-delimiters delim unit {k = n + 1} in omega arith) (done (replicate (n + 1) delim) (All-replicate (λ byte. byte < 256) (n + 1) delim byte))
+    but_last_grows delim unit n x (replicate (n + 1) delim) (let many = measure-delimiters delim unit {k = n + 1} in omega arith)
+    (done (replicate (n + 1) delim) (All-replicate (λ byte. byte < 256) (n + 1) delim byte))
 
 head_exact : (delim : ℕ) (unit : Counted) (but_last : Bool) (n : ℕ) (x : List ℕ) (full : Bool) → delim < 256
     → full ≡ (head_work delim unit but_last n).is_complete x → IsTrue full ↔ IsDone delim unit but_last n x
@@ -276,11 +281,13 @@ took_in : (ends : Ends) {x : List ℕ} → Holds ends [] → terms.size ends ≡
 took_in (FromNth count front) {x} fresh none silent = record {
   same = refl;
   size = omega arith;
-  holds = takes_in (FromNth count front) x (record { stretch = refl; delim = refl; unit = refl; count = refl; least = refl }) refl refl refl refl (λ bytes full. refl) [] fresh;
+  holds = takes_in (FromNth count front) x (record { stretch = refl; delim = refl; unit = refl; count = refl; least = refl }) refl refl refl refl
+      (λ bytes full. refl) [] fresh;
   ready = λ slots is. is;
   owns = λ first slots is. is;
   idle = sym (went_out (FromNth count front) x [] fresh)
-      ∙ ap (λ bytes. record ((work (FromNth count front)).settled []) { out = ((work (FromNth count front)).settled []).out ++ bytes }) silent ∙ ap only_out (append-nil _);
+      ∙ ap (λ bytes. record ((work (FromNth count front)).settled []) { out = ((work (FromNth count front)).settled []).out ++ bytes }) silent
+      ∙ ap only_out (append-nil _);
   going = inr refl;
 }
 took_in ends fresh none silent = rw silent (record {
@@ -356,7 +363,14 @@ needed_by delim unit n (suc k) {used} long again = inr (
 first_needed : (delim : ℕ) (unit : Counted) (n : ℕ) (x : List ℕ)
     → IsNeeded (head_work delim unit false n).is_complete 1 (first_of delim unit n x)
 first_needed delim unit n x = elim (cases_lt (measure delim unit (first_of delim unit n x)) n) [
-  | inl short ↦ inr (first_of delim unit n x, [], sym (append-nil (first_of delim unit n x)), omega arith, lt-leb n (measure delim unit (first_of delim unit n x)) short)
+  | inl short ↦ inr (
+    first_of delim unit n x,
+    [],
+    sym (append-nil (first_of delim unit n x)),
+    omega arith,
+    lt-leb n
+        (measure delim unit (first_of delim unit n x)) short,
+  )
   | inr full ↦ needed_by delim unit n (length (first_of delim unit n x)) refl
       (rw first_then_after at (sym (first_of-full delim unit n (first_of delim unit n x) (after_of delim unit n x)
       full)))
@@ -415,7 +429,9 @@ spare_so same spare = record {
 }
 
 pub spare_here : (ends : Ends) {x : List ℕ} → Holds ends x → IsSpare (work ends) x (past_of ends)
-spare_here (First count front) {x} holds = spare_so refl (subst (IsSpare (head_work front.delim front.unit false count) x) (sym (holds.past ∙ past_after front.delim front.unit count x)) (first_used front.delim front.unit count))
+spare_here (First count front) {x} holds = spare_so refl
+    (subst (IsSpare (head_work front.delim front.unit false count) x) (sym (holds.past ∙ past_after front.delim front.unit count x))
+    (first_used front.delim front.unit count))
 spare_here ends {x} holds = all_used (work ends) x refl
 
 -- a text that goes on from x, cut in two where more stands before the cut than in x: the cut is after x, and what is before
@@ -459,7 +475,8 @@ few_spare delim Lines count x piece spare is going enough within =
 pub may_get : (ends : Ends) → MayGet terms ends (wanted_by ends)
 may_get (First count front) x piece after n holds going within same later spare = elim spare.enough [
   | inl none ↦ omega (arith, ap length none)
-  | inr complete ↦ few_spare front.delim front.unit count x piece spare (holds.left refl) (leb-false count (measure front.delim front.unit x) going) (leb-true count (measure front.delim front.unit spare.used) complete) within
+  | inr complete ↦ few_spare front.delim front.unit count x piece spare (holds.left refl)
+      (leb-false count (measure front.delim front.unit x) going) (leb-true count (measure front.delim front.unit spare.used) complete) within
 ]
 may_get ends x piece after n holds going within same later spare = grind (arith, common_steps)
 

@@ -253,7 +253,7 @@ impl Stage for Ends {
         }
     }
 
-    ghost lawful = { lawful };
+    ghost lawful = { λ ends x holds. lawful ends };
 
     ghost there = { λ ends first slots owns. tt };
 }

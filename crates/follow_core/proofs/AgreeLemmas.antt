@@ -7,8 +7,8 @@ use Rattle.std.proofs.{
     Slice.Eq.bytes_eq-Decides,
   },
   Math.Seq.drop-append_seam as drop_front,
-  Common.{◌≡◌, ℕ, Bool, true, false, List, [], ◌∷◌, ◌++◌, length, Some, refl, sym, ◌∙◌, ap, arith, length-append},
-  Common.{if◌then◌else◌, ◌⊎◌, inl, inr, ◌<◌, take, Option, None, subst, bytes_eq, rules},
+  Common.{◌≡◌, ℕ, Bool, true, List, [], ◌∷◌, ◌++◌, length, Some, refl, sym, ◌∙◌, ap, arith, length-append},
+  Common.{◌⊎◌, inl, inr, ◌<◌, Option, None, subst, rules},
 }
 use Rattle.ports_core.{
   specs.Part.IsBeginning,
@@ -17,13 +17,13 @@ use Rattle.ports_core.{
 use Rattle.watch_core.{
   specs.{
     Snapshot.Snapshot,
-    Edits.{Edit, append, truncate, replace, remove, end, bar, World, led_to, with_file, edited, edited_by, seen_in},
+    Edits.{Edit, append, truncate, replace, remove, end, bar, World, led_to, edited, edited_by, seen_in},
     Edits.{snapshots_from, snapshots_of},
   },
   proofs.WorldLemmas.{append_leads, append_grows},
 }
 use Rattle.follow_core.{
-  specs.Version.{Version, Entry, version, gap, version_in, entries_led, entries_later, is_file, entries_at_look},
+  specs.Version.{Version, Entry, version, gap, version_in, entries_led, entries_later, entries_at_look},
   specs.Version.entries_of,
   specs.Gain.{file_of, gain_between, gains_later, last_from, gains_after},
   specs.Run.{AreKept, name_text},
@@ -49,9 +49,6 @@ pub inside : (file : ℕ) (first : List ℕ) {middle last : List ℕ} → IsBegi
     (version (record { file = file; contents = last }))
 inside file first {middle} {last} (some, is) (more, is_more) = grind (arith, common_steps, grown)
 
-pub led_same : (snapshot : Snapshot) (file : ℕ) → entries_led snapshot (Some file) (Some file) ≡ []
-led_same snapshot file = search rules
-
 -- a look after no edit gives nothing
 still : {v : Version} (snapshot : Snapshot) (entries : List Entry) → snapshot.holds v.file ≡ v.contents
     → gains_later (version v) (version_in snapshot v.file ∷ entries) ≡ gains_later (version v) entries
@@ -62,8 +59,7 @@ through : {v : Version} (extra next : Snapshot) (entries : List Entry)
     ⊎ (IsBeginning v.contents (extra.holds v.file) × IsBeginning (extra.holds v.file) (next.holds v.file))
     → gains_later (version v) (version_in extra v.file ∷ version_in next v.file ∷ entries)
     ≡ gains_later (version v) (version_in next v.file ∷ entries)
-through {v} extra next entries (inl same) = still extra (version_in next v.file ∷ entries) same
-through {v} extra next entries (inr (first, more)) = grind (arith, common_steps, inside)
+through {v} extra next entries given = grind (arith, common_steps, still, inside)
 
 -- A look more gives the same text: where the open file is as it was at the look before, or was only appended to since and is only
 -- appended to until the next, and a name that is followed leads where it led.
@@ -74,10 +70,7 @@ pub one_look_more : (by_name : Bool) {name : List ℕ} (last : Entry) (extra nex
     ⊎ (IsBeginning v.contents (extra.holds v.file) × IsBeginning (extra.holds v.file) (next.holds v.file)))
     → gains_later last (entries_later by_name name (file_of last) (extra ∷ next ∷ later))
     ≡ gains_later last (entries_later by_name name (file_of last) (next ∷ later))
-one_look_more true gap extra next later leads grows = rw (leads refl) refl
-one_look_more false gap extra next later leads grows = refl
-one_look_more true {name} (version v) extra next later leads grows = grind (arith, common_steps, led_same, through)
-one_look_more false {name} (version v) extra next later leads grows = through extra next (entries_later false name (Some v.file) later) (grows v refl)
+one_look_more by_name last extra next later leads grows = grind (arith, common_steps, through, entries_later)
 
 -- two placings of looks agree
 
@@ -87,52 +80,8 @@ record Sound (world : World) : Type 0 where
   one : (name other : List ℕ) (file : ℕ) → led_to world.links name ≡ Some file → led_to world.links other ≡ Some file
       → name ≡ other
 
-sound_changes : {world : World} (file : Option ℕ) (change : List ℕ → List ℕ) → Sound world
-    → Sound (with_file file change world)
-sound_changes None change sound = sound
-sound_changes {world} (Some file) change sound = grind (arith, common_steps, length-changed_at)
-
-sound_replace : {world : World} {name : List ℕ} (bytes : List ℕ) → Sound world
-    → Sound (edited (replace name bytes) world)
-sound_replace {world} {name} bytes sound = record { known = λ a file is. knows a file (bytes_eq name a) is; one = λ a b file is also. ones a b file (bytes_eq name a) (bytes_eq name b) refl refl is also } where
-  knows : (a : List ℕ) (file : ℕ) (test : Bool)
-      → (if test then Some (length world.files) else led_to world.links a) ≡ Some file
-      → file < length (world.files ++ bytes ∷ [])
-  knows a file true is = let n = length-append world.files (bytes ∷ []) in let e : length world.files ≡ file = cc in omega arith
-  knows a file false is = let n = length-append world.files (bytes ∷ []) in let k : file < length world.files = sound.known a file is in omega arith
-
-  ones : (a b : List ℕ) (file : ℕ) (test other : Bool) → bytes_eq name a ≡ test → bytes_eq name b ≡ other
-      → (if test then Some (length world.files) else led_to world.links a) ≡ Some file
-      → (if other then Some (length world.files) else led_to world.links b) ≡ Some file → a ≡ b
-  ones a b file true true same also is one = sym ((bytes_eq-Decides name a).0 same) ∙ (bytes_eq-Decides name b).0 also
-  ones a b file true false same also is one = absurd
-      (let e : length world.files ≡ file = cc in let k : file < length world.files = sound.known b file one in
-      omega arith)
-  ones a b file false true same also is one = absurd
-      (let e : length world.files ≡ file = cc in let k : file < length world.files = sound.known a file is in
-      omega arith)
-  ones a b file false false same also is one = sound.one a b file is one
-
-sound_remove : {world : World} {name : List ℕ} → Sound world → Sound (edited (remove name) world)
-sound_remove {world} {name} sound = record { known = λ a file is. knows a file (bytes_eq name a) is; one = λ a b file is also. ones a b file (bytes_eq name a) (bytes_eq name b) is also } where
-  knows : (a : List ℕ) (file : ℕ) (test : Bool) → (if test then None else led_to world.links a) ≡ Some file
-      → file < length world.files
-  knows a file true is = absurd (cc)
-  knows a file false is = sound.known a file is
-
-  ones : (a b : List ℕ) (file : ℕ) (test other : Bool) → (if test then None else led_to world.links a) ≡ Some file
-      → (if other then None else led_to world.links b) ≡ Some file → a ≡ b
-  ones a b file true other is one = absurd (cc)
-  ones a b file false true is one = absurd (cc)
-  ones a b file false false is one = sound.one a b file is one
-
 sound_edited : {world : World} (edit : Edit) → Sound world → Sound (edited edit world)
-sound_edited {world} (append name bytes) sound = sound_changes (led_to world.links name) (λ held. held ++ bytes) sound
-sound_edited {world} (truncate name n) sound = sound_changes (led_to world.links name) (λ held. take n held) sound
-sound_edited (replace name bytes) sound = sound_replace bytes sound
-sound_edited (remove name) sound = sound_remove sound
-sound_edited (end process) sound = record { known = sound.known; one = sound.one }
-sound_edited (bar name is) sound = record { known = sound.known; one = sound.one }
+sound_edited edit sound = grind (arith, common_steps, length-changed_at, length-append, bytes_eq-Decides)
 
 sound_all : (world : World) (edits : List Edit) → Sound world → Sound (edited_by edits world)
 sound_all world [] sound = sound
@@ -161,7 +110,8 @@ uncut world name file (bar other is ∷ next ∷ edits) sound leads no_cut seen 
     uncut (edited (bar other is) world) name file (next ∷ edits) (sound_edited {world = world} (bar other is) sound) leads no_cut seen
 uncut world name file (append other bytes ∷ []) sound leads no_cut seen = one_append world other bytes file
 uncut world name file (append other bytes ∷ next ∷ edits) sound leads no_cut seen =
-    begins_trans _ _ _ (one_append world other bytes file) (uncut (edited (append other bytes) world) name file (next ∷ edits) (sound_edited {world = world} (append other bytes) sound) (append_leads world other bytes name ∙ leads) no_cut seen.1)
+    begins_trans _ _ _ (one_append world other bytes file) (uncut (edited (append other bytes) world) name file (next ∷ edits)
+    (sound_edited {world = world} (append other bytes) sound) (append_leads world other bytes name ∙ leads) no_cut seen.1)
 uncut world name file (truncate other n ∷ (next ∷ edits)) sound leads no_cut seen = elim seen [ ]
 uncut world name file (replace other bytes ∷ (next ∷ edits)) sound leads no_cut seen = elim seen [ ]
 uncut world name file (remove other ∷ (next ∷ edits)) sound leads no_cut seen = elim seen [ ]
@@ -182,28 +132,9 @@ gained by_name name last looks = gains_later last (entries_later by_name name (f
 abbrev last_seen : Bool → List ℕ → Entry → Snapshot → Entry
 last_seen by_name name last snapshot = last_from last (entries_at_look by_name name (file_of last) snapshot)
 
-matches_now : (by_name : Bool) (name : List ℕ) (last : Entry) (snapshot : Snapshot)
-    → Matches snapshot (last_seen by_name name last snapshot)
-matches_now true name gap snapshot = by (snapshot.leads name) where
-  by : (led : Option ℕ) → Matches snapshot (last_from gap (entries_led snapshot None led))
-  by None = tt
-  by (Some file) = refl
-matches_now false name gap snapshot = tt
-matches_now false name (version v) snapshot = refl
-matches_now true name (version v) snapshot = by (snapshot.leads name) where
-  some : (file : ℕ) (test : Bool)
-      → Matches snapshot (last_from (version_in snapshot v.file) (if test then [] else version_in snapshot file ∷ []))
-  some file true = refl
-  some file false = refl
-
-  by : (led : Option ℕ)
-      → Matches snapshot (last_from (version v) (version_in snapshot v.file ∷ entries_led snapshot (Some v.file) led))
-  by None = tt
-  by (Some file) = some file (is_file file (Some v.file))
-
-stays_now : {by_name : Bool} {name : List ℕ} (last : Entry) {world : World} → Sound world
+stays_now : {by_name name : _} (last : Entry) {world : World} → Sound world
     → Stays by_name name world (last_seen by_name name last (seen_in world))
-stays_now {by_name} {name} last {world} sound = grind (arith, common_steps, matches_now, look_leaves, false≢true)
+stays_now {by_name} {name} last {world} sound = grind (arith, common_steps, look_leaves, false≢true)
 
 same_first : (by_name : Bool) (name : List ℕ) (last : Entry) (snapshot : Snapshot) (looks others : List Snapshot)
     → gained by_name name (last_seen by_name name last snapshot) looks
@@ -213,10 +144,7 @@ same_first by_name name last snapshot looks others same = grind (arith, common_s
 
 idle_look : (by_name : Bool) {name : List ℕ} (last : Entry) {world : World} (looks : List Snapshot)
     → Stays by_name name world last → gained by_name name last (seen_in world ∷ looks) ≡ gained by_name name last looks
-idle_look false gap looks stays = refl
-idle_look true {name} gap {world} looks stays = grind (arith, common_steps)
-idle_look false {name} (version v) {world} looks stays = still (seen_in world) (entries_later false name (Some v.file) looks) stays.matches
-idle_look true {name} (version v) {world} looks stays = grind (arith, common_steps)
+idle_look by_name last looks stays = grind (arith, common_steps, entries_later)
 
 -- a look after each edit
 abbrev singles : List Edit → List (List Edit)
@@ -224,29 +152,34 @@ singles [] = []
 singles (edit ∷ edits) = (edit ∷ []) ∷ singles edits
 
 abbrev Refines : Bool → List ℕ → List (List Edit) → Type 0
-Refines by_name name groups = (world : World) (last : Entry) → Stays by_name name world last → gained by_name name last (snapshots_from world groups) ≡ gained by_name name last (snapshots_from world (singles (all_edits groups)))
+Refines by_name name groups = (world : World) (last : Entry) → Stays by_name name world last
+    → gained by_name name last (snapshots_from world groups)
+    ≡ gained by_name name last (snapshots_from world (singles (all_edits groups)))
 
-same_matches : (one other : Snapshot) → ((file : ℕ) → other.holds file ≡ one.holds file) → (last : Entry)
-    → Matches one last → Matches other last
-same_matches one other same gap matches = tt
-same_matches one other same (version v) matches = same v.file ∙ matches
-
-one_group : {by_name : Bool} {name : List ℕ} (group : List Edit) (groups : List (List Edit)) → AreSeen group
+one_group : {by_name name : _} (group : List Edit) (groups : List (List Edit)) → AreSeen group
     → Refines by_name name groups → Refines by_name name (group ∷ groups)
 one_group {by_name} [] groups seen rest world last stays = idle_look by_name last _ stays ∙ rest world last stays
 one_group {by_name} {name} (edit ∷ []) groups seen rest world last stays = grind (arith, common_steps, same_first, stays_now, sound_edited)
 one_group {by_name} {name} (append other bytes ∷ next ∷ edits) groups seen rest world last stays =
-    sym (one_look_more by_name last (seen_in (edited (append other bytes) world)) (seen_in (edited_by (next ∷ edits) (edited (append other bytes) world))) (snapshots_from (edited_by (next ∷ edits) (edited (append other bytes) world)) groups) (λ is. append_leads world other bytes name ∙ stays.leads is) grows)
-    ∙ same_first by_name name last (seen_in (edited (append other bytes) world)) (snapshots_from (edited (append other bytes) world) ((next ∷ edits) ∷ groups)) (snapshots_from (edited (append other bytes) world) (singles (all_edits ((next ∷ edits) ∷ groups)))) (one_group (next ∷ edits) groups seen.1 rest (edited (append other bytes) world) _ (stays_now last (sound_edited (append other bytes) stays.sound))) where
+    let now = edited (append other bytes) world in let more = (next ∷ edits) ∷ groups in
+    sym (one_look_more by_name last _ _ (snapshots_from (edited_by (next ∷ edits) now) groups)
+    (λ is. append_leads world other bytes name ∙ stays.leads is) grows)
+    ∙ same_first by_name name last _ (snapshots_from now more) (snapshots_from now (singles (all_edits more)))
+    (one_group (next ∷ edits) groups seen.1 rest _ _ (stays_now last (sound_edited (append other bytes) stays.sound))) where
       grows : (v : Version) → last ≡ version v
           → ((seen_in (edited (append other bytes) world)).holds v.file ≡ v.contents)
           ⊎ (IsBeginning v.contents ((seen_in (edited (append other bytes) world)).holds v.file)
           × IsBeginning ((seen_in (edited (append other bytes) world)).holds v.file)
           ((seen_in (edited_by (next ∷ edits) (edited (append other bytes) world))).holds v.file))
-      grows v is = let was : (seen_in world).holds v.file ≡ v.contents = subst (Matches (seen_in world)) is stays.matches in elim (append_grows world other bytes v.file) [
-        | inl same ↦ inl (same ∙ was)
-        | inr both ↦ inr ((bytes, both.1 ∙ ap (λ held. held ++ bytes) was), uncut (edited (append other bytes) world) other v.file (next ∷ edits) (sound_edited (append other bytes) stays.sound) (append_leads world other bytes other ∙ both.0) seen.0 seen.1)
-      ]
+      grows v is = let was : (seen_in world).holds v.file ≡ v.contents = subst (Matches (seen_in world)) is stays.matches in elim
+          (append_grows world other bytes v.file) [
+            | inl same ↦ inl (same ∙ was)
+            | inr both ↦ inr (
+              (bytes, both.1 ∙ ap (λ held. held ++ bytes) was),
+              uncut (edited (append other bytes) world) other v.file
+                  (next ∷ edits) (sound_edited (append other bytes) stays.sound) (append_leads world other bytes other ∙ both.0) seen.0 seen.1,
+            )
+          ]
 one_group (truncate other n ∷ next ∷ edits) groups seen rest world last stays = elim seen [ ]
 one_group (replace other bytes ∷ next ∷ edits) groups seen rest world last stays = elim seen [ ]
 one_group (remove other ∷ next ∷ edits) groups seen rest world last stays = elim seen [ ]
@@ -255,25 +188,21 @@ one_group {by_name} {name} (end process ∷ next ∷ edits) groups seen rest wor
     last = record {
       sound = sound_edited (end process) stays.sound;
       leads = stays.leads;
-      matches = same_matches
-          (seen_in world) (seen_in (edited (end process) world)) (λ file. refl) last stays.matches;
+      matches = grind (arith, common_steps, stays.matches);
     } in
     one_group (next ∷ edits) groups seen rest (edited (end process) world) last still
-    ∙ sym (idle_look by_name last (snapshots_from (edited (end process) world)
-    (singles (all_edits ((next ∷ edits) ∷ groups)))) still)
+    ∙ sym (idle_look by_name last (snapshots_from (edited (end process) world) (singles (all_edits ((next ∷ edits) ∷ groups)))) still)
 one_group {by_name} {name} (bar other is ∷ next ∷ edits) groups seen rest world last stays =
     let still : Stays by_name name (edited (bar other is) world)
     last = record {
       sound = sound_edited (bar other is) stays.sound;
       leads = stays.leads;
-      matches = same_matches
-          (seen_in world) (seen_in (edited (bar other is) world)) (λ file. refl) last stays.matches;
+      matches = grind (arith, common_steps, stays.matches);
     } in
     one_group (next ∷ edits) groups seen rest (edited (bar other is) world) last still
-    ∙ sym (idle_look by_name last (snapshots_from (edited (bar other is) world)
-    (singles (all_edits ((next ∷ edits) ∷ groups)))) still)
+    ∙ sym (idle_look by_name last (snapshots_from (edited (bar other is) world) (singles (all_edits ((next ∷ edits) ∷ groups)))) still)
 
-refines : {by_name : Bool} {name : List ℕ} (groups : List (List Edit)) → AllSeen groups → Refines by_name name groups
+refines : {by_name name : _} (groups : List (List Edit)) → AllSeen groups → Refines by_name name groups
 refines [] seen world last stays = refl
 refines (group ∷ groups) seen world last stays = one_group group groups seen.0 (refines groups seen.1) world last stays
 
@@ -285,7 +214,7 @@ from_first : (start : List ℕ → List ℕ) (by_name : Bool) (name : List ℕ) 
     ≡ gains_after start []
     (entries_led (seen_in world) None led
     ++ entries_later by_name name led (snapshots_from world (singles (all_edits groups))))
-from_first start by_name name {world} groups sound seen None is = refines groups seen world gap (record { sound = sound; leads = λ _. is; matches = tt })
+from_first start by_name name {world} groups sound seen None is = grind (arith, common_steps, refines)
 from_first start by_name name {world} groups sound seen (Some file) is = grind (arith, common_steps, refines)
 
 pub text_of_singles : (start : List ℕ → List ℕ) (by_name : Bool) (name : List ℕ) (first : List Edit)

@@ -1,24 +1,24 @@
 -- What a call on a name gives, by what the calls in it give: bytes under headers, and lines; the open file, and where the name leads.
 use Rattle.std.proofs.{
   lemmas.{Grind.common_steps, List.{append-nil, take-append-le}},
-  Common.{◌≡◌, ℕ, Bool, List, [], ◌∷◌, ◌++◌, inl, inr, ◌∙◌, ◌+◌, length, take, true, false, not, if◌then◌else◌, Some},
-  Common.{None, Option, refl, sym, arith, append_assoc, length-append, bytes_eq, is_none, rules},
+  Common.{◌≡◌, ℕ, Bool, List, [], ◌∷◌, ◌++◌, inl, inr, ◌⊎◌, ◌∙◌, ◌+◌, length, take, true, false, not},
+  Common.{if◌then◌else◌, Some},
+  Common.{None, Option, refl, arith, append_assoc, length-append, bytes_eq, is_none, rules},
   Math.{Seq.take-append-add, Bool.and-false},
 }
 use Rattle.ports_core.specs.{
   Slot.{Slot, with_written, told_of},
-  Message.{OnError, SaysFor, SaysOn},
+  Message.{OnError, SaysOn},
   Text.{line_of, message_of, header_of},
   declared.{calling.Calling.{Calling, TheVariants.{Cutters, OwnName}}, reason.Reason.Reason, fault.Fault.Fault},
-  Write.BrokeAfter,
 }
 use Rattle.ports_core.proofs.{MessageLemmas.printed_open, WriteLemmas.{broke_later, none_written, written_both}}
 use Rattle.follow_core.specs.{
   Sharing.{CameTo, WroteBy},
-  Telling.{IsFailure, Tells, TellsAll, failure_text, tail_by},
+  Telling.{IsFailure, SaysFailure, Tells, TellsAll, failure_text, tail_by},
   Followed.{has_header, is_empty, is_last},
   Printing.{PrinterState, Short, broke as short_broke, no_room},
-  inner.Giving.{IsFront, ArePut, Came, Puts, printer_under, text_under},
+  inner.Giving.{IsFront, Came, Puts, printer_under, text_under},
   Notice.notice_of,
   declared.notice.Notice.Notice,
 }
@@ -34,23 +34,22 @@ unreasoned : (calling : Calling) (why : Reason) {said : List ℕ}
 unreasoned OwnName why is = is
 unreasoned Cutters why is = is
 
-opening_said : {told : Bool} {calling : Calling} {why : Reason} (place : ℕ) (name : List ℕ) {old new : Slot}
-    → SaysFor told (tail_by calling) why (message_of (fault.Open place) name) old new
-    → Tells told calling (failure_text (fault.Open place) name) old new
-opening_said {calling} {why} place name says = record { said = says.said; is = inr (name, inl (refl, elim says.is [ inl same ↦ inl (why, same) | inr memory ↦ inr (unreasoned calling why memory) ])); printed = says.printed }
-
-reading_said : {told : Bool} {calling : Calling} {why : Reason} (place : ℕ) (name : List ℕ) {old new : Slot}
-    → SaysFor told (tail_by calling) why (message_of (fault.Read place) name) old new
-    → Tells told calling (failure_text (fault.Read place) name) old new
-reading_said {calling} {why} place name says = record { said = says.said; is = inr (name, inr (refl, elim says.is [ inl same ↦ inl (why, same) | inr memory ↦ inr (unreasoned calling why memory) ])); printed = says.printed }
-
 -- of a name that can't be read, or opened
-pub failure_said : {told : Bool} {calling : Calling} {why : Reason} (read : Bool) (place : ℕ) (name : List ℕ)
-    {old new : List Slot}
+pub failure_said : {told calling why : _} (read : Bool) (place : ℕ) (name : List ℕ) {old new : _}
     → SaysOn told (tail_by calling) why (message_of (if read then fault.Read place else fault.Open place) name) old new
     → OnError (Tells told calling (failure_text (if read then fault.Read place else fault.Open place) name)) old new
-failure_said true place name says = λ output error others are. let said = says output error others are in (said.0, reading_said place name said.1, said.2)
-failure_said false place name says = λ output error others are. let said = says output error others are in (said.0, opening_said place name said.1, said.2)
+failure_said {calling} {why} read place name says = λ output error others are.
+    let said = says output error others are in
+    (said.0, record { said = said.1.said; is = inr (name, by read said.1.is); printed = said.1.printed }, said.2) where
+      by : (read : Bool) {text : List ℕ} → (text ≡ line_of (tail_by calling) why
+          (message_of (if read then fault.Read place else fault.Open place) name))
+          ⊎ (text ≡ line_of (tail_by calling) why (message_of fault.Memory []))
+          → let line = failure_text (if read then fault.Read place else fault.Open place) name in SaysFailure calling
+          (fault.Open 0) name line text ⊎ SaysFailure calling (fault.Read 0) name line text
+      by true (inl is) = inr (refl, inl (why, is))
+      by true (inr is) = inr (refl, inr (unreasoned calling why is))
+      by false (inl is) = inl (refl, inl (why, is))
+      by false (inr is) = inl (refl, inr (unreasoned calling why is))
 
 -- no notice is such a message
 pub no_failure : (notice : Notice) (name : List ℕ) → IsFailure (notice_of notice name) → ⊥
@@ -59,21 +58,23 @@ no_failure notice name failure = grind (arith, common_steps)
 pub tells_state : (told : Bool) (calling : Calling) (lines : List (List ℕ)) (old new : Slot)
     → TellsAll told calling lines old new → new.state ≡ old.state
 tells_state told calling [] old new is = cc
-tells_state told calling (line ∷ lines) old new tells = tells_state told calling lines tells.0 new tells.2 ∙ printed_open told tells.1.said old tells.0 tells.1.printed
+tells_state told calling (line ∷ lines) old new tells = tells_state told calling lines tells.0 new tells.2
+    ∙ printed_open told tells.1.said old tells.0 tells.1.printed
 
 pub tells_after : (told : Bool) (calling : Calling) (lines more : List (List ℕ)) (old mid new : Slot)
     → TellsAll told calling lines old mid → TellsAll told calling more mid new
     → TellsAll told calling (lines ++ more) old new
 tells_after told calling [] more old mid new so_far tells = grind (arith, common_steps)
-tells_after told calling (first ∷ lines) more old mid new so_far tells = (so_far.0, so_far.1, tells_after told calling lines more so_far.0 mid new so_far.2 tells)
+tells_after told calling (first ∷ lines) more old mid new so_far
+    tells = (so_far.0, so_far.1, tells_after told calling lines more so_far.0 mid new so_far.2 tells)
 
 -- what is printed under headers
 
-pub no_memory : {told : Bool} {text : List ℕ} {slots : List Slot} → Short told text slots slots fault.Memory
+pub no_memory : {told text slots : _} → Short told text slots slots fault.Memory
 no_memory {told} {slots} = no_room 0 (omega arith) (none_written told 0)
 
-pub short_more : {told : Bool} {text : List ℕ} (more : List ℕ) {old new : List Slot} {why : Fault}
-    → Short told text old new why → Short told (text ++ more) old new why
+pub short_more : {told text : _} (more : List ℕ) {old new why : _} → Short told text old new why
+    → Short told (text ++ more) old new why
 short_more {told} {text} more {old} (short_broke n cut) =
     let (why, is) = cut.slots in
     short_broke n (record {
@@ -83,12 +84,6 @@ short_more {told} {text} more {old} (short_broke n cut) =
 short_more {told} {text} more {old} (no_room n within is) = no_room n
     (let a : length (text ++ more) ≡ length text + length more = length-append text more in omega arith)
     (rw (take-append-le n text more within) is)
-
-pub short_later : {told : Bool} (first : List ℕ) {text : List ℕ} {old mid new : List Slot} {n : ℕ}
-    → mid ≡ with_written 0 (told_of told first) old → BrokeAfter told mid new 0 text n
-    → Short told (first ++ text) old new (fault.Write 0)
-short_later {told} first {text} {n} one cut =
-    short_broke (length first + n) (rw (append-nil text) at (broke_later told first text [] one cut))
 
 pub itself : (name : List ℕ) → bytes_eq name name ≡ true
 itself name = search rules
@@ -112,38 +107,35 @@ in_two printer opened name first second = by printer.headers opened first (is_la
   by true false (byte ∷ first) true is = rw (is, is, and-false (not (is_empty second))) (refl, refl)
   by true false (byte ∷ first) false is = rw (is, itself name, and-false (not (is_empty second))) (append_assoc _ (byte ∷ first) second, refl)
 
-pub short_after : {told : Bool} (first : List ℕ) {second : List ℕ} {old mid new : List Slot} {why : Fault}
+pub short_after : {told : Bool} (first : List ℕ) {second old mid new why : _}
     → mid ≡ with_written 0 (told_of told first) old → Short told second mid new why
     → Short told (first ++ second) old new why
-short_after first one (short_broke n cut) = short_later first one cut
+short_after first {second} one (short_broke n cut) =
+    short_broke (length first + n) (rw (append-nil second) at (broke_later _ first second [] one cut))
 short_after {told} first {second} {old} {mid} {new} one (no_room n within is) = no_room (length first + n)
     (let a : length (first ++ second) ≡ length first + length second = length-append first second in omega arith)
     (rw (take-append-add first second n) (written_both told 0 first (take n second) old one is))
 
 -- a text after another that came whole, or a beginning of it
-text_after : (told : Bool) (first second : List ℕ) (old : List Slot) {mid : List Slot} (new : List Slot)
+text_after : (told : Bool) (first second : List ℕ) (old : List Slot) {mid : _} (new : List Slot)
     (over : Option Fault)
     → mid ≡ with_written 0 (told_of told first) old → CameTo told second mid new over
     → CameTo told (first ++ second) old new over
-text_after told first second old {mid} new None one is = written_both told 0 first second old one is
-text_after told first second old new (Some why) one short = short_after first one short
+text_after told first second old new over one given = grind (arith, common_steps, written_both, short_after)
 
 -- what standard output and standard error get
 
-pub wrote_none : (told : Bool) (calling : Calling) {slots : List Slot} → WroteBy told calling [] [] slots slots None
-wrote_none told calling = search rules
-
-pub wrote_text : (told : Bool) (calling : Calling) (text : List ℕ) {old : List Slot} (new : List Slot)
+pub wrote_text : (told : Bool) (calling : Calling) (text : List ℕ) {old : _} (new : List Slot)
     (over : Option Fault) → CameTo told text old new over → WroteBy told calling text [] old new over
 wrote_text told calling text new over came = grind (arith, common_steps)
 
-pub wrote_line : {told : Bool} {calling : Calling} {line : List ℕ} {old new : List Slot}
-    → OnError (Tells told calling line) old new → WroteBy told calling [] (line ∷ []) old new None
+pub wrote_line : {told calling line old new : _} → OnError (Tells told calling line) old new
+    → WroteBy told calling [] (line ∷ []) old new None
 wrote_line {told} {calling} tells = search rules
 
 -- a text and lines after others, or a beginning of them, as one text and its lines
 pub wrote_after : (told : Bool) (calling : Calling) (text more : List ℕ) {both : List ℕ} (lines further : List (List ℕ))
-    {all : List (List ℕ)} {old mid : List Slot} (new : List Slot)
+    {all old mid : _} (new : List Slot)
     (over : Option Fault) → text ++ more ≡ both → lines ++ further ≡ all → WroteBy told calling text lines old mid None
     → WroteBy told calling more further mid new over
     → WroteBy told calling both all old new over
@@ -151,13 +143,11 @@ wrote_after told calling text more lines further {old} new over same also first 
 
 -- what is given in two steps
 
-pub came_none : {told : Bool} {printer : PrinterState} {name : List ℕ} {slots : List Slot}
-    → Came told printer false name [] [] slots printer slots None
+pub came_none : {told printer name slots : _} → Came told printer false name [] [] slots printer slots None
 came_none {told} {printer} = search rules
 
-pub came_after : {told opened : Bool} {printer mid after : PrinterState} {name first second : List ℕ}
-    {lines more : List (List ℕ)} {old now new : List Slot}
-    {over : Option Fault} → Came told printer opened name first lines old mid now None
+pub came_after : {told opened printer mid after name first second lines more old now new over : _}
+    → Came told printer opened name first lines old mid now None
     → Came told mid false name second more now after new over
     → Came told printer opened name (first ++ second) (lines ++ more) old after new over
 came_after {opened} {printer} {name} {first} {second} {over} one two =
@@ -168,56 +158,27 @@ came_after {opened} {printer} {name} {first} {second} {over} one two =
 
 -- bytes that are put
 
-put_after : {done first : List ℕ} (bytes due : List ℕ) (over : Option Fault) → done ≡ first → ArePut over bytes due
-    → ArePut over (done ++ bytes) (first ++ due)
-put_after bytes due None same is = λ i. same i ++ is i
-put_after {done} bytes due (Some why) same (rest, is) = (rest, (λ i. sym same i ++ is i) ∙ sym (append_assoc done bytes rest))
-
-pub puts_after : {told opened : Bool} {printer mid after : PrinterState} {name first second : List ℕ}
-    {old now new : List Slot} {over : Option Fault}
+pub puts_after : {told opened printer mid after name first second old now new over : _}
     → Puts told opened printer name first old mid now None → Puts told false mid name second now after new over
     → Puts told opened printer name (first ++ second) old after new over
 puts_after {second} {over} one two = record {
   bytes = one.bytes ++ two.bytes;
-  are = put_after two.bytes second over one.are two.are;
+  are = grind (arith, common_steps, one.are, two.are, append_assoc);
   came = came_after one.came two.came;
 }
 
-pub puts_nothing : {told : Bool} {printer : PrinterState} {name : List ℕ} {slots : List Slot}
-    → Puts told false printer name [] slots printer slots None
+pub puts_nothing : {told printer name slots : _} → Puts told false printer name [] slots printer slots None
 puts_nothing = record { bytes = []; are = refl; came = came_none }
 
-front_same : {X : Type 0} {given due : List X} → given ≡ due → IsFront given due
+pub front_same : {X : Type 0} {given due : List X} → given ≡ due → IsFront given due
 front_same {X} {given} is = search rules
 
 -- bytes were put under the header that was due, or a beginning of both
-pub puts : {told opened : Bool} {printer after : PrinterState} {name bytes : List ℕ} {old mid new : List Slot}
-    {due : Bool} (over : Option Fault)
+pub puts : {told opened : Bool} {printer : PrinterState} {after name bytes old mid new due : _} (over : Option Fault)
     → due ≡ has_header printer.headers printer.last opened name bytes
     → mid ≡ with_written 0 (told_of told (if due then header_of name (is_none printer.last) else [])) old
     → CameTo told bytes mid new over
     → after ≡ record printer { last = if due then Some name else printer.last }
     → Puts told opened printer name bytes old after new over
-puts {told} {opened} {printer} {after} {name} {bytes} {old} {new} over is header came shown = record {
-  bytes = bytes;
-  are = whole over;
-  came = record {
-    printer_is = λ none. rw is at shown;
-    slots = wrote_text told printer.calling _ new over (text_after told _ bytes old new over (rw is at header) came);
-  };
-} where
-  whole : (over : Option Fault) → ArePut over bytes bytes
-  whole None = refl
-  whole (Some why) = front_same refl
-
--- the header was not
-pub puts_none : {told opened : Bool} {printer after : PrinterState} {name bytes : List ℕ} {old new : List Slot}
-    {due : Bool} {why : Fault}
-    → due ≡ has_header printer.headers printer.last opened name bytes
-    → Short told (if due then header_of name (is_none printer.last) else []) old new why
-    → Puts told opened printer name bytes old after new (Some why)
-puts_none {told} {printer} {bytes} {new} {why} is short = record {
-  bytes = bytes;
-  are = front_same refl;
-  came = record { printer_is = λ none. absurd (cc); slots = wrote_text told printer.calling _ new (Some why) (short_more bytes (rw is at short)) };
-}
+puts {told} {opened} {printer} {after} {name} {bytes} {old} {new} over is header came shown = grind
+    (arith, common_steps, wrote_text, text_after, front_same)

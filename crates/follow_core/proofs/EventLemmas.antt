@@ -1,13 +1,17 @@
 -- Lists of events: what is in two of them, what entries give, and beginnings.
-use Rattle.std.proofs.{Common.{◌≡◌, ℕ, List, [], ◌∷◌, ◌++◌, refl, sym, ◌∙◌, append_assoc, map}, lemmas.List.append-nil}
+use Rattle.std.proofs.{
+  lemmas.Grind.common_steps,
+  Common.{arith, ◌≡◌, ℕ, List, [], ◌∷◌, ◌++◌, refl, sym, ◌∙◌, append_assoc, map},
+  lemmas.List.append-nil,
+}
 use Rattle.follow_core.specs.{
   declared.notice.Notice.Notice,
-  Event.{Begins, begins_none, begins_within, begins_on, Event, bytes_in, events_between, events_later, gives, lines_in},
+  Event.{Begins, begins_none, begins_within, begins_on, Event, bytes_in, events_between, events_later, gives},
+  Event.lines_in,
   Event.notes,
   Gain.{gain_between, gains_later, last_from},
-  Notice.{notices_between},
   inner.Giving.IsFront,
-  Version.{Entry, gap, version},
+  Version.{Entry},
 }
 
 pub bytes-append : (events more : List Event) → bytes_in (events ++ more) ≡ bytes_in events ++ bytes_in more
@@ -25,9 +29,7 @@ lines-append name (gives bytes ∷ events) more = lines-append name events more
 pub events-append : (last : Entry) (entries more : List Entry)
     → events_later last (entries ++ more) ≡ events_later last entries ++ events_later (last_from last entries) more
 events-append last [] more = refl
-events-append last (entry ∷ entries) more =
-    rw (events-append entry entries more)
-    (sym (append_assoc (events_between last entry) (events_later entry entries) _))
+events-append last (entry ∷ entries) more = grind (arith, common_steps, append_assoc, events-append entry entries more)
 
 -- the bytes that entries give are what they add
 
@@ -36,20 +38,14 @@ noted_bytes : (notices : List Notice) (events : List Event)
 noted_bytes [] events = refl
 noted_bytes (notice ∷ notices) events = noted_bytes notices events
 
-gap_adds : (last : Entry) → gain_between last gap ≡ []
-gap_adds (version v) = refl
-gap_adds gap = refl
-
 bytes_between : (last entry : Entry) → bytes_in (events_between last entry) ≡ gain_between last entry
-bytes_between last gap =
-    rw (← append-nil (map (λ notice. notes notice) (notices_between last gap)), gap_adds last)
-    (noted_bytes (notices_between last gap) [])
-bytes_between last (version v) = noted_bytes (notices_between last (version v)) (gives (gain_between last (version v)) ∷ []) ∙ append-nil _
+bytes_between last entry = grind (arith, common_steps, append-nil, noted_bytes)
 
 pub bytes_later : (last : Entry) (entries : List Entry)
     → bytes_in (events_later last entries) ≡ gains_later last entries
 bytes_later last [] = refl
-bytes_later last (entry ∷ entries) = bytes-append (events_between last entry) (events_later entry entries) ∙ (λ i. bytes_between last entry i ++ bytes_later entry entries i)
+bytes_later last (entry ∷ entries) = bytes-append (events_between last entry) (events_later entry entries)
+    ∙ (λ i. bytes_between last entry i ++ bytes_later entry entries i)
 
 -- beginnings
 
@@ -57,12 +53,12 @@ pub begins_all : (events : List Event) → Begins events events
 begins_all [] = begins_none
 begins_all (event ∷ events) = begins_on (begins_all events)
 
-pub begins_more : {part all : List Event} (more : List Event) → Begins part all → Begins part (all ++ more)
+pub begins_more : {part all : _} (more : List Event) → Begins part all → Begins part (all ++ more)
 begins_more more begins_none = begins_none
 begins_more more (begins_within bytes) = begins_within bytes
 begins_more more (begins_on begins) = begins_on (begins_more more begins)
 
-pub begins_after : (front : List Event) {part all : List Event} → Begins part all
+pub begins_after : (front : List Event) {part all : _} → Begins part all
     → Begins (front ++ part) (front ++ all)
 begins_after [] begins = begins
 begins_after (event ∷ front) begins = begins_on (begins_after front begins)

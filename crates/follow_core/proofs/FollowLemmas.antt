@@ -1,76 +1,47 @@
 -- A look at all names: at one after another, one look more, and one that was stopped; and one look after another.
 use Rattle.std.proofs.{
-  Common.{◌≡◌, ℕ, zero, suc, ◌<◌, ◌≤◌, ◌+◌, Bool, true, false, ◌||◌, List, [], ◌∷◌, ◌++◌, length, take, set, replicate},
-  Common.{get_or, slice_index_or, refl, sym, ◌∙◌, ap, subst, arith, append_assoc, inl, inr, ◌⊎◌, Option, Some, Err, Ok},
-  Common.{None, is_some, rules},
+  lemmas.Grind.common_steps,
+  Common.{◌≡◌, ℕ, zero, suc, ◌<◌, ◌≤◌, ◌+◌, Bool, true, false, ◌||◌, List, [], ◌∷◌, ◌++◌, length, take, set},
+  Common.{get_or, slice_index_or, refl, sym, ◌∙◌, ap, subst, arith, append_assoc, inl, inr, ◌⊎◌, Option, Err, Ok},
+  Common.{None, rules},
   Math.{Bool.or-false, Seq.{get_or-append_seam, map-set_same, take-suc}},
-  lemmas.Bool.{cases_eq, cases_lt, false≢true},
-  lemmas.List.{append-nil, get_or-map, get_or-set_other, get_or-set_same, length-append, length-map, length-replicate},
+  lemmas.Bool.{cases_eq, cases_lt},
+  lemmas.List.{append-nil, get_or-map, get_or-set_other, get_or-set_same, length-append, length-map},
   lemmas.List.{length-set, length-take-le, get_or_past},
 }
-use Rattle.ports_core.specs.{Slot.{Slot, changed_at}, declared.fault.Fault.Fault}
+use Rattle.ports_core.specs.{Slot.{Slot, changed_at}}
 use Rattle.follow_core.specs.{
   FollowState.{AllReady, Begun, up_to},
-  Followed.{share_text},
-  Look.{Fate, Look, Ways, failed_in, fate_at, is_dropped, sound},
-  Share.{BeginsShare, Share, lines_of, share_by, share_of, shares_at_look_from},
-  inner.{Visits.{KeepsOthers, Opened, Stopped, Visited, VisitedTo, Visits}, Giving.{IsFront, Shared}},
+  Look.{Fate, Look, Ways, failed_in, is_dropped, sound},
+  Share.{BeginsShare, Share, share_by, share_of, shares_at_look_from},
+  inner.{Visits.{KeepsOthers, Opened, Stopped, Visited, VisitedTo, Visits}, Giving.{IsFront}},
   Printing.PrinterState,
   Reading.{AreAtLook, IsGiven, names_more, no_names},
   Sharing.{AllShared, AllShort},
-  Standing.{AllStand, CanVisit, NameState, Stands, StandsAmong, no_state, state_at, texts, IsWatched},
+  Standing.{CanVisit, NameState, Stands, StandsAmong, no_state, state_at, texts, IsWatched},
   declared.name.Standing.{Standing, TheVariants.{New, Followed, Left}},
 }
 use Rattle.follow_core.proofs.{
-  CallLemmas.{wrote_after, wrote_none},
+  CallLemmas.{wrote_after},
   CallGivesLemmas.none_of,
-  LookLemmas.{broken_sound, unbroken_in},
+  LookLemmas.{broken_sound, met_none},
   RunLemmas.{failed-append, last-append, messages-append, text-append},
 }
-use Rattle.watch_core.specs.{Snapshot.Snapshot, Watched.{Watched, opens, watched_at}}
+use Rattle.watch_core.specs.{Watched.{Watched, opens, watched_at}}
 
 -- A look at one name after another.
 
-pub nothing_shared : {told : Bool} {printer : PrinterState} {slots : List Slot}
-    → AllShared told printer [] slots printer slots
-nothing_shared {told} {printer} {slots} = record { printer_is = refl; slots = wrote_none told printer.calling }
+pub nothing_shared : {told printer slots : _} → AllShared told printer [] slots printer slots
+nothing_shared {told} {printer} {slots} = record { printer_is = refl; slots = search rules }
 
 -- further shares
 
-pub all_both : {told : Bool} {printer mid after : PrinterState} {shares more : List Share} {old now new : List Slot}
-    → AllShared told printer shares old mid now
+pub all_both : {told printer mid after shares more old now new : _} → AllShared told printer shares old mid now
     → AllShared told mid more now after new → AllShared told printer (shares ++ more) old after new
 all_both {printer} {shares} {more} all rest = record {
   printer_is = rw (rest.printer_is, all.printer_is, last-append printer.headers printer.last shares more) refl;
   slots = wrote_after _ _ _ _ _ _ _ None (sym (text-append printer.headers printer.last shares more))
       (sym (messages-append shares more)) all.slots (rw all.printer_is at rest.slots);
-}
-
--- a beginning of one share
-
-pub shared_short : {told : Bool} {printer after : PrinterState} {share : Share} {old new : List Slot} {why : Fault}
-    → Shared told printer share old after new (Some why) → AllShort told printer (share ∷ []) old new why
-shared_short {told} {printer} {share} {old} {new} {why} one = record {
-  slots = rw (append-nil (share_text printer.headers printer.last share), append-nil (lines_of share)) one.slots;
-}
-
--- names that were not looked at yet
-
-pub visited_none : {told_in told : Bool} {ways : Ways} {looks : List Look} {snapshot : Snapshot}
-    {names : List NameState} {printer : PrinterState} {slots : List Slot}
-    {watched : List Watched} → AllStand told_in ways looks names watched
-    → VisitedTo told_in told ways looks snapshot 0 names printer slots printer slots watched names false
-visited_none {ways} stand = record {
-  fates = replicate ways.first sound;
-  shares = [];
-  count = length-replicate ways.first sound ∙ omega arith;
-  are = λ t all front. refl;
-  found = λ all front. no_names;
-  is_failed = refl;
-  shared = nothing_shared;
-  same = refl;
-  done = λ all front other below. absurd (omega arith);
-  rest = λ other above within. stand other within;
 }
 
 -- one name more
@@ -83,12 +54,12 @@ shares_one ways looks look from (first ∷ names) name =
     let place : (from + 1) + length names ≡ from + suc (length names) = omega arith in
     rw (shares_one ways looks look (from + 1) names name, place) refl
 
-fate_there : (fates : List Fate) (fate : Fate) {all : List Fate} → IsFront (fates ++ fate ∷ []) all → {place : ℕ}
+fate_there : (fates : List Fate) (fate : Fate) {all : _} → IsFront (fates ++ fate ∷ []) all → {place : ℕ}
     → length fates ≡ place → slice_index_or all place sound ≡ fate
 fate_there fates fate (rest, is) count =
     rw (is, append_assoc fates (fate ∷ []) rest, ← count) (get_or-append_seam fates fate rest sound)
 
-front_before : (fates : List Fate) (fate : Fate) {all : List Fate} → IsFront (fates ++ fate ∷ []) all
+front_before : (fates : List Fate) (fate : Fate) {all : _} → IsFront (fates ++ fate ∷ []) all
     → IsFront fates all
 front_before fates fate (rest, is) = (fate ∷ rest, is ∙ append_assoc fates (fate ∷ []) rest)
 
@@ -122,23 +93,9 @@ names_next names now {place} same within = let next : place + 1 ≡ suc place = 
     )
     refl
 
--- and their shares
-shares_next : (ways : Ways) (looks : List Look) (look : Look) (names now : List NameState) {place : ℕ}
-    → texts now ≡ texts names → place < length now
-    → shares_at_look_from ways looks look ways.first (take place (texts names))
-    ++ share_of ways looks look (ways.first + place) (state_at now place).text ∷ []
-    ≡ shares_at_look_from ways looks look ways.first (take (place + 1) (texts names))
-shares_next ways looks look names now {place} same within =
-    rw (
-      ← names_next names now same within,
-      shares_one ways looks look ways.first (take place (texts names)) _,
-      count_taken names now same within,
-    ) refl
-
 -- what a look gives for one name more
-one_given : (looks : List Look) (look : Look) (from : ℕ) (names : List (List ℕ)) (name : List ℕ) {shares : List Share}
-    {share : Share} → AreAtLook looks look from names shares
-    → IsGiven looks look (from + length names) name share
+one_given : (looks : List Look) (look : Look) (from : ℕ) (names : List (List ℕ)) (name : List ℕ) {shares share : _}
+    → AreAtLook looks look from names shares → IsGiven looks look (from + length names) name share
     → AreAtLook looks look from (names ++ name ∷ []) (shares ++ share ∷ [])
 one_given looks look from [] name {share} no_names given = let e : from + 0 ≡ from = omega arith in
     names_more (rw e at given) no_names
@@ -146,78 +103,72 @@ one_given looks look from (first ∷ names) name {share} (names_more is rest) gi
     let e : from + suc (length names) ≡ (from + 1) + length names = omega arith in
     names_more is (one_given looks look (from + 1) names name rest (rw e at given))
 
-pub visited_more : {told_in told : Bool} {ways : Ways} {looks : List Look} {snapshot : Snapshot}
-    {names now : List NameState} {one : NameState} {place : ℕ}
-    {printer mid after : PrinterState} {old slots new : List Slot} {watched watched_new : List Watched}
-    {before failed : Bool} → place < length now
-    → Visits told_in told ways snapshot (ways.first + place)
-    (state_at now place).text (state_at now place).standing watched mid slots one.standing watched_new after new
-    (Ok failed)
-    → one.text ≡ (state_at now place).text
-    → VisitedTo told_in told ways looks snapshot place names printer old mid slots watched now before
-    → VisitedTo told_in told ways looks snapshot (place + 1) names printer old after new watched_new (set now place one)
-    (before || failed)
-visited_more {told_in} {told} {ways} {looks} {snapshot} {names} {now} {one} {place} {mid} {after} {slots} {new} {watched} {watched_new} {before} {failed} within visits same sofar = record {
-  fates = sofar.fates ++ visited.fate ∷ [];
-  shares = sofar.shares ++ visited.share ∷ [];
-  count = length-append sofar.fates (visited.fate ∷ []) ∙ ap (λ n. n + 1) sofar.count ∙ omega arith;
-  are = λ t all front. let look : Look = record { snapshot = snapshot; fates = all } in
-      (λ i. sofar.are t all (front_before sofar.fates visited.fate front) i
-      ++ visited.is_share t all (fate_there sofar.fates visited.fate front sofar.count) i ∷ [])
-      ∙ shares_next ways looks look names now sofar.same within;
-  found = λ all front. let look : Look = record { snapshot = snapshot; fates = all } in
-      rw (← names_next names now sofar.same within)
-      (one_given looks look ways.first (take place (texts names)) (state_at now place).text
-      (sofar.found all (front_before sofar.fates visited.fate front))
-      (rw (count_taken names now sofar.same within)
-      (visited.found all (fate_there sofar.fates visited.fate front sofar.count))));
-  is_failed = rw (failed-append sofar.shares (visited.share ∷ []), sofar.is_failed, visited.is_failed, or-false failed)
-      refl;
-  shared = all_both sofar.shared (record {
-    printer_is = visited.shared.printer_is refl;
-    slots = rw (append-nil, append-nil) visited.shared.slots;
-  });
-  same = texts_set now no_state one within same ∙ sofar.same;
-  done = λ all front other below. there all front other below (cases_eq other place);
-  rest = λ other above inside. stays looks other (λ at. omega arith)
-      (sofar.rest other (omega arith) (rw length-set at inside));
-} where
-  visited : Visited told_in told ways looks snapshot (ways.first + place) (state_at now place).text mid slots after new
-      (watched_at watched_new (ways.first + place)) one.standing failed
-  visited = visits.visited looks (sofar.rest place (omega arith) within)
+pub visited_more : {told_in told : Bool} {ways : Ways} {looks snapshot names now : _} {one : NameState} {place : ℕ}
+    {printer mid after old slots new watched watched_new before failed : _} → place < length now
+    → Visits told_in told ways snapshot (ways.first + place) (state_at now place).text
+    (state_at now place).standing watched mid slots one.standing watched_new after new (Ok failed)
+    → one.text ≡ (state_at now place).text → VisitedTo told_in told ways looks snapshot place names printer old mid
+    slots watched now before → VisitedTo told_in told ways looks snapshot
+    (place + 1) names printer old after new watched_new (set now place one) (before || failed)
+visited_more {told_in} {told} {ways} {looks} {snapshot} {names} {now} {one} {place} {mid} {after} {slots} {new} {watched} {watched_new}
+    {before} {failed} within visits same sofar = record {
+      fates = sofar.fates ++ visited.fate ∷ [];
+      shares = sofar.shares ++ visited.share ∷ [];
+      count = length-append sofar.fates (visited.fate ∷ []) ∙ ap (λ n. n + 1) sofar.count ∙ omega arith;
+      are = λ t all front. let look : Look = record { snapshot = snapshot; fates = all } in
+          rw (
+            ← names_next names now sofar.same within,
+            shares_one ways looks look ways.first (take place (texts names)) _,
+            count_taken names now sofar.same within,
+          ) (λ i. sofar.are t all (front_before sofar.fates visited.fate front) i
+          ++ visited.is_share t all (fate_there sofar.fates visited.fate front sofar.count) i ∷ []);
+      found = λ all front. let look : Look = record { snapshot = snapshot; fates = all } in
+          rw (← names_next names now sofar.same within)
+          (one_given looks look ways.first (take place (texts names)) (state_at now place).text
+          (sofar.found all (front_before sofar.fates visited.fate front))
+          (rw (count_taken names now sofar.same within)
+          (visited.found all (fate_there sofar.fates visited.fate front sofar.count))));
+      is_failed = rw (failed-append sofar.shares (visited.share ∷ []), sofar.is_failed, visited.is_failed, or-false failed)
+          refl;
+      shared = all_both sofar.shared (record {
+        printer_is = visited.shared.printer_is refl;
+        slots = rw (append-nil, append-nil) visited.shared.slots;
+      });
+      same = texts_set now no_state one within same ∙ sofar.same;
+      done = λ all front other below. there all front other below (cases_eq other place);
+      rest = λ other above inside. grind (arith, common_steps, length-set, inside, sofar.rest);
+    } where
+      visited : Visited told_in told ways looks snapshot (ways.first + place)
+          (state_at now place).text mid slots after new
+          (watched_at watched_new (ways.first + place)) one.standing failed
+      visited = visits.visited looks (sofar.rest place (omega arith) within)
 
-  -- another name
-  stays : (looks : List Look) (other : ℕ) → (other ≡ place → ⊥) → StandsAmong told_in ways looks now watched other
-      → StandsAmong told_in ways looks (set now place one) watched_new other
-  stays looks other elsewhere stands = rw (
-    get_or-set_other now place other one no_state elsewhere,
-    visits.others.others (ways.first + other) (λ at. elsewhere (omega arith)),
-  ) stands
+      -- another name
+      stays : (looks : List Look) (other : ℕ) → (other ≡ place → ⊥) → StandsAmong told_in ways looks now watched other
+          → StandsAmong told_in ways looks (set now place one) watched_new other
+      stays looks other elsewhere stands = rw (
+        get_or-set_other now place other one no_state elsewhere,
+        visits.others.others (ways.first + other) (λ at. elsewhere (omega arith)),
+      ) stands
 
-  there : (all : List Fate) → IsFront (sofar.fates ++ visited.fate ∷ []) all → (other : ℕ) → other < place + 1
-      → (other ≡ place) ⊎ (other ≡ place → ⊥)
-      → StandsAmong told_in ways (looks ++ record { snapshot = snapshot; fates = all } ∷ [])
-      (set now place one) watched_new other
-  there all front other below (inr elsewhere) = stays (looks ++ record { snapshot = snapshot; fates = all } ∷ []) other elsewhere
-      (sofar.done all (front_before sofar.fates visited.fate front) other (omega arith))
-  there all front other below (inl at) = rw (at, get_or-set_same now place one no_state within, same) (visited.stands all (fate_there sofar.fates visited.fate front sofar.count))
+      there : (all : List Fate) → IsFront (sofar.fates ++ visited.fate ∷ []) all → (other : ℕ) → other < place + 1
+          → (other ≡ place) ⊎ (other ≡ place → ⊥)
+          → StandsAmong told_in ways (looks ++ record { snapshot = snapshot; fates = all } ∷ [])
+          (set now place one) watched_new other
+      there all front other below (inr elsewhere) = stays (looks ++ record { snapshot = snapshot; fates = all } ∷ []) other elsewhere
+          (sofar.done all (front_before sofar.fates visited.fate front) other (omega arith))
+      there all front other below (inl at) = rw (at, get_or-set_same now place one no_state within, same)
+          (visited.stands all (fate_there sofar.fates visited.fate front sofar.count))
 
 -- a name that isn't broken
-pub unbroken_watched : {ways : Ways} {looks : List Look} {place : ℕ} {name : List ℕ} {watched : Watched}
-    → watched.name ≡ name → watched.failed ≡ None → is_dropped place looks ≡ false
-    → IsWatched ways looks place name watched
-unbroken_watched named unbroken kept = record { named = named; broke = unbroken_in unbroken kept; closed = λ is. absurd (false≢true (sym (ap is_some unbroken) ∙ is)) }
-
--- one look more, through which it comes
-watched_sound : {ways : Ways} (looks : List Look) (look : Look) {place : ℕ} {name : List ℕ} {watched : Watched}
-    → fate_at place look ≡ sound → IsWatched ways looks place name watched
-    → IsWatched ways (looks ++ look ∷ []) place name watched
-watched_sound looks look fine is = record { named = is.named; broke = broken_sound looks look fine is.broke; closed = is.closed }
+pub unbroken_watched : {ways looks : _} {place : ℕ} {name : List ℕ} {watched : Watched} → watched.name ≡ name
+    → watched.failed ≡ None → is_dropped place looks ≡ false → IsWatched ways looks place name watched
+unbroken_watched named unbroken kept = grind (arith, common_steps, none_of, met_none)
 
 -- how a name is watched, as it stands
-pub watched_there : (told : Bool) {ways : Ways} {looks : List Look} {place : ℕ} (name : List ℕ) (watched : Watched)
+pub watched_there : (told : Bool) {ways looks : _} {place : ℕ} (name : List ℕ) (watched : Watched)
     (standing : Standing) → Stands told ways looks place name watched standing → IsWatched ways looks place name watched
-watched_there told {place} name watched New stands = unbroken_watched (ap (λ (w : Watched). w.name) stands.1) (ap (λ (w : Watched). w.failed) stands.1) (ap (is_dropped place) stands.0)
+watched_there told {place} name watched New stands = grind (arith, common_steps, unbroken_watched)
 watched_there told name watched (Followed position) stands = unbroken_watched stands.named stands.unbroken stands.kept
 watched_there told name watched Left stands = elim stands.why [
   | inl (dropped, broke, closed) ↦ record { named = stands.named; broke = broke; closed = λ is. closed }
@@ -235,91 +186,88 @@ opens_keeps Is (name ∷ names) zero (suc other) file is here = is
 opens_keeps Is (name ∷ names) (suc place) zero file is here = is
 opens_keeps Is (name ∷ names) (suc place) (suc other) file is here = opens_keeps Is names place other file is (λ same. here (ap suc same))
 
-opens_unbroken : {ways : Ways} {looks : List Look} {place : ℕ} {name : List ℕ} {watched : Watched} {file : Option ℕ}
-    → watched.failed ≡ None → IsWatched ways looks place name watched
-    → IsWatched ways looks place name (opens file watched)
-opens_unbroken unbroken is = record { named = is.named; broke = is.broke; closed = λ broken. absurd (false≢true (sym (ap is_some unbroken) ∙ broken)) }
-
 -- a look that was stopped at a name
-pub visited_short : {told_in told : Bool} {ways : Ways} {looks : List Look} {snapshot : Snapshot}
-    {names now : List NameState} {standing : Standing} {place : ℕ}
-    {printer mid after : PrinterState} {old slots new : List Slot} {watched watched_new : List Watched} {before : Bool}
-    {why : Fault} → place < length now
-    → Visits told_in told ways snapshot (ways.first + place)
-    (state_at now place).text (state_at now place).standing watched mid slots standing watched_new after new (Err why)
+pub visited_short : {told_in told : Bool} {ways : Ways} {looks snapshot names now standing : _} {place : ℕ}
+    {printer mid after old slots new watched watched_new before why : _} → place < length now
+    → Visits told_in told ways snapshot (ways.first + place) (state_at now place).text
+    (state_at now place).standing watched mid slots standing watched_new after new (Err why)
     → VisitedTo told_in told ways looks snapshot place names printer old mid slots watched now before
     → length watched_new ≡ ways.first + length names
     → (whole part : List Share) × Begun told_in ways (texts names) looks snapshot watched_new whole part
     × (printed : PrinterState) × (reached : List Slot) × AllShared told printer whole old printed reached
     × AllShort told printed part reached new why
-visited_short {told_in} {told} {ways} {looks} {snapshot} {names} {now} {place} {mid} {slots} {new} {watched} {watched_new} {why} within visits sofar many = (
-  sofar.shares,
-  stopped.1.share ∷ [],
-  up_to sofar.fates place sofar.shares stopped.1.share sofar.count (omega (arith, within, size))
-      (omega (arith, many, size), λ above. omega (arith, many, size), λ other inside. still other (omega (arith, inside, many, size)))
-      (λ t. sofar.are t sofar.fates front) (sofar.found sofar.fates front) (rw (text_there names now sofar.same within) stopped.1.found)
-      (λ t. subst (BeginsShare stopped.1.share) (share_is t) (stopped.1.begins t sofar.fates)),
-  mid,
-  slots,
-  sofar.shared,
-  shared_short stopped.1.short,
-) where
-  number : ℕ
-  number = ways.first + place
+visited_short {told_in} {told} {ways} {looks} {snapshot} {names} {now} {place} {mid} {slots} {new} {watched} {watched_new}
+    {why} within visits sofar many = (
+      sofar.shares,
+      stopped.1.share ∷ [],
+      up_to sofar.fates place sofar.shares stopped.1.share sofar.count (omega (arith, within, size))
+          (omega (arith, many, size), λ above. omega (arith, many, size), λ other inside. still other (omega (arith, inside, many, size)))
+          (λ t. sofar.are t sofar.fates front) (sofar.found sofar.fates front) (rw (text_there names now sofar.same within) stopped.1.found)
+          (λ t. subst (BeginsShare stopped.1.share) (share_is t) (stopped.1.begins t sofar.fates)),
+      mid,
+      slots,
+      sofar.shared,
+      record { slots = rw (append-nil, append-nil) stopped.1.short.slots },
+    ) where
+      number : ℕ
+      number = ways.first + place
 
-  opened : Opened number watched watched_new
-  opened = visits.halts
+      opened : Opened number watched watched_new
+      opened = visits.halts
 
-  size : (length (texts names) ≡ length now) × (length names ≡ length now)
-  size = (length_texts names now sofar.same, same_length names now sofar.same)
+      size : (length (texts names) ≡ length now) × (length names ≡ length now)
+      size = (length_texts names now sofar.same, same_length names now sofar.same)
 
-  front : IsFront sofar.fates sofar.fates
-  front = ([], sym (append-nil sofar.fates))
+      front : IsFront sofar.fates sofar.fates
+      front = ([], sym (append-nil sofar.fates))
 
-  stopped : (is_dropped number looks ≡ false)
-      × Stopped told_in told ways looks snapshot (state_at now place).text mid slots new why
-  stopped = visits.stopped looks (sofar.rest place (omega arith) within)
+      stopped : (is_dropped number looks ≡ false)
+          × Stopped told_in told ways looks snapshot (state_at now place).text mid slots new why
+      stopped = visits.stopped looks (sofar.rest place (omega arith) within)
 
-  look : Look
-  look = record { snapshot = snapshot; fates = sofar.fates }
+      look : Look
+      look = record { snapshot = snapshot; fates = sofar.fates }
 
-  share_is : told_in ≡ true
-      → share_by ways (state_at now place).text looks look sound
-      ≡ share_of ways looks look number (get_or (texts names) place [])
-  share_is t =
-      let count = sofar.count in
-      rw (text_there names now sofar.same within, stopped.0, get_or_past sofar.fates number sound (omega arith)) refl
+      share_is : told_in ≡ true
+          → share_by ways (state_at now place).text looks look sound
+          ≡ share_of ways looks look number (get_or (texts names) place [])
+      share_is t =
+          let count = sofar.count in
+          rw (text_there names now sofar.same within, stopped.0, get_or_past sofar.fates number sound (omega arith)) refl
 
-  watched_now : (other : ℕ) → other < length now → (other < place) ⊎ (place ≤ other)
-      → IsWatched ways (looks ++ look ∷ []) (ways.first + other) (state_at now other).text
-      (watched_at watched (ways.first + other))
-  watched_now other inside (inl less) = watched_there told_in (state_at now other).text (watched_at watched (ways.first + other)) (state_at now other).standing (sofar.done sofar.fates front other less)
-  watched_now other inside (inr more) =
-      let count = sofar.count in
-      watched_sound looks look (get_or_past sofar.fates (ways.first + other) sound (omega arith))
-      (watched_there told_in (state_at now other).text (watched_at watched (ways.first + other)) (state_at now other).standing (sofar.rest other more inside))
+      watched_now : (other : ℕ) → other < length now → (other < place) ⊎ (place ≤ other)
+          → IsWatched ways (looks ++ look ∷ []) (ways.first + other) (state_at now other).text
+          (watched_at watched (ways.first + other))
+      watched_now other inside (inl less) = watched_there told_in _ _ (state_at now other).standing (sofar.done sofar.fates front other less)
+      watched_now other inside (inr more) =
+          let count = sofar.count in
+          let is = watched_there told_in _ _ (state_at now other).standing (sofar.rest other more inside) in record {
+            named = is.named;
+            broke = broken_sound looks look (get_or_past sofar.fates (ways.first + other) sound (omega arith)) is.broke;
+            closed = is.closed;
+          }
 
-  -- the one at which it was stopped
-  unbroken : (other : ℕ) → other ≡ place → (watched_at watched (ways.first + other)).failed ≡ None
-  unbroken other at = rw at ((watched_there told_in (state_at now place).text (watched_at watched number) (state_at now place).standing (sofar.rest place (omega arith) within)).broke.call
-      ∙ none_of (failed_in number looks) stopped.0)
+      -- the one at which it was stopped
+      unbroken : (other : ℕ) → other ≡ place → (watched_at watched (ways.first + other)).failed ≡ None
+      unbroken other at = rw at ((watched_there told_in _ _ (state_at now place).standing (sofar.rest place (omega arith) within)).broke.call
+          ∙ none_of (failed_in number looks) stopped.0)
 
-  still : (other : ℕ) → other < length now
-      → IsWatched ways (looks ++ look ∷ []) (ways.first + other) (slice_index_or (texts names) other [])
-      (watched_at watched_new (ways.first + other))
-  still other inside =
-      let now_is = watched_now other inside (cases_lt other place) in
-      rw (text_there names now sofar.same inside, opened.1) (opens_keeps (IsWatched ways (looks ++ look ∷ []) (ways.first + other) (state_at now other).text) watched number (ways.first + other) opened.0 now_is
-      (λ same. opens_unbroken (unbroken other (omega arith)) now_is))
+      still : (other : ℕ) → other < length now
+          → IsWatched ways (looks ++ look ∷ []) (ways.first + other) (slice_index_or (texts names) other [])
+          (watched_at watched_new (ways.first + other))
+      still other inside =
+          let now_is = watched_now other inside (cases_lt other place) in
+          rw (text_there names now sofar.same inside, opened.1) (opens_keeps
+          (IsWatched ways (looks ++ look ∷ []) (ways.first + other) (state_at now other).text) watched number
+          (ways.first + other) opened.0 now_is
+          (λ same. record {
+            named = now_is.named;
+            broke = now_is.broke;
+            closed = λ broken. grind (arith, common_steps);
+          }))
 
-pub next_ready : (first : ℕ) (names : List NameState) (one : NameState) {place : ℕ} {watched watched_new : List Watched}
+pub next_ready : (first : ℕ) (names : List NameState) (one : NameState) {place : ℕ} {watched watched_new : _}
     → place < length names → AllReady names first watched → KeepsOthers (first + place) watched watched_new
     → CanVisit one (watched_at watched_new (first + place)) → AllReady (set names place one) first watched_new
-next_ready first names one {place} {watched_new} within ready keeps can other inside = by (cases_eq other place) where
-  by : (other ≡ place) ⊎ (other ≡ place → ⊥)
-      → CanVisit (state_at (set names place one) other) (watched_at watched_new (first + other))
-  by (inl at) = rw (at, get_or-set_same names place one no_state within) can
-  by (inr elsewhere) = rw (
-    get_or-set_other names place other one no_state elsewhere,
-    keeps.others (first + other) (λ at. elsewhere (omega arith)),
-  ) (ready other (rw length-set at inside))
+next_ready first names one {place} {watched_new} within ready keeps can other inside = grind
+    (arith, common_steps, cases_eq, get_or-set_same, get_or-set_other, length-set)

@@ -1,47 +1,49 @@
 -- What the outputs have of a look at a name
 use Rattle.follow_core.specs.{
-  Standing.{StandsAt, CanVisit, IsFollowed, IsLong, IsLeft, IsMissed, Stands},
+  Standing.{StandsAt, CanVisit, IsFollowed, IsLong, IsLeft, Stands},
   declared.{
     notice.Notice.Notice,
     visitor.Stop.{Stop, TheVariants.{Broke, Over}},
     name.Standing.{Standing, TheVariants.{New, Followed, Left}},
   },
-  Reading.{AreAtLook, AreFound, IsFound, IsGiven, IsMissing, IsTold, LeftOpen, NoneBreaks, StartsIn, looks_more},
+  Reading.{AreAtLook, AreFound, IsFound, IsMissing, IsTold, LeftOpen, NoneBreaks, StartsIn, looks_more},
   Reading.{names_more, no_looks},
   Event.{Event, gives, lines_in},
-  Version.{Entry, gap, entries_at_look, entries_led, held_at, open_after_later, open_after_look, version},
-  Gain.{file_of, last_from, last_of, gains_after},
+  Version.{Entry, entries_at_look, entries_led, held_at, open_after_later, open_after_look},
+  Gain.{last_from, last_of, gains_after},
   inner.{
     Giving.{Anywhere, BrokeAt, Came, Nothing, WereFound, Ends, Follows, IfBroke, Keeps, Shared, Starts, fault_by},
     Giving.{found_all, found_before, found_begun, is_read, stop_in, text_under},
     Visits.{Visits, TellsStop, Visited},
   },
-  Look.{Fate, Look, Ways, can_meet, entries_in, failed_by, failed_in, fate_at, is_dropped, snapshots, sound, unled},
-  Look.{unopened, unmeasured, unsought, unread, is_first},
+  Look.{Fate, Look, Ways, can_meet, entries_in, failed_by, failed_in, fate_at, is_dropped, snapshots, sound},
+  Look.{unopened, is_first},
   Notice.is_missing,
-  Share.{Due, Share, due_later, failure_line, failure_of, given_by, is_kept, is_unopened, led_before, missing_share},
+  Share.{Due, Share, due_later, failure_line, failure_of, given_by, is_unopened, led_before, missing_share},
   Share.{no_share, share_by},
   Printing.PrinterState,
   Telling.{Tells, failure_text, tail_by},
 }
 use Rattle.follow_core.proofs.{
+  RunLemmas.last_from-append,
   CallLemmas.{came_none, failure_said, wrote_after, wrote_line},
-  CallGivesLemmas.{broke_at, found_as, goes_after, held_many, if_broke, keeps_others, none_of, nothing_due, opened_led},
-  CallGivesLemmas.{opened_there, some_of},
+  CallGivesLemmas.{if_so, broke_at, found_as, goes_after, held_many, if_broke, keeps_others, none_of, nothing_due},
+  CallGivesLemmas.{opened_now, some_of},
   CatchLemmas.{FromFrontOr, LooksAgain, long_by, ToldAgain, at_look},
-  LookLemmas.{first_last, last_file, looked_last, failed_more, failed_sound, broken_sound, broken_more, seeing, IsDue},
+  LookLemmas.{last_file, entries_more, failed_more, failed_sound, broken_sound, broken_more, seeing},
+  LookLemmas.IsDue,
 }
 use Rattle.std.proofs.{
+  lemmas.Grind.common_steps,
   Common.{◌⊎◌, ◌≡◌, ◌<◌, ◌+◌, arith, zero, suc, ℕ, Bool, true, false, not, List, [], ◌∷◌, ◌++◌, length, Option, Some},
   Common.{None, refl, sym, ◌∙◌, ap, if◌then◌else◌, subst, inl, inr, ◌&&◌, Result, Ok, Err, IsTrue, IfOk, is_none},
   Common.is_some,
-  lemmas.{List.{append-nil, map-append}, Bool.false≢true, Result.IfOk-weaker},
+  lemmas.{List.{append-nil, map-append}, Bool.{false≢true, not-true}, Result.IfOk-weaker},
   Math.Bool.and-false,
 }
 use Rattle.watch_core.{
   specs.{
     Snapshot.{Snapshot, Found, latest, opens_as},
-    declared.watch.Broken.Broken,
     Watched.{NameBreaks, Reopens, Watched, is_watchable, no_name, open_contents, opens, watched_at},
   },
   proofs.NameLemmas.{latest-last, watchable_within},
@@ -69,8 +71,7 @@ pub record Looked (told_in told : Bool) (ways : Ways) (before : List Look) (snap
   pub shared : Shared told printer share old after new None
 
 -- the message of a failure is told after what was given
-said_after : {told : Bool} {printer after : PrinterState} {opened : Bool} {name bytes : List ℕ} {lines : List (List ℕ)}
-    {line : List ℕ} {old mid new : List Slot}
+said_after : {told : Bool} {printer : PrinterState} {after opened name bytes lines line old mid new : _}
     → Came told printer opened name bytes lines old after mid None → OnError (Tells told printer.calling line) mid new
     → Came told printer opened name bytes (lines ++ line ∷ []) old after new None
 said_after {printer} {opened} {name} {bytes} came says = record {
@@ -78,42 +79,21 @@ said_after {printer} {opened} {name} {bytes} came says = record {
   slots = wrote_after _ _ _ _ _ _ _ None (append-nil (text_under printer opened name bytes)) refl came.slots (wrote_line says);
 }
 
--- no failure is told after it
-all_came : {told : Bool} {printer after : PrinterState} {opened : Bool} {name bytes : List ℕ} (lines : List (List ℕ))
-    {old new : List Slot} {over : Option Fault}
-    → Came told printer opened name bytes lines old after new over
-    → Came told printer opened name bytes (lines ++ failure_line name None) old after new over
-all_came lines came = rw (append-nil lines) came
-
 fault_line : (place : ℕ) (name : List ℕ) (fate : Fate) → is_some (failed_by fate None) ≡ true
     → (failure_text (fault_by place fate) name ∷ [] ≡ failure_line name (failure_of fate))
     × (is_some (failure_of fate) ≡ true)
-fault_line place name sound broke = absurd (false≢true broke)
-fault_line place name unled broke = (refl, refl)
-fault_line place name unopened broke = (refl, refl)
-fault_line place name (unmeasured file) broke = (refl, refl)
-fault_line place name (unsought file from) broke = (refl, refl)
-fault_line place name (unread file from) broke = (refl, refl)
+fault_line place name fate broke = grind (arith, common_steps)
 
 abbrev shared_as : (opened : Bool) → List ℕ → List Event → Option Fault → Share
 shared_as opened name events failure = record { name = name; is_opened = opened; events = events; failure = failure }
 
--- what a name that came through is due is its share
-due_share : {told_in : Bool} {ways : Ways} {before : List Look} {snapshot : Snapshot} {name : List ℕ} {due : Due}
-    {opened : Option ℕ} → IsDue told_in ways before snapshot name due opened
-    → told_in ≡ true → (fates : List Fate)
-    → shared_as (is_first before) name (due.came ++ due.led) None
-    ≡ share_by ways name before (seeing snapshot fates) sound
-due_share {before} {name} dues t fates = let is = dues.is t fates in rw (is.0, is.1) refl
-
-module _ {told_in told : Bool} {ways : Ways} {before : List Look} {snapshot : Snapshot} {name : List ℕ} {due : Due}
-    {opened : Option ℕ} {printer after : PrinterState} {old mid : List Slot}
+module _ {told_in told ways before snapshot name due opened : _} {printer : PrinterState} {after old mid : _}
     (dues : IsDue told_in ways before snapshot name due opened) where
   -- all that is due was given
-  pub looked_whole : {none : List Event} {fate : Fate}
-      → Ends told_in (WereFound (IsTold before snapshot name) (StartsIn before name) snapshot name fate None) told
-      (is_first before) printer name (due.came ++ due.led) none old after mid None
-      → (is_first before ≡ true → (file : ℕ) × Found snapshot name (opens_as (Some file)))
+  pub looked_whole : {none fate : _} → Ends told_in (WereFound (IsTold before snapshot name)
+      (StartsIn before name) snapshot name fate None) told (is_first before) printer name
+      (due.came ++ due.led) none old after mid None → (is_first before ≡ true
+      → (file : ℕ) × Found snapshot name (opens_as (Some file)))
       → Looked told_in told ways before snapshot name printer old after mid false sound
   looked_whole ends there = record {
     share = shared_as (is_first before) name ends.events None;
@@ -125,13 +105,13 @@ module _ {told_in told : Bool} {ways : Ways} {before : List Look} {snapshot : Sn
       broke = inl refl;
       there = there;
     });
-    is_share = λ t fates. rw (ends.are t) (due_share dues t fates);
+    is_share = λ t fates. let is = dues.is t fates in rw (ends.are t, is.0, is.1) refl;
     failed = refl;
-    shared = all_came (lines_in name ends.events) ends.came;
+    shared = rw (append-nil (lines_in name ends.events)) ends.came;
   }
 
   -- a call failed: what comes before was given, and the message follows
-  pub looked_broke : (place : ℕ) {new : List Slot} {why : Fault} (fate : Fate) → is_some (failed_by fate None) ≡ true
+  pub looked_broke : (place : ℕ) {new why : _} (fate : Fate) → is_some (failed_by fate None) ≡ true
       → why ≡ fault_by place fate
       → (not (is_unopened fate) && is_first before) ≡ is_first before
       → Ends told_in
@@ -169,7 +149,7 @@ module _ {told_in told : Bool} {ways : Ways} {before : List Look} {snapshot : Sn
 -- the first look
 
 -- the entries of a name after it
-entries_first : (ways : Ways) {name : List ℕ} (look : Look) {led : Option ℕ} → look.snapshot.leads name ≡ led
+entries_first : (ways : Ways) {name : List ℕ} (look : Look) {led : _} → look.snapshot.leads name ≡ led
     → entries_in ways name (look ∷ []) ≡ entries_led look.snapshot None led
 entries_first ways look is = append-nil _ ∙ ap (entries_led look.snapshot None) is
 
@@ -177,17 +157,6 @@ entries_first ways look is = append-nil _ ∙ ap (entries_led look.snapshot None
 
 abbrev pub last_in : Ways → List ℕ → Look → List Look → Entry
 last_in ways name before looks = last_of (entries_in ways name (before ∷ looks))
-
--- what is due then
-pub later_due : {told_in : Bool} {ways : Ways} {name : List ℕ} {before : Look} {looks : List Look} {snapshot : Snapshot}
-    {opened : Option ℕ} {position : ℕ}
-    → (told_in ≡ true → StandsAt (last_in ways name before looks) opened position)
-    → IsDue told_in ways (before ∷ looks) snapshot name
-    (due_later ways.by_name name opened (last_in ways name before looks) snapshot) opened
-later_due {ways} {name} {before} {looks} {snapshot} stands = record {
-  is = λ t fates. let here = (stands t).file ∙ sym (last_file ways name before looks) in
-      (refl, rw here refl, here);
-}
 
 -- Whatever looks were made before at a name that stood so: what is due at this one was given, call by call, before it is told what
 -- failed. Then this much of the file was seen to which the name led.
@@ -209,16 +178,6 @@ pub record Gave (told_in told : Bool) (ways : Ways) (looks : List Look) (snapsho
   pub met : IfBroke (stop_in result) (can_meet (is_first looks) ways.by_name ways.seeks fate ≡ true)
   pub openly : IfBroke (stop_in result) ((not (is_unopened fate) && is_first looks) ≡ is_first looks)
 
--- this file of it is open now
-opened_now : (place : ℕ) {file : Option ℕ} (old : List Watched) {new : List Watched}
-    → new ≡ changed_at place (opens file) old → IsTrue (is_watchable old place)
-    → watched_at new place ≡ record (watched_at old place) { opened = file }
-opened_now place old is can = ap (λ those. watched_at those place) is ∙ opened_there old place can
-
-none_there : (failed : Option Broken) → is_none failed ≡ true → failed ≡ None
-none_there None is = refl
-none_there (Some why) is = absurd (false≢true is)
-
 -- a look more
 begun_more : (looks : List Look) (look : Look) → is_first (looks ++ look ∷ []) ≡ false
 begun_more [] look = refl
@@ -228,32 +187,19 @@ kept_more : (place : ℕ) (looks : List Look) (look : Look) {fate : Fate} → is
     → fate_at place look ≡ fate → is_dropped place (looks ++ look ∷ []) ≡ is_some (failed_by fate None)
 kept_more place looks look kept at = ap is_some (failed_more place looks look (none_of (failed_in place looks) kept) at)
 
-last_seen : (looks : List Look) (look : Look) → latest (snapshots (looks ++ look ∷ [])) ≡ look.snapshot
-last_seen looks look = ap latest (map-append (λ (l : Look). l.snapshot) looks (look ∷ [])) ∙ latest-last (snapshots looks) look.snapshot
-
 -- a name that came through it stands at its last entry
-through_stands : {told : Bool} {ways : Ways} (looks : List Look) (look : Look) {place : ℕ} {name : List ℕ}
-    {file led : Option ℕ} {len : ℕ} (watched : Watched) → watched.name ≡ name → is_none watched.failed ≡ true
-    → is_dropped place looks ≡ false → fate_at place look ≡ sound → (told ≡ true → file ≡ led)
-    → (told ≡ true → (ways.by_name ≡ false → is_some led ≡ true)
-    × StandsAt (last_of (entries_in ways name (looks ++ look ∷ []))) led len)
-    → IsLong ways.by_name look.snapshot name file len
+through_stands : {told : Bool} {ways : Ways} (looks : List Look) (look : Look) {place : ℕ} {name file led : _} {len : ℕ}
+    (watched : Watched) → watched.name ≡ name → is_none watched.failed ≡ true → is_dropped place looks ≡ false
+    → fate_at place look ≡ sound → (told ≡ true → file ≡ led)
+    → (told ≡ true → (ways.by_name ≡ false → is_some led ≡ true) × StandsAt
+    (last_of (entries_in ways name (looks ++ look ∷ []))) led len) → IsLong ways.by_name look.snapshot name file len
     → IsFollowed told ways (looks ++ look ∷ []) place name (record watched { opened = file }) len
-through_stands looks look watched named can kept at leads last long = record {
-  named = named;
-  unbroken = none_there watched.failed can;
-  kept = kept_more _ looks look kept at;
-  begun = begun_more looks look;
-  stands = λ t. record { file = leads t ∙ (last t).1.file; seen = (last t).1.seen };
-  there = λ t way. ap is_some (leads t) ∙ (last t).0 way;
-  long = rw (last_seen looks look) long;
-}
+through_stands looks look watched named can kept at leads last long = grind
+    (arith, common_steps, none_of, not-true, kept_more, begun_more, map-append, latest-last)
 
 -- what a look gave, and how the name stands then
-looked_visited : {told_in told : Bool} {ways : Ways} {looks : List Look} {snapshot : Snapshot} {place : ℕ}
-    {name : List ℕ} {printer after : PrinterState}
-    {slots slots_new : List Slot} {watched : Watched} {has_failed : Bool} {standing : Standing} (fate : Fate)
-    → is_dropped place looks ≡ false
+looked_visited : {told_in told ways looks snapshot : _} {place : ℕ}
+    {name printer after slots slots_new watched has_failed standing : _} (fate : Fate) → is_dropped place looks ≡ false
     → Looked told_in told ways looks snapshot name printer slots after slots_new has_failed fate
     → ((fates : List Fate) → fate_at place (seeing snapshot fates) ≡ fate
     → Stands told_in ways (looks ++ seeing snapshot fates ∷ []) place name watched standing)
@@ -268,8 +214,8 @@ looked_visited fate kept looked stands = record {
   stands = stands;
 }
 
-module _ {told_in told : Bool} {ways : Ways} {snapshot : Snapshot} {place : ℕ} {name : List ℕ} {standing : Standing}
-    {old new : List Watched} {printer after : PrinterState} {slots slots_new : List Slot} where
+module _ {told_in told : Bool} {ways : Ways} {snapshot : _} {place : ℕ} {name standing old new printer : _}
+    {after : PrinterState} {slots slots_new : _} where
   visits_by : (now : Standing) {failed : Bool} (change : Watched → Watched) → new ≡ changed_at place change old
       → IsTrue (is_watchable old place)
       → CanVisit (record { text = name; standing = now }) (change (watched_at old place))
@@ -304,7 +250,7 @@ module _ {told_in told : Bool} {ways : Ways} {snapshot : Snapshot} {place : ℕ}
       }))
 
   -- it came through; what stopped it is told, or ends following
-  pub gave_through : {led : Option ℕ} {len : ℕ} (fate : Fate) → (watched_at old place).name ≡ name
+  pub gave_through : {led : _} {len : ℕ} (fate : Fate) → (watched_at old place).name ≡ name
       → IsTrue (is_watchable old place) → Follows told_in led place old new fate None
       → ((looks : List Look) → Stands told_in ways looks place name (watched_at old place) standing
       → Gave told_in told ways looks snapshot place name led printer slots after slots_new fate (Ok len))
@@ -312,14 +258,13 @@ module _ {told_in told : Bool} {ways : Ways} {snapshot : Snapshot} {place : ℕ}
       → Visits told_in told ways snapshot place name standing old printer slots (Followed len) new after slots_new
       (Ok false)
   gave_through {len} fate named can (file, is, leads) gave long =
-      visits_by (Followed len) (opens file) is can (named, none_there (watched_at old place).failed can)
+      visits_by (Followed len) (opens file) is can (named, none_of (watched_at old place).failed (not-true _ can))
       (λ looks stands.
       let made = gave looks stands in looked_visited sound made.kept (looked_whole made.is_due made.ends made.there)
       (λ fates at. through_stands looks (seeing snapshot fates) (watched_at old place) named can made.kept at leads
       (λ t. ((made.last t).0, (made.last t).1 fates)) (rw (opened_now place old is can, named) at long)))
 
-  pub gave_fails : {led : Option ℕ} {mid : List Slot} (fate : Fate) (stop : Stop) {now : Standing}
-      {result : Result Bool Fault} → (watched_at old place).name ≡ name
+  pub gave_fails : {led mid : _} (fate : Fate) (stop : Stop) {now result : _} → (watched_at old place).name ≡ name
       → IsTrue (is_watchable old place) → Follows told_in led place old new fate (Some stop)
       → ((looks : List Look) → Stands told_in ways looks place name (watched_at old place) standing
       → Gave told_in told ways looks snapshot place name led printer slots after mid fate (Err stop))
@@ -339,7 +284,7 @@ module _ {told_in told : Bool} {ways : Ways} {snapshot : Snapshot} {place : ℕ}
       record {
         share = shared_as (is_first looks) name made.ends.events None;
         after = after;
-        begins = λ t fates. rw (← due_share made.is_due t fates)
+        begins = λ t fates. let is = made.is_due.is t fates in rw (is.0, ← is.1)
             (record { name = refl; opened = refl; events = made.ends.are t; unfailed = refl });
         found = elim made.ends.found [
           | found_begun all begins found ↦ record {
@@ -351,7 +296,7 @@ module _ {told_in told : Bool} {ways : Ways} {snapshot : Snapshot} {place : ℕ}
             events = found;
           }
         ];
-        short = all_came (lines_in name made.ends.events) made.ends.came;
+        short = rw (append-nil (lines_in name made.ends.events)) made.ends.came;
       },
     );
     ready = tt;
@@ -361,12 +306,11 @@ module _ {told_in told : Bool} {ways : Ways} {snapshot : Snapshot} {place : ℕ}
 
 -- ways out of the first look
 
-pub first_missing : {told_in told : Bool} {ways : Ways} {snapshot : Snapshot} {place : ℕ} {name : List ℕ}
-    {printer : PrinterState}
-    {slots slots_new : List Slot} {old new : List Watched} {is_there : Bool} {reason : Reason}
-    → Reopens told_in snapshot old new place is_there → is_there ≡ false
-    → (watched_at old place).name ≡ name → IsTrue (is_watchable old place)
-    → SaysOn told (tail_by printer.calling) reason (message_of (Open place) name) slots slots_new
+pub first_missing : {told_in told : Bool} {ways : Ways} {snapshot : _} {place : ℕ} {name : List ℕ}
+    {printer : PrinterState} {slots slots_new old new is_there reason : _}
+    → Reopens told_in snapshot old new place is_there → is_there ≡ false → (watched_at old place).name ≡ name
+    → IsTrue (is_watchable old place) → SaysOn told (tail_by printer.calling) reason
+    (message_of (Open place) name) slots slots_new
     → Visits told_in told ways snapshot place name New old printer slots
     (if ways.by_name then Followed 0 else Left) new printer slots_new (Ok true)
 first_missing {told_in} {told} {ways} {snapshot} {place} {name} {printer} {slots} {slots_new} {old} {new} reopens gone named can says =
@@ -384,14 +328,14 @@ first_missing {told_in} {told} {ways} {snapshot} {place} {name} {printer} {slots
       looked : Looked told_in told ways [] snapshot name printer slots printer slots_new true sound
       looked = record {
         share = missing_share name;
-        is_share = λ is fates. sym (rw (ap is_missing (entries_first ways (seeing snapshot fates) (nowhere is))) refl);
+        is_share = λ is fates. grind (arith, common_steps, entries_first);
         found = inr (record { first = refl; kept = refl; nowhere = lost; is = refl });
         failed = refl;
         shared = said_after came_none (failure_said false place name says);
       }
 
       unbroken : (watched_at old place).failed ≡ None
-      unbroken = none_there (watched_at old place).failed can
+      unbroken = none_of (watched_at old place).failed (not-true _ can)
 
       ready : (by_name : Bool)
           → CanVisit (record { text = name; standing = if by_name then Followed 0 else Left })
@@ -420,10 +364,8 @@ first_missing {told_in} {told} {ways} {snapshot} {place} {name} {printer} {slots
         });
       }
 
-pub first_unopened : {told_in told : Bool} {ways : Ways} {snapshot : Snapshot} {place : ℕ} {name : List ℕ}
-    {printer : PrinterState}
-    {slots slots_new : List Slot} {old new : List Watched} {why : Fault} {now : Standing} {result : Result Bool Fault}
-    → (watched_at old place).name ≡ name → IsTrue (is_watchable old place)
+pub first_unopened : {told_in told ways : _} {snapshot : Snapshot} {place : ℕ} {name : List ℕ} {printer : PrinterState}
+    {slots slots_new old new why now result : _} → (watched_at old place).name ≡ name → IsTrue (is_watchable old place)
     → why ≡ Open place → NameBreaks (λ file. broken.Open) place old new → snapshot.breaks ≡ true
     → TellsStop told printer.calling name slots now slots_new (Broke why) result
     → Visits told_in told ways snapshot place name New old printer slots now new printer slots_new result
@@ -434,7 +376,15 @@ first_unopened {place} {name} {old} {why} named can is broke fails (tells, left,
       record {
         share = missing_share name;
         is_share = λ is fates. refl;
-        found = inl (record { named = refl; opened = refl; failed = refl; events = tt; broke = inr fails; there = λ opened. absurd (false≢true opened) });
+        found = inl (record {
+          named = refl;
+          opened = refl;
+          failed = refl;
+          events = tt;
+          broke = inr fails;
+          there = λ opened. absurd
+              (false≢true opened);
+        });
         failed = refl;
         shared = said_after came_none (failure_said false place name (rw is at says.1));
       },
@@ -443,39 +393,20 @@ first_unopened {place} {name} {old} {why} named can is broke fails (tells, left,
 
 -- a call on the file that was just opened failed
 
-none_kept : (fate : Fate) → is_kept None fate ≡ false
-none_kept sound = refl
-none_kept unled = refl
-none_kept unopened = refl
-none_kept (unmeasured None) = refl
-none_kept (unmeasured (Some file)) = refl
-none_kept (unsought file from) = refl
-none_kept (unread None from) = refl
-none_kept (unread (Some file) from) = refl
-
-first_opens : (fate : Fate) → is_read fate ≡ true → (not (is_unopened fate) && true) ≡ true
-first_opens sound read = absurd (false≢true read)
-first_opens unled read = absurd (false≢true read)
-first_opens unopened read = absurd (false≢true read)
-first_opens (unmeasured file) read = refl
-first_opens (unsought file from) read = refl
-first_opens (unread file from) read = refl
-
 -- the file was opened: its start part was given under its header, or what comes before a call that failed
-pub first_gave : {told_in told : Bool} {ways : Ways} {snapshot : Snapshot} {place : ℕ} {name contents : List ℕ}
-    {printer inside after : PrinterState}
-    {slots slots_new : List Slot} {old mid : List Watched} (new : List Watched) {is_there : Bool} {fate : Fate}
-    {result : Result ℕ Stop} → inside ≡ printer
-    → Reopens told_in snapshot old mid place is_there → is_there ≡ true → (watched_at old place).name ≡ name
-    → (told_in ≡ true → contents ≡ held_at snapshot (snapshot.leads name)) → Keeps place mid new fate (stop_in result)
+pub first_gave : {told_in told : Bool} {ways : Ways} {snapshot : Snapshot} {place : ℕ}
+    {name contents printer inside after slots slots_new old mid : _} (new : List Watched) {is_there fate result : _}
+    → inside ≡ printer → Reopens told_in snapshot old mid place is_there → is_there ≡ true
+    → (watched_at old place).name ≡ name → (told_in ≡ true → contents ≡ held_at snapshot (snapshot.leads name))
+    → Keeps place mid new fate (stop_in result)
     → IfBroke (stop_in result) (can_meet true ways.by_name ways.seeks fate ≡ true)
     → IfOk result (λ len. told_in ≡ true → len ≡ length contents)
     → Ends told_in (WereFound Nothing Anywhere snapshot name fate (stop_in result)) told true inside name
-    (gives (ways.start contents) ∷ [])
-    (led_before snapshot fate (gives (ways.start contents) ∷ [])) slots after slots_new (stop_in result)
-    → (looks : List Look) → Stands told_in ways looks place name (watched_at old place) New
+    (gives (ways.start contents) ∷ []) (led_before snapshot fate (gives (ways.start contents) ∷ [])) slots after
+    slots_new (stop_in result) → (looks : List Look) → Stands told_in ways looks place name (watched_at old place) New
     → Gave told_in told ways looks snapshot place name (snapshot.leads name) printer slots after slots_new fate result
-first_gave {told_in} {told} {ways} {snapshot} {place} {name} {contents} {after} {slots} {slots_new} {mid} new {fate} {result} viewed reopens there named same keeps met long ends looks fresh =
+first_gave {told_in} {told} {ways} {snapshot} {place} {name} {contents} {after} {slots} {slots_new} {mid} new {fate}
+    {result} viewed reopens there named same keeps met long ends looks fresh =
     rw (← viewed, fresh.0) (record {
       kept = refl;
       due = record { came = []; led = gives (ways.start contents) ∷ [] };
@@ -486,16 +417,14 @@ first_gave {told_in} {told} {ways} {snapshot} {place} {name} {contents} {after} 
             let (id, leads) = found is in
             let entries = entries_first ways look leads in (
               ap is_missing entries,
-              ap (λ those. record { came = []; led = gives those ∷ [] }) (ap ways.start (same is ∙ ap (held_at snapshot) leads) ∙ sym (ap (gains_after ways.start []) entries ∙ append-nil _)),
+              ap (λ those. record { came = []; led = gives those ∷ [] })
+                  (ap ways.start (same is ∙ ap (held_at snapshot) leads) ∙ sym (ap (gains_after ways.start []) entries ∙ append-nil _)),
               refl,
             );
       };
-      ends = rw (none_kept fate) (found_as (λ notice none. absurd none) (λ file from begins. inl refl) ends);
+      ends = grind (arith, common_steps, found_as);
       there = λ first. let (id, is) = some_of reopens.file (reopens.found ∙ there) in (id, rw (is, named) at reopens.opens);
-      last = IfOk-weaker result (λ len. told_in ≡ true → len ≡ length contents) _ (λ len is t. (
-        λ way. ap is_some (found t).1,
-        λ fates. rw (is t, same t) (first_last ways (seeing snapshot fates)),
-      )) long;
+      last = grind (arith, common_steps);
       met = met;
       openly = opens_so result keeps;
     }) where
@@ -504,37 +433,30 @@ first_gave {told_in} {told} {ways} {snapshot} {place} {name} {contents} {after} 
 
       opens_so : (result : Result ℕ Stop) → Keeps place mid new fate (stop_in result)
           → IfBroke (stop_in result) ((not (is_unopened fate) && true) ≡ true)
-      opens_so (Ok len) keeps = tt
-      opens_so (Err (Broke why)) keeps = first_opens fate keeps.1
-      opens_so (Err (Over why)) keeps = tt
+      opens_so result keeps = grind (arith, common_steps)
 
-pub first_long : {told_in : Bool} {snapshot : Snapshot} {place : ℕ} {old mid new : List Watched} {is_there : Bool}
-    (seen : Snapshot) (len : ℕ) (by_name : Bool) → Reopens told_in snapshot old mid place is_there
-    → is_there ≡ true → IsTrue (is_watchable old place) → new ≡ mid
-    → IsLong false seen (watched_at new place).name (watched_at new place).opened len
+pub first_long : {told_in snapshot : _} {place : ℕ} {old mid new is_there : _} (seen : Snapshot) (len : ℕ)
+    (by_name : Bool) → Reopens told_in snapshot old mid place is_there → is_there ≡ true
+    → IsTrue (is_watchable old place) → new ≡ mid
+    → IsLong false seen (watched_at mid place).name (watched_at mid place).opened len
     → IsLong by_name seen (watched_at new place).name (watched_at new place).opened len
-first_long {place} {old} {new} seen len by_name reopens there can same long =
-    long_by seen (watched_at new place).name len by_name (watched_at new place).opened
-    (λ none by. absurd (false≢true
-    (sym (ap is_some (rw (same, opened_now place old reopens.names can) at none)) ∙ reopens.found ∙ there))) long
+first_long {place} {old} {mid} seen len by_name reopens there can same long = grind (arith, common_steps, long_by, opened_now)
 
-pub first_started : {told_in told : Bool} {ways : Ways} {snapshot now : Snapshot} {place : ℕ} {name : List ℕ}
-    {printer inside middle after : PrinterState}
-    {slots slots_mid slots_new : List Slot} {old mid : List Watched} (new : List Watched) {is_there : Bool}
-    {none : List Event} {result : Result ℕ Stop} → inside ≡ printer
-    → Reopens told_in snapshot old mid place is_there → is_there ≡ true → (watched_at old place).name ≡ name
-    → IsTrue (is_watchable old place) → now ≡ snapshot
+pub first_started : {told_in told : Bool} {ways : Ways} {snapshot : Snapshot} {now : _} {place : ℕ}
+    {name printer inside middle after slots slots_mid slots_new old mid : _} (new : List Watched)
+    {is_there none result : _} → inside ≡ printer → Reopens told_in snapshot old mid place is_there → is_there ≡ true
+    → (watched_at old place).name ≡ name → IsTrue (is_watchable old place) → now ≡ snapshot
     → ((Is : List Event → Type 0) → Is [] → Ends told_in Is told true inside name [] none slots middle slots_mid None)
     → (starts : Starts told_in told ways.seeks now ways.start place name mid middle slots_mid new after slots_new
-    (stop_in result))
-    → IfOk result (λ len. told_in ≡ true → len ≡ length (open_contents now (watched_at mid place)))
+    (stop_in result)) → IfOk result (λ len. told_in ≡ true → len ≡ length (open_contents now (watched_at mid place)))
     → (looks : List Look) → Stands told_in ways looks place name (watched_at old place) New
     → Gave told_in told ways looks snapshot place name
     (snapshot.leads name) printer slots after slots_new starts.fate result
-first_started {told_in} {told} {ways} {snapshot} {now} {place} {name} {inside} {after} {slots} {slots_new} {old} {mid} new {result} viewed reopens there named can same header starts long =
+first_started {told_in} {told} {ways} {snapshot} {now} {place} {name} {inside} {after} {slots} {slots_new} {old} {mid} new
+    {result} viewed reopens there named can same header starts long =
     let contents = held_at now (watched_at mid place).opened in
     first_gave new viewed reopens there named
-    (λ t. ap (held_at now) (opened_led can reopens named t) ∙ ap (λ (s : Snapshot). held_at s (snapshot.leads name)) same) starts.keeps
+    (λ t. rw (opened_now place old reopens.names can, same) (ap (held_at snapshot) (reopens.leads t ∙ ap snapshot.leads named))) starts.keeps
     (if_broke (stop_in result) (λ met. met ways.by_name) starts.met)
     long
     (rw (← same) (goes_after (header (WereFound Nothing Anywhere now name sound None) (found_all tt))
@@ -543,21 +465,18 @@ first_started {told_in} {told} {ways} {snapshot} {now} {place} {name} {inside} {
       known = rw (opened_now place old reopens.names can) named
 
 -- a later look at a name whose file was seen so far
-pub later_gave : {told_in told : Bool} {ways : Ways} {snapshot : Snapshot} {place : ℕ} {name : List ℕ} {position : ℕ}
-    {printer after : PrinterState}
-    {slots slots_new : List Slot} {old new : List Watched} {result : Result ℕ Stop}
-    → (again : LooksAgain told_in told ways.by_name snapshot place name position old printer slots new after slots_new
-    result)
-    → (looks : List Look) → Stands told_in ways looks place name (watched_at old place) (Followed position)
-    → Gave told_in told ways looks snapshot place name
-    (open_after_look ways.by_name name (watched_at old place).opened snapshot) printer slots after slots_new again.fate
-    result
+pub later_gave : {told_in told : Bool} {ways : Ways} {snapshot : _} {place : ℕ} {name : List ℕ} {position : ℕ}
+    {printer after slots slots_new old new result : _} → (again : LooksAgain told_in told ways.by_name snapshot place
+    name position old printer slots new after slots_new result) → (looks : List Look)
+    → Stands told_in ways looks place name (watched_at old place) (Followed position)
+    → Gave told_in told ways looks snapshot place name (open_after_look ways.by_name name
+    (watched_at old place).opened snapshot) printer slots after slots_new again.fate result
 later_gave again [] followed = absurd (false≢true (sym followed.begun))
 later_gave {told_in} {ways} {snapshot} {place} {name} {position} {old} {result} again (before ∷ looks) followed = record {
   kept = followed.kept;
   due = due_later ways.by_name name opened (last_in ways name before looks) snapshot;
   opened = opened;
-  is_due = later_due followed.stands;
+  is_due = grind (arith, common_steps, last_file, followed.stands);
   ends = found_as tells begins (rw followed.named at (again.ends (last_in ways name before looks) followed.stands));
   there = λ first. absurd (false≢true first);
   last = IfOk-weaker result _ _ (λ n is t. (
@@ -565,7 +484,7 @@ later_gave {told_in} {ways} {snapshot} {place} {name} {position} {old} {result} 
     λ fates. rw (at_last t fates) (is t (last_in ways name before looks) (followed.stands t)),
   )) again.stands;
   met = if_broke (stop_in result) (λ met. met ways.seeks) again.met;
-  openly = never_first (stop_in result);
+  openly = if_so (stop_in result) (and-false (not (is_unopened again.fate)));
 } where
   opened : Option ℕ
   opened = (watched_at old place).opened
@@ -573,13 +492,13 @@ later_gave {told_in} {ways} {snapshot} {place} {name} {position} {old} {result} 
   at_last : told_in ≡ true → (fates : List Fate)
       → last_of (entries_in ways name ((before ∷ looks) ++ seeing snapshot fates ∷ []))
       ≡ last_from (last_in ways name before looks) (entries_at_look ways.by_name name opened snapshot)
-  at_last t fates = looked_last ways name before looks (seeing snapshot fates)
-      ∙ ap (λ file. last_from (last_in ways name before looks) (entries_at_look ways.by_name name file snapshot)) (last_file ways name before looks ∙ sym (followed.stands t).file)
+  at_last t fates = grind (arith, common_steps, entries_more, last_from-append, last_file, followed.stands t)
 
   begins : (file : Option ℕ) (from : ℕ) → FromFrontOr opened position file from
       → StartsIn (before ∷ looks) name file from
   begins file from (inl front) = inr (inl front)
-  begins file from (inr (same, some, at)) = inr (inr (rw (same, at) (held_many ways.by_name (latest (snapshots (before ∷ looks))) name position opened some followed.long)))
+  begins file from (inr (same, some, at)) = inr (inr (rw (same, at)
+      (held_many ways.by_name (latest (snapshots (before ∷ looks))) name position opened some followed.long)))
 
   left_open : (opened : Option ℕ) (by_name : Bool) → (opened ≡ None → by_name ≡ true)
       → IsLong by_name (latest (snapshots (before ∷ looks))) name opened position
@@ -597,63 +516,41 @@ later_gave {told_in} {ways} {snapshot} {place} {name} {position} {old} {result} 
     rw followed.named at seen,
   )
 
-  never_first : (stop : Option Stop) → IfBroke stop ((not (is_unopened again.fate) && false) ≡ false)
-  never_first None = tt
-  never_first (Some (Broke why)) = and-false (not (is_unopened again.fate))
-  never_first (Some (Over why)) = tt
-
 -- a name that is looked at no more
-
--- where no file is open, and names aren't followed, nothing is due
-left_due : {told_in : Bool} {ways : Ways} (looks : List Look) {snapshot : Snapshot} {place : ℕ} {name : List ℕ}
-    {watched : Watched} → is_first looks ≡ false
-    → IsMissed told_in ways looks place name watched
-    → IsDue told_in ways looks snapshot name (record { came = []; led = [] }) None
-left_due [] first missed = absurd (false≢true (sym first))
-left_due {ways} (before ∷ looks) {snapshot} {name} first missed = record {
-  is = λ t fates.
-      let here = sym (missed.unopened t) ∙ last_file ways name before looks in (
-        refl,
-        rw (missed.unopened t) (gap_gives ways.by_name (last_in ways name before looks) here missed.way),
-        sym
-            (missed.unopened t),
-      );
-} where
-  gap_gives : (by_name : Bool) (last : Entry) → None ≡ file_of last → by_name ≡ false
-      → record { came = []; led = [] } ≡ due_later by_name name None last snapshot
-  gap_gives by_name gap here way = rw way refl
-  gap_gives by_name (version v) here way = absurd (cc)
 
 still_open : (name : List ℕ) (opened : Option ℕ) (snaps : List Snapshot)
     → open_after_later false name opened snaps ≡ opened
 still_open name opened [] = refl
 still_open name opened (snapshot ∷ snaps) = still_open name opened snaps
 
-still_left : {told : Bool} {ways : Ways} (looks : List Look) (look : Look) {place : ℕ} {name : List ℕ}
-    {watched : Watched} → fate_at place look ≡ sound → IsLeft told ways looks place name watched
+still_left : {told ways : _} (looks : List Look) (look : Look) {place : ℕ} {name watched : _}
+    → fate_at place look ≡ sound → IsLeft told ways looks place name watched
     → IsLeft told ways (looks ++ look ∷ []) place name watched
 still_left [] look fine left = absurd (false≢true (sym left.begun))
 still_left {ways} (before ∷ looks) look {place} {name} {watched} fine left = record {
   begun = refl;
   named = left.named;
   why = elim left.why [
-    | inl (dropped, broke, closed) ↦ inl (ap is_some (failed_sound place (before ∷ looks) look fine) ∙ dropped, broken_sound (before ∷ looks) look fine broke, closed)
+    | inl (dropped, broke, closed) ↦ inl (
+      ap is_some (failed_sound place (before ∷ looks) look fine)
+          ∙ dropped,
+      broken_sound (before ∷ looks) look fine broke,
+      closed,
+    )
     | inr missed ↦ inr (record {
       way = missed.way;
       unbroken = missed.unbroken;
       kept = ap is_some (failed_sound place (before ∷ looks) look fine) ∙ missed.kept;
       closed = missed.closed;
-      unopened = λ t. rw missed.way (still_open name _ (snapshots (looks ++ look ∷ [])) ∙ sym (still_open name _ (snapshots looks)) ∙ rw missed.way at (missed.unopened t));
+      unopened = λ t. grind (arith, common_steps, still_open, missed.way, missed.unopened t);
     })
   ];
 }
 
-pub left_visited : {told_in told : Bool} {ways : Ways} {snapshot : Snapshot} {place : ℕ} {name : List ℕ}
-    {printer : PrinterState} {slots : List Slot}
-    {watched : Watched}
-    (looks : List Look) → IsLeft told_in ways looks place name watched
+pub left_visited : {told_in told ways snapshot : _} {place : ℕ} {name printer slots watched : _} (looks : List Look)
+    → IsLeft told_in ways looks place name watched
     → Visited told_in told ways looks snapshot place name printer slots printer slots watched Left false
-left_visited {snapshot} {place} {name} looks left = elim left.why [
+left_visited {told_in} {ways} {snapshot} {place} {name} looks left = elim left.why [
   | inl dropped ↦ record {
     fate = sound;
     share = no_share name;
@@ -663,30 +560,21 @@ left_visited {snapshot} {place} {name} looks left = elim left.why [
     shared = came_none;
     stands = λ fates at. still_left looks (seeing snapshot fates) at left;
   }
-  | inr missed ↦ looked_visited sound missed.kept
-      (looked_whole (left_due looks left.begun missed) {none = []} {fate = sound}
+  -- where no file is open, and names aren't followed, nothing is due
+  | inr missed ↦ let dues : IsDue told_in ways looks snapshot name (record { came = []; led = [] }) None
+      = grind (arith, common_steps, last_file, left.begun) in
+      looked_visited sound missed.kept (looked_whole dues {none = []} {fate = sound}
       (rw left.begun (nothing_due (found_all tt))) (λ first. absurd (false≢true (sym left.begun ∙ first))))
       (λ fates at. still_left looks (seeing snapshot fates) at left)
 ]
 
 -- where no call can fail
 
-sound_at : {before : List Look} (look : Look) (place : ℕ) {name : List ℕ} {share : Share}
-    → IsGiven before look place name share → failed_in place before ≡ None → look.snapshot.breaks ≡ false
-    → fate_at place look ≡ sound
-sound_at look place (inl (dropped, is)) kept unbroken = absurd (false≢true (sym (ap is_some kept) ∙ dropped))
-sound_at look place (inr (none, inl found)) kept unbroken = elim found.broke [
-  | inl fine ↦ fine
-  | inr can ↦ absurd (false≢true (sym unbroken ∙ can))
-]
-sound_at look place (inr (none, inr missing)) kept unbroken = missing.kept
-
-sound_among : {before : List Look} {look : Look} (from : ℕ) (names : List (List ℕ)) {shares : List Share}
-    → AreAtLook before look from names shares → look.snapshot.breaks ≡ false
-    → (place : ℕ) → place < length names → failed_in (from + place) before ≡ None → fate_at (from + place) look ≡ sound
+sound_among : {before : _} {look : Look} (from : ℕ) (names : List (List ℕ)) {shares : _}
+    → AreAtLook before look from names shares → look.snapshot.breaks ≡ false → (place : ℕ) → place < length names
+    → failed_in (from + place) before ≡ None → fate_at (from + place) look ≡ sound
 sound_among from [] given unbroken place within kept = absurd (omega arith)
-sound_among {before} {look} from (name ∷ names) (names_more given rest) unbroken zero within kept =
-    let at : from ≡ from + 0 = omega arith in rw at at (sound_at look from given (rw (← at) at kept) unbroken)
+sound_among {before} {look} from (name ∷ names) (names_more given rest) unbroken zero within kept = grind (arith, common_steps)
 sound_among {before} {look} from (name ∷ names) (names_more given rest) unbroken (suc place) within kept =
     let at : from + 1 + place ≡ from + suc place = omega arith in
     rw at at (sound_among (from + 1) names rest unbroken place (omega arith) (rw (← at) at kept))

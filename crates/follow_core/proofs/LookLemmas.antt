@@ -1,12 +1,11 @@
 -- A look at a name: what it gives, from where the looks before left it, what is told of it, and how it stands then.
 use Rattle.follow_core.specs.{
   Standing.{BrokeIn, StandsAt},
-  Event.{bytes_in, events_later},
-  Version.{Entry, gap, version_in, entries_at_look, entries_led, entries_later, entries_open, held_at, open_after},
+  Version.{Entry, entries_at_look, entries_later, held_at, open_after},
   Version.{open_after_later, open_after_look},
-  Gain.{file_of, last_from, last_of, gains_later, gains_after},
+  Gain.{file_of, last_from, last_of, gains_after},
   Look.{Fate, Look, Ways, can_meet, are_met, entries_in, failed_by, failed_in, fate_at, is_dropped, snapshots, sound},
-  Look.{unled, unopened, unmeasured, unsought, unread, is_first},
+  Look.{is_first},
   Run.{AreKept, name_text},
   Notice.is_missing,
   Share.{Due, due_at, gain, gains_from, opened_in},
@@ -15,11 +14,12 @@ use Rattle.follow_core.proofs.{
   CallGivesLemmas.none_of,
   CatchLemmas.at_look,
   EventLemmas.{bytes_later, events-append},
-  RunLemmas.{gains-append, last_from-append, text_goes_on, text_is_gains, entries-append},
+  RunLemmas.{gains-append, last_from-append, text_goes_on, text_is_gains, looks-append},
 }
 use Rattle.std.proofs.{
-  Common.{◌≡◌, ℕ, ◌==◌, Bool, true, false, List, [], ◌∷◌, ◌++◌, length, Option, Some, None, refl, sym, ◌∙◌, ap},
-  Common.{if◌then◌else◌, append_assoc, ◌&&◌, eqb-true, rules},
+  lemmas.Grind.common_steps,
+  Common.{arith, ◌≡◌, ℕ, Bool, true, false, List, [], ◌∷◌, ◌++◌, length, Option, None, refl, sym, ◌∙◌, ap},
+  Common.{append_assoc, ◌&&◌, eqb-true, rules},
   lemmas.{List.{append-nil, map-append}, Bool.and_parts},
   Math.Bool.{and-false, and-true},
 }
@@ -27,22 +27,11 @@ use Rattle.watch_core.specs.{Snapshot.Snapshot, declared.watch.Broken.Broken}
 
 -- what a look gives for a name, from where the looks before left it
 
--- entries that are there, told apart from none
-pub record Some_entries (entries : List Entry) : Type 0 where
-  pub first : Entry
-  pub rest : List Entry
-  pub are : entries ≡ first ∷ rest
-
-first_some : (snapshot : Snapshot) (led : Option ℕ) (more : List Entry)
-    → Some_entries (entries_led snapshot None led ++ more)
-first_some snapshot None more = record { first = gap; rest = more; are = refl }
-first_some snapshot (Some file) more = record { first = version_in snapshot file; rest = more; are = refl }
-
 pub entries_more : (ways : Ways) (name : List ℕ) (before : Look) (looks : List Look) (look : Look)
     → entries_in ways name ((before ∷ looks) ++ look ∷ [])
     ≡ entries_in ways name (before ∷ looks)
     ++ entries_at_look ways.by_name name (open_after ways.by_name name (snapshots (before ∷ looks))) look.snapshot
-entries_more ways name before looks look = search (rules, map-append, entries-append)
+entries_more ways name before looks look = grind (arith, common_steps, map-append, looks-append)
 
 -- what a look adds to the entries
 abbrev added : Ways → List ℕ → List Look → Look → List Entry
@@ -52,45 +41,33 @@ added ways name (before ∷ looks) look = entries_at_look ways.by_name name (ope
 -- a look only adds entries
 entries_go_on : (ways : Ways) (name : List ℕ) (looks : List Look) (look : Look)
     → entries_in ways name (looks ++ look ∷ []) ≡ entries_in ways name looks ++ added ways name looks look
-entries_go_on ways name [] look = refl
-entries_go_on ways name (before ∷ looks) look = entries_more ways name before looks look
-
--- what further entries add to a name that has some
-adds_later : (start : List ℕ → List ℕ) {entries : List Entry} (more : List Entry) → Some_entries entries
-    → gains_after start entries more ≡ gains_later (last_of entries) more
-adds_later start more some = rw some.are refl
+entries_go_on ways name looks look = grind (arith, common_steps, entries_more)
 
 -- and it gives what they add
 gain_adds : (ways : Ways) (name : List ℕ) (looks : List Look) (look : Look)
     → gain ways name looks look ≡ gains_after ways.start (entries_in ways name looks) (added ways name looks look)
-gain_adds ways name [] look = append-nil (gains_after ways.start [] (entries_in ways name (look ∷ [])))
-gain_adds ways name (before ∷ looks) look =
-    let opened = opened_in ways name (before ∷ looks) in let last = last_of (entries_in ways name (before ∷ looks)) in
-    ap bytes_in (sym (events-append last (entries_open look.snapshot opened) _) ∙ ap (events_later last) (at_look ways.by_name name opened look.snapshot))
-    ∙ bytes_later last (entries_at_look ways.by_name name opened look.snapshot)
-    ∙ sym (adds_later ways.start _ (first_some before.snapshot (before.snapshot.leads name) _))
+gain_adds ways name looks look = grind (arith, common_steps, append-nil, events-append, at_look, bytes_later)
 
 -- so the text goes on by what a look gives, where a file that is appended to keeps its bytes
 pub look_goes_on : (ways : Ways) (name : List ℕ) (looks : List Look) (look : Look)
     → AreKept (entries_in ways name (looks ++ look ∷ []))
     → name_text ways.start (entries_in ways name (looks ++ look ∷ []))
     ≡ name_text ways.start (entries_in ways name looks) ++ gain ways name looks look
-look_goes_on ways name looks look kept = rw (entries_go_on ways name looks look, gain_adds ways name looks look)
-    (text_goes_on ways.start (entries_in ways name looks) _ (rw (entries_go_on ways name looks look) at kept))
+look_goes_on ways name looks look kept = grind (arith, common_steps, entries_go_on, gain_adds, text_goes_on)
 
 gains_are : (ways : Ways) (name : List ℕ) (before looks : List Look)
     → gains_after ways.start [] (entries_in ways name before) ++ gains_from ways name before looks
     ≡ gains_after ways.start [] (entries_in ways name (before ++ looks))
 gains_are ways name before [] = rw (append-nil before) (append-nil _)
-gains_are ways name before (look ∷ looks) =
-    rw (
-      gain_adds ways name before look,
-      ← append_assoc before (look ∷ []) looks,
-      ← gains_are ways name (before ++ look ∷ []) looks,
-      entries_go_on ways name before look,
-      gains-append ways.start (entries_in ways name before) (added ways name before look),
-    )
-    (sym (append_assoc (gains_after ways.start [] (entries_in ways name before)) _ _))
+gains_are ways name before (look ∷ looks) = grind (
+  arith,
+  common_steps,
+  gain_adds,
+  append_assoc,
+  entries_go_on,
+  gains-append,
+  gains_are ways name (before ++ look ∷ []) looks,
+)
 
 -- and what all looks give is the text
 pub looks_give_text : (ways : Ways) (name : List ℕ) (looks : List Look) → AreKept (entries_in ways name looks)
@@ -104,34 +81,9 @@ pub look_leaves : (by_name : Bool) (name : List ℕ) (opened : Option ℕ) (snap
     → StandsAt (last_from last (entries_at_look by_name name opened snapshot))
     (open_after_look by_name name opened snapshot)
     (length (held_at snapshot (open_after_look by_name name opened snapshot)))
-look_leaves true name opened snapshot last = by opened (snapshot.leads name) where
-  same : (file other : ℕ) (test : Bool) → (file == other) ≡ test
-      → StandsAt (last_from (version_in snapshot other) (if test then [] else version_in snapshot file ∷ []))
-      (Some file) (length (snapshot.holds file))
-  same file other true is = record { file = ap Some (eqb-true file other is); seen = ap (λ those. length (snapshot.holds those)) (eqb-true file other is) }
-  same file other false is = record { file = refl; seen = refl }
+look_leaves by_name name opened snapshot last = grind (arith, common_steps, eqb-true)
 
-  by : (opened led : Option ℕ)
-      → StandsAt (last_from last (entries_open snapshot opened ++ entries_led snapshot opened led)) led
-      (length (held_at snapshot led))
-  by None None = record { file = refl; seen = refl }
-  by None (Some file) = record { file = refl; seen = refl }
-  by (Some other) None = record { file = refl; seen = refl }
-  by (Some other) (Some file) = same file other (file == other) refl
-look_leaves false name None snapshot last = record { file = refl; seen = refl }
-look_leaves false name (Some file) snapshot last = record { file = refl; seen = refl }
-
--- the first look
-pub first_last : (ways : Ways) {name : List ℕ} (look : Look)
-    → StandsAt (last_of (entries_in ways name (look ∷ []))) (look.snapshot.leads name)
-    (length (held_at look.snapshot (look.snapshot.leads name)))
-first_last ways {name} look = by (look.snapshot.leads name) where
-  by : (led : Option ℕ)
-      → StandsAt (last_of (entries_led look.snapshot None led ++ [])) led (length (held_at look.snapshot led))
-  by None = record { file = refl; seen = refl }
-  by (Some file) = record { file = refl; seen = refl }
-
-later_file : (by_name : Bool) (name : List ℕ) {opened : Option ℕ} (last : Entry) (snaps : List Snapshot)
+later_file : (by_name : Bool) (name : List ℕ) {opened : _} (last : Entry) (snaps : List Snapshot)
     → opened ≡ file_of last
     → open_after_later by_name name opened snaps ≡ file_of (last_from last (entries_later by_name name opened snaps))
 later_file by_name name last [] is = is
@@ -145,25 +97,9 @@ pub last_file : (ways : Ways) (name : List ℕ) (before : Look) (looks : List Lo
     ≡ file_of (last_of (entries_in ways name (before ∷ looks)))
 last_file ways name before looks = search (rules, later_file)
 
--- one look more: the last of its entries
-last_more : {entries all : List Entry} (more : List Entry) → Some_entries entries → all ≡ entries ++ more
-    → last_of all ≡ last_from (last_of entries) more
-last_more more some is = rw (is, some.are) (last_from-append some.first some.rest more)
-
-pub looked_last : (ways : Ways) (name : List ℕ) (before : Look) (looks : List Look) (look : Look)
-    → last_of (entries_in ways name ((before ∷ looks) ++ look ∷ []))
-    ≡ last_from (last_of (entries_in ways name (before ∷ looks)))
-    (entries_at_look ways.by_name name (opened_in ways name (before ∷ looks)) look.snapshot)
-looked_last ways name before looks look = last_more _ (first_some before.snapshot (before.snapshot.leads name) _) (entries_more ways name before looks look)
-
 -- a name that no look broke came through each
 pub came_through : (fate : Fate) (later : Option Broken) → failed_by fate later ≡ None → fate ≡ sound
-came_through sound later none = refl
-came_through unled later none = absurd (cc)
-came_through unopened later none = absurd (cc)
-came_through (unmeasured file) later none = absurd (cc)
-came_through (unsought file from) later none = absurd (cc)
-came_through (unread file from) later none = absurd (cc)
+came_through fate later none = grind (arith, common_steps)
 
 -- the call by which a name broke, which didn't break at the looks before
 pub failed_more : (place : ℕ) (looks : List Look) (look : Look) {fate : Fate} → failed_in place looks ≡ None
@@ -182,7 +118,7 @@ failed_sound place (first ∷ looks) look fine = ap (failed_by (fate_at place fi
 
 -- the fates that looks can meet
 
-met_none : (is_first by_name seeks : Bool) (place : ℕ) (looks : List Look) → failed_in place looks ≡ None
+pub met_none : (is_first by_name seeks : Bool) (place : ℕ) (looks : List Look) → failed_in place looks ≡ None
     → are_met is_first by_name seeks place looks ≡ true
 met_none is_first by_name seeks place [] none = refl
 met_none is_first by_name seeks place (look ∷ looks) none =
@@ -198,30 +134,16 @@ met_more first by_name seeks place (one ∷ looks) look so_far met =
     let both = and_parts (can_meet first by_name seeks (fate_at place one)) (are_met false by_name seeks place looks) so_far in
     rw both.0 (met_more false by_name seeks place looks look both.1 (rw (and-false (is_first looks)) met))
 
--- a name that is not dropped is not broken
-pub unbroken_in : {ways : Ways} {looks : List Look} {place : ℕ} {failed : Option Broken} → failed ≡ None
-    → is_dropped place looks ≡ false → BrokeIn ways looks place failed
-unbroken_in {ways} {looks} {place} unbroken kept =
-    let none = none_of (failed_in place looks) kept in record { call = unbroken ∙ sym none; met = met_none true ways.by_name ways.seeks place looks none }
-
 -- one look more, through which it comes
-pub broken_sound : {ways : Ways} (looks : List Look) (look : Look) {place : ℕ} {failed : Option Broken}
-    → fate_at place look ≡ sound → BrokeIn ways looks place failed → BrokeIn ways (looks ++ look ∷ []) place failed
-broken_sound {ways} looks look {place} fine so_far = record {
-  call = so_far.call ∙ sym (failed_sound place looks look fine);
-  met = met_more true ways.by_name ways.seeks place looks look so_far.met (rw fine refl);
-}
+pub broken_sound : {ways : Ways} (looks : List Look) (look : Look) {place : ℕ} {failed : _} → fate_at place look ≡ sound
+    → BrokeIn ways looks place failed → BrokeIn ways (looks ++ look ∷ []) place failed
+broken_sound {ways} looks look {place} fine so_far = grind (arith, common_steps, failed_sound, met_more)
 
 -- or it broke at that look
-pub broken_more : {ways : Ways} (looks : List Look) (look : Look) {place : ℕ} {failed : Option Broken} {fate : Fate}
-    → failed ≡ failed_by fate None
-    → is_dropped place looks ≡ false → fate_at place look ≡ fate
+pub broken_more : {ways : Ways} (looks : List Look) (look : Look) {place : ℕ} {failed fate : _}
+    → failed ≡ failed_by fate None → is_dropped place looks ≡ false → fate_at place look ≡ fate
     → can_meet (is_first looks) ways.by_name ways.seeks fate ≡ true → BrokeIn ways (looks ++ look ∷ []) place failed
-broken_more {ways} looks look {place} {fate} broke kept at met =
-    let none = none_of (failed_in place looks) kept in record {
-      call = broke ∙ sym (failed_more place looks look none at);
-      met = met_more true ways.by_name ways.seeks place looks look (met_none true ways.by_name ways.seeks place looks none) (rw (and-true (is_first looks), at) met);
-    }
+broken_more {ways} looks look {place} {fate} broke kept at met = grind (arith, common_steps, none_of, failed_more, met_more, met_none, and-true)
 
 -- what a look gives a name
 

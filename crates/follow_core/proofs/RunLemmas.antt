@@ -7,12 +7,11 @@ use Rattle.std.{
 }
 use Rattle.ports_core.specs.Part.{IsBeginning}
 use Rattle.follow_core.specs.{
-  Version.{Version, Entry, version, gap, entries_of, entries_later, entries_at_look, open_after_look, open_after_later},
-  Version.open_after,
+  Version.{Version, Entry, version, gap, entries_later, entries_at_look, open_after_look, open_after_later},
   Run.{goes_on, runs_of, last_contents, whole_text, name_text, KeptFrom, AreKept},
-  Gain.{gain_between, gains_later, last_from, gains_after},
+  Gain.{gains_later, last_from, gains_after},
   Look.{Ways, Look},
-  Share.{Share, lines_of, shares_of, shares_from, shares_at_look},
+  Share.{Share, shares_of, shares_from, shares_at_look},
   Followed.{text_from, share_text, header_after, last_header_from, messages_of, any_failed},
 }
 use Rattle.watch_core.specs.Snapshot.{Snapshot}
@@ -26,11 +25,11 @@ record Begun (v : Version) (entries : List Entry) : Type 0 where
   last : last_contents (v ∷ run) ≡ v.contents ++ more
   gains : gains_later (version v) entries ≡ more ++ whole_text others
 
-whole_of : {v : Version} {entries : List Entry} (b : Begun v entries)
+whole_of : {v : Version} {entries : _} (b : Begun v entries)
     → whole_text (runs_of (version v ∷ entries)) ≡ v.contents ++ gains_later (version v) entries
 whole_of {v} b = rw (b.runs, b.last, b.gains) (append_assoc v.contents b.more (whole_text b.others))
 
-goes : {v w : Version} {entries : List Entry} → Begun w entries → IsBeginning v.contents w.contents → goes_on v w ≡ true
+goes : {v w : Version} {entries : _} → Begun w entries → IsBeginning v.contents w.contents → goes_on v w ≡ true
     → Begun v (version w ∷ entries)
 goes {v} {w} {entries} b (rest, is) test = record {
   run = w ∷ b.run;
@@ -41,7 +40,7 @@ goes {v} {w} {entries} b (rest, is) test = record {
   gains = rw (test, b.gains, is, drop_front v.contents rest) (sym (append_assoc rest b.more (whole_text b.others)));
 }
 
-stops : {v w : Version} {entries : List Entry} → Begun w entries → goes_on v w ≡ false → Begun v (version w ∷ entries)
+stops : {v w entries : _} → Begun w entries → goes_on v w ≡ false → Begun v (version w ∷ entries)
 stops {v} {w} {entries} b test = record {
   run = [];
   others = runs_of (version w ∷ entries);
@@ -51,7 +50,7 @@ stops {v} {w} {entries} b test = record {
   gains = rw test (sym (whole_of b));
 }
 
-either : {v w : Version} {entries : List Entry} → Begun w entries → (test : Bool) → goes_on v w ≡ test
+either : {v w : Version} {entries : _} → Begun w entries → (test : Bool) → goes_on v w ≡ test
     → (test ≡ true → IsBeginning v.contents w.contents) → Begun v (version w ∷ entries)
 either b true is kept = goes b (kept refl) is
 either b false is kept = stops b is
@@ -59,7 +58,15 @@ either b false is kept = stops b is
 mutual
   begun : {v : Version} (entries : List Entry) → KeptFrom v entries → AreKept entries → Begun v entries
   begun {v} [] kept all = record { run = []; others = []; more = []; runs = refl; last = sym (append-nil v.contents); gains = refl }
-  begun {v} (gap ∷ entries) kept all = record { run = []; others = runs_of entries; more = []; runs = refl; last = sym (append-nil v.contents); gains = after_gap entries all }
+  begun {v} (gap ∷ entries) kept all = record {
+    run = [];
+    others = runs_of entries;
+    more = [];
+    runs = refl;
+    last = sym
+        (append-nil v.contents);
+    gains = after_gap entries all;
+  }
   begun {v} (version w ∷ entries) kept all = either (begun entries all.0 all.1) (goes_on v w) refl kept
 
   after_gap : (entries : List Entry) → AreKept entries → gains_later gap entries ≡ whole_text (runs_of entries)
@@ -80,14 +87,11 @@ text_is_gains start (version v ∷ entries) all =
 pub later-append : (last : Entry) (entries more : List Entry)
     → gains_later last (entries ++ more) ≡ gains_later last entries ++ gains_later (last_from last entries) more
 later-append last [] more = refl
-later-append last (entry ∷ entries) more =
-    rw (later-append entry entries more) (sym (append_assoc (gain_between last entry) (gains_later entry entries) _))
+later-append last (entry ∷ entries) more = grind (arith, common_steps, append_assoc, later-append entry entries more)
 
 pub gains-append : (start : List ℕ → List ℕ) (entries more : List Entry)
     → gains_after start [] (entries ++ more) ≡ gains_after start [] entries ++ gains_after start entries more
-gains-append start [] [] = refl
-gains-append start [] (entry ∷ more) = refl
-gains-append start (entry ∷ entries) more = grind (arith, common_steps, later-append)
+gains-append start entries more = grind (arith, common_steps, later-append)
 
 pub kept_before : (entries more : List Entry) → AreKept (entries ++ more) → AreKept entries
 kept_before [] more all = tt
@@ -134,8 +138,7 @@ last-append headers last (share ∷ shares) more = last-append headers (header_a
 
 pub messages-append : (shares more : List Share) → messages_of (shares ++ more) ≡ messages_of shares ++ messages_of more
 messages-append [] more = refl
-messages-append (share ∷ shares) more =
-    rw (messages-append shares more) (sym (append_assoc (lines_of share) (messages_of shares) (messages_of more)))
+messages-append (share ∷ shares) more = grind (arith, common_steps, append_assoc, messages-append shares more)
 
 pub failed-append : (shares more : List Share) → any_failed (shares ++ more) ≡ (any_failed shares || any_failed more)
 failed-append [] more = refl
@@ -143,7 +146,7 @@ failed-append (share ∷ shares) more =
     rw (failed-append shares more) (sym (or_assoc (is_some share.failure) (any_failed shares) (any_failed more)))
 
 -- the entries of one look more
-looks-append : (by_name : Bool) (name : List ℕ) (opened : Option ℕ) (snaps : List Snapshot) (snapshot : Snapshot)
+pub looks-append : (by_name : Bool) (name : List ℕ) (opened : Option ℕ) (snaps : List Snapshot) (snapshot : Snapshot)
     → entries_later by_name name opened (snaps ++ snapshot ∷ [])
     ≡ entries_later by_name name opened snaps
     ++ entries_at_look by_name name (open_after_later by_name name opened snaps) snapshot
@@ -151,9 +154,3 @@ looks-append by_name name opened [] snapshot = append-nil _
 looks-append by_name name opened (next ∷ snaps) snapshot =
     rw (looks-append by_name name (open_after_look by_name name opened next) snaps snapshot)
     (sym (append_assoc (entries_at_look by_name name opened next) _ _))
-
-pub entries-append : (by_name : Bool) (name : List ℕ) (first : Snapshot) (snaps : List Snapshot) (snapshot : Snapshot)
-    → entries_of by_name name ((first ∷ snaps) ++ snapshot ∷ [])
-    ≡ entries_of by_name name (first ∷ snaps)
-    ++ entries_at_look by_name name (open_after by_name name (first ∷ snaps)) snapshot
-entries-append by_name name first snaps snapshot = grind (arith, common_steps, looks-append)

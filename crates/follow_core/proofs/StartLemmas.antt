@@ -19,7 +19,7 @@ use Rattle.ends_core.{specs.laws.EndsLaws.after_of-append, proofs.FindLemmas.blo
 -- filling a block of a watched file, read by read
 
 -- what an open file holds, where nothing changed
-pub contents_same : {seen seen_old : List Snapshot} {names names_old : List Watched} (place : ℕ) → seen ≡ seen_old
+pub contents_same : {seen seen_old names names_old : _} (place : ℕ) → seen ≡ seen_old
     → names ≡ names_old
     → open_contents (latest seen) (watched_at names place)
     ≡ open_contents (latest seen_old) (watched_at names_old place)
@@ -33,41 +33,36 @@ pub record Filling (told_in : Bool) (contents : List ℕ) (from filled : ℕ) (o
   pub seen_same : seen_now ≡ seen_old
   pub watched_same : watched_now ≡ watched_old
 
--- the front of a block of which a part was overwritten
-front_of : {a n : ℕ} (xs ys : List ℕ) → a ≤ length xs → length ys ≡ length xs - a → n ≤ length ys
-    → take (a + n) (put_mid a (length xs - a) xs ys) ≡ take a xs ++ take n ys
-front_of {a} {n} xs ys fits long few = grind (arith, common_steps, take-put_mid, length-take, take-take, take-append-add)
-
 more_bytes : (contents : List ℕ) {read_old read_new : List ℕ} (now : List ℕ) (from : ℕ) {filled n : ℕ}
     → filled ≤ length now → length read_new ≡ length now - filled → n ≤ length read_new
-    → GaveFrom contents (from + filled) read_old read_new n
-    → take filled now ≡ take filled (drop from contents)
+    → GaveFrom contents (from + filled) read_old read_new n → take filled now ≡ take filled (drop from contents)
     → take (filled + n) (put_mid filled (length now - filled) now read_new) ≡ take (filled + n) (drop from contents)
-more_bytes contents {read_new} now from {filled} {n} within long few gave are = grind (arith, common_steps, front_of, drop-drop, take-add)
+more_bytes contents {read_new} now from {filled} {n} within long few gave are = grind
+    (arith, common_steps, take-put_mid, length-take, take-take, take-append-add, drop-drop, take-add)
 
 -- the part of the block that is still to be filled
 room_of : (filled : ℕ) (now : List ℕ) → length (take (length now - filled) (drop filled now)) ≡ length now - filled
 room_of filled now = grind (arith, common_steps)
 
-pub fill_more : {told_in : Bool} {contents now_contents : List ℕ} {from filled n : ℕ} {old now read_new : List ℕ}
-    {seen_old seen_now seen_new : List Snapshot} {watched_old watched_now watched_new : List Watched}
-    → Filling told_in contents from filled old now seen_old seen_now watched_old watched_now
-    → now_contents ≡ contents → filled < length now → length now ≡ length old
+pub fill_more : {told_in contents now_contents : _} {from filled n : ℕ}
+    {old now read_new seen_old seen_now seen_new watched_old watched_now watched_new : _}
+    → Filling told_in contents from filled old now seen_old seen_now watched_old watched_now → now_contents ≡ contents
+    → filled < length now → length now ≡ length old
     → length read_new ≡ length (take (length now - filled) (drop filled now))
     → n ≤ length (take (length now - filled) (drop filled now))
     → (told_in ≡ true → GaveFrom now_contents (from + filled) (take (length now - filled) (drop filled now)) read_new n)
     → seen_new ≡ seen_now → watched_new ≡ watched_now
     → Filling told_in contents from (filled + n) old
     (put_mid filled (length now - filled) now read_new) seen_old seen_new watched_old watched_new
-fill_more {contents} {from} {filled} {n} {now} {read_new} f same less long wide few gave seen watched = grind (arith, common_steps, room_of, more_bytes)
+fill_more {contents} {from} {filled} {n} {now} {read_new} f same less long wide few gave seen watched = grind
+    (arith, common_steps, room_of, more_bytes)
 
 -- a read that gives none stands at the file's end
-pub fill_ends : {told_in : Bool} {contents now_contents : List ℕ} {from filled : ℕ} {old now read_new : List ℕ}
-    {seen_old seen_now : List Snapshot} {watched_old watched_now : List Watched}
-    → Filling told_in contents from filled old now seen_old seen_now watched_old watched_now
-    → now_contents ≡ contents → filled < length now
-    → (told_in ≡ true → GaveFrom now_contents (from + filled) (take (length now - filled) (drop filled now)) read_new 0)
-    → told_in ≡ true
+pub fill_ends : {told_in contents now_contents : _} {from filled : ℕ}
+    {old now read_new seen_old seen_now watched_old watched_now : _}
+    → Filling told_in contents from filled old now seen_old seen_now watched_old watched_now → now_contents ≡ contents
+    → filled < length now → (told_in ≡ true
+    → GaveFrom now_contents (from + filled) (take (length now - filled) (drop filled now)) read_new 0) → told_in ≡ true
     → take filled (put_mid filled (length now - filled) now read_new) ≡ take (length old) (drop from contents)
 fill_ends {contents} {now_contents} {from} {filled} {now} {read_new} f same less gave is = grind (arith, common_steps)
 
@@ -79,7 +74,8 @@ passed_in {delim} {left} at size {end} x {block} are ends is =
     let all : drop at x ≡ block ++ drop (at + size) x = block_then x at size ∙ ap (λ those. those ++ drop (at + size) x) (sym are) in
     sym (drop-drop end at x) ∙ ap (drop end) all ∙ drop-append-le end block (drop (at + size) x) ends.within
     ∙ ap (λ those. those ++ drop (at + size) x) (sym (joined-lines_of delim (drop end block)) ∙ ap joined (EndsAt-rest delim left block end ends))
-    ∙ after_lines-append delim left block (drop (at + size) x) (EndsAt-enough delim left block end ends) ∙ ap (after_lines delim left) (sym all) ∙ sym is
+    ∙ after_lines-append delim left block (drop (at + size) x) (EndsAt-enough delim left block end ends)
+    ∙ ap (after_lines delim left) (sym all) ∙ sym is
 
 -- a block that has fewer lines is passed
 pub passed_by : {delim left : ℕ} (at size : ℕ) {found : ℕ} (x : List ℕ) {block rest : List ℕ}

@@ -1,6 +1,7 @@
 -- A watch in memory sees at each look what was planned for it.
 use Rattle.std.proofs.{
-  Common.{◌≡◌, ℕ, ◌+◌, ◌-◌, ◌<◌, ◌≤◌, ◌⊎◌, inl, inr, min, zero, suc, Bool, true, false, List, [], ◌∷◌, ◌++◌, Option},
+  Common.{◌≡◌, ℕ, ◌+◌, ◌-◌, ◌<◌, ◌≤◌, ◌⊎◌, inl, inr, min, zero, suc, Bool, true, false, List, [], ◌∷◌},
+  Common.{◌++◌, Option},
   Common.{Some, None, length, refl, if◌then◌else◌, sym, ◌∙◌, ap, subst, arith, get_or, set, length-append, is_some},
   lemmas.{Bool.cases_lt, Grind.common_steps},
 }
@@ -55,13 +56,15 @@ SameWorlds new old = (n : ℕ) → world_at new n ≡ world_at old n
 seen_same : (forgives : Bool) (within : ℕ) (new old : List World) (n : ℕ) → SameWorlds new old
     → seen_by forgives within new n ≡ seen_by forgives within old n
 seen_same forgives within new old zero same = refl
-seen_same forgives within new old (suc n) same = ap (λ before. before ++ waiting within (shown forgives (world_at new (suc n))) ∷ []) (seen_same forgives within new old n same) ∙ ap (λ world. seen_by forgives within old n ++ waiting within (shown forgives world) ∷ []) (same (suc n))
+seen_same forgives within new old (suc n) same = ap (λ before. before ++ waiting within (shown forgives (world_at new (suc n))) ∷ [])
+    (seen_same forgives within new old n same) ∙ ap (λ world. seen_by forgives within old n ++ waiting within (shown forgives world) ∷ []) (same (suc n))
 
 pub length-seen : (forgives : Bool) (within : ℕ) (worlds : List World) (n : ℕ)
     → length (seen_by forgives within worlds n) ≡ n
 length-seen forgives within worlds zero = refl
 length-seen forgives within worlds (suc n) =
-    let both : length (seen_by forgives within worlds n ++ waiting within (shown forgives (world_at worlds (suc n))) ∷ []) ≡ length (seen_by forgives within worlds n) + 1 = length-append (seen_by forgives within worlds n) _ in
+    let both : length (seen_by forgives within worlds n ++ waiting within (shown forgives (world_at worlds (suc n))) ∷ []) ≡ length
+    (seen_by forgives within worlds n) + 1 = length-append (seen_by forgives within worlds n) _ in
     let before : length (seen_by forgives within worlds n) ≡ n = length-seen forgives within worlds n in
     omega arith
 
@@ -76,7 +79,8 @@ pub turns_on : (watch : MemWatchState) (worlds : List World) → SameWorlds worl
 turns_on watch worlds same =
     let next : watch.turns + 1 ≡ suc watch.turns = omega arith in
     rw (next) (seen_same watch.forgives watch.within worlds watch.worlds (suc watch.turns) same
-    ∙ ap (λ n. seen watch ++ waiting watch.within (shown watch.forgives (world_at watch.worlds n)) ∷ []) (let count : length (seen watch) ≡ watch.turns = length-seen watch.forgives watch.within watch.worlds watch.turns in let more : suc watch.turns ≡ length (seen watch) + 1 = omega arith in more))
+    ∙ ap (λ n. seen watch ++ waiting watch.within (shown watch.forgives (world_at watch.worlds n)) ∷ [])
+    (let count : length (seen watch) ≡ watch.turns = length-seen watch.forgives watch.within watch.worlds watch.turns in let more : suc watch.turns ≡ length (seen watch) + 1 = omega arith in more))
 
 -- what is seen of files whether that is forgiven or not
 
@@ -99,7 +103,8 @@ shown_lacks true world process = refl
 pub finds_any : (forgives : Bool) (within : ℕ) (worlds : List World) (n : ℕ) (name : List ℕ) (finding : Finding)
     → Found (latest (seen_by forgives within worlds n)) name finding
 finds_any forgives within worlds zero name finding = refl
-finds_any forgives within worlds (suc n) name finding = ap (λ (those : Snapshot). those.finds name finding) (latest-last (seen_by forgives within worlds n) _) ∙ shown_finds forgives (world_at worlds (suc n)) name finding
+finds_any forgives within worlds (suc n) name finding = ap (λ (those : Snapshot). those.finds name finding)
+    (latest-last (seen_by forgives within worlds n) _) ∙ shown_finds forgives (world_at worlds (suc n)) name finding
 
 -- all of a look but whether calls can fail, and how soon it begins
 abbrev pub kept : Snapshot → Snapshot
@@ -138,7 +143,8 @@ pub forgives_all : {watch : MemWatchState} (new : MemWatchState) {worlds : List 
     ≡ watch
     → new.worlds ≡ worlds → new.forgives ≡ true → new.within ≡ within → shows new ≡ (λ n. forgiving (shows watch n))
 forgives_all {watch} new {worlds} {forgives} {within} is same forgiven waits =
-    (λ i. λ n. waiting (waits i) (shown (forgiven i) (world_at (same i) (n + 1)))) ∙ (λ i. λ n. waiting within (shown_again forgives (world_at worlds (n + 1)) i))
+    (λ i. λ n. waiting (waits i) (shown (forgiven i) (world_at (same i) (n + 1))))
+    ∙ (λ i. λ n. waiting within (shown_again forgives (world_at worlds (n + 1)) i))
     ∙ (λ i. λ n. forgiving (shows (is i) n))
 
 pub forgives_none : {watch : MemWatchState} {worlds : List World} (turns : ℕ) {names : List Watched} {forgives : Bool}
@@ -157,7 +163,8 @@ module _ {watch : MemWatchState} {worlds : List World} (turns : ℕ) {names : Li
     (is : record { worlds = worlds; turns = turns; watched = names; forgives = forgives; within = within; why = why }
     ≡ watch) (empty : world_at worlds 0 ≡ empty_world) (now : world ≡ world_at worlds turns) where
   now_seen : kept (shown forgives world) ≡ kept (latest (seen watch))
-  now_seen = ap (λ those. kept (shown forgives those)) now ∙ sym (latest_seen forgives within worlds turns empty) ∙ ap (λ (those : MemWatchState). kept (latest (seen those))) is
+  now_seen = ap (λ those. kept (shown forgives those)) now ∙ sym (latest_seen forgives within worlds turns empty)
+      ∙ ap (λ (those : MemWatchState). kept (latest (seen those))) is
 
   item_is : (place : ℕ) {item : Watched} → place < length names → item ≡ get_or names place item
       → item ≡ watched_at watch.watched place
@@ -219,7 +226,8 @@ pub turned : {watch : MemWatchState} {worlds : List World} (new : List World) (t
     → seen_by forgives within new n ≡ seen watch ++ shows watch (length (seen watch)) ∷ []
 turned {worlds} new turns {n} {names} {forgives} {within} {why} is same next =
     subst (λ (those : MemWatchState). seen_by forgives within new n ≡ seen those ++ shows those (length (seen those)) ∷ []) is
-    (ap (seen_by forgives within new) next ∙ turns_on (record { worlds = worlds; turns = turns; watched = names; forgives = forgives; within = within; why = why }) new same)
+    (ap (seen_by forgives within new) next
+    ∙ turns_on (record { worlds = worlds; turns = turns; watched = names; forgives = forgives; within = within; why = why }) new same)
 
 -- where nothing more was planned, the last files are added once more
 pub same_again : (worlds : List World) {new : List World} {world : World} → world ≡ world_at worlds (length worlds)
@@ -230,7 +238,8 @@ pub still_shows : {watch : MemWatchState} (new : MemWatchState) {worlds : List W
     {forgives : Bool} {within : ℕ} {why : Reason} → new.forgives ≡ forgives → new.within ≡ within
     → record { worlds = worlds; turns = turns; watched = names; forgives = forgives; within = within; why = why }
     ≡ watch → SameWorlds new.worlds worlds → shows new ≡ shows watch
-still_shows new {worlds} turns {names} {forgives} {within} {why} also waits is same = shows_same new (record { worlds = worlds; turns = turns; watched = names; forgives = forgives; within = within; why = why }) also waits same ∙ ap shows is
+still_shows new {worlds} turns {names} {forgives} {within} {why} also waits is same = shows_same new
+    (record { worlds = worlds; turns = turns; watched = names; forgives = forgives; within = within; why = why }) also waits same ∙ ap shows is
 
 -- one look more is planned: the watch is still at one of them, and begins with no file
 pub holds_more : (worlds : List World) {new : List World} (world : World) (turns n : ℕ) → turns < length worlds

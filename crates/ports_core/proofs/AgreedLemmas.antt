@@ -5,7 +5,8 @@ use Rattle.std.proofs.{
     List.{append-nil, get_or_append_left, get_or-replicate, length-map, length-replicate},
     Bool.cases_lt,
   },
-  Common.{◌≡◌, ◌≢◌, ℕ, ◌+◌, ◌-◌, ◌<◌, ◌≤◌, zero, suc, List, [], ◌∷◌, ◌++◌, length, get_or, replicate, inl, inr, sym},
+  Common.{◌≡◌, ◌≢◌, ℕ, ◌+◌, ◌-◌, ◌<◌, ◌≤◌, zero, suc, List, [], ◌∷◌, ◌++◌, length, get_or, replicate, inl},
+  Common.{inr, sym},
   Common.{◌∙◌, ap, arith, length-append, lit<, map, take, drop, refl, rules, subst},
   Math.Seq.{drop-append_seam, get_or-append_right, take-append_seam},
 }
@@ -198,7 +199,10 @@ module _ (work : Work) {spots_of : List ℕ → ℕ → List Spot} (place : ℕ)
   filled : (x : List ℕ) (at : Spot) → at.offset < length (output_at (work.whole x) at.place)
       → (i : ℕ) × (i < length x) × GoesTo at (spots_of x i)
   filled x at less = elim (cases_lt at.place place) [
-    | inl before ↦ absurd (omega (arith, ap length (ap (λ those. get_or those at.place []) (stretch.are x) ∙ empty_before place at.place (outputs x) before)))
+    | inl before ↦ absurd (omega (
+      arith,
+      ap length (ap (λ those. get_or those at.place []) (stretch.are x) ∙ empty_before place at.place (outputs x) before),
+    ))
     | inr past ↦ (
         let k = at.place - place in
         let there : at.place ≡ place + k = omega arith in
@@ -206,8 +210,14 @@ module _ (work : Work) {spots_of : List ℕ → ℕ → List Spot} (place : ℕ)
         let i = length (stretch.before x) + (bytes_of k (outputs x) + at.offset) in
         let after : i - length (stretch.before x) ≡ bytes_of k (outputs x) + at.offset = omega arith in (
           i,
-          omega (arith, in_text (outputs x) (stretch.rest x) k at.offset (stretch.front x) within, ap length (stretch.parts x) ∙ length-append (stretch.before x) (stretch.rest x)),
-          subst (GoesTo at) (sym (stretch.there x i (omega arith) ∙ ap (spots_from place (outputs x)) after ∙ spot_at place (outputs x) k at.offset within)) (inl (ap (λ n. spot n at.offset) there)),
+          omega (
+            arith,
+            in_text (outputs x) (stretch.rest x) k at.offset (stretch.front x) within,
+            ap length (stretch.parts x)
+                ∙ length-append (stretch.before x) (stretch.rest x),
+          ),
+          subst (GoesTo at) (sym (stretch.there x i (omega arith) ∙ ap (spots_from place (outputs x)) after
+              ∙ spot_at place (outputs x) k at.offset within)) (inl (ap (λ n. spot n at.offset) there)),
         ))
   ]
 
@@ -216,7 +226,8 @@ module _ (work : Work) {spots_of : List ℕ → ℕ → List Spot} (place : ℕ)
     stands = λ x i at less goes. (let one = stretched x i goes in let has = output_is x one.1.k one.1.there in (
       omega (arith, ap length has),
       ap (λ those. get_or those at.offset 0) has ∙ byte_at (outputs x) (stretch.rest x) one.1.k at.offset (stretch.front x) one.1.within
-          ∙ sym (ap (λ those. get_or those i 0) (stretch.parts x) ∙ get_or-append_right (stretch.before x) (stretch.rest x) i 0 one.0 ∙ ap (λ n. get_or (stretch.rest x) n 0) one.1.is),
+          ∙ sym (ap (λ those. get_or those i 0) (stretch.parts x) ∙ get_or-append_right (stretch.before x) (stretch.rest x) i 0 one.0
+          ∙ ap (λ n. get_or (stretch.rest x) n 0) one.1.is),
     ));
     filled = filled;
     apart = grind (arith, common_steps, stretched);
@@ -227,7 +238,8 @@ module _ (work : Work) {spots_of : List ℕ → ℕ → List Spot} (place : ℕ)
 beginnings_same : {A : Type 0} (one other whole : List A) → IsBeginning one whole → IsBeginning other whole
     → length one ≡ length other → one ≡ other
 beginnings_same one other whole (rest, is) (more, are) same =
-    sym (ap (take (length one)) is ∙ take-append_seam one rest) ∙ ap (λ n. take n whole) same ∙ ap (take (length other)) are ∙ take-append_seam other more
+    sym (ap (take (length one)) is ∙ take-append_seam one rest) ∙ ap (λ n. take n whole) same
+    ∙ ap (take (length other)) are ∙ take-append_seam other more
 
 lists_same : {A : Type 0} (one other : List (List A)) → length one ≡ length other
     → ((place : ℕ) → place < length one → get_or one place [] ≡ get_or other place []) → one ≡ other

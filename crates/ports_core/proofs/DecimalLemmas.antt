@@ -6,7 +6,8 @@ use Rattle.std.proofs.{
     Fmt.{decimal_by_steps, decimal_is_IsNumeral, decimal_nonempty, length-decimal-le},
     Int.Digits.digits_value-lt,
   },
-  Common.{◌≡◌, ℕ, ◌+◌, ◌-◌, ◌/◌, ◌%◌, ◌^◌, ◌<◌, ◌≤◌, zero, suc, max, List, [], ◌∷◌, ◌++◌, length, replicate, decimal},
+  Common.{◌≡◌, ℕ, ◌+◌, ◌-◌, ◌/◌, ◌%◌, ◌^◌, ◌<◌, ◌≤◌, zero, suc, max, List, [], ◌∷◌, ◌++◌, length},
+  Common.{replicate, decimal},
   Common.{refl, sym, ◌∙◌, ap, subst, arith, append_assoc, rules},
 }
 use Rattle.ports_core.{
@@ -42,7 +43,8 @@ fills_one n digit width small =
 fills_more : (n : ℕ) (digits : List ℕ) → 10 ≤ n → Fills (n / 10) digits → Fills n (digits ++ (48 + n % 10) ∷ [])
 fills_more n digits ten fills zero small = search rules
 fills_more n digits ten fills (suc width) small =
-    let count : suc (suc width) - length (digits ++ (48 + n % 10) ∷ []) ≡ suc width - length digits = omega (arith, length-append digits ((48 + n % 10) ∷ [])) in
+    let count : suc (suc width) - length (digits ++ (48 + n % 10) ∷ []) ≡ suc width - length digits = omega
+    (arith, length-append digits ((48 + n % 10) ∷ [])) in
     ap (λ zeros. replicate zeros 48 ++ (digits ++ (48 + n % 10) ∷ [])) count ∙ sym (append_assoc (replicate (suc width - length digits) 48) digits _)
     ∙ ap (λ front. front ++ (48 + n % 10) ∷ []) (fills width (front_digits (suc width) small)) ∙ sym (last_digit (suc width) small)
 
@@ -68,4 +70,5 @@ digits_fill digits n least =
     let enough : n < 10 ^ count = below_more Digits (digits_enough Digits n) (omega arith) in
     let zeros : count - length (decimal n) ≡ digits - length (decimal n) =
     omega (arith, decimal_nonempty, long_enough, no_longer) in
-    ap (λ blanks. replicate blanks 32 ++ marked form n) blanks ∙ sym (fills count n (omega arith) enough least) ∙ ap (λ zeros. replicate zeros 48 ++ decimal n) zeros
+    ap (λ blanks. replicate blanks 32 ++ marked form n) blanks ∙ sym (fills count n (omega arith) enough least)
+    ∙ ap (λ zeros. replicate zeros 48 ++ decimal n) zeros

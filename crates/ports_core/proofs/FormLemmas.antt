@@ -1,6 +1,7 @@
 -- How many digits a number has, and what is read of one in a form.
 use Rattle.std.proofs.{
-  Common.{◌≡◌, ℕ, ◌+◌, ◌-◌, ◌*◌, ◌/◌, ◌%◌, ◌^◌, ◌<◌, ◌≤◌, ◌==◌, ◌||◌, ◌&&◌, zero, suc, not, nat_lt, Bool, true, false},
+  Common.{◌≡◌, ℕ, ◌+◌, ◌-◌, ◌*◌, ◌/◌, ◌%◌, ◌^◌, ◌<◌, ◌≤◌, ◌==◌, ◌||◌, ◌&&◌, zero, suc, not},
+  Common.{nat_lt, Bool, true, false},
   Common.{cond, List, [], ◌∷◌, ◌++◌, length, filter, replicate, inl, inr, refl, sym, ◌∙◌, ap, arith, add-mul},
   Common.{mul_assoc, append-nil, append_assoc, length-append, mul-le-mul, pow-suc, div-add-mod', mod-lt},
   Math.Nat.{pow-le-pow_right, pow-succ', pow-zero},
@@ -47,7 +48,8 @@ least_up_to alphabet number (suc bound) count small =
 below_power : (alphabet : Alphabet) (number : ℕ) → number < radix alphabet ^ number
 below_power alphabet zero = power_positive alphabet 0
 below_power alphabet (suc number) =
-    let half : suc number * 2 ≤ radix alphabet ^ number * radix alphabet = mul-le-mul (below_power alphabet number) (omega (arith, many_characters alphabet)) in
+    let half : suc number * 2 ≤ radix alphabet ^ number * radix alphabet = mul-le-mul
+    (below_power alphabet number) (omega (arith, many_characters alphabet)) in
     rw pow-suc (omega arith)
 
 pub digits_enough : (alphabet : Alphabet) (number : ℕ) → number < radix alphabet ^ digit_count alphabet number
@@ -116,7 +118,8 @@ value_in base text = digits_value (radix (alphabet_of base)) (filter is_shown te
 
 -- each digit is shown, and has its value
 abbrev IsDigit : Alphabet → Type 0
-IsDigit alphabet = (digit : ℕ) → digit < radix alphabet → (is_shown (character alphabet digit) ≡ true) × (digit_value (character alphabet digit) ≡ digit)
+IsDigit alphabet =
+    (digit : ℕ) → digit < radix alphabet → (is_shown (character alphabet digit) ≡ true) × (digit_value (character alphabet digit) ≡ digit)
 
 are_digits : (base : Base) → IsDigit (alphabet_of base)
 are_digits base.Decimal digit small = (grind (arith, nat_tests), grind (arith, nat_tests))
@@ -132,8 +135,10 @@ written_value alphabet digits zero number front small = grind (arith, common_ste
 written_value alphabet digits (suc width) number front small =
     let r : ℕ = radix alphabet in let p : ℕ = r ^ width in let top : ℕ = number / p in
     let digit = digits top (first_digit_small alphabet width number small) in
-    let rest = written_value alphabet digits width (number % p) (front * r + digit_value (character alphabet top)) (mod-lt number (power_positive alphabet width)) in
-    ap (λ shown. digits_value_after r front (cond shown (character alphabet top ∷ filter is_shown (written alphabet width (number % p))) (filter is_shown (written alphabet width (number % p))))) digit.0
+    let rest = written_value alphabet digits width (number % p) (front * r + digit_value (character alphabet top))
+    (mod-lt number (power_positive alphabet width)) in
+    ap (λ shown. digits_value_after r front (cond shown (character alphabet top ∷ filter is_shown (written alphabet width (number % p)))
+    (filter is_shown (written alphabet width (number % p))))) digit.0
     ∙ rest ∙ ap (λ value. (front * r + value) * p + number % p) digit.1
     ∙ omega (arith, add-mul, mul_assoc, ap (λ n. front * n) (pow-succ' r width), div-add-mod')
 

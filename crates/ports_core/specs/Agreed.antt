@@ -1,7 +1,8 @@
 -- What all continuations of an input agree on, and on which parts of it they don't. An input is bytes, or lines, and a
 -- continuation is what may still come, perhaps nothing.
 use Rattle.std.specs.{
-  Prelude.{◌≡◌, ◌≢◌, ◌⊎◌, ℕ, ◌+◌, ◌-◌, ◌<◌, ◌≤◌, nat_lt, List, [], ◌∷◌, ◌++◌, All, get_or, length, map, if◌then◌else◌},
+  Prelude.{◌≡◌, ◌≢◌, ◌⊎◌, ℕ, ◌+◌, ◌-◌, ◌<◌, ◌≤◌, nat_lt, List, [], ◌∷◌, ◌++◌, All, get_or, length},
+  Prelude.{map, if◌then◌else◌},
 }
 use Rattle.ports_core.specs.{Part.{File, Part, IsBeginning, Begins}, Work.Work}
 

@@ -76,7 +76,7 @@ pub trait Stage {
     fn unused(&self) -> u64
         ensures { (x : List ℕ) → terms.Holds self.now x → IsSpare (terms.work self.now) x result };
 
-    ghost lawful: { (stage : Self) → IsLawful (terms.work stage) };
+    ghost lawful: { (stage : Self) (x : List ℕ) → terms.Holds stage x → IsLawful (terms.work stage) };
 
     ghost there: { (stage : Self) (first : ℕ) (slots : List Slot) → terms.Owns stage first slots
         → AreThere (terms.files stage) slots };

@@ -99,7 +99,12 @@ pub alike_after : {work : Work} {x y : List ℕ} (rest : List ℕ) → IsLawful 
 alike_after {work} {x} rest lawful done is =
     let here : IsComplete work x [] = lawful.stays x [] done in
     let there : IsComplete work x rest = lawful.stays x rest done in
-    rw is (record { settled = there.settled_stays; whole = there.whole_stays ∙ sym here.whole_stays ∙ ap work.whole (append-nil x); verdict = there.verdict_stays })
+    rw is (record {
+      settled = there.settled_stays;
+      whole = there.whole_stays ∙ sym here.whole_stays
+          ∙ ap work.whole (append-nil x);
+      verdict = there.verdict_stays;
+    })
 
 got_alike : {work : Work} (content : Content) {x : List ℕ} (fed : Fed) → IsLawful work → HasGot work content x fed
     → MadeAlike work content.bytes x
@@ -172,7 +177,8 @@ module _ {S : Type 0} (terms : Terms S) where
   }
 
   -- the loop ended at a fault of the engine, within the input
-  pub stopped_feeding : (laws : (s : S) → IsLawful (terms.work s)) (told : Bool) {opening : Needs} {most : ℕ}
+  pub stopped_feeding : (laws : (s : S) (x : List ℕ) → terms.Holds s x → IsLawful (terms.work s))
+      (told : Bool) {opening : Needs} {most : ℕ}
       {start now : GuardState S} (next : GuardState S) {content : Content} (WasRead : Step → Type 0) {x : List ℕ}
       (piece rest : List ℕ) {old mid reached new before : List Slot} {fault : Fault} → Feeds told start now x old mid
       → terms.Owns start.stage (length before) old → OutputsAt told before ((terms.work start.stage).settled []) old
@@ -185,16 +191,19 @@ module _ {S : Type 0} (terms : Terms S) where
       → FedAs told before (terms.work start.stage) opening most content WasRead new (Err fault)
   stopped_feeding laws told {now = now} next WasRead {x} piece rest {before = before} so_far own at is within going read passes kept cleared =
       let why = rw so_far.holds.count at (rw so_far.holds.live at passes.met) in
-      rw (← so_far.same) (short_of_piece WasRead piece rest (laws now.stage) is within going read (passes.cut before x (stands told so_far own at))
+      rw (← so_far.same) (short_of_piece WasRead piece rest (laws now.stage x so_far.holds.within) is within going read
+      (passes.cut before x (stands told so_far own at))
       (λ unjudged. stops (terms.work now.stage) (x ++ piece) ((terms.work now.stage).settled x)
       ((terms.work now.stage).settled (x ++ piece)) false 0 _ (EndsWith terms piece now.stage) unjudged
       (λ long. let size : length (x ++ piece) ≡ length x + length piece = length-append x piece in omega arith) why)
-      (λ judging. let (verdict, is, ends) = judges (terms.work now.stage).means _ (EndsWith terms piece now.stage) judging passes.met in (verdict, is, ends x so_far.holds.within))
+      (λ judging. let (verdict, is, ends) = judges (terms.work now.stage).means _ (EndsWith terms piece now.stage) judging passes.met in
+      (verdict, is, ends x so_far.holds.within))
       kept
       (λ unjudged. rw passes.same at (cleared unjudged (length before) (passes.owns (length before) (so_far.owns (length before) own)))))
 
   -- the loop ended with the input, or where nothing more can follow
-  pub ended : (laws : (s : S) → IsLawful (terms.work s)) (told : Bool) {opening : Needs} {most : ℕ}
+  pub ended : (laws : (s : S) (x : List ℕ) → terms.Holds s x → IsLawful (terms.work s))
+      (told : Bool) {opening : Needs} {most : ℕ}
       {start now : GuardState S} {content : Content} (WasRead : Step → Type 0) {x z : List ℕ}
       {old mid new before : List Slot} {fed : Fed} {result : Result Fed Fault} → Feeds told start now x old mid
       → terms.Owns start.stage (length before) old → OutputsAt told before ((terms.work start.stage).settled []) old
@@ -204,27 +213,33 @@ module _ {S : Type 0} (terms : Terms S) where
       → EndsSo terms told now fed mid new result
       → FedAs told before (terms.work start.stage) opening most content WasRead new result
   ended laws told {now} WasRead {x} {before} {fed} so_far own at got all alike needed read (finished _ finishes) =
-      rw (← so_far.same) (fed_all WasRead fed (laws now.stage) got (finishes.well x so_far.holds.within) (finishes.outputs before x (stands told so_far own at)))
+      rw (← so_far.same) (fed_all WasRead fed (laws now.stage x so_far.holds.within) got (finishes.well x so_far.holds.within)
+      (finishes.outputs before x (stands told so_far own at)))
   ended laws told {now} WasRead {x} {z} {before} {fed} so_far own at got all alike needed read (fell_short _ _ _ finishes kept cleared) =
       let why = rw so_far.holds.live at finishes.met in
-      rw (← so_far.same) (short_of_end WasRead fed (laws now.stage) got all alike needed read (finishes.cut before x (stands told so_far own at))
+      rw (← so_far.same) (short_of_end WasRead fed (laws now.stage x so_far.holds.within) got all alike needed read
+      (finishes.cut before x (stands told so_far own at))
       (λ unjudged. stops (terms.work now.stage) z ((terms.work now.stage).settled z) ((terms.work now.stage).whole z)
       (not ((terms.work now.stage).is_complete z))
       (if (terms.work now.stage).is_complete z then (terms.work now.stage).ahead else 0) (Unit {0})
       (EndsThere terms now.stage) unjudged (λ long. absurd
       (let bound : now.fed < 2 ^ 63 = so_far.bound in omega arith)) why)
-      (λ judging. let (verdict, is, ends) = judges (terms.work now.stage).means (Unit {0}) (EndsThere terms now.stage) judging finishes.met in (verdict, is, ends x so_far.holds.within))
+      (λ judging. let (verdict, is, ends) = judges (terms.work now.stage).means (Unit {0})
+      (EndsThere terms now.stage) judging finishes.met in (verdict, is, ends x so_far.holds.within))
       kept (λ unjudged. rw finishes.same at (cleared unjudged (length before) (finishes.owns (length before) (so_far.owns (length before) own)))))
 
   -- an input without bytes: the engine is closed at once
-  pub closed_at_start : (laws : (s : S) → IsLawful (terms.work s)) (told : Bool) {opening : Needs} {most : ℕ}
+  pub closed_at_start : (laws : (s : S) (x : List ℕ) → terms.Holds s x → IsLawful (terms.work s))
+      (told : Bool) {opening : Needs} {most : ℕ}
       {start : GuardState S} {old new before : List Slot} {fed : Fed} {result : Result Fed Fault}
       → HoldsIn terms.Holds start [] → start.fed < 2 ^ 63 → terms.Owns start.stage (length before) old
       → OutputsAt told before ((terms.work start.stage).settled []) old → HasGot (terms.work start.stage) empty [] fed
       → EndsSo terms told start fed old new result
       → FedAs told before (terms.work start.stage) opening most empty (λ call. Unit {0}) new result
   closed_at_start laws told {start} {fed} holds bound own at got ends =
-      ended laws told {start = start} (λ call. Unit {0}) (record { same = refl; holds = holds; owns = λ first own. own; outputs = λ before own at. at; bound = bound }) own at got (got_all fed got) (alike_itself) (inl refl) tt ends
+      ended laws told {start = start} (λ call. Unit {0})
+      (record { same = refl; holds = holds; owns = λ first own. own; outputs = λ before own at. at; bound = bound }) own at got
+      (got_all fed got) (alike_itself) (inl refl) tt ends
 
   -- an input that ended, or was enough, didn't break off
   pub ends_sound : (told : Bool) {engine : GuardState S} {fed : Fed} {old new : List Slot} {result : Result Fed Fault}

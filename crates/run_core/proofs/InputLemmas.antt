@@ -87,8 +87,11 @@ pub unread_source : (told : Bool) (source : Option ℕ) (sources : List Source) 
     → ((step : Step) → step.read ≡ [] → step.ended ≡ false → Leaves told content source sources step) → Q content)
     → OfSource told source sources Q
 unread_source told None sources Q can unread holds = holds empty (λ step none going. tt)
-unread_source true (Some slot) sources Q can unread holds =
-    ((source_at sources slot).left, λ t. refl, holds (source_at sources slot).left (left_unread true slot sources can unread (λ t. refl) (λ off. absurd (cc))))
+unread_source true (Some slot) sources Q can unread holds = (
+  (source_at sources slot).left,
+  λ t. refl,
+  holds (source_at sources slot).left (left_unread true slot sources can unread (λ t. refl) (λ off. absurd (cc))),
+)
 unread_source false (Some slot) sources Q can unread holds =
     (empty, λ t. absurd (cc), holds empty (left_unread false slot sources can unread (λ t. absurd (cc)) (λ off. refl)))
 
@@ -180,7 +183,8 @@ StaysDone told work most was_read (Some slot) content sources = (slot ≡ 0 → 
 
 abbrev pub StayDone : Bool → (Option (List ℕ) → Work) → ℕ → Bool → List Input → List Source → Type 0
 StayDone told work most was_read [] sources = Unit {0}
-StayDone told work most was_read (input ∷ inputs) sources = StaysDone told (work input.shown) most was_read input.slot input.content sources × StayDone told work most was_read inputs sources
+StayDone told work most was_read (input ∷ inputs) sources =
+    StaysDone told (work input.shown) most was_read input.slot input.content sources × StayDone told work most was_read inputs sources
 
 still_done_at : (told : Bool) (work : Work) (most : ℕ) {room : ℕ} {was_read now_read : Bool} {name : List ℕ}
     (slot : Option ℕ) (content : Option Content) {old new : List Source} → (was_read ≡ true → now_read ≡ true)
@@ -214,7 +218,8 @@ done_at told work most was_read (Some _) content sources done = done.1
 pub all_done : (told : Bool) (work : Option (List ℕ) → Work) (most : ℕ) (was_read : Bool) (inputs : List Input)
     (sources : List Source) → StayDone told work most was_read inputs sources → AreDone told work most inputs sources
 all_done told work most was_read [] sources done = tt
-all_done told work most was_read (input ∷ inputs) sources done = (done_at told (work input.shown) most was_read input.slot input.content sources done.0, all_done told work most was_read inputs sources done.1)
+all_done told work most was_read (input ∷ inputs) sources done =
+    (done_at told (work input.shown) most was_read input.slot input.content sources done.0, all_done told work most was_read inputs sources done.1)
 
 pub done_with : (told : Bool) (work : Work) (most : ℕ) (was_read : Bool) {count : ℕ} (name : List ℕ) {input : Input}
     (sources : List Source) → IsFor was_read count name input → 0 < count
@@ -322,7 +327,8 @@ module _ (told_in told : Bool) (task : Task) (most : ℕ) (is_first failed was_r
     (at : OutputsAt told (streams_with error)
     (after_part so_far (only_out (header_text task.with_header is_first name))) mid) where
   abbrev pub TookSo : Content → List Slot → Result Progress Fault → Type 0
-  TookSo content new result = TookInput told_in told task most (input_from name source shown content) (of_content task (task.work shown) is_first name (Some content)) is_first failed was_read so_far error count sources new result
+  TookSo content new result = TookInput told_in told task most (input_from name source shown content)
+      (of_content task (task.work shown) is_first name (Some content)) is_first failed was_read so_far error count sources new result
 
   part_after : (error_now : Slot) (part : Part) {reached : List Slot}
       → OutputsAt told (streams_with error_now)
@@ -337,7 +343,9 @@ module _ (told_in told : Bool) (task : Task) (most : ℕ) (is_first failed was_r
       → (task.work shown).verdict content.bytes ≡ None → OutputsAt told mid ((task.work shown).whole content.bytes) new
       → TookSo content new (Ok (record { was_read = was_read; is_first = false; failed = failed }))
   went_well content new done enough well there =
-      rw (made_well task (task.work shown) is_first name content enough well) (took (record { was_read = was_read; is_first = false; failed = failed }) error new (simp (and-false, or-false)) done refl (part_after error _ (at_after at there)) refl)
+      rw (made_well task (task.work shown) is_first name content enough well)
+      (took (record { was_read = was_read; is_first = false; failed = failed }) error new
+      (simp (and-false, or-false)) done refl (part_after error _ (at_after at there)) refl)
 
   -- a message is due
   went_badly : {why : Reason} (content : Content) (part : Part) (message : Message) (reached old new : List Slot)
@@ -360,7 +368,8 @@ module _ (told_in told : Bool) (task : Task) (most : ℕ) (is_first failed was_r
       let said = said_swept told (SaysFor told task.speaker why message) (task.work shown).clears old new count
       streams_there (rw all.slots at (rw counted at swept)) says in
       rw made (took (record { was_read = was_read; is_first = false; failed = true }) said.after (top ∷ said.after ∷ all.since)
-      (simp (and-false, or-true)) done (said.after, (why, said.says), refl) (record { standard = lit< tt; since = all.since; slots = refl; files = all.files }) said.swept)
+      (simp (and-false, or-true)) done (said.after, (why, said.says), refl)
+      (record { standard = lit< tt; since = all.since; slots = refl; files = all.files }) said.swept)
 
   pub took_well : {content : Content} {new : List Slot} {fed : Fed}
       → IsDone told_in (task.work shown) most source (Some content) sources → (fed ≡ Whole) ⊎ (fed ≡ Enough)
@@ -388,7 +397,8 @@ module _ (told_in told : Bool) (task : Task) (most : ℕ) (is_first failed was_r
       → SaysOn told task.speaker why (message_of (fault_is.Verdict verdict) (task.subject verdict name)) old new
       → TookSo content new (Ok (record { was_read = was_read; is_first = false; failed = true }))
   took_verdict {content} {old} {new} {verdict} done (judged _ enough judges reached there swept) says =
-      went_badly content ((task.work shown).whole content.bytes) (message_of (fault_is.Verdict verdict) (task.subject verdict name)) reached old new done (simp (enough, judges, and-true)) there swept says
+      went_badly content ((task.work shown).whole content.bytes)
+      (message_of (fault_is.Verdict verdict) (task.subject verdict name)) reached old new done (simp (enough, judges, and-true)) there swept says
   took_verdict done (stopped _ unjudged call _ _ _ _ stop _) says = absurd (cc)
 
   pub took_stopped : {content : Content} {new : List Slot} {fault : Fault}
@@ -507,7 +517,9 @@ pub took_opened : {told_in told : Bool} {task : Task} {most : ℕ} {is_first fai
     (was_read || is_dash name) so_far error first sources new result)
 took_opened {was_read} {laid} {name} {old} {slot} differs opened_it (shown, says, (content, there, one)) =
     of_file (world_of laid old) was_read shown _ differs (λ t. ap (λ n. laid n name) (sym opened_it.number) ∙ opened_it.lies t
-    ∙ ap Some (sym (there t ∙ ap (λ (source : Source). source.left) (ap (λ those. source_at those slot) opened_it.sources ∙ ap (source_at (old ++ source_of opened_it.content ∷ [])) opened_it.number ∙ last_source old))))
+    ∙ ap Some (sym (there t ∙ ap (λ (source : Source). source.left)
+    (ap (λ those. source_at those slot) opened_it.sources
+    ∙ ap (source_at (old ++ source_of opened_it.content ∷ [])) opened_it.number ∙ last_source old))))
     (λ t. rw (there t) (says t))
     (rw (differs, or-false) (rw opened_it.number at one))
 
@@ -524,8 +536,10 @@ pub took_standard : {told_in told : Bool} {task : Task} {most : ℕ} {is_first f
     → OfName told_in (world_of laid old) was_read (length old) name
     (λ input. TookInput told_in told task most input (of_input task is_first input) is_first failed
     (was_read || is_dash name) so_far error first sources new result)
-took_standard {told_in} {told} {task} {most} {is_first} {failed} was_read laid name old {sources} {so_far} {error} {first} {new} {result} is dash (shown, says, holds) =
-    let P = λ (read : Bool) (input : Input). TookInput told_in told task most input (of_input task is_first input) is_first failed read so_far error first sources new result in
+took_standard {told_in} {told} {task} {most} {is_first} {failed} was_read laid name old {sources} {so_far}
+    {error} {first} {new} {result} is dash (shown, says, holds) =
+    let P = λ (read : Bool) (input : Input). TookInput told_in told task most input
+    (of_input task is_first input) is_first failed read so_far error first sources new result in
     dash_at was_read laid old (length old) name shown (P (was_read || is_dash name)) dash (rw is at says)
     (rw (dash, or-true) (rw is at holds))
 
@@ -688,7 +702,8 @@ abbrev pub Takes : Bool → Bool → Task → ℕ → Progress → (ℕ → List
     → List ℕ → Part → Slot → List Slot → List Slot → Result Progress Fault → Type 0
 Takes told_in told task most progress laid sources new_sources name so_far error slots new result =
     OfName told_in (world_of laid sources) progress.was_read (length sources) name
-    (λ input. TookInput told_in told task most input (of_input task progress.is_first input) progress.is_first progress.failed (progress.was_read || is_dash name) so_far error (length slots) new_sources new result)
+    (λ input. TookInput told_in told task most input (of_input task progress.is_first input) progress.is_first progress.failed
+    (progress.was_read || is_dash name) so_far error (length slots) new_sources new result)
 
 -- one more name was taken
 pub walk_goes_on : {told_in told : Bool} {task : Task} {world : World} {names : List (List ℕ)} {name : List ℕ}
@@ -706,7 +721,8 @@ walk_goes_on {told_in} {told} {task} {world} {name = name} {left} {progress} {ne
     let was : next.was_read ≡ (progress.was_read || is_dash name) = ap (λ (p : Progress). p.was_read) is in
     let unswept : walked.made.sweeps ≡ false = walked.unswept (omega arith) in
     let sweeps_one : (walked.made.sweeps || one.sweeps) ≡ one.sweeps = ap (λ (b : Bool). b || one.sweeps) unswept in
-    let only : one.sweeps ≡ true → (left ≡ []) × (length slots ≡ 2) = λ sweeps. taken_alone slots (walked.alone input.shown) (sweeps_clears task (task.work input.shown) progress.is_first input.name input.content sweeps) in
+    let only : one.sweeps ≡ true → (left ≡ []) × (length slots ≡ 2) = λ sweeps. taken_alone slots
+    (walked.alone input.shown) (sweeps_clears task (task.work input.shown) progress.is_first input.name input.content sweeps) in
     record {
       done = walked.done ++ input ∷ [];
       made = joined walked.made one;
@@ -722,11 +738,15 @@ walk_goes_on {told_in} {told} {task} {world} {name = name} {left} {progress} {ne
       rest_made = λ rest. ap (of_inputs task true) (append_assoc walked.done (input ∷ []) rest) ∙ walked.rest_made (input ∷ rest)
           ∙ (simp (append_assoc, or_assoc))
           ∙ ap (λ (b : Bool). joined (joined walked.made one) (of_inputs task b rest)) (sym (ap (λ (p : Progress). p.is_first) is));
-      rest_are = λ rest are_rest. rw (append_assoc walked.done (input ∷ []) rest) (walked.rest_are (input ∷ rest) (is_for, rw was at (rw opened_it at are_rest)));
+      rest_are = λ rest are_rest. rw (append_assoc walked.done (input ∷ []) rest)
+          (walked.rest_are (input ∷ rest) (is_for, rw was at (rw opened_it at are_rest)));
       rest_there = λ t. append_assoc walked.done (input ∷ []) (inputs_from world next.was_read (length new_sources) left)
-          ∙ ap (λ (first : Input). walked.done ++ first ∷ inputs_from world next.was_read (length new_sources) left) (there t ∙ same_input progress.was_read (length sources) name (is_dash name) sources walked.laid_same walked.standard)
-          ∙ ap (λ n. walked.done ++ input_of world progress.was_read (length sources) name (is_dash name) ∷ inputs_from world next.was_read n left) opened_it
-          ∙ ap (λ (b : Bool). walked.done ++ input_of world progress.was_read (length sources) name (is_dash name) ∷ inputs_from world b (next_slot (length sources) name) left) was
+          ∙ ap (λ (first : Input). walked.done ++ first ∷ inputs_from world next.was_read (length new_sources) left)
+          (there t ∙ same_input progress.was_read (length sources) name (is_dash name) sources walked.laid_same walked.standard)
+          ∙ ap (λ n. walked.done ++ input_of world progress.was_read (length sources) name
+          (is_dash name) ∷ inputs_from world next.was_read n left) opened_it
+          ∙ ap (λ (b : Bool). walked.done ++ input_of world progress.was_read (length sources) name
+          (is_dash name) ∷ inputs_from world b (next_slot (length sources) name) left) was
           ∙ walked.rest_there t;
       laid_same = same ∙ walked.laid_same;
       standard = λ unread. let both = or_parts progress.was_read (is_dash name) (sym was ∙ unread) in leaves.unasked both.1 ∙ walked.standard both.0;
@@ -748,7 +768,8 @@ pub walk_stops : {told_in : Bool} (told : Bool) {task : Task} {world : World} {n
     → Takes told_in told task largest_piece progress laid sources new_sources name walked.made.part walked.error slots
     new (Err fault)
     → RunsOver told_in world names (λ found. TookAll told_in told task found new_sources new (Err fault))
-walk_stops {told_in} told {task} {world} {names} {name} {left} {progress} {laid} {sources} {new_sources} {slots} {new} fault walked leaves (input, is_for, there, cut_off _ step reached is_step stops stop swept) =
+walk_stops {told_in} told {task} {world} {names} {name} {left} {progress} {laid} {sources} {new_sources} {slots}
+    {new} fault walked leaves (input, is_for, there, cut_off _ step reached is_step stops stop swept) =
     let rest = inputs_from world (progress.was_read || is_dash name) (next_slot (length sources) name) left in
     let before : made_by task walked.done ≡ walked.made
     = ap (of_inputs task true) (sym (append-nil walked.done)) ∙ walked.rest_made [] ∙ joined_nothing in (

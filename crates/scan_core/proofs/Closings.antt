@@ -1,6 +1,7 @@
 -- Entering all that follows without a byte, by words that are closed and by hops.
 use Rattle.std.proofs.{
-  Common.{rules, ◌≡◌, ℕ, ◌+◌, ◌*◌, ◌/◌, ◌%◌, ◌^◌, ◌<◌, List, length, get_or, set, sym, ap, ◌∙◌, subst, arith, w64, ◌⊎◌},
+  Common.{rules, ◌≡◌, ℕ, ◌+◌, ◌*◌, ◌/◌, ◌%◌, ◌^◌, ◌<◌, List, length, get_or, set, sym, ap, ◌∙◌, subst, arith},
+  Common.{w64, ◌⊎◌},
   Common.{inl, inr, zero, suc, ◌≤◌, Bool, false, [], ◌∷◌, refl, ◌↔◌, true, IsTrue, ◌++◌, length-append, eqb, not},
   Common.{bit_and, bit_or, Result, Ok, Err, OnOk},
 }
@@ -208,8 +209,11 @@ close_word {code} {at} {word} {all} {old} {now} h ew c fits small es = record {
     from = λ number k. elim (cases_eq (number / 64) at) [
       | inl same ↦
           let e : number ≡ at * 64 + number % 64 = omega arith in
-          let b = c.from_chosen (number % 64) (omega arith) (in_all _ (omega arith) (rw e at k)) in
-          (at * 64 + b.0, (is_in_word _ _ _ b.1).0 (ap (λ w. bit_at w b.0) (sym ew) ∙ b.2), subst (λ n. FlowsOn code false false (at * 64 + b.0) n) (sym e) b.3)
+          let b = c.from_chosen (number % 64) (omega arith) (in_all _ (omega arith) (rw e at k)) in (
+            at * 64 + b.0,
+            (is_in_word _ _ _ b.1).0 (ap (λ w. bit_at w b.0) (sym ew) ∙ b.2),
+            subst (λ n. FlowsOn code false false (at * 64 + b.0) n) (sym e) b.3,
+          )
       | inr other ↦ (number, (set_elsewhere _ _ _ other).0 (rw en at k), (0, refl))
     ];
   };
@@ -462,7 +466,8 @@ following_more {closures} {hop} {now} {count} {over} {led} s f eh = record {
         | inl same ↦
             let e : get_or closures.hops.onward.items place no_hop ≡ hop = ap (λ p. get_or closures.hops.onward.items p no_hop) same ∙ sym eh in
             rw (← e) at (f.followed bit small (subst (λ h. bit_at h.from bit ≡ 1) e one) (subst (λ h. IsIn now (h.at * 64 + bit)) e was))
-        | inr other ↦ f.closer.adds.kept (end_of (get_or closures.hops.onward.items place no_hop)) (s.done (omega arith) place (omega arith) bit small one was)
+        | inr other ↦ f.closer.adds.kept (end_of (get_or closures.hops.onward.items place no_hop))
+            (s.done (omega arith) place (omega arith) bit small one was)
       ];
 }
 
@@ -511,7 +516,8 @@ landing_more {landings} {hop} {old} {count} s is led eh = record {
   led = λ place l bit small one k. elim (cases_eq place count) [
     | inl same ↦
         let e : get_or landings place no_hop ≡ hop = ap (λ p. get_or landings p no_hop) same ∙ sym eh in
-        rw (← e) at (led.followed bit small (subst (λ h. bit_at h.from bit ≡ 1) e one) (s.adds.kept (hop.at * 64 + bit) (subst (λ h. IsIn old (h.at * 64 + bit)) e k)))
+        rw (← e) at (led.followed bit small (subst (λ h. bit_at h.from bit ≡ 1) e one)
+        (s.adds.kept (hop.at * 64 + bit) (subst (λ h. IsIn old (h.at * 64 + bit)) e k)))
     | inr other ↦ led.adds.kept (end_of (get_or landings place no_hop)) (s.led place (omega arith) bit small one k)
   ];
 }

@@ -58,8 +58,12 @@ walk-left a b line (suc count) at place to stop w = (w.0, w.1, (w.2.0, at-left a
 pub walk-right : (a b : List Node) (line : List ℕ) (count at place to stop : ℕ) → Walks b line count at place to stop
     → Walks (a ++ b) line count (length a + at) place (length a + to) stop
 walk-right a b line zero at place to stop w = (ap (λ n. length a + n) w.0, w.1)
-walk-right a b line (suc count) at place to stop w =
-    (length a + w.0, w.1, (w.2.0, at-right a b at w.2.0 w.2.1, leads_shift w.2.0 line (length a) at place w.0 w.1 w.2.2), walk-right a b line count w.0 w.1 to stop w.3)
+walk-right a b line (suc count) at place to stop w = (
+  length a + w.0,
+  w.1,
+  (w.2.0, at-right a b at w.2.0 w.2.1, leads_shift w.2.0 line (length a) at place w.0 w.1 w.2.2),
+  walk-right a b line count w.0 w.1 to stop w.3,
+)
 
 pub walk_on : (code : List Node) {line : List ℕ} (first second : ℕ) {at place : ℕ} (at' place' : ℕ) {to stop : ℕ}
     → Walks code line first at place at' place' → Walks code line second at' place' to stop
@@ -284,7 +288,8 @@ star_holds : {code : List Node} {line : List ℕ} {Kind : ℕ → ℕ → Type 0
     → StarHolds code line Kind count
 star_holds e zero = grind (arith, common_steps)
 star_holds {code} {line} e (suc count) = let ih = star_holds e count in record {
-  whole = λ place stop w. let led : ((w.0 ≡ 0 + 1) ⊎ (w.0 ≡ 0 + (length code + 2))) × (w.1 ≡ place) = subst (λ m. Leads m line 0 place w.0 w.1) w.2.1 w.2.2 in
+  whole = λ place stop w. let led : ((w.0 ≡ 0 + 1) ⊎ (w.0 ≡ 0 + (length code + 2))) × (w.1 ≡ place) = subst
+      (λ m. Leads m line 0 place w.0 w.1) w.2.1 w.2.2 in
       star_begun e ih led.0 led.1 w.3;
   within = λ at k place stop q h w.
       star_at e ih h w.0 w.1 (at-split code (Back (length code + 1) ∷ []) k w.2.0 (at_at (starred code) w.2.0 q w.2.1)) (rw q at w.2.2) w.3;
@@ -319,7 +324,8 @@ exact_starred {code} {line} {Kind} e = record {
         let shifted = walk-right (Choose (length code + 2) ∷ []) (code ++ Back (length code + 1) ∷ []) line p.0 0 from (length code) to inside in
         let last : At (starred code) (1 + length code) (Back (length code + 1)) =
         at-right (Choose (length code + 2) ∷ []) (code ++ Back (length code + 1) ∷ []) (length code) (Back (length code + 1))
-        (at_at (code ++ Back (length code + 1) ∷ []) (Back (length code + 1)) (omega arith) (at-right code (Back (length code + 1) ∷ []) 0 (Back (length code + 1)) refl)) in
+        (at_at (code ++ Back (length code + 1) ∷ []) (Back (length code + 1)) (omega arith)
+        (at-right code (Back (length code + 1) ∷ []) 0 (Back (length code + 1)) refl)) in
         let home : Path (starred code) line (1 + length code) to 0 to = (1, (0, to, (Back (length code + 1), last, (omega arith, refl)), (refl, refl))) in
         path_on (starred code) (1, (1 + 0, from, (Choose (length code + 2), refl, (inl refl, refl)), (refl, refl)))
         (path_on (starred code) (p.0, shifted) home)
@@ -418,8 +424,10 @@ mutual
       → Exact (code_of_item item) line (MatchesItem item line)
   item_exact (set bytes) line o = exact_one {node = Take bytes} (λ at place at' place' h. (h.0, (h.1, h.2, h.3)))
       (λ place place' h. (omega arith, h.0, h.1, h.2)) tt
-  item_exact front line o = exact_one {node = First} (λ at place at' place' h. (h.0, (h.2, h.1 ∙ h.2))) (λ place place' h. (omega arith, h.1 ∙ sym h.0, h.0)) tt
-  item_exact end line o = exact_one {node = Last} (λ at place at' place' h. (h.0, (h.2, h.1 ∙ h.2))) (λ place place' h. (omega arith, h.1 ∙ sym h.0, h.0)) tt
+  item_exact front line o = exact_one {node = First} (λ at place at' place' h. (h.0, (h.2, h.1 ∙ h.2)))
+      (λ place place' h. (omega arith, h.1 ∙ sym h.0, h.0)) tt
+  item_exact end line o = exact_one {node = Last} (λ at place at' place' h. (h.0, (h.2, h.1 ∙ h.2)))
+      (λ place place' h. (omega arith, h.1 ∙ sym h.0, h.0)) tt
   item_exact (group pattern) line o = code_exact pattern line o
   item_exact (repeat item low high) line o = exact_repeated {code = code_of_item item} high (item_exact item line o.0) o.1
 

@@ -1,6 +1,7 @@
 -- The positions of a set of words are its bits that are positions.
 use Rattle.std.proofs.{
-  Common.{◌≡◌, ◌↔◌, ℕ, zero, suc, ◌+◌, ◌*◌, ◌/◌, ◌<◌, ◌≤◌, List, [], ◌∷◌, length, get_or, refl, sym, ap, subst, arith},
+  Common.{◌≡◌, ◌↔◌, ℕ, zero, suc, ◌+◌, ◌*◌, ◌/◌, ◌<◌, ◌≤◌, List, [], ◌∷◌, length, get_or, refl, sym, ap},
+  Common.{subst, arith},
   Common.{rules, ◌⊎◌, inl, inr, ◌%◌, ◌^◌, set, ◌∙◌, ◌-◌, Bool, true, false, ◌++◌, length-append, eqb-true, eq-eqb},
   Common.{get_or-set_same, get_or-set_other, length-set, bit_and, bit_or, ◌==◌, count_ones},
   lemmas.Nat.{

@@ -1,6 +1,7 @@
 -- Bits of words, and sets that grow by a number.
 use Rattle.std.proofs.{
-  Common.{rules, ◌≡◌, ◌⊎◌, ◌↔◌, inl, inr, ℕ, zero, suc, ◌*◌, ◌/◌, ◌%◌, ◌^◌, ◌<◌, ◌≤◌, true, false, IsTrue, not, List},
+  Common.{rules, ◌≡◌, ◌⊎◌, ◌↔◌, inl, inr, ℕ, zero, suc, ◌*◌, ◌/◌, ◌%◌, ◌^◌, ◌<◌, ◌≤◌, true, false},
+  Common.{IsTrue, not, List},
   Common.{[], ◌∷◌, length, get_or, set, eqb, refl, sym, ap, ◌∙◌, subst, arith, eq-eqb, eqb-true, w64, min, ◌+◌, Bool},
   Common.{◌-◌, max, bit_and, bit_or},
 }
@@ -254,7 +255,8 @@ bit_is number bit here h =
             let w = ap (λ x. bit_at x bit) word in
             absurd (omega arith)
       ],
-      λ e. let q : bit ≡ number % 64 = omega arith in ap (bit_at (1 * 2 ^ (number % 64) % 2 ^ 64)) q ∙ ap (λ x. bit_at x (number % 64)) (sym word) ∙ same,
+      λ e. let q : bit ≡ number % 64 = omega arith in
+          ap (bit_at (1 * 2 ^ (number % 64) % 2 ^ 64)) q ∙ ap (λ x. bit_at x (number % 64)) (sym word) ∙ same,
     )
 
 -- what a number of a word leads to in it

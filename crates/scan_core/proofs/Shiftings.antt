@@ -1,6 +1,7 @@
 -- A table of few states as words.
 use Rattle.std.proofs.{
-  Common.{rules, ◌≡◌, ◌⊎◌, ◌↔◌, inl, inr, ℕ, zero, suc, ◌+◌, ◌*◌, ◌<◌, ◌≤◌, Bool, true, false, IsTrue, List, [], ◌∷◌},
+  Common.{rules, ◌≡◌, ◌⊎◌, ◌↔◌, inl, inr, ℕ, zero, suc, ◌+◌, ◌*◌, ◌<◌, ◌≤◌, Bool, true, false, IsTrue, List},
+  Common.{[], ◌∷◌},
   Common.{◌++◌, length, slice_index, refl, sym, subst, arith, length-append, ◌-◌, get_or, ap, ◌∙◌, ◌/◌, ◌%◌, ◌^◌, ◌==◌},
   lemmas.{
     Bool.{cases_eq, ne_eqb, cases_lt},
@@ -119,7 +120,8 @@ one_counted {code} {line} {place} set a x e = record {
   sets = a.sets ++ set ∷ [];
   all = let l = length-append a.sets (set ∷ []) in omega arith;
   exact = λ p number h. elim (cases_eq p place) [
-    | inl same ↦ rw (← get_or_push a.sets set [] p (omega arith)) at (subst (λ q. IsMarked set number ↔ Entered code line number q) (sym same) (x number))
+    | inl same ↦ rw (← get_or_push a.sets set [] p (omega arith)) at
+        (subst (λ q. IsMarked set number ↔ Entered code line number q) (sym same) (x number))
     | inr other ↦ let l : p < place = omega arith in rw (← get_or_append_left a.sets (set ∷ []) [] p (omega arith)) at (a.exact p number l)
   ];
   total = let m = more_positions code a.sets set in let t = a.total in omega arith;
@@ -252,7 +254,8 @@ walked_stay zero t w h b s = search rules
 walked_stay {code} {sets} (suc more) {place} {state} t w h b s =
     let before = walked_stay _ t w (omega (arith, h)) b (λ k l u. s k l (omega (arith, u))) in
     let m = t.most in
-    let z : positions_among code (set_at sets state) * suc more ≡ positions_among code (set_at sets state) * more + positions_among code (set_at sets state) = mul-suc (positions_among code (set_at sets state)) more in
+    let z : positions_among code (set_at sets state) * suc more ≡ positions_among code
+    (set_at sets state) * more + positions_among code (set_at sets state) = mul-suc (positions_among code (set_at sets state)) more in
     let last = walked_more t before (omega arith) (b (place + more) (omega arith))
     (sym (s (place + more) (omega arith) (omega arith))) (let l = w.known in omega arith) (omega arith) in
     let e : suc (place + more) ≡ place + suc more = omega arith in
@@ -289,7 +292,8 @@ pub walk_run : {code : List Node} {table : Table} {line : List ℕ} {from to sta
     → WalkedOf code table line to state (steps + added)
 walk_run {code} {line} {from} {to} {state} {steps} {added} d w l h b s e a =
     let n = noted_read d w.1 w.2.known e in
-    let more : steps + positions_among code (set_at w.0 state) * (to - from) ≡ steps + added = ap (λ p. steps + p * (to - from)) (sym n.positions) ∙ ap (λ p. steps + p) (sym a) in
+    let more : steps + positions_among code (set_at w.0 state) * (to - from) ≡ steps + added = ap (λ p. steps + p * (to - from)) (sym n.positions)
+    ∙ ap (λ p. steps + p) (sym a) in
     let there : from + (to - from) ≡ to = omega arith in
     let stays = walked_stay _ w.1 w.2 (omega (arith, l, h)) b (λ k m u. s k m (omega (arith, u, l))) in
     (w.0, w.1, rw more at (subst (λ p. Walked code w.0 line p state (steps + positions_among code (set_at w.0 state) * (to - from))) there stays))

@@ -1,6 +1,7 @@
 -- A pattern's code: a list of nodes, each at its number. The number after the last node is the pattern's end.
 use Rattle.std.specs.{
-  Prelude.{◌≡◌, ◌⊎◌, ℕ, zero, suc, ◌+◌, ◌-◌, ◌<◌, ◌≤◌, IsTrue, List, [], ◌∷◌, ◌++◌, length, slice_index, Option, Some},
+  Prelude.{◌≡◌, ◌⊎◌, ℕ, zero, suc, ◌+◌, ◌-◌, ◌<◌, ◌≤◌, IsTrue, List, [], ◌∷◌, ◌++◌, length, slice_index},
+  Prelude.{Option, Some},
   Prelude.None,
 }
 use Rattle.bre_core.specs.{

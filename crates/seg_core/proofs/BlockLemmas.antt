@@ -1,6 +1,7 @@
 -- A text in blocks.
 use Rattle.std.proofs.{
-  Common.{◌≡◌, ℕ, zero, suc, ◌+◌, ◌-◌, ◌^◌, ◌<◌, ◌≤◌, List, [], ◌∷◌, ◌++◌, length, take, drop, get_or, set, refl, sym},
+  Common.{◌≡◌, ℕ, zero, suc, ◌+◌, ◌-◌, ◌^◌, ◌<◌, ◌≤◌, List, [], ◌∷◌, ◌++◌, length, take, drop, get_or, set},
+  Common.{refl, sym},
   Common.{ap, ◌∙◌, arith, append-nil, append_assoc, length-append, length-drop, drop-drop, take_at, drop_at},
   lemmas.{List.Elements.{All-set, All-take, All-drop}, Grind.common_steps},
   Math.Seq.{drop-append-add, take-append-add},
@@ -21,7 +22,8 @@ use Rattle.seg_core.{
 
 pub text_of-append : (front back : List BlockState) → text_of (front ++ back) ≡ text_of front ++ text_of back
 text_of-append [] back = refl
-text_of-append (block ∷ front) back = ap (λ x. block.bytes ++ x) (text_of-append front back) ∙ sym (append_assoc block.bytes (text_of front) (text_of back))
+text_of-append (block ∷ front) back =
+    ap (λ x. block.bytes ++ x) (text_of-append front back) ∙ sym (append_assoc block.bytes (text_of front) (text_of back))
 
 pub count_of-append : (front back : List BlockState) → count_of (front ++ back) ≡ count_of front + count_of back
 count_of-append [] back = omega arith
@@ -38,7 +40,8 @@ pub text_set : (blocks : List BlockState) (n : ℕ) {last : BlockState} (new : B
     → text_of (set blocks n new) ≡ text_of blocks ++ part
 text_set (block ∷ []) zero new part is was now = grind (arith, common_steps)
 text_set (block ∷ next ∷ blocks) (suc n) new part is was now =
-    ap (λ x. block.bytes ++ x) (text_set (next ∷ blocks) n new part (omega arith) was now) ∙ sym (append_assoc block.bytes (text_of (next ∷ blocks)) part)
+    ap (λ x. block.bytes ++ x) (text_set (next ∷ blocks) n new part (omega arith) was now)
+    ∙ sym (append_assoc block.bytes (text_of (next ∷ blocks)) part)
 text_set blocks n new part is was now = absurd (omega arith)
 
 -- from the i-th block on
@@ -89,7 +92,8 @@ pub first_goes : {n : ℕ} {blocks : List BlockState} {first : BlockState} (left
 first_goes [] long more some is fits so_far after long_is more_is = absurd (omega arith)
 first_goes {first} (block ∷ left) long more some is fits so_far after long_is more_is =
     let gone = so_far.gone in
-    let both = ap length (text_of-append gone (first ∷ []) ∙ ap (λ x. text_of gone ++ x) (append-nil first.bytes)) ∙ length-append (text_of gone) first.bytes in
+    let both = ap length (text_of-append gone (first ∷ []) ∙ ap (λ x. text_of gone ++ x) (append-nil first.bytes))
+    ∙ length-append (text_of gone) first.bytes in
     let all = count_of-append gone (first ∷ []) in
     record {
       gone = gone ++ first ∷ [];
@@ -157,7 +161,8 @@ pub counted_put : {delim most : ℕ} {blocks new : List BlockState} (piece : Lis
     → but_last_lines delim most (text_of blocks ++ piece) ≡ [] → text_of new ≡ text_of blocks ++ piece
     → more ≡ delimiters delim piece → HaveCounts delim new
     → IsCounted delim most new (len + length piece) (count + more)
-counted_put {delim} {most} {blocks} piece more so_far fits within grown is each = grind (arith, common_steps, few_from_nothing, length-append, delimiters-append)
+counted_put {delim} {most} {blocks} piece more so_far fits within grown is each =
+    grind (arith, common_steps, few_from_nothing, length-append, delimiters-append)
 
 -- fresh blocks after those of which the last was filled
 pub extended : {old mid : List BlockState} (filled fresh : List BlockState) {new : List BlockState} (near : List ℕ)

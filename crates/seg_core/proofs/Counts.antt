@@ -5,7 +5,8 @@ use Rattle.std.{
     Bool.{le-leb, lt-leb, lt-ltb, and_from, and_right},
     List.{take_rest, Folds.list_all_at, Sums.{prefix_len-le-length, prefix_len_stops}},
   },
-  proofs.Common.{rules, ◌≡◌, ℕ, suc, ◌+◌, ◌-◌, ◌*◌, ◌^◌, ◌<◌, ◌≤◌, ◌⊎◌, min, Bool, true, false, cond, leb, ltb, ◌&&◌},
+  proofs.Common.{rules, ◌≡◌, ℕ, suc, ◌+◌, ◌-◌, ◌*◌, ◌^◌, ◌<◌, ◌≤◌, ◌⊎◌, min, Bool, true, false, cond, leb},
+  proofs.Common.{ltb, ◌&&◌},
   proofs.Common.{List, [], ◌∷◌, Option, Ok, Err, length, take, drop, refl, ap, arith},
   specs.{List.{prefix_len, list_all}, Char.is_ascii_digit},
 }
@@ -62,7 +63,8 @@ digits_of-none [] end is either = refl
 digits_of-none (byte ∷ text) end is either =
     let fewer : prefix_len is_ascii_digit (byte ∷ text) < length (byte ∷ text) = omega arith in
     ap (λ (c : Bool). cond c (cond (leb (value_of (byte ∷ text)) greatest) (Ok (value_of (byte ∷ text))) (Err TooLarge)) (Err NoDigits))
-    (and_right (ltb 0 (length (byte ∷ text))) (list_all is_ascii_digit (byte ∷ text)) (list_all_at is_ascii_digit (byte ∷ text) _ 0 fewer (prefix_len_stops is_ascii_digit (byte ∷ text) 0 fewer)))
+    (and_right (ltb 0 (length (byte ∷ text))) (list_all is_ascii_digit (byte ∷ text))
+    (list_all_at is_ascii_digit (byte ∷ text) _ 0 fewer (prefix_len_stops is_ascii_digit (byte ∷ text) 0 fewer)))
 
 -- the digits are all of the text
 pub digits_of-some : (text : List ℕ) (end : ℕ) → end ≡ prefix_len is_ascii_digit text → (end ≡ 0 → ⊥)

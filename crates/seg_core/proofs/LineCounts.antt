@@ -1,7 +1,8 @@
 -- How many lines a text has.
 use Rattle.std.{
   proofs.lemmas.{Grind.common_steps, Bool.{eq-eqb, ne_eqb, false≢true}},
-  proofs.Common.{◌≡◌, ◌≢◌, ℕ, zero, suc, ◌+◌, ◌-◌, ◌<◌, ◌≤◌, Bool, true, false, not, cond, eqb, List, [], ◌∷◌, ◌++◌},
+  proofs.Common.{◌≡◌, ◌≢◌, ℕ, zero, suc, ◌+◌, ◌-◌, ◌<◌, ◌≤◌, Bool, true, false, not, cond, eqb, List, [], ◌∷◌},
+  proofs.Common.◌++◌,
   proofs.Common.{length, take, drop, get_or, refl, sym, ap, ◌∙◌, arith, rules, take_all, length-append, length-take-le},
   specs.List.onto_first,
 }
@@ -61,7 +62,8 @@ pub line_count-open : (delim : ℕ) (x : List ℕ) → 0 < length x → ends_wit
 line_count-open delim [] some open_end = absurd (omega arith)
 line_count-open delim (byte ∷ []) some open_end = grind (arith, common_steps)
 line_count-open delim (byte ∷ next ∷ x) some open_end =
-    line_count-cons delim byte (next ∷ x) (omega arith) ∙ ap (λ n. cond (eqb byte delim) (n + 1) n) (line_count-open delim (next ∷ x) (omega arith) open_end)
+    line_count-cons delim byte (next ∷ x) (omega arith)
+    ∙ ap (λ n. cond (eqb byte delim) (n + 1) n) (line_count-open delim (next ∷ x) (omega arith) open_end)
     ∙ open_step (eqb byte delim) (delimiters delim (next ∷ x))
 
 -- how a text ends
@@ -113,7 +115,8 @@ closed_delimiters {delim} x n last is = grind (arith, common_steps, delimiters-o
 -- the lines of a text that goes on, by what stands before its last delimiter
 pub closed_text : {delim : ℕ} (before x : List ℕ) (n : ℕ) → n + 1 ≡ length x → get_or x n 0 ≡ delim
     → line_count delim (before ++ x) ≡ delimiters delim before + delimiters delim (take n x) + 1
-closed_text {delim} before x n last is = grind (arith, common_steps, ends_with-append, ends_with-last, eq-eqb, closed_delimiters, length-take-le, delimiters-append, line_count-closed)
+closed_text {delim} before x n last is =
+    grind (arith, common_steps, ends_with-append, ends_with-last, eq-eqb, closed_delimiters, length-take-le, delimiters-append, line_count-closed)
 
 pub open_text : (delim : ℕ) (before x : List ℕ) (n : ℕ) → n + 1 ≡ length x → get_or x n 0 ≢ delim
     → line_count delim (before ++ x) ≡ delimiters delim before + delimiters delim x + 1

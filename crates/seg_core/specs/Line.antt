@@ -2,7 +2,8 @@
 -- text, and that the definitions have as their first argument. POSIX's lines are those that end with the newline, byte
 -- 10.
 use Rattle.std.specs.{
-  Prelude.{◌≡◌, ◌≢◌, ℕ, ◌+◌, ◌-◌, ◌<◌, ◌≤◌, ◌==◌, Bool, true, false, List, [], ◌∷◌, ◌++◌, ◌⊎◌, if◌then◌else◌, length},
+  Prelude.{◌≡◌, ◌≢◌, ℕ, ◌+◌, ◌-◌, ◌<◌, ◌≤◌, ◌==◌, Bool, true, false, List, [], ◌∷◌, ◌++◌, ◌⊎◌},
+  Prelude.{if◌then◌else◌, length},
   Prelude.{take, drop},
   List.onto_first,
 }

@@ -1,7 +1,8 @@
 -- Lemmas on outputs of which some are changed, on what they get, and on how many broke.
 use Rattle.std.proofs.{
   lemmas.{Grind.common_steps, Bool.{cases_eq, cases_lt, Decides.nat_tests}, List.take-append-le},
-  Common.{◌≡◌, ℕ, ◌+◌, ◌<◌, ◌≤◌, zero, suc, List, [], ◌∷◌, length, Bool, true, false, not, ◌&&◌, if◌then◌else◌, ◌⊎◌},
+  Common.{◌≡◌, ℕ, ◌+◌, ◌<◌, ◌≤◌, zero, suc, List, [], ◌∷◌, length, Bool, true, false, not, ◌&&◌, if◌then◌else◌},
+  Common.◌⊎◌,
   Common.{inl, inr, refl, sym, ◌∙◌, ap, arith, ◌++◌, take, length-append},
   Math.Seq.take-append-add,
 }
@@ -110,7 +111,8 @@ turned_both {Change} {IsOne} {IsOther} {old} {mid} {new} broke more stays first_
     each = λ place is. by place (from place is);
     others = grind (arith, common_steps, to);
   };
-  broke_are = sym (newly_in_two old mid new first.changes.count second.changes.count (stay_broken stays first_is first.changes) (stay_broken stays second_is second.changes)
+  broke_are = sym (newly_in_two old mid new first.changes.count second.changes.count (stay_broken stays first_is first.changes)
+      (stay_broken stays second_is second.changes)
       ∙ ap (λ n. n + newly_broken mid new) (sym first.broke_are) ∙ ap (λ n. broke + n) (sym second.broke_are));
 } where
   by : (place : ℕ) → IsOne place ⊎ IsOther place → Change (slot_at old place) (slot_at new place)

@@ -1,7 +1,8 @@
 -- Lemmas on a run's start: files that are opened one after another, and the messages for those that could not be.
 use Rattle.std.{
   proofs.lemmas.{Grind.common_steps, List.{append-nil, get_or-append-add, get_or_append_left, length-map}},
-  proofs.Common.{◌≡◌, ℕ, ◌+◌, ◌-◌, ◌^◌, ◌<◌, ◌≤◌, zero, suc, List, [], ◌∷◌, ◌++◌, length, map, take, drop, get_or, Bor},
+  proofs.Common.{◌≡◌, ℕ, ◌+◌, ◌-◌, ◌^◌, ◌<◌, ◌≤◌, zero, suc, List, [], ◌∷◌, ◌++◌, length, map, take, drop},
+  proofs.Common.{get_or, Bor},
   proofs.Common.{true, inl, inr, refl, sym, ◌∙◌, ap, arith, append_assoc, length-append, replicate, Bool, false},
   proofs.Common.{Option, Some, None},
   specs.List.list_any,
@@ -117,7 +118,8 @@ ready_to_go {names} {old} {new} tee some standard opens count first place is = b
   by (inr file) =
       let start = first (omega arith) in let many = length-since names opens.since opens.each in
       let there : place ≡ length old + (place - length old) = omega arith in
-      rw (ap (λ at. slot_at new at) there ∙ ap (λ those. slot_at those (length old + (place - length old))) opens.slots ∙ get_or-append-add old opens.since (place - length old) no_slot)
+      rw (ap (λ at. slot_at new at) there ∙ ap (λ those. slot_at those (length old + (place - length old))) opens.slots
+      ∙ get_or-append-add old opens.since (place - length old) no_slot)
       (since_usable names opens.since (place - length old) opens.each (omega arith))
 
 -- the same of names as the code has them
@@ -208,7 +210,8 @@ pub starts : (told : Bool) {calling : Calling} {mode : Mode} (on_broken : OnBrok
     → SaysTo told calling (said_since on_broken (fault_in 0) (output_names names) known nows) old new
     → nows ≡ standings_of old → Copies told calling mode on_broken names [] [] new nows
 starts told on_broken {names} {known = known} {nows} opens unknown says sees =
-    let known_is : known ≡ Sound ∷ replicate (length names) Sound = unknown ∙ ap (λ n. replicate n Sound) (let e : length names + 1 ≡ suc (length names) = omega arith in e) in
+    let known_is : known ≡ Sound ∷ replicate (length names) Sound = unknown
+    ∙ ap (λ n. replicate n Sound) (let e : length names + 1 ≡ suc (length names) = omega arith in e) in
     let stand : nows ≡ standings_of (standard_output ∷ standard_error ∷ opens.since) = cc in
     let all = all_start told opens.each in
     let known_so = map standing_of (None ∷ replicate (length names) None) in

@@ -1,8 +1,8 @@
 -- Lemmas on opening a tool's engine.
 use Rattle.std.proofs.{
   lemmas.{Grind.common_steps, List.length-replicate},
-  Common.{◌≡◌, ℕ, ◌-◌, ◌<◌, ◌≤◌, ◌^◌, zero, suc, Bool, true, false, IsTrue, if◌then◌else◌, List, [], length, Result},
-  Common.{Ok, Err, IfOk, IfErr, IsErr, OnOk, refl, sym, ◌∙◌, ap, arith, Option, Some, None, option_map, replicate, inl},
+  Common.{◌≡◌, ℕ, ◌-◌, ◌<◌, ◌≤◌, ◌^◌, zero, Bool, true, false, IsTrue, if◌then◌else◌, List, [], length, Result},
+  Common.{Ok, Err, IfOk, IfErr, IsErr, OnOk, refl, sym, ap, arith, Option, Some, None, option_map, replicate, inl},
   Common.inr,
 }
 use Rattle.ports_core.specs.{
@@ -38,7 +38,7 @@ use Rattle.ends_core.{
     Ends.{after_of, head_of, tail_of},
     Head.head_work,
     Tail.tail_work,
-    Shown.{head_in, head_shown, place_of, tail_in, tail_shown},
+    Shown.{head_in, tail_in},
     declared.ends.Ends.Ends,
   },
   proofs.KeptLemmas.first_of-nil,
@@ -77,14 +77,6 @@ pub tail_starts : (delim : ℕ) {told : Bool} (unit : Counted) (from_nth : Bool)
     → 2 ≤ length slots → OutputsAt told slots ((tail_work delim unit from_nth n).settled []) slots
 tail_starts delim {told} unit from_nth n {slots} two = rw (tail_begins delim from_nth unit n) (nothing_out told slots (some_there slots two))
 
-pub head_shown_begins : (delim : ℕ) {told : Bool} (unit : Counted) (n : ℕ) (text : List ℕ) {slots : List Slot}
-    → 2 ≤ length slots → OutputsAt told slots ((head_shown delim unit n text).settled []) slots
-head_shown_begins delim unit n text two = head_begins 0 Bytes false (place_of delim unit n text) two
-
-pub tail_shown_begins : (delim : ℕ) {told : Bool} (unit : Counted) (n : ℕ) (text : List ℕ) {slots : List Slot}
-    → 2 ≤ length slots → OutputsAt told slots ((tail_shown delim unit n text).settled []) slots
-tail_shown_begins delim unit n text two = tail_starts 0 Bytes true (suc (place_of delim unit n text)) two
-
 -- an engine for which there was no memory
 pub no_memory : {told : Bool} {work : Work} {opening : Needs} {slots : List Slot} {fault : Fault}
     → opening.memory ≡ true → 2 ≤ length slots → fault ≡ Memory → OpensShort work opening told slots slots fault
@@ -97,7 +89,7 @@ no_memory {told} {work} {slots} may two is = rw is (record {
 })
 
 -- what standard output is told of files says whether it is told of them
-pub verbose_is : (verbose : Bool) → is_verbose (tells_by verbose) ≡ verbose
+verbose_is : (verbose : Bool) → is_verbose (tells_by verbose) ≡ verbose
 verbose_is true = refl
 verbose_is false = refl
 
@@ -143,9 +135,7 @@ pub split_asked : (those asked : SplitAsked) (shown : Option (List ℕ)) {naming
     → ((elide : Bool) (filing : Filing)
     → way_work those.way elide filing said ≡ way_work those.way elide filing (option_map length shown))
     → work_by those.way those.elide naming tells said ≡ (split_task Cutters asked).work shown
-split_asked those asked shown {naming} {tells} said is named told says =
-    says those.elide (record { names = naming; verbose = is_verbose tells })
-    ∙ rw (named, told, is, verbose_is asked.verbose)
+split_asked those asked shown {naming} {tells} said is named told says = grind (arith, common_steps, verbose_is)
 
 -- why the work of `split` can't be begun
 pub split_halts : (way : Way) (elide : Bool) (names : Naming) (tells : Tells) (said : Option ℕ) (old new : List Slot)
@@ -157,7 +147,7 @@ pub split_halts : (way : Way) (elide : Bool) (names : Naming) (tells : Tells) (s
     × Swept (work_by way elide names tells said).clears (length old) new new
 split_halts (way.Cut cut) elide names tells said old new fault (inl is) = rw is (refl, refl, refl)
 split_halts (way.Cut cut) elide names tells said old new fault (inr (inl (told, is, rose))) =
-    rw is (refl, ((λ at. rw told refl), (λ none. refl), rose.1), refl)
+    grind (arith, common_steps)
 split_halts (way.Cut cut) elide names tells said old new fault (inr (inr (slot, is, rose))) = rw is (refl, (refl, refl), refl)
 split_halts way elide names tells said old new fault is = rw is (refl, refl, refl)
 
@@ -181,7 +171,7 @@ pub opened_still : (told : Bool) {begun asked : Work} (old : List Slot) (result 
     → begun ≡ asked → IfOk result (λ e. HoldsIn ends.Holds e [])
     → IfOk result (λ e. ends.work e.stage ≡ begun) → IfOk result (λ e. e.fed < 2 ^ 63) → IsTrue (is_writable old 0)
     → OutputsAt told old (begun.settled []) old → IfOk result (Opens ends.terms asked told old old)
-opened_still told old (Ok e) is fresh does bound ready at = opened_of ends.terms told old old (Ok e) is fresh does bound ready tt at
+opened_still told old (Ok e) is fresh does bound ready at = grind (arith, common_steps, opened_of)
 opened_still told old (Err fault) is fresh does bound ready at = tt
 
 -- the work that is asked for, by what an input shows
@@ -195,16 +185,6 @@ pub tail_by : (shown : Option (List ℕ)) {those asked : EndsAsked} {plus : Bool
     → is_plus those.count.sign ≡ plus
     → tail_in those.delim those.unit plus those.count.amount shown ≡ (tail_task Cutters asked).work shown
 tail_by shown is signed = rw (← signed, is)
-
--- opening it may need memory, where the input shows nothing
-
-pub head_waits : {those asked : EndsAsked} → those ≡ asked → is_minus those.count.sign ≡ true
-    → ((head_task Cutters asked).opening None).memory ≡ true
-head_waits is signed = rw (← is, signed) refl
-
-pub tail_waits : {those asked : EndsAsked} → those ≡ asked → is_plus those.count.sign ≡ false
-    → ((tail_task Cutters asked).opening None).memory ≡ true
-tail_waits is signed = rw (← is, signed) refl
 
 -- the work of `split`, for a length that matters or not
 
@@ -220,7 +200,7 @@ length_matters asked to_files to_output one other elide filing = refl
 pub said_shown : (told : Bool) (slot : ℕ) (sources : List Source) {size : Option ℕ}
     → (told ≡ true → size ≡ count_shown (source_at sources slot).left)
     → (shown : Option (List ℕ)) × IsShown told (Some slot) sources shown × (size ≡ option_map length shown)
-said_shown true slot sources counts = ((source_at sources slot).left.shown, λ t. refl, counts refl)
+said_shown true slot sources counts = grind (arith, common_steps)
 said_shown false slot sources {size = None} counts = (None, λ t. absurd (cc), refl)
 said_shown false slot sources {size = Some n} counts =
     (Some (replicate n 0), λ t. absurd (cc), ap Some (sym (length-replicate n 0)))

@@ -1,6 +1,7 @@
 -- Over the inputs that any run found there is a run that no fault stops.
 use Rattle.std.{
-  proofs.Common.{◌≡◌, ℕ, ◌+◌, ◌≤◌, ◌<◌, ◌^◌, suc, zero, Bool, true, false, ◌||◌, cond, List, [], ◌∷◌, ◌++◌, length},
+  proofs.Common.{◌≡◌, ℕ, ◌+◌, ◌≤◌, ◌<◌, ◌^◌, suc, zero, Bool, true, false, ◌||◌, cond, List, [], ◌∷◌, ◌++◌},
+  proofs.Common.length,
   proofs.Common.{map, Option, Some, None, inl, inr, ◌⊎◌, refl, sym, ◌∙◌, ap, arith, lit<, append_assoc},
   proofs.Common.length-append,
   proofs.Math.Seq.get_or-append_seam,
@@ -27,7 +28,7 @@ use Rattle.ports_core.specs.{
 use Rattle.run_core.{
   proofs.FeedingLemmas.needed_within,
   specs.{
-    Input.{World, shown_of, input_of, inputs_at, inputs_from, is_dash, standard_input},
+    Input.{Input, World, shown_of, input_of, inputs_at, inputs_from, is_dash, standard_input},
     Reading.{AreDone, IsLeft},
     RunEnds.{EndsAs, as_defined},
     Task.{Task, made_by, status_of},
@@ -84,9 +85,18 @@ left_for : (work : Option (List ℕ) → Work) (there : Option Content) → Left
 left_for work None = record { source = missing Other; is = λ slot. refl }
 left_for work (Some content) =
     let front = front_from (work (shown_of (Some content))) [] content.bytes (inl refl) in record {
-      source = record (source_of content) { left = record content { bytes = front.rest }; taken = front.read; reached = length front.read; ended = true };
+      source = record (source_of content)
+          { left = record content { bytes = front.rest }; taken = front.read; reached = length front.read; ended = true };
       is = λ slot. (
-        λ told. record { read = front.read; joined = front.joined; enough = front.enough; needed = needed_within (omega arith) front.needed; exact = λ well. front.needed; few = λ standard. omega arith },
+        λ told. record {
+          read = front.read;
+          joined = front.joined;
+          enough = front.enough;
+          needed = needed_within
+              (omega arith) front.needed;
+          exact = λ well. front.needed;
+          few = λ standard. omega arith;
+        },
         came_from _ refl,
         λ ends goes. refl,
       );
@@ -94,66 +104,60 @@ left_for work (Some content) =
 
 -- The sources of all inputs: that of standard input, and those of the files in their order.
 
-abbrev files_for : (Option (List ℕ) → Work) → World → ℕ → List (List ℕ) → List Source
-files_for work world slot [] = []
-files_for work world slot (name ∷ names) = cond (is_dash name) (files_for work world slot names) ((left_for work (world.laid slot name)).source ∷ files_for work world (slot + 1) names)
+module _ (work : Option (List ℕ) → Work) (world : World) where
+  abbrev standard : LeftFor (work (shown_of (Some world.standard))) (Some world.standard)
+  standard = left_for work (Some world.standard)
 
--- the sources when the names before these were taken
-abbrev sources_for : (Option (List ℕ) → Work) → World → List Source → ℕ → List (List ℕ) → List Source
-sources_for work world more slot names = ((left_for work (Some world.standard)).source ∷ more) ++ files_for work world slot names
+  -- beside the sources of the names before these, there are such in which all of these inputs are done
+  abbrev CanBeDone : List Source → List Input → Type 0
+  CanBeDone more inputs =
+      (rest : List Source) × AreDone true work largest_piece inputs (standard.source ∷ (more ++ rest))
 
--- the names after one are done, whatever that is
-abbrev AreDoneFrom : (Option (List ℕ) → Work) → World → List (List ℕ) → Type 0
-AreDoneFrom work world names = (was_read : Bool) (slot : ℕ) (more : List Source) → slot ≡ suc (length more) → AreDone true work largest_piece (inputs_from world was_read slot names) (sources_for work world more slot names)
+  -- the names after one are done, whatever that is
+  abbrev AreDoneFrom : List (List ℕ) → Type 0
+  AreDoneFrom names = (was_read : Bool) (slot : ℕ) (more : List Source) → slot ≡ suc (length more)
+      → CanBeDone more (inputs_from world was_read slot names)
 
-file_done : (work : Option (List ℕ) → Work) (world : World) (was_read : Bool) (slot : ℕ) (name : List ℕ)
-    (names : List (List ℕ)) (more : List Source) → slot ≡ suc (length more) → AreDoneFrom work world names
-    → AreDone true work largest_piece
-    (input_of world was_read slot name false ∷ inputs_from world was_read (slot + 1) names)
-    (((left_for work (Some world.standard)).source ∷ more)
-    ++ (left_for work (world.laid slot name)).source ∷ files_for work world (slot + 1) names)
-file_done work world was_read slot name names more is again =
-    let first = (left_for work (Some world.standard)).source in
-    let here = left_for work (world.laid slot name) in
-    let rest = files_for work world (slot + 1) names in
-    let at_slot : source_at ((first ∷ more) ++ here.source ∷ rest) slot ≡ here.source = ap (source_at ((first ∷ more) ++ here.source ∷ rest)) is ∙ get_or-append_seam (first ∷ more) here.source rest _ in
-    let all = length-append more (here.source ∷ rest) in
-    let next = length-append more (here.source ∷ []) in (
-      (omega (arith, is, all), rw at_slot (here.is slot)),
-      rw (append_assoc more (here.source ∷ []) rest) at
-          (again was_read (slot + 1) (more ++ here.source ∷ []) (omega (arith, is, next))),
-    )
+  file_done : (was_read : Bool) (slot : ℕ) (name : List ℕ) (names : List (List ℕ)) (more : List Source)
+      → slot ≡ suc (length more) → AreDoneFrom names
+      → CanBeDone more (input_of world was_read slot name false ∷ inputs_from world was_read (slot + 1) names)
+  file_done was_read slot name names more is again =
+      let here = left_for work (world.laid slot name) in
+      let (rest, done) = again was_read (slot + 1) (more ++ here.source ∷ []) (omega (arith, is, length-append more (here.source ∷ []))) in
+      let at_slot : source_at (standard.source ∷ (more ++ here.source ∷ rest)) slot ≡ here.source = ap
+      (source_at (standard.source ∷ (more ++ here.source ∷ rest))) is ∙ get_or-append_seam more here.source rest _ in (
+        here.source ∷ rest,
+        (
+          (omega (arith, is, length-append more (here.source ∷ rest)), rw at_slot (here.is slot)),
+          rw
+              (append_assoc more (here.source ∷ []) rest) at done,
+        ),
+      )
 
-name_done : (dash : Bool) (work : Option (List ℕ) → Work) (world : World) (was_read : Bool) (slot : ℕ) (name : List ℕ)
-    (names : List (List ℕ)) (more : List Source) → slot ≡ suc (length more) → AreDoneFrom work world names
-    → AreDone true work largest_piece
-    (input_of world was_read slot name dash ∷ inputs_from world (was_read || dash) (cond dash slot (slot + 1)) names)
-    (((left_for work (Some world.standard)).source ∷ more)
-    ++ cond dash (files_for work world slot names)
-    ((left_for work (world.laid slot name)).source ∷ files_for work world (slot + 1) names))
-name_done true work world true slot name names more is again = (tt, again true slot more is)
-name_done true work world false slot name names more is again = ((omega arith, (left_for work (Some world.standard)).is 0), again true slot more is)
-name_done false work world true slot name names more is again =
-    file_done work world true slot name names more is again
-name_done false work world false slot name names more is again =
-    file_done work world false slot name names more is again
+  name_done : (dash was_read : Bool) (slot : ℕ) (name : List ℕ) (names : List (List ℕ)) (more : List Source)
+      → slot ≡ suc (length more) → AreDoneFrom names
+      → CanBeDone more
+      (input_of world was_read slot name dash ∷ inputs_from world (was_read || dash) (cond dash slot (slot + 1)) names)
+  name_done true true slot name names more is again = let (rest, done) = again true slot more is in (rest, (tt, done))
+  name_done true false slot name names more is again =
+      let (rest, done) = again true slot more is in (rest, ((omega arith, standard.is 0), done))
+  name_done false true slot name names more is again = file_done true slot name names more is again
+  name_done false false slot name names more is again = file_done false slot name names more is again
 
-all_done : (work : Option (List ℕ) → Work) (world : World) (names : List (List ℕ)) → AreDoneFrom work world names
-all_done work world [] = λ was_read slot more is. tt
-all_done work world (name ∷ names) = λ was_read slot more is. name_done (is_dash name) work world was_read slot name names more is (all_done work world names)
+  all_done : (names : List (List ℕ)) → AreDoneFrom names
+  all_done [] was_read slot more is = ([], tt)
+  all_done (name ∷ names) was_read slot more is =
+      name_done (is_dash name) was_read slot name names more is (all_done names)
 
 -- Standard error takes all lines, the outputs get all of a part, and files are removed.
 
-record TookLines (speaker : Speaker) (lines : List Message) (old : Slot) : Type 0 where
-  pub error : Slot
-  pub says : SaysAll true speaker lines old error
-
 took_lines : (speaker : Speaker) (lines : List Message) (old : Slot) → old.is_broken ≡ false
-    → TookLines speaker lines old
-took_lines speaker [] old sound = record { error = old; says = refl }
+    → (error : Slot) × SaysAll true speaker lines old error
+took_lines speaker [] old sound = (old, refl)
 took_lines speaker (message ∷ lines) old sound =
     let line = line_of speaker Other message in
-    let rest = took_lines speaker lines (adds line old) sound in record { error = rest.error; says = (adds line old, (Other, record { said = line; is = inl refl; printed = whole sound refl }), rest.says) }
+    let (error, says) = took_lines speaker lines (adds line old) sound in
+    (error, (adds line old, (Other, record { said = line; is = inl refl; printed = whole sound refl }), says))
 
 files_are : (files : List File) → map file_of (map slot_of files) ≡ map (told_file true) files
 files_are [] = refl
@@ -170,24 +174,22 @@ cleared_each [] place = swept_so.none refl
 cleared_each (slot ∷ slots) zero = cleared_one slot
 cleared_each (slot ∷ slots) (suc place) = cleared_each slots place
 
-record Cleans (sweeps : Bool) (old : List Slot) : Type 0 where
-  pub new : List Slot
-  pub swept : Swept sweeps 2 old new
+cleans : (sweeps : Bool) (output error : Slot) (files : List Slot)
+    → (new : List Slot) × Swept sweeps 2 (output ∷ error ∷ files) new
+cleans false output error files = (output ∷ error ∷ files, refl)
+cleans true output error files =
+    (output ∷ error ∷ map gone files, record { size = ap (λ n. suc (suc n)) (length-map files gone); before = before; cleared = cleared }) where
+      before : (place : ℕ) → place < 2
+          → slot_at (output ∷ error ∷ map gone files) place ≡ slot_at (output ∷ error ∷ files) place
+      before zero few = refl
+      before (suc zero) few = refl
+      before (suc (suc place)) few = absurd (omega (arith, few))
 
-cleans : (sweeps : Bool) (output error : Slot) (files : List Slot) → Cleans sweeps (output ∷ error ∷ files)
-cleans false output error files = record { new = output ∷ error ∷ files; swept = refl }
-cleans true output error files = record { new = output ∷ error ∷ map gone files; swept = record { size = ap (λ n. suc (suc n)) (length-map files gone); before = before; cleared = cleared } } where
-  before : (place : ℕ) → place < 2
-      → slot_at (output ∷ error ∷ map gone files) place ≡ slot_at (output ∷ error ∷ files) place
-  before zero few = refl
-  before (suc zero) few = refl
-  before (suc (suc place)) few = absurd (omega (arith, few))
-
-  cleared : (place : ℕ) → 2 ≤ place
-      → Cleared (slot_at (output ∷ error ∷ files) place) (slot_at (output ∷ error ∷ map gone files) place)
-  cleared zero past = absurd (omega (arith, past))
-  cleared (suc zero) past = absurd (omega (arith, past))
-  cleared (suc (suc place)) past = cleared_each files place
+      cleared : (place : ℕ) → 2 ≤ place
+          → Cleared (slot_at (output ∷ error ∷ files) place) (slot_at (output ∷ error ∷ map gone files) place)
+      cleared zero past = absurd (omega (arith, past))
+      cleared (suc zero) past = absurd (omega (arith, past))
+      cleared (suc (suc place)) past = cleared_each files place
 
 -- So a run over any inputs can end well.
 
@@ -203,13 +205,13 @@ ends_well : (task : Task) (world : World) (names : List (List ℕ))
     → Well (EndsAs true true task (inputs_at world names)) (λ sources new status ends. IsUnstopped ends)
 ends_well task world names =
     let made = made_by task (inputs_at world names) in
-    let lines = took_lines task.speaker made.messages standard_error refl in
-    let left = cleans made.sweeps (adds made.part.out standard_output) lines.error (map slot_of made.part.files) in record {
-      sources = sources_for task.work world [] 1 names;
-      new = left.new;
+    let (error, says) = took_lines task.speaker made.messages standard_error refl in
+    let left = cleans made.sweeps (adds made.part.out standard_output) error (map slot_of made.part.files) in
+    let (rest, done) = all_done task.work world names false 1 [] refl in record {
+      sources = (left_for task.work (Some world.standard)).source ∷ rest;
+      new = left.0;
       status = status_of made;
-      does = as_defined lines.error (outputs_of made.part lines.error) lines.says (at_part made.part lines.error)
-          left.swept (all_done task.work world names false 1 [] refl) refl;
+      does = as_defined error (outputs_of made.part error) says (at_part made.part error) left.1 done refl;
       unstopped = tt;
     }
 
@@ -255,9 +257,16 @@ tee_well : (calling : Calling) (asked : TeeAsked) (world : World)
     → length world.standard.bytes < 2 ^ 63 → DoesWell calling (Tee asked) world
 tee_well calling asked world few = record {
   sources = source ∷ [];
-  new = left lines.error;
+  new = left lines.0;
   status = tee.status_of asked.on_broken (None ∷ unbroken asked.names) fault;
-  does = record { content = content; input = refl; ends = ends; came = came_from source refl; whole = λ told well told_of. all content.breaks_off well };
+  does = record {
+    content = content;
+    input = refl;
+    ends = ends;
+    came = came_from source refl;
+    whole =
+        λ told well told_of. all content.breaks_off well;
+  };
   unstopped = (all_sound asked.names, pieces_are content.bytes);
 } where
   content : Content
@@ -270,9 +279,17 @@ tee_well calling asked world few = record {
   fault = met_by content.breaks_off
 
   source : Source
-  source = record (source_of content) { left = record content { bytes = [] }; is_broken = content.breaks_off; taken = content.bytes; reached = length content.bytes; ended = true; reads = length pieces + 1 }
+  source = record (source_of content) {
+    left = record content { bytes = [] };
+    is_broken = content.breaks_off;
+    taken = content.bytes;
+    reached =
+        length content.bytes;
+    ended = true;
+    reads = length pieces + 1;
+  }
 
-  lines : TookLines (tee_called calling) (said_of_input fault) standard_error
+  lines : (error : Slot) × SaysAll true (tee_called calling) (said_of_input fault) standard_error error
   lines = took_lines (tee_called calling) (said_of_input fault) standard_error refl
 
   left : Slot → List Slot
@@ -282,12 +299,13 @@ tee_well calling asked world few = record {
   goes_on call = sound_goes_on asked.on_broken call None (unbroken asked.names) (all_sound asked.names)
 
   ends : tee.EndsAs true true calling asked.mode asked.on_broken asked.names content source
-      (left lines.error) (tee.status_of asked.on_broken (None ∷ unbroken asked.names) fault)
-  ends = tee.copied pieces fault None (unbroken asked.names) _ lines.error _
+      (left lines.0) (tee.status_of asked.on_broken (None ∷ unbroken asked.names) fault)
+  ends = tee.copied pieces fault None (unbroken asked.names) _ lines.0 _
       (record {
         read = rw (goes_on (suc (length pieces)))
             (read_all content.bytes content.breaks_off (LeavesOf true source) (λ told. refl));
-        sizes = All-map (λ (piece : List ℕ). (0 < length piece) × (length piece ≤ largest_piece)) (λ byte. byte ∷ []) content.bytes (λ k byte within. (omega arith, omega arith));
+        sizes = All-map (λ (piece : List ℕ). (0 < length piece) × (length piece ≤ largest_piece))
+            (λ byte. byte ∷ []) content.bytes (λ k byte within. (omega arith, omega arith));
         few = rw (pieces_are content.bytes) few;
         met = met_or_sound content.breaks_off;
         ended = λ none some. refl;
@@ -295,13 +313,14 @@ tee_well calling asked world few = record {
         reads = rw (goes_on (suc (length pieces))) refl;
       })
       (goes_on (length pieces)) tee.output_whole (copies_left asked.mode pieces asked.names)
-      (rw (quiet_outputs asked.on_broken asked.names (None ∷ unbroken asked.names) (length pieces) fault (all_sound asked.names)) lines.says) refl refl
+      (rw (quiet_outputs asked.on_broken asked.names (None ∷ unbroken asked.names) (length pieces) fault (all_sound asked.names)) lines.1) refl refl
 
   all : (breaks_off : Bool) → tee.status_of asked.on_broken (None ∷ unbroken asked.names) (met_by breaks_off) ≡ 0
-      → left (took_lines (tee_called calling) (said_of_input (met_by breaks_off)) standard_error refl).error
+      → left (took_lines (tee_called calling) (said_of_input (met_by breaks_off)) standard_error refl).0
       ≡ tee.all_copied true asked.mode asked.names content.bytes
-  all true well = absurd (let is : 1 ≡ 0 = sym (sound_status asked.on_broken (None ∷ unbroken asked.names) (Some (Read 0)) (all_sound asked.names)) ∙ well in omega (arith, is))
-  all false well = ap left (took_lines (tee_called calling) (said_of_input (met_by false)) standard_error refl).says
+  all true well = absurd (let is : 1 ≡ 0 = sym
+      (sound_status asked.on_broken (None ∷ unbroken asked.names) (Some (Read 0)) (all_sound asked.names)) ∙ well in omega (arith, is))
+  all false well = ap left (took_lines (tee_called calling) (said_of_input (met_by false)) standard_error refl).1
       ∙ rw (pieces_are content.bytes)
 
 does_well : (run : Run) (asked : Settings) → HasOperands asked → (HasLong run asked → ⊥)
@@ -327,5 +346,9 @@ does_well run (Tee asked) can short = elim (cases_lt (length run.world.standard.
 pub one_completes : (run : Run) (asked : Settings) → Ran run asked → HasOperands asked → (HasLong run asked → ⊥)
     → (well : Run) × FindAlike run well × Completes well asked
 one_completes run asked ran can short =
-    let all = does_well run asked can short in
-    (record run { inputs = all.sources; outputs = all.new; status = all.status }, all_alike _, record { read = ran.read; does = all.does; unstopped = all.unstopped })
+    let all = does_well run asked can short in (
+      record run { inputs = all.sources; outputs = all.new; status = all.status },
+      all_alike _,
+      record
+          { read = ran.read; does = all.does; unstopped = all.unstopped },
+    )

@@ -3,17 +3,18 @@ use Rattle.std.{
   proofs.lemmas.{
     Grind.common_steps,
     Bool.{cond_both, false≢true, lt-ltb},
-    List.{append-nil, length-map, map-append, Elements.{All-append, All-cons, All-map, All-nil}},
+    List.{append-nil, Elements.{All-append, All-cons, All-map, All-nil}},
   },
-  proofs.Common.{◌≡◌, ℕ, ◌+◌, drop, Bool, true, false, eqb, List, [], ◌∷◌, Option, Some, None, refl, ◌∙◌, ◌-◌, ◌<◌},
+  proofs.Common.{suc, ◌≡◌, ℕ, ◌+◌, drop, Bool, true, false, eqb, List, [], ◌∷◌, Option, Some, None, refl, ◌∙◌, ◌-◌},
   proofs.Common.{◌≤◌, ◌++◌, length, map, sym, ap, subst, arith, cond},
   specs.List.flat_map,
 }
 use Rattle.operand_core.specs.{
   declared.operand.{Operand.Operand, Target.{Target, TheVariants.{Number, Search}}, Times.{Times, TheVariants.Count}},
-  Reading.{Aim, line, match, Spelled, Aimed, aims, fails, Words, AreRead, Asks, IsTarget, aim_of, failed, least_after},
-  Reading.{no_more, times_by, with_operand, words_from, words_of},
-  Word.{Spelling, number, search, spelling, closed_at, repeated, numbered},
+  Reading.{Aim, line, match, Spelled, Aimed, aims, fails, Words, AreRead, Asks, IsTarget, aim_of, failed},
+  Reading.least_after,
+  Reading.{times_by, with_operand, words_from, words_of},
+  Word.{spelling, closed_at, repeated, numbered},
   Style.Style,
 }
 use Rattle.csplit_core.specs.{
@@ -21,63 +22,41 @@ use Rattle.csplit_core.specs.{
   Csplit.verdict_of,
   Input.{all_lines, marked, newline},
   Output.{file_in, manner_of, naming_of, shares_in, state_in},
-  Plan.{State, line_after, operands_after, step_of, Step, Ending, below, Runs, is_used_up, misses, is_above, is_below},
+  Plan.{State, line_after, operands_after, step_of, Step, Ending, below, Runs, misses, is_above},
+  Plan.is_below,
   Plan.cuts,
   Planned.plan,
   Section.{Section, section_of, bytes_of, is_final, is_last_kept, lines_between, lines_in, whole_sections},
-  laws.{PlanLaws.plan_runs, SectionLaws.{are_within, bytes-append}},
+  laws.{PlanLaws.plan_runs, SectionLaws.{are_within}},
 }
 use Rattle.csplit_core.proofs.WholeLemmas.{ends_after_all, none_lost_at_end, between_rest, rest_is_all}
 use Rattle.tools_core.{
   specs.{
-    Promises.{SkipNothing, skips, Run, Does, HasInput, AreNumbered, AreSections, IsSound, contents_of, files_of},
-    Promises.{in_turn, last_section, left_out, text_at},
+    Promises.{SkipNothing, skips, Run, Does, HasInput, AreNumbered, contents_of, files_of},
+    Promises.{in_turn, last_section, left_out},
     Tasks.csplit_task,
   },
   proofs.{
-    SplitPromises.{formatted_in_order, AreNamed, bytes_written, named_step},
-    LeftLemmas.{each_made, each_section, slot_of},
+    SplitPromises.{are_made, bytes_written, order_by},
+    LeftLemmas.{each_section, slot_of},
     PromiseLemmas.{did_one, one_made},
   },
 }
 use Rattle.seg_core.{specs.Line.{joined, lines_of}, proofs.{FirstLines.joined-append, LinesOf.joined-lines_of}}
 use Rattle.ports_core.specs.{
-  Name.name_at,
   Part.File,
-  Slot.Slot,
   declared.{
-    slot.Mode.TheVariants.Fresh,
+    slot.State.TheVariants.Closed,
     file_writer.Opening.TheVariants.{Never, Late, AtOnce},
     calling.Calling.TheVariants.Cutters,
   },
-  Draft.{Share, share, file_at, files_from, made_of},
+  Draft.{Share, files_from, made_of},
 }
-use Rattle.ports_core.proofs.OrderLemmas.{no_two}
+use Rattle.ports_core.proofs.OrderLemmas.{in_order, no_two}
 use Rattle.words_core.specs.{CsplitWords.CsplitAsked, declared.settings.Settings.TheVariants.Csplit}
 use Rattle.split_core.proofs.CutLaws.{bytes_of_shares}
 
 -- Where no word of `csplit`'s operands skips a section, each operand keeps its section.
-
-abbrev KeepsSpelling : Spelling → Type 0
-KeepsSpelling (search delimiter text offset) = eqb delimiter 47 ≡ true
-KeepsSpelling spelling = Unit {0}
-
-closed_keeps : (delimiter : ℕ) (text : List ℕ) (place : Option ℕ) → eqb delimiter 47 ≡ true
-    → KeepsSpelling (closed_at delimiter text place)
-closed_keeps delimiter text None is = tt
-closed_keeps delimiter text (Some place) is = grind (arith, common_steps)
-
-repeated_keeps : (times : Option Times) → KeepsSpelling (repeated times)
-repeated_keeps None = tt
-repeated_keeps (Some times) = tt
-
-numbered_keeps : (n : Option ℕ) → KeepsSpelling (numbered n)
-numbered_keeps None = tt
-numbered_keeps (Some n) = grind (arith, common_steps)
-
-word_keeps : (word : List ℕ) → skips word ≡ false → KeepsSpelling (spelling word)
-word_keeps [] differs = tt
-word_keeps (byte ∷ text) differs = grind (arith, common_steps, cond_both, closed_keeps, false≢true, repeated_keeps, numbered_keeps)
 
 -- what operands aim at
 
@@ -89,46 +68,51 @@ abbrev KeepsAimed : Aimed → Type 0
 KeepsAimed (aims aim) = KeepsAim aim
 KeepsAimed (fails what) = Unit {0}
 
-aimed_keeps : (least : ℕ) (spelled : Spelling) → KeepsSpelling spelled → KeepsAimed (aim_of least spelled)
-aimed_keeps least (number n) keeps = grind (arith, common_steps)
-aimed_keeps least (search delimiter text offset) keeps = keeps
-aimed_keeps least spelled keeps = tt
+closed_keeps : (least delimiter : ℕ) (text : List ℕ) (place : Option ℕ) → eqb delimiter 47 ≡ true
+    → KeepsAimed (aim_of least (closed_at delimiter text place))
+closed_keeps least delimiter text None is = tt
+closed_keeps least delimiter text (Some place) is = grind (arith, common_steps)
+
+repeated_keeps : (least : ℕ) (times : Option Times) → KeepsAimed (aim_of least (repeated times))
+repeated_keeps least None = tt
+repeated_keeps least (Some times) = tt
+
+numbered_keeps : (least : ℕ) (n : Option ℕ) → KeepsAimed (aim_of least (numbered n))
+numbered_keeps least None = tt
+numbered_keeps least (Some n) = grind (arith, common_steps)
+
+word_keeps : (least : ℕ) (word : List ℕ) → skips word ≡ false → KeepsAimed (aim_of least (spelling word))
+word_keeps least [] differs = tt
+word_keeps least (byte ∷ text) differs = grind (arith, common_steps, cond_both, closed_keeps, false≢true, repeated_keeps, numbered_keeps)
 
 abbrev KeepAims : List Spelled → Type 0
 KeepAims [] = Unit {0}
 KeepAims (spelled ∷ more) = KeepsAim spelled.aim × KeepAims more
 
-last_keeps : (index : ℕ) (aimed : Aimed) → KeepsAimed aimed
-    → KeepAims
-    (elim aimed as
-    (λ _. Words) [ fails what ↦ failed what index | aims aim ↦ with_operand index aim (Count 0) no_more ]).operands
-last_keeps index (fails what) keeps = tt
-last_keeps index (aims aim) keeps = (keeps, tt)
+aimed_keep : (index : ℕ) (aimed : Aimed) (past : Aim → Words) → KeepsAimed aimed
+    → ((aim : Aim) → KeepsAim aim → KeepAims (past aim).operands)
+    → KeepAims (elim aimed as (λ _. Words) [ fails what ↦ failed what index | aims aim ↦ past aim ]).operands
+aimed_keep index (fails what) past keeps each = tt
+aimed_keep index (aims aim) past keeps each = each aim keeps
 
-next_keeps : (index : ℕ) (aimed : Aimed) (says : Option Times) (past next : Aim → Words) → KeepsAimed aimed
-    → ((aim : Aim) → KeepAims (past aim).operands) → ((aim : Aim) → KeepAims (next aim).operands)
+times_keep : (index : ℕ) (aim : Aim) (says : Option Times) (past next : Words) → KeepsAim aim
+    → KeepAims past.operands → KeepAims next.operands
     → KeepAims
-    (elim aimed as
-    (λ _. Words) [
-      | fails what ↦ failed what index
-      | aims aim ↦ elim says as
-          (λ _. Words) [
-            | Some times ↦ with_operand index aim times (past aim)
-            | None ↦ with_operand index aim
-                (Count 0) (next aim)
-          ]
+    (elim says as (λ _. Words) [
+      | Some times ↦ with_operand index aim times past
+      | None ↦ with_operand index aim (Count 0) next
     ]).operands
-next_keeps index (fails what) says past next keeps first second = tt
-next_keeps index (aims aim) (Some times) past next keeps first second = (keeps, first aim)
-next_keeps index (aims aim) None past next keeps first second = (keeps, second aim)
+times_keep index aim (Some times) past next keeps first second = (keeps, first)
+times_keep index aim None past next keeps first second = (keeps, second)
 
 words_keep : (index least : ℕ) (words : List (List ℕ)) → SkipNothing words
     → KeepAims (words_from index least words).operands
 words_keep index least [] none = tt
-words_keep index least (word ∷ []) none = last_keeps index (aim_of least (spelling word)) (aimed_keeps least (spelling word) (word_keeps word none.0))
-words_keep index least (word ∷ next ∷ words) none =
-    next_keeps index (aim_of least (spelling word)) (times_by (spelling next)) (λ aim. words_from (index + 2) (least_after least aim) words) (λ aim. words_from (index + 1) (least_after least aim) (next ∷ words))
-    (aimed_keeps least (spelling word) (word_keeps word none.0)) (λ aim. words_keep (index + 2) (least_after least aim) words none.1.1) (λ aim. words_keep (index + 1) (least_after least aim) (next ∷ words) none.1)
+words_keep index least (word ∷ []) none = grind (arith, common_steps, aimed_keep, word_keeps)
+words_keep index least (word ∷ next ∷ words) none = aimed_keep index _ _ (word_keeps least word none.0)
+    (λ aim keeps. times_keep index aim (times_by (spelling next)) _ _ keeps
+    (words_keep (index + 2) (least_after least aim) words none.1.1)
+    (words_keep (index + 1) (least_after least aim) (next ∷ words) none.1))
 
 all_keep : (words : List (List ℕ)) → SkipNothing words → KeepAims (words_of words).operands
 all_keep [] none = tt
@@ -148,7 +132,8 @@ target_keeps aim target keeps is = absurd is
 read_keep : (spelled : List Spelled) (operands : List Operand) → KeepAims spelled → AreRead spelled operands
     → KeepTargets operands
 read_keep [] [] keep are = tt
-read_keep (spelled ∷ more) (operand ∷ operands) keep are = (target_keeps spelled.aim operand.target keep.0 are.0.target, read_keep more operands keep.1 are.1)
+read_keep (spelled ∷ more) (operand ∷ operands) keep are =
+    grind (arith, common_steps, target_keeps, (read_keep more operands keep.1 are.1))
 read_keep spelled operands keep are = absurd are
 
 -- All sections are kept, where all operands keep theirs.
@@ -173,20 +158,14 @@ record Kept (lines : List Line) (steps : List Step) (ending : Ending) : Type 0 w
 
 runs_keep : {suppress : Bool} {lines : List Line} {state : State} {steps : List Step} {last : State} {ending : Ending}
     → Runs suppress lines state steps last ending → KeepTargets state.operands → Kept lines steps ending
-runs_keep (is_used_up state none) keep = record { sections = tt; final = refl }
-runs_keep (misses state operand operands is none) keep = grind (arith, common_steps)
-runs_keep (is_above state operand operands matched cut is at far) keep = grind (arith, common_steps)
-runs_keep (is_below state operand operands matched cut is at within low) keep = grind (arith, common_steps)
 runs_keep (cuts state operand operands matched cut steps last ending is at from within rest) keep =
     let these = rw is at keep in
     let past = runs_keep rest (kept_after (has_more operand.times state.repetition) operand operands these) in
     record { sections = (these.0, past.sections); final = past.final }
-
-sections_kept : (suppress : Bool) (operands : List Operand) (lines : List Line) → KeepTargets operands
-    → AllKept (whole_sections lines (plan suppress operands lines))
-sections_kept suppress operands lines keep =
-    let kept = runs_keep (plan_runs suppress operands lines) keep in
-    kept_then (map (section_of lines) (plan suppress operands lines).steps) _ kept.sections kept.final
+runs_keep (misses state operand operands is none) keep = grind (arith, common_steps)
+runs_keep (is_above state operand operands matched cut is at far) keep = grind (arith, common_steps)
+runs_keep (is_below state operand operands matched cut is at within low) keep = grind (arith, common_steps)
+runs_keep run keep = record { sections = tt; final = refl }
 
 -- The files of sections that are kept are joined their lines.
 
@@ -199,13 +178,7 @@ all_bytes (text ∷ lines) = rw (all_bytes lines)
 shares_have : (style : Style) (sections : List Section)
     → map (λ (one : Share). one.bytes) (shares_in style sections) ≡ flat_map (file_in style) sections
 shares_have style [] = refl
-shares_have style (section ∷ sections) =
-    rw (
-      map-append (λ (one : Share). one.bytes) (map (share (state_in section)) (file_in style section))
-          (shares_in style sections),
-      bytes_of_shares (state_in section) (file_in style section),
-      shares_have style sections,
-    )
+shares_have style (section ∷ sections) = grind (arith, common_steps, bytes_of_shares, (shares_have style sections))
 
 files_have : (style : Style) (place : ℕ) (shares : List Share)
     → map (λ (file : File). file.bytes) (files_from (manner_of style) place shares)
@@ -225,20 +198,7 @@ files_joined : (style : Style) (sections : List Section) → AllKept sections
     → joined (flat_map (file_in style) sections) ≡ bytes_of (lines_in sections)
 files_joined style [] kept = refl
 files_joined style (section ∷ sections) kept =
-    rw (
-      joined-append (file_in style section) (flat_map (file_in style) sections),
-      file_joined style.elide section.is_kept (bytes_of section.lines) kept.0,
-      files_joined style sections kept.1,
-      bytes-append section.lines (lines_in sections),
-    )
-
--- Their names
-
-numbered_from : (style : Style) (start : ℕ) (shares : List Share)
-    → AreNamed (name_at (naming_of style)) start (files_from (manner_of style) start shares)
-numbered_from style start [] k within = absurd (omega (arith, within))
-numbered_from style start (one ∷ shares) k within =
-    named_step (name_at (naming_of style)) start (file_at (manner_of style) start one) (files_from (manner_of style) (start + 1) shares) [] true refl (numbered_from style (start + 1) shares) (λ k within. absurd (omega (arith, within))) k within
+    grind (arith, common_steps, joined-append, file_joined, (files_joined style sections kept.1))
 
 -- What a run leaves
 
@@ -258,12 +218,12 @@ pub record IsCsplit (run : Run) (asked : CsplitAsked) (input : List ℕ) : Type 
   pub contents : contents_of run ≡ flat_map (file_in asked.style)
       (whole_sections (all_lines input) (plan asked.style.suppress operands (all_lines input)))
 
-is_csplit : {run : Run} {asked : CsplitAsked} {input : List ℕ} → Does run (Csplit asked) → HasInput run input
+pub is_csplit : {run : Run} {asked : CsplitAsked} {input : List ℕ} → Does run (Csplit asked) → HasInput run input
     → IsCsplit run asked input
 is_csplit {run} {asked} {input} does has =
     let one = did_one does has in
-    let (operands, asks, is) = one.makes in
-    let made = one_made one (csplit_task Cutters asked operands) (record { whole = λ text. refl; verdict = λ text. refl; clears = λ text. refl }) is in
+    let (task, (operands, asks, is), made_is) = one.makes in
+    let made = one_made one (csplit_task Cutters asked operands) (operands, asks, refl) in
     let sections = whole_sections (all_lines input) (plan asked.style.suppress operands (all_lines input)) in
     let files : files_of run ≡ map slot_of (files_from (manner_of asked.style) 0 (shares_in asked.style sections)) = ap (drop 2) made.slots in
     record {
@@ -282,21 +242,19 @@ are_numbered run asked input does has =
     let lines = all_lines input in
     let sections = whole_sections lines (plan asked.style.suppress split.operands lines) in
     let steps = (plan asked.style.suppress split.operands lines).steps in
-    let IsClosed = λ (section : Section). (bytes : List ℕ) (place : ℕ) → IsSound Fresh (slot_of (file_at (manner_of asked.style) place (share (state_in section) bytes))) in
-    let shares = shares_in asked.style sections in
-    let files = map slot_of (files_from (manner_of asked.style) 0 shares) in
-    let size : length (map (λ (file : Slot). file.name) files) ≡ length files = length-map files (λ (file : Slot). file.name) in
-    let named : (place : ℕ) → place < length files → text_at (map (λ (file : Slot). file.name) files) place ≡ name_at (naming_of asked.style) place =
-    λ place within. numbered_from asked.style 0 shares place within ∙ ap (name_at (naming_of asked.style)) (omega arith) in
+    let IsClosed = λ (section : Section). state_in section ≡ Closed in
     let naming = naming_of asked.style in
+    let made = are_made (manner_of asked.style) (shares_in asked.style sections) (each_section (λ state. state ≡ Closed) asked.style sections
+    (All-append IsClosed (map (section_of lines) steps) _
+    (All-map IsClosed (section_of lines) steps (λ k step within. refl)) (All-cons IsClosed _ [] refl (All-nil IsClosed)))) in
     rw split.files (record {
-      named = named;
+      named = made.named;
       apart = λ least one other first second same.
-          no_two naming one other tt (lt-ltb _ _ (omega (arith, first, least))) (lt-ltb _ _ (omega (arith, second, least))) (sym (named one first) ∙ same ∙ named other second);
-      in_order = λ few least. formatted_in_order naming asked.style.form (map (λ (file : Slot). file.name) files) refl (λ place within. named place (omega (arith, size, within))) (omega (arith, size, few)) (omega (arith, size, least));
-      sound = All-map (IsSound Fresh) slot_of _ (each_made (λ (file : File). IsSound Fresh (slot_of file)) (manner_of asked.style) 0 shares
-          (each_section (λ one. (place : ℕ) → IsSound Fresh (slot_of (file_at (manner_of asked.style) place one))) asked.style sections
-          (All-append IsClosed (map (section_of lines) steps) _ (All-map IsClosed (section_of lines) steps (λ k step within bytes place. (refl, refl, refl))) (All-cons IsClosed _ [] (λ bytes place. (refl, refl, refl)) (All-nil IsClosed)))));
+          no_two naming one other tt (lt-ltb _ _ (omega (arith, first, least)))
+          (lt-ltb _ _ (omega (arith, second, least))) (sym (made.named one first) ∙ same ∙ made.named other second);
+      in_order = λ few least. order_by _ _ made.named (λ k next.
+          in_order naming k (suc k) tt (omega arith) (lt-ltb _ _ (omega (arith, next, least))) (lt-ltb _ _ (omega (arith, next, few))));
+      sound = made.sound;
     })
 
 pub none_is_lost : (run : Run) (asked : CsplitAsked) (input : List ℕ) → Does run (Csplit asked) → HasInput run input
@@ -305,10 +263,11 @@ none_is_lost run asked input does has whole none =
     let split = is_csplit does has in
     let lines = all_lines input in
     let keep = read_keep (words_of asked.operands).operands split.operands (all_keep asked.operands none) split.asks.read in
+    let kept = runs_keep (plan_runs asked.style.suppress split.operands lines) keep in
     rw (
       split.contents,
       files_joined asked.style (whole_sections lines (plan asked.style.suppress split.operands lines))
-          (sections_kept asked.style.suppress split.operands lines keep),
+          (kept_then (map (section_of lines) (plan asked.style.suppress split.operands lines).steps) _ kept.sections kept.final),
     )
     (ap (λ suppress. bytes_of (lines_in (whole_sections lines (plan suppress split.operands lines)))) whole
     ∙ rw (
@@ -339,7 +298,7 @@ all_in_turn {suppress} {lines} (cuts state operand operands matched cut steps' l
     (between_rest state.current cut lines some from)
 all_in_turn run some = refl
 
-none_missing : (suppress : Bool) (operands : List Operand) {lines : List Line}
+pub none_missing : (suppress : Bool) (operands : List Operand) {lines : List Line}
     → is_final (plan suppress operands lines).ending ≡ false
     → in_turn suppress lines (plan suppress operands lines).steps (last_section lines (plan suppress operands lines))
     ≡ lines
@@ -347,18 +306,6 @@ none_missing suppress operands {lines} live =
     let plan' = plan suppress operands lines in
     let runs = plan_runs suppress operands lines in
     let some = (are_within runs (omega arith)).1 in
-    ap (in_turn suppress lines plan'.steps) (ap (λ end. lines_between plan'.last.current end lines) (ends_after_all (length lines) plan'.ending live) ∙ rest_is_all lines _ some)
+    ap (in_turn suppress lines plan'.steps)
+    (ap (λ end. lines_between plan'.last.current end lines) (ends_after_all (length lines) plan'.ending live) ∙ rest_is_all lines _ some)
     ∙ all_in_turn runs (omega arith)
-
-pub are_sections : (run : Run) (asked : CsplitAsked) (input : List ℕ) → Does run (Csplit asked) → HasInput run input
-    → (operands : List Operand) × Asks asked.operands operands
-    × AreSections asked.style operands input (contents_of run)
-are_sections run asked input does has =
-    let split = is_csplit does has in (
-      split.operands,
-      split.asks,
-      record {
-        all = none_missing asked.style.suppress split.operands split.well;
-        files = split.contents;
-      },
-    )

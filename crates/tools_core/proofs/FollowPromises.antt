@@ -1,8 +1,8 @@
 -- What `tail` writes of one file that only grows, where it follows it and meets no fault.
 use Rattle.std.proofs.{
-  lemmas.{Grind.common_steps, Bool.{cond_both, or_parts, cases_lt, false≢true}, List.length-map},
+  lemmas.{Grind.common_steps, Bool.{or_parts, cases_lt, false≢true}},
   Common.{◌≡◌, ℕ, ◌+◌, ◌<◌, ◌≤◌, max, zero, suc, Bool, true, false, List, [], ◌∷◌, ◌++◌, length, drop, Option, Some},
-  Common.{None, Ok, refl, sym, ◌∙◌, ap, subst, arith, append_assoc, append-nil, ◌&&◌, cond, is_some, not, ◌||◌, inl},
+  Common.{refl, sym, ◌∙◌, ap, subst, arith, append_assoc, ◌&&◌, cond, is_some, not, ◌||◌, inl},
   Common.{inr, rules},
   Math.Seq.drop-append_seam as drop_front,
 }
@@ -11,27 +11,26 @@ use Rattle.follow_core.specs.{
   Ending.{seen_first, FollowEndsAs, looked, no_room, stopped},
   Gain.gains_later,
   Run.{AreKept, name_text},
-  Version.{Entry, entries_led, entries_later, entries_of, open_after, open_after_later, version_in},
+  Version.{Entry, entries_later, entries_of, open_after, open_after_later, version_in},
   Followed.{any_failed, text_from},
-  Look.{Fate, Look, Ways, entries_in, fate_at, is_dropped, is_first, sound, unled, unopened, unmeasured, unsought},
-  Look.{unread, snapshots, ways_of},
-  Notice.is_missing,
-  Share.{Share, bytes_of, gain, gains_from, missing_share, no_share, share_by, share_of, shares_from},
+  Look.{Fate, Look, Ways, fate_at, is_dropped, sound},
+  Look.{snapshots, ways_of},
+  Share.{bytes_of, gain, gains_from, no_share, share_by, share_of, shares_from},
   FollowState.is_alive,
 }
 use Rattle.follow_core.proofs.{AgreeLemmas.grown, RunLemmas.text_is_gains, LookLemmas.{failed_sound, looks_give_text}}
 use Rattle.tools_core.{
-  specs.Promises.{AsksToFollow, OnlyGrows, Follows, IsBare, IsOfProgram, Ran, Run, showing},
-  specs.Following.{FollowingEndsAt, is_name, start_of},
+  specs.Promises.{OnlyGrows, Follows, IsBare, IsOfProgram, Run, showing},
+  specs.Following.{is_name, start_of},
   specs.Program.{ProgramEndsAt, looks_at},
-  specs.Tasks.{has_headers, is_plus},
-  proofs.LeftLemmas.{status_some, unfailed},
+  specs.Tasks.{is_plus},
+  proofs.LeftLemmas.{status_some},
 }
 use Rattle.ends_core.specs.Ends.{tail_of}
 use Rattle.ports_core.specs.{Slot.{Slot, slot_at, streams}, declared.calling.Calling.Calling, Source.source_of}
 use Rattle.words_core.specs.{
   EndsWords.EndsAsked,
-  declared.{value.Followed.Followed, settings.Settings.Settings},
+  declared.{value.Followed.Followed},
   Words.{follows, looks, settings_of},
 }
 
@@ -48,7 +47,7 @@ one_more shows zero = search rules
 one_more shows {start} (suc n) =
     rw (let e : start + suc n ≡ suc start + n = omega arith in e) (ap (λ rest. shows start ∷ rest) (one_more shows n))
 
-pub seen_are : (shows : ℕ → Snapshot) (n : ℕ) → seen_first shows n ≡ looks_from shows 0 n
+seen_are : (shows : ℕ → Snapshot) (n : ℕ) → seen_first shows n ≡ looks_from shows 0 n
 seen_are shows zero = refl
 seen_are shows (suc n) = rw (seen_are shows n)
     (ap (λ k. looks_from shows 0 n ++ shows k ∷ []) (omega arith) ∙ one_more shows n)
@@ -58,44 +57,32 @@ abbrev pub versions : (ℕ → Snapshot) → ℕ → ℕ → ℕ → List Entry
 versions shows file start zero = []
 versions shows file start (suc n) = version_in (shows start) file ∷ versions shows file (suc start) n
 
-later_by : (by_name : Bool) (name : List ℕ) {file : ℕ} (snapshot : Snapshot) {led : Option ℕ} {rest : List Entry}
-    → led ≡ Some file
-    → version_in snapshot file ∷ (entries_led snapshot (Some file) led ++ rest) ≡ version_in snapshot file ∷ rest
-later_by by_name name {file} snapshot is = search rules
-
 later_are : (by_name : Bool) {name : List ℕ} (shows : ℕ → Snapshot) {file count : ℕ} (start n : ℕ) → start + n ≤ count
     → OnlyGrows count shows name file
     → entries_later by_name name (Some file) (looks_from shows start n) ≡ versions shows file start n
 later_are by_name shows start zero within grows = refl
 later_are true {name} shows {file} start (suc n) within grows =
-    let leads = grows.0 start (omega (arith, within)) in
-    later_by true name (shows start) leads ∙ rw
-    (leads, later_are true shows (suc start) n (omega (arith, within)) grows)
+    grind (arith, common_steps, (grows.0 start (omega (arith, within))), (later_are true shows (suc start) n (omega (arith, within)) grows))
 later_are false shows start (suc n) within grows = rw (later_are false shows (suc start) n (omega (arith, within)) grows)
 
 entries_are : (by_name : Bool) {name : List ℕ} (shows : ℕ → Snapshot) {file count : ℕ} (n : ℕ) → n ≤ count
     → OnlyGrows count shows name file → entries_of by_name name (looks_from shows 0 n) ≡ versions shows file 0 n
 entries_are by_name shows zero within grows = refl
-entries_are by_name shows (suc n) within grows = rw (grows.0 0 (omega (arith, within)), later_are by_name shows 1 n (omega (arith, within)) grows)
+entries_are by_name shows (suc n) within grows = grind (arith, common_steps, later_are)
 
 versions_kept : (shows : ℕ → Snapshot) {name : List ℕ} {file count : ℕ} (start n : ℕ) → start + n ≤ count
     → OnlyGrows count shows name file → AreKept (versions shows file start n)
 versions_kept shows start zero within grows = tt
 versions_kept shows start (suc zero) within grows = (tt, tt)
-versions_kept shows start (suc (suc n)) within grows = ((λ goes. grows.1 start (omega (arith, within))), versions_kept shows (suc start) (suc n) (omega (arith, within)) grows)
-
-pub kept_in : (by_name : Bool) {name : List ℕ} (shows : ℕ → Snapshot) {file count : ℕ} → OnlyGrows count shows name file
-    → AreKept (entries_of by_name name (seen_first shows count))
-kept_in by_name {name} shows {count} grows =
-    rw (seen_are shows count, entries_are by_name shows count (omega arith) grows)
-    (versions_kept shows 0 count (omega arith) grows)
+versions_kept shows start (suc (suc n)) within grows =
+    grind (arith, common_steps, (versions_kept shows (suc start) (suc n) (omega (arith, within)) grows))
 
 -- what they gain is what came
 holds_later : (shows : ℕ → Snapshot) {name : List ℕ} {file count : ℕ} (start n : ℕ) → start + n < count
     → OnlyGrows count shows name file
     → (shows (start + n)).holds file ≡ (shows start).holds file
     ++ gains_later (version_in (shows start) file) (versions shows file (suc start) n)
-holds_later shows {file} start zero within grows = ap (λ k. (shows k).holds file) (let e : start + 0 ≡ start = omega arith in e) ∙ sym (append-nil ((shows start).holds file))
+holds_later shows {file} start zero within grows = grind (arith, common_steps)
 holds_later shows {file} start (suc n) within grows =
     let (piece, next) = grows.1 start (omega (arith, within)) in
     let front = (shows start).holds file in
@@ -113,24 +100,21 @@ gains_are : (shows : ℕ → Snapshot) {name : List ℕ} {file count n : ℕ} {c
 gains_are shows {file} {n} {came} within grows is =
     let front = (shows 0).holds file in
     let gained = gains_later (version_in (shows 0) file) (versions shows file 1 n) in
-    let both : front ++ gained ≡ front ++ came = sym (holds_later shows 0 n (omega (arith, within)) grows) ∙ ap (λ k. (shows k).holds file) (let e : 0 + n ≡ n = omega arith in e) ∙ is in
+    let both : front ++ gained ≡ front ++ came = sym (holds_later shows 0 n (omega (arith, within)) grows) ∙ ap
+    (λ k. (shows k).holds file) (let e : 0 + n ≡ n = omega arith in e) ∙ is in
     sym (drop_front front gained) ∙ ap (drop (length front)) both ∙ drop_front front came
 
--- the text of such a name
-pub growing_text : (by_name : Bool) {name : List ℕ} (shows : ℕ → Snapshot) {file count n : ℕ} (start : List ℕ → List ℕ)
-    (came : List ℕ) → n < count → OnlyGrows count shows name file → (shows n).holds file ≡ (shows 0).holds file ++ came
-    → name_text start (entries_of by_name name (seen_first shows (suc n))) ≡ start ((shows 0).holds file) ++ came
-growing_text by_name shows {file} {n} start came within grows is = rw (seen_are shows (suc n), entries_are by_name shows (suc n) (omega (arith, within)) grows, text_is_gains start (versions shows file 0 (suc n)) (versions_kept shows 0 (suc n) (omega (arith, within)) grows), gains_are shows within grows is)
-
 -- its file is open after each look
-pub stays_open : (by_name : Bool) {name : List ℕ} (shows : ℕ → Snapshot) {file count : ℕ} (n : ℕ) → n < count
+stays_open : (by_name : Bool) {name : List ℕ} (shows : ℕ → Snapshot) {file count : ℕ} (n : ℕ) → n < count
     → OnlyGrows count shows name file → open_after by_name name (looks_from shows 0 (suc n)) ≡ Some file
-stays_open by_name {name} shows {file} {count} n within grows = by by_name 1 n (omega (arith, within)) ((shows 0).leads name) (grows.0 0 (omega (arith, within))) where
-  by : (by_name : Bool) (start n : ℕ) → start + n ≤ count → (opened : Option ℕ) → opened ≡ Some file
-      → open_after_later by_name name opened (looks_from shows start n) ≡ Some file
-  by by_name start zero below opened is = is
-  by true start (suc n) below opened is = by true (suc start) n (omega (arith, below)) ((shows start).leads name) (grows.0 start (omega (arith, below)))
-  by false start (suc n) below opened is = by false (suc start) n (omega (arith, below)) opened is
+stays_open by_name {name} shows {file} {count} n within grows = by by_name 1 n (omega (arith, within))
+    ((shows 0).leads name) (grows.0 0 (omega (arith, within))) where
+      by : (by_name : Bool) (start n : ℕ) → start + n ≤ count → (opened : Option ℕ) → opened ≡ Some file
+          → open_after_later by_name name opened (looks_from shows start n) ≡ Some file
+      by by_name start zero below opened is = is
+      by true start (suc n) below opened is = by true (suc start) n (omega (arith, below)) ((shows start).leads name)
+          (grows.0 start (omega (arith, below)))
+      by false start (suc n) below opened is = by false (suc start) n (omega (arith, below)) opened is
 
 -- What following one name writes, where no call fails, is the text of that name.
 
@@ -141,13 +125,8 @@ fine_share : (ways : Ways) (name : List ℕ) (before : List Look) (look : Look) 
     → (fate ≡ sound)
     × (bytes_of (cond dropped (no_share name) (share_by ways name before look fate)) ≡ gain ways name before look)
 fine_share ways name before look true fate kept well = absurd (cc)
-fine_share ways name before look false sound kept well =
-    (refl, cond_both (is_first before && is_missing (entries_in ways name (before ++ look ∷ []))) (missing_share name) _ (λ (share : Share). is_some share.failure ≡ false → bytes_of share ≡ gain ways name before look) (λ is failed. absurd (cc)) (λ is fine. refl) well)
-fine_share ways name before look false unled kept well = absurd (cc)
-fine_share ways name before look false unopened kept well = absurd (cc)
-fine_share ways name before look false (unmeasured file) kept well = absurd (cc)
-fine_share ways name before look false (unsought file from) kept well = absurd (cc)
-fine_share ways name before look false (unread file from) kept well = absurd (cc)
+fine_share ways name before look false sound kept well = grind (arith, common_steps)
+fine_share ways name before look false fate kept well = absurd (cc)
 
 -- so further looks wrote all that they give, and the name is still followed
 record WroteAll (ways : Ways) (name : List ℕ) (before looks : List Look) (text : List ℕ) : Type 0 where
@@ -178,18 +157,8 @@ opens : (by_name : Bool) {name : List ℕ} (shows : ℕ → Snapshot) {file : �
     → OnlyGrows (length looks) shows name file → snapshots looks ≡ seen_first shows (length looks) → 0 < length looks
     → open_after by_name name (snapshots looks) ≡ Some file
 opens by_name shows [] grows saw some = search rules
-opens by_name shows (look ∷ looks) grows saw some = cc (saw, seen_are shows (suc (length looks)), stays_open by_name shows (length looks) (omega arith) grows)
-
-all_made : (ways : Ways) {name : List ℕ} (shows : ℕ → Snapshot) {file count : ℕ} (looks : List Look)
-    → OnlyGrows (length looks) shows name file → snapshots looks ≡ seen_first shows (length looks)
-    → is_dropped ways.first looks ≡ false → length looks ≤ count
-    → (length looks < count → (0 < length looks) × (◌≡◌ {A = Bool} true true → is_alive ways (name ∷ []) looks ≡ false))
-    → length looks ≡ count
-all_made ways shows {count} looks grows saw kept few full = elim (cases_lt (length looks) count) [
-  | inl less ↦ let why = full less in absurd
-      (false≢true (sym (why.1 refl) ∙ alive_by (is_dropped ways.first looks) ways.by_name kept (opens ways.by_name shows looks grows saw why.0)))
-  | inr enough ↦ omega (arith, few, enough)
-]
+opens by_name shows (look ∷ looks) grows saw some = cc
+    (saw, seen_are shows (suc (length looks)), stays_open by_name shows (length looks) (omega arith) grows)
 
 -- the looks that were made, and what was written
 pub record WroteText (ways : Ways) (name : List ℕ) (shows : ℕ → Snapshot) (count : ℕ) (seen : List Snapshot)
@@ -210,7 +179,7 @@ wrote_text : {calling : Calling} (ways : Ways) (name : List ℕ) (shows : ℕ �
     → FollowEndsAs true true calling ways false (name ∷ []) count shows streams seen watched new 0
     → WroteText ways name shows count seen new
 wrote_text ways name shows count seen watched new keeps_bytes (looked looks shares seen_is broken made few full are found leaves) =
-    let ends : length looks < count → (0 < length looks) × (◌≡◌ {A = Bool} true true → is_alive ways (name ∷ []) looks ≡ false) = (λ fewer. ((full fewer).0, (full fewer).1)) in grind (arith, common_steps, unfailed, length-map, wrote_all, looks_give_text)
+    grind (arith, common_steps, wrote_all, looks_give_text)
 wrote_text ways name shows count seen watched new keeps_bytes (stopped mid fault stop says failed) = absurd (status_some fault _ _ (sym failed))
 wrote_text ways name shows count seen watched new keeps_bytes (no_room why unseen unwatched says failed) = absurd (omega (arith, failed))
 
@@ -228,15 +197,8 @@ pub follows_text : {run : Run} {count : ℕ} {options : EndsAsked} {followed : F
 follows_text {run} {count} {options} {followed} {name} follows bare named keeps_bytes =
     let ways = ways_of 0 (is_name followed) (start_of options) in
     let shows = paused run followed follows.read.0 in
-    let Ends : Bool → List (List ℕ) → ℕ → Type 0 = λ headers names.
-    FollowEndsAs true true run.calling ways headers names count shows streams run.seen run.watched run.outputs in
-    let ends = subst
-    (FollowingEndsAt run.calling true true run.words count run.shows run.seen run.watched run.outputs run.status)
-    follows.read.1 follows.ends in
-    let one = subst (λ names. Ends (has_headers options.headers options.names) names run.status) named ends in
-    let headless = subst (λ headers. Ends headers (name ∷ []) run.status) bare one in
     wrote_text ways name shows count run.seen run.watched run.outputs keeps_bytes
-    (subst (Ends false (name ∷ [])) follows.well headless)
+    (rw (bare, named, follows.well) at (rw follows.read.1 at follows.ends))
 
 pub tells_all : (run : Run) (options : EndsAsked) (followed : Followed) (name came : List ℕ) (file n : ℕ)
     → Follows run (n + 1) options followed → IsBare options → options.names ≡ name ∷ []
@@ -247,29 +209,29 @@ pub tells_all : (run : Run) (options : EndsAsked) (followed : Followed) (name ca
 tells_all run options followed name came file n follows bare named grows is =
     let ways = ways_of 0 (is_name followed) (start_of options) in
     let shows = paused run followed follows.read.0 in
-    let wrote = follows_text follows bare named (λ saw. rw saw (kept_in (is_name followed) shows grows)) in
+    let wrote = follows_text follows bare named (λ saw.
+    rw (saw, seen_are shows (length run.seen), entries_are (is_name followed) shows (length run.seen) (omega arith) grows)
+    (versions_kept shows 0 (length run.seen) (omega arith) grows)) in
     let grew = subst (λ k. OnlyGrows k shows name file) (sym wrote.count_is) grows in
-    let made : length wrote.looks ≡ n + 1 = all_made ways shows wrote.looks grew wrote.saw wrote.kept
-    wrote.few wrote.full in
-    let all : length wrote.looks ≡ suc n = made ∙ (let e : n + 1 ≡ suc n = omega arith in e) in
-    rw (wrote.is, wrote.seen_is ∙ wrote.saw, all)
-    (growing_text (is_name followed) shows ways.start came (omega (arith, all)) grew is)
+    let made : length wrote.looks ≡ n + 1 = elim (cases_lt (length wrote.looks) (n + 1)) [
+      | inl less ↦ let why = wrote.full less in absurd (false≢true (sym (why.1 refl)
+          ∙ alive_by (is_dropped ways.first wrote.looks) ways.by_name wrote.kept (opens ways.by_name shows wrote.looks grew wrote.saw why.0)))
+      | inr enough ↦ omega (arith, wrote.few, enough)
+    ] in
+    let all : length wrote.looks ≡ suc n = grind (arith, common_steps) in
+    rw (
+      wrote.is,
+      wrote.seen_is ∙ wrote.saw,
+      all,
+      seen_are shows (suc n),
+      entries_are (is_name followed) shows (suc n) (omega (arith, all)) grew,
+      text_is_gains ways.start (versions shows file 0 (suc n)) (versions_kept shows 0 (suc n) (omega (arith, all)) grew),
+      gains_are shows (omega (arith, all)) grew is,
+    )
 
 -- A run of the program is a run of one of both kinds, by what its words ask for.
 
-ends_at : (run : Run) {looks : Option ℕ} → IsOfProgram run → looks_at (settings_of run.calling run.words) ≡ looks
+pub ends_at : (run : Run) {looks : Option ℕ} → IsOfProgram run → looks_at (settings_of run.calling run.words) ≡ looks
     → ProgramEndsAt run.calling true true true run.words run.world.laid
     (source_of run.world.standard ∷ []) run.inputs run.shows run.seen run.watched run.outputs run.status looks
 ends_at run ends is = rw (← is) ends
-
-pub runs_tool : (run : Run) (asked : Settings) → IsOfProgram run → settings_of run.calling run.words ≡ Ok asked
-    → follows asked ≡ false → Ran run asked × (run.seen ≡ []) × (run.watched ≡ [])
-runs_tool run asked ends read none =
-    let (unseen, unwatched, ran) = ends_at run {looks = None} ends (rw (read, none)) in
-    (record { read = read; ends = ran }, unseen, unwatched)
-
-pub runs_following : (run : Run) (options : EndsAsked) (followed : Followed) (looks : ℕ) → IsOfProgram run
-    → AsksToFollow run options followed looks → run.status ≡ 0
-    → Follows run looks options followed × (run.inputs ≡ source_of run.world.standard ∷ [])
-runs_following run options followed looks ends read well =
-    let (kept, followed_so) = ends_at run ends (ap looks_at read.1) in (record { looks = looks; read = read; ends = followed_so; well = well }, kept)

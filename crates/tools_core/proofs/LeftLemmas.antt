@@ -3,12 +3,13 @@
 use Rattle.std.proofs.{
   lemmas.{
     Grind.common_steps,
-    Bool.{and_parts, false≢true, not-false, or_cases, or_left, or_parts, or_right, cases_Bool},
+    Bool.{and_parts, not-false, or_parts, cond_both},
     List.Elements.{All-append, All-cons, All-head, All-map, All-nil, All-tail},
   },
-  Common.{◌≡◌, ℕ, ◌+◌, ◌<◌, zero, suc, Bool, true, false, ◌&&◌, cond, is_some, List, [], ◌∷◌, ◌++◌, length, map},
-  Common.{Option, Some, None, inl, inr, ◌⊎◌, refl, sym, ◌∙◌, ap, arith, append_assoc, append-nil, All, rules, ◌≤◌, ◌^◌},
-  Common.{is_none, Ok, codes, length-append, option_map},
+  Common.{◌≡◌, ℕ, ◌+◌, ◌<◌, zero, suc, Bool, true, false, ◌&&◌, cond, List, [], ◌∷◌, ◌++◌, length, map},
+  Common.{Option, Some, None, inl, inr, ◌⊎◌, refl, sym, ◌∙◌, ap, arith, append_assoc, append-nil, All, rules, ◌≤◌},
+  Common.◌^◌,
+  Common.{is_none, Ok, codes},
 }
 use Rattle.ports_core.specs.{
   Slot.{Slot, adds, has_file, slot_at, closes, opened, removes},
@@ -16,7 +17,6 @@ use Rattle.ports_core.specs.{
   Streams.{standard_error, standard_output, streams_with},
   Inputs.largest_piece,
   Draft.{Draft, Manner, shares_of},
-  Name.has_name,
   Part.{File, FilesBegin, Part, nothing, only_out, OutputsAt, file_of, told_file},
   Text.{Message, is_quiet, message_of, status_after},
   declared.calling.{Calling.{Calling, TheVariants.Cutters}, Speaker.Speaker},
@@ -29,42 +29,31 @@ use Rattle.ports_core.specs.{
   Message.SaysAll,
   Swept.{Cleared, Swept},
 }
-use Rattle.seg_core.specs.declared.{
-  cut.{Cut.{Cut, TheVariants.{Parts, Round}}, Way.Way, Limit.Limit},
-  unit.Unit.Unit as Counted,
-}
+use Rattle.seg_core.specs.declared.{cut.{Cut.{Cut, TheVariants.{Parts, Round}}, Way.Way}, unit.Unit.Unit as Counted}
 use Rattle.split_core.specs.{
-  ChunkWork.{ChunksPlan, chunks_work, draft_by, way_work},
+  ChunkWork.{draft_by, way_work},
   Chunks.decided,
-  inner.{CutLaws.named, Sharing.file_at},
-  Split.{Filing, Plan, Share, dealt_files, settled_parts, settled_shares, share, split_work},
+  Split.{manner_of as manner_by, Filing, Share, dealt_files, settled_shares, share},
 }
 use Rattle.ends_core.specs.Shown.{head_in, tail_in}
 use Rattle.tools_core.{
-  proofs.SameLemmas.{all_made_alike, head_knows, tail_knows, way_knows},
+  proofs.SameLemmas.{KnowsNoMore, all_made_alike, head_knows, shows_none, tail_knows, way_knows},
   specs.Promises.{AllAlike, AreAlike, GivesBytes, are_same, give_same, SaysLines, Completes, FindAlike, IsCopied},
-  specs.Promises.{IsFound, IsGone, IsTask, IsUnstopped, LeaveAlike, Ran, Run, TellsMet, Unstopped, broken_off, failing},
+  specs.Promises.{IsMet, Tells, IsFound, IsGone, IsTask, IsUnstopped, LeaveAlike, Ran, Run, TellsMet, Unstopped},
+  specs.Promises.broken_off,
+  specs.Promises.failing,
   specs.Promises.{judged, missing, removes_files},
   specs.About.{TellsText, no_text, text_cut, text_whole},
   specs.Outcome.{DoesAsked, RefusesOperands},
-  specs.Tasks.{csplit_task, filing_of, head_task, is_minus, is_plus, names_of, speaker_of, split_task, tail_task, by},
+  specs.Tasks.{filing_of, is_minus, is_plus, names_of, speaker_of},
 }
-use Rattle.operand_core.{
-  specs.{Style.Style, declared.operand.Operand.Operand, Reading.Asks},
-  proofs.ReadingLemmas.asks_once,
-}
-use Rattle.csplit_core.specs.{
-  Csplit.csplit_work,
-  Output.{file_in, manner_of, shares_in, state_in},
-  Input.{all_lines, complete_lines},
-  Section.{Section, settled_sections, whole_sections},
-  Planned.plan,
-}
+use Rattle.operand_core.{specs.{Style.Style}, proofs.ReadingLemmas.asks_once}
+use Rattle.csplit_core.specs.{Output.{file_in, shares_in, state_in}, Section.{Section}}
 use Rattle.run_core.specs.{
   Feeding.{IsCall, Step, closes as ends_call, feeds, is_enough, opens},
   Input.{Input, inputs_at, standard_input},
   RunEnds.{RunStep, calling as call_step, heading, unheaded, unopened, EndsAs, as_defined},
-  Task.{Outcome, Task, after_part, header_text, is_missing, joined, of_content, of_input, of_inputs, verdict_messages},
+  Task.{Outcome, Task, is_missing, joined, of_content, of_input, of_inputs},
   Task.{made_by, status_of},
 }
 use Rattle.run_core.proofs.StopLemmas.{beside_error, swept_error}
@@ -109,6 +98,12 @@ says_line (before, after, is) says = search rules
 pub one_line : (Line : Message → Type 0) (line : Message) → Line line → All Line (line ∷ [])
 one_line Line line is = All-cons Line line [] is (All-nil Line)
 
+-- the only line tells this fault
+pub tells_one : (run : Run) (asked : Settings) (fault : Fault) (name : List ℕ) → IsMet run asked fault name
+    → SaysAll true (speaker_of run.calling asked) (message_of fault name ∷ []) standard_error (slot_at run.outputs 1)
+    → Tells run asked fault name
+tells_one run asked fault name met says = ([], [], grind (arith, common_steps, one_line))
+
 -- Files that are open or closed, and not broken
 
 abbrev pub slot_of : File → Slot
@@ -148,26 +143,15 @@ live_begin (file ∷ files) (whole ∷ wholes) begins live =
     let first = All-head P whole wholes live in
     All-cons P file files (begins.2 ∙ first.0, live_state begins.3 first.1) (live_begin files wholes begins.5 (All-tail P whole wholes live))
 
--- Files of a kind, of shares and of sections of one
+-- Files of a kind, of shares of one
 
-pub step_each : (P : File → Type 0) (file : File) (made others : List File) (has : Bool) → P file → All P made
-    → All P others → All P (cond has (file ∷ made) others)
-step_each P file made others true is are without = search rules
-step_each P file made others false is are without = without
-
-pub named_each : (P : File → Type 0) (filing : Filing) (place : ℕ) (shares : List Share)
-    → All (λ share. (place : ℕ) → P (file_at filing place share)) shares → All P (named filing place shares)
-named_each P filing place [] all = All-nil P
-named_each P filing place (share ∷ shares) all =
-    step_each P _ _ [] (has_name filing.names place) (all 0 share (omega arith) place)
-    (named_each P filing (place + 1) shares (λ k one within. all (suc k) one (omega (arith, within)))) (All-nil P)
-
-pub each_made : (P : File → Type 0) (manner : Manner) (place : ℕ) (shares : List made.Share)
+pub each_made : (P : File → Type 0) (manner : Manner) (place : ℕ) (shares : List Share)
     → All (λ one. (place : ℕ) → P (made.file_at manner place one)) shares → All P (made.files_from manner place shares)
 each_made P manner place [] all = All-nil P
-each_made P manner place (one ∷ shares) all =
-    step_each P _ _ [] (manner.has_name place) (all 0 one (omega arith) place)
-    (each_made P manner (place + 1) shares (λ k one within. all (suc k) one (omega (arith, within)))) (All-nil P)
+each_made P manner place (one ∷ shares) all = cond_both (manner.has_name place) _ _ (All P)
+    (λ has. All-cons P _ _ (all 0 one (omega arith) place)
+    (each_made P manner (place + 1) shares (λ k one within. all (suc k) one (omega (arith, within)))))
+    (λ lacks. All-nil P)
 
 -- Works, whatever came in
 
@@ -175,21 +159,23 @@ pub record IsLiving (work : Work) : Type 0 where
   pub settled : (x : List ℕ) → AreLive (work.settled x).files
   pub whole : (x : List ℕ) → AreLive (work.whole x).files
 
--- it makes none, and clears none
-abbrev MakesNone : Work → Type 0
-MakesNone work = IsLiving work × (work.clears ≡ false)
+-- and files are removed after a fault, or kept
+abbrev pub LivesAs : Work → Bool → Type 0
+LivesAs work clears = IsLiving work × (work.clears ≡ clears)
+
+-- whatever length an input says
+abbrev pub AreLiving : (Option (List ℕ) → Work) → Bool → Type 0
+AreLiving work clears = (shown : Option (List ℕ)) → LivesAs (work shown) clears
 
 head_makes : (delim : ℕ) (unit : Counted) (but_last : Bool) (n : ℕ) (shown : Option (List ℕ))
-    → MakesNone (head_in delim unit but_last n shown)
+    → LivesAs (head_in delim unit but_last n shown) false
 head_makes delim unit true n (Some text) = (grind (arith, common_steps), refl)
-head_makes delim unit true n None = (grind (arith, common_steps), refl)
-head_makes delim unit false n shown = (grind (arith, common_steps), refl)
+head_makes delim unit but_last n shown = (grind (arith, common_steps), refl)
 
 tail_makes : (delim : ℕ) (unit : Counted) (from_nth : Bool) (n : ℕ) (shown : Option (List ℕ))
-    → MakesNone (tail_in delim unit from_nth n shown)
+    → LivesAs (tail_in delim unit from_nth n shown) false
 tail_makes delim unit false n (Some text) = (grind (arith, common_steps), refl)
-tail_makes delim unit false n None = (grind (arith, common_steps), refl)
-tail_makes delim unit true n shown = (grind (arith, common_steps), refl)
+tail_makes delim unit from_nth n shown = (grind (arith, common_steps), refl)
 
 abbrev IsThere : Share → Type 0
 IsThere share = has_file share.state ≡ true
@@ -197,66 +183,44 @@ IsThere share = has_file share.state ≡ true
 shares_there : (state : State) → has_file state ≡ true → (texts : List (List ℕ)) → All IsThere (map (share state) texts)
 shares_there state has texts = All-map IsThere (share state) texts (λ k text within. has)
 
-parts_there : (which : Limit) (x : List ℕ) → All IsThere (settled_parts which x)
-parts_there which x = grind (arith, common_steps, All-append, shares_there)
-
 settled_there : (cut : Cut) (elide : Bool) (x : List ℕ) → All IsThere (settled_shares cut elide x)
-settled_there (Parts limit) elide x = parts_there limit x
+settled_there (Parts limit) elide x = grind (arith, common_steps, All-append, shares_there)
 settled_there (Round n delim) elide x = shares_there Open refl (dealt_files delim elide n x)
 
-files_there : (filing : Filing) (shares : List Share) → All IsThere shares → AreLive (named filing 0 shares)
-files_there filing shares all = search (rules, named_each)
-
-split_living : (plan : Plan) → IsLiving (split_work plan)
-split_living plan = grind (arith, common_steps, files_there, settled_there, shares_there)
+files_there : (manner : Manner) (shares : List Share) → All IsThere shares → AreLive (made.files_from manner 0 shares)
+files_there manner shares all =
+    each_made (λ file. IsLive (slot_of file)) manner 0 shares (λ k one within place. (refl, all k one within))
 
 drafts_there : (draft : Draft) → All IsThere (shares_of draft)
 drafts_there draft = grind (arith, common_steps, All-append, shares_there)
 
-chunks_living : (plan : ChunksPlan) (said : Option ℕ) → IsLiving (chunks_work plan said)
-chunks_living plan said = record {
-  settled = λ x. files_there plan.filing _ (drafts_there (draft_by plan.elide (decided plan.chunks 1 said x)));
-  whole = λ x. files_there plan.filing _ (shares_there Closed refl _);
-}
-
-way_living : (way : Way) (elide : Bool) (filing : Filing) (said : Option ℕ) → IsLiving (way_work way elide filing said)
-way_living (way.Cut cut) elide filing said = split_living (record { cut = cut; elide = elide; filing = filing })
-way_living (way.Chunks chunks) elide filing said =
-    chunks_living (record { chunks = chunks; elide = elide; filing = filing }) said
-way_living (way.Chunk place chunks) elide filing said = grind (arith, common_steps)
-way_living (way.Turn place n delim) elide filing said = grind (arith, common_steps)
-
-way_clears : (way : Way) (elide : Bool) (filing : Filing) (said : Option ℕ)
-    → (way_work way elide filing said).clears ≡ false
-way_clears (way.Cut cut) elide filing said = refl
-way_clears (way.Chunks chunks) elide filing said = refl
-way_clears (way.Chunk place chunks) elide filing said = refl
-way_clears (way.Turn place n delim) elide filing said = refl
+way_lives : (way : Way) (elide : Bool) (filing : Filing) (said : Option ℕ)
+    → LivesAs (way_work way elide filing said) false
+way_lives (way.Cut cut) elide filing said = grind (arith, common_steps, files_there, settled_there, shares_there)
+way_lives (way.Chunks chunks) elide filing said = (
+  record {
+    settled = λ x. files_there (manner_by filing) _ (drafts_there (draft_by elide (decided chunks 1 said x)));
+    whole = grind (arith, common_steps, files_there, shares_there);
+  },
+  refl,
+)
+way_lives way elide filing said = (grind (arith, common_steps), refl)
 
 section_has : (is_closed : Bool) → has_file (cond is_closed Closed Open) ≡ true
 section_has true = refl
 section_has false = refl
 
-pub each_section : (P : made.Share → Type 0) (style : Style) (sections : List Section)
-    → All (λ section. (bytes : List ℕ) → P (made.share (state_in section) bytes)) sections
-    → All P (shares_in style sections)
-each_section P style [] all = All-nil P
+pub each_section : (P : State → Type 0) (style : Style) (sections : List Section)
+    → All (λ section. P (state_in section)) sections → All (λ (one : Share). P one.state) (shares_in style sections)
+each_section P style [] all = All-nil (λ (one : Share). P one.state)
 each_section P style (section ∷ sections) all =
-    All-append P (map (made.share (state_in section)) (file_in style section)) (shares_in style sections)
-    (All-map P (made.share (state_in section)) (file_in style section)
-    (λ k other within. all 0 section (omega arith) _))
+    let Is = λ (one : Share). P one.state in
+    All-append Is (map (share (state_in section)) (file_in style section)) (shares_in style sections)
+    (All-map Is (share (state_in section)) (file_in style section) (λ k other within. all 0 section (omega arith)))
     (each_section P style sections (λ k one within. all (suc k) one (omega (arith, within))))
 
-sections_there : (style : Style) (sections : List Section)
-    → AreLive (made.files_from (manner_of style) 0 (shares_in style sections))
-sections_there style sections = each_made (λ file. IsLive (slot_of file)) (manner_of style) 0 (shares_in style sections)
-    (each_section (λ one. (place : ℕ) → IsLive (slot_of (made.file_at (manner_of style) place one))) style sections (λ k other within bytes place. (refl, section_has _)))
-
-csplit_living : (style : Style) (operands : List Operand) → IsLiving (csplit_work style operands)
-csplit_living style operands = record {
-  settled = λ x. sections_there style (settled_sections (complete_lines x) (plan style.suppress operands (complete_lines x)));
-  whole = λ x. sections_there style (whole_sections (all_lines x) (plan style.suppress operands (all_lines x)));
-}
+sections_there : (style : Style) (sections : List Section) → All IsThere (shares_in style sections)
+sections_there style sections = each_section (λ state. has_file state ≡ true) style sections (λ k other within. section_has _)
 
 -- What a run over inputs makes of them
 
@@ -273,11 +237,11 @@ pub record Fits (Line : Message → Type 0) (clears : Bool) (made : Outcome) : T
   pub sweeps : made.sweeps ≡ true → (clears ≡ true) × (made.failed ≡ true)
   pub live : AreLive made.part.files
 
-pub fits_well : {Line : Message → Type 0} {clears : Bool} (part : Part) (sweeps : Bool) → sweeps ≡ false
+fits_well : {Line : Message → Type 0} {clears : Bool} (part : Part) (sweeps : Bool) → sweeps ≡ false
     → AreLive part.files → Fits Line clears (record { part = part; messages = []; failed = false; sweeps = sweeps })
 fits_well {Line} part sweeps none live = grind (arith, common_steps)
 
-pub fits_fault : {Line : Message → Type 0} {clears : Bool} {line : Message} (part : Part) (sweeps : Bool) → Line line
+fits_fault : {Line : Message → Type 0} {clears : Bool} {line : Message} (part : Part) (sweeps : Bool) → Line line
     → (sweeps ≡ true → clears ≡ true) → AreLive part.files
     → Fits Line clears (record { part = part; messages = line ∷ []; failed = true; sweeps = sweeps })
 fits_fault {Line} {line} part sweeps tells clears live =
@@ -291,19 +255,7 @@ fits_fault {Line} {line} part sweeps tells clears live =
 
 fits_joined : {Line : Message → Type 0} {clears : Bool} (first next : Outcome) → Fits Line clears first
     → Fits Line clears next → Fits Line clears (joined first next)
-fits_joined {Line} first next one other = record {
-  are = All-append Line _ _ one.are other.are;
-  tells = λ is. elim (or_cases first.failed next.failed is) [
-    | inl failed ↦ let (line, tells, has) = one.tells failed in (line, tells, has_before next.messages has)
-    | inr failed ↦ let (line, tells, has) = other.tells failed in (line, tells, has_after first.messages has)
-  ];
-  quiet = λ is. let both = or_parts first.failed next.failed is in rw (one.quiet both.0) (other.quiet both.1);
-  sweeps = λ is. elim (or_cases first.sweeps next.sweeps is) [
-    | inl sweeps ↦ let why = one.sweeps sweeps in (why.0, or_left first.failed next.failed why.1)
-    | inr sweeps ↦ let why = other.sweeps sweeps in (why.0, or_right first.failed next.failed why.1)
-  ];
-  live = live_both first.part.files next.part.files one.live other.live;
-}
+fits_joined {Line} first next one other = grind (arith, common_steps, has_before, has_after, live_both)
 
 -- the lines that tell what is wrong with an input are such ones
 pub record TellsInput (Line : Message → Type 0) (task : Task) (work : Work) (name : List ℕ) (there : Option Content)
@@ -314,32 +266,19 @@ pub record TellsInput (Line : Message → Type 0) (task : Task) (work : Work) (n
   pub judged : (content : Content) (verdict : Verdict) → there ≡ Some content → is_enough work content ≡ true
       → Judges work content.bytes verdict → Line (message_of (fault_is.Verdict verdict) (task.subject verdict name))
 
-given_fits : {Line : Message → Type 0} (task : Task) (work : Work) (header name bytes : List ℕ) (enough : Bool)
-    (verdict : Option Verdict)
-    → (enough ≡ false → Line (message_of (Read 0) name))
-    → ((given : Verdict) → enough ≡ true → verdict ≡ Some given
-    → Line (message_of (fault_is.Verdict given) (task.subject given name))) → IsLiving work
-    → Fits Line work.clears (record {
-      part = after_part (only_out header) (cond enough (work.whole bytes) (work.settled bytes));
-      messages = cond enough (verdict_messages task name verdict) (message_of (Read 0) name ∷ []);
-      failed = cond enough (is_some verdict) true;
-      sweeps = work.clears && cond enough (is_some verdict) true;
-    })
-given_fits task work header name bytes true None breaks judges living = fits_well _ _ (grind (arith, common_steps)) (grind (arith, common_steps))
-given_fits task work header name bytes true (Some verdict) breaks judges living = fits_fault _ _ (judges verdict refl refl) (λ is. (and_parts work.clears true is).0) (living.whole bytes)
-given_fits task work header name bytes false verdict breaks judges living = fits_fault _ _ (breaks refl) (λ is. (and_parts work.clears true is).0) (living.settled bytes)
-
-breaks_short : (work : Work) (content : Content) → is_enough work content ≡ false → content.breaks_off ≡ true
-breaks_short work content short = not-false content.breaks_off (or_parts _ _ short).0
-
 content_fits : {Line : Message → Type 0} (task : Task) (work : Work) (is_first : Bool) (name : List ℕ)
     (there : Option Content) → TellsInput Line task work name there → IsLiving work
     → Fits Line work.clears (of_content task work is_first name there)
 content_fits task work is_first name None tells living =
     fits_fault nothing false (tells.missing refl) (λ is. absurd (cc)) no_live
-content_fits task work is_first name (Some content) tells living =
-    given_fits task work (header_text task.with_header is_first name) name content.bytes (is_enough work content) (work.verdict content.bytes)
-    (λ short. tells.broken_off content refl short) (λ verdict enough is. tells.judged content verdict refl enough is) living
+content_fits {Line} task work is_first name (Some content) tells living = by (is_enough work content) (work.verdict content.bytes) refl refl where
+  by : (enough : Bool) (verdict : Option Verdict) → is_enough work content ≡ enough
+      → work.verdict content.bytes ≡ verdict → Fits Line work.clears (of_content task work is_first name (Some content))
+  by true None enough none = rw (enough, none) (fits_well _ _ (grind (arith, common_steps)) (living.whole content.bytes))
+  by true (Some verdict) enough is = rw (enough, is)
+      (fits_fault _ _ (tells.judged content verdict refl enough is) (λ is. (and_parts work.clears true is).0) (living.whole content.bytes))
+  by false verdict short is = rw short
+      (fits_fault _ _ (tells.broken_off content refl short) (λ is. (and_parts work.clears true is).0) (living.settled content.bytes))
 
 abbrev pub TellsAt : (Message → Type 0) → Task → Input → Type 0
 TellsAt Line task input = TellsInput Line task (task.work input.shown) input.name input.content
@@ -347,20 +286,15 @@ TellsAt Line task input = TellsInput Line task (task.work input.shown) input.nam
 abbrev pub TellsAll : (Message → Type 0) → Task → List Input → Type 0
 TellsAll Line task inputs = All (TellsAt Line task) inputs
 
--- whatever length an input says, files are live, and are removed or kept alike
-pub record AreLiving (work : Option (List ℕ) → Work) (clears : Bool) : Type 0 where
-  pub each : (shown : Option (List ℕ)) → IsLiving (work shown)
-  pub clears_all : (shown : Option (List ℕ)) → (work shown).clears ≡ clears
-
 pub inputs_fit : {Line : Message → Type 0} {clears : Bool} (task : Task) (is_first : Bool) (inputs : List Input)
     → TellsAll Line task inputs → AreLiving task.work clears → Fits Line clears (of_inputs task is_first inputs)
 inputs_fit task is_first [] tells living = search rules
 inputs_fit {Line} task is_first (input ∷ inputs) tells living =
     let P = TellsAt Line task in
     fits_joined (of_input task is_first input) (of_inputs task (is_first && is_missing input.content) inputs)
-    (rw (← living.clears_all input.shown)
+    (rw (← (living input.shown).1)
     (content_fits task (task.work input.shown) is_first input.name input.content (All-head P input inputs tells)
-    (living.each input.shown)))
+    (living input.shown).0))
     (inputs_fit task (is_first && is_missing input.content) inputs (All-tail P input inputs tells) living)
 
 -- what a run found is told so
@@ -374,7 +308,8 @@ speaker_is calling asked task is = rw is
 
 one_task : (calling : Calling) (asked : Settings) (one other : Task) → IsTask calling asked one
     → IsTask calling asked other → one ≡ other
-one_task calling (Csplit asked) one other (operands, asks, is) (operands_too, asks_too, is_too) = rw (is, asks_once asked.operands operands operands_too asks asks_too, is_too)
+one_task calling (Csplit asked) one other (operands, asks, is) (operands_too, asks_too, is_too) =
+    grind (arith, common_steps, asks_once)
 one_task calling (Tee asked) one other is is_too = absurd is
 one_task calling (About which topic) one other is is_too = absurd is
 one_task calling asked one other is is_too = is ∙ sym is_too
@@ -383,8 +318,15 @@ found_tells : {run : Run} (asked : Settings) {task : Task} (input : Input) → I
     → IsFound run asked input → TellsAt (TellsMet run asked) task input
 found_tells {run} asked {task} input of found = record {
   missing = λ none. (CannotOpen 0, input.name, inr (missing input found none), refl);
-  broken_off = λ content is short. (Read 0, input.name, inr (broken_off input content found is (breaks_short (task.work input.shown) content short) (λ other of_too. rw (one_task run.calling asked other task of_too of) short)), refl);
-  judged = λ content verdict is enough judges. (fault_is.Verdict verdict, task.subject verdict input.name, inr (judged input content task verdict found is of enough judges), refl);
+  broken_off = λ content is short. (
+    Read 0,
+    input.name,
+    inr (broken_off input content found is
+        (not-false content.breaks_off (or_parts _ _ short).0) (λ other of_too. rw (one_task run.calling asked other task of_too of) short)),
+    refl,
+  );
+  judged = λ content verdict is enough judges.
+      (fault_is.Verdict verdict, task.subject verdict input.name, inr (judged input content task verdict found is of enough judges), refl);
 }
 
 -- these inputs, which the run found after others and before others
@@ -411,7 +353,8 @@ pub step_live : {told : Bool} {task : Task} {shown : Option (List ℕ)} {before 
 step_live living live (unopened content place at past) = live
 step_live living live (unheaded content headed leaves) = live
 step_live {before} living live (heading content headed leaves) = search rules
-step_live {before} living live (call_step content call is leaves) = live_both (before.files ++ []) call.high.files (live_both before.files [] live no_live) (call_live living is)
+step_live {before} living live (call_step content call is leaves) =
+    grind (arith, common_steps, live_both, live, no_live, call_live)
 
 -- The outputs of a part, beside any standard error
 
@@ -446,11 +389,11 @@ told_again (file ∷ files) = rw (told_again files)
 
 pub slots_at : {part : Part} {error : Slot} {now : List Slot} → OutputsAt true (streams_with error) part now
     → now ≡ outputs_of part error
-slots_at {part} at = cc (at.slots, slots_again at.since, at.files, told_again part.files)
+slots_at {part} at = grind (arith, common_steps, slots_again, told_again)
 
 -- What becomes of an output where files are removed, or stay
 
-pub failing_file : {place : ℕ} (which : State) → has_file which ≡ true → failing place which ≡ Write place
+failing_file : {place : ℕ} (which : State) → has_file which ≡ true → failing place which ≡ Write place
 failing_file state.Removed has = absurd (cc)
 failing_file state.Unopened has = absurd (cc)
 failing_file which has = refl
@@ -473,35 +416,11 @@ pub record Kept (sweeps : Bool) (place : ℕ) (old new : Slot) : Type 0 where
 
 kept_same : (sweeps : Bool) (place : ℕ) {old new : Slot} → remains sweeps place old ≡ old → new ≡ old
     → Kept sweeps place old new
-kept_same sweeps place stays same = rw same (record {
-  name = refl;
-  mode = refl;
-  written = refl;
-  left = λ sound. sym stays;
-  still = λ broken. broken;
-  fails = λ at. refl;
-  broke = λ sound broken. absurd (cc);
-})
+kept_same sweeps place stays same = grind (arith, common_steps)
 
 cleared_kept : (place : ℕ) {old new : Slot} → Cleared old new → Kept true (suc (suc place)) old new
-cleared_kept place {old} (swept_so.removed has) = record {
-  name = refl;
-  mode = refl;
-  written = refl;
-  left = λ sound. rw has;
-  still = λ broken. broken;
-  fails = λ at. sym (failing_file old.state has);
-  broke = λ sound broken. absurd (cc);
-}
-cleared_kept place {old} (swept_so.stuck why has) = record {
-  name = refl;
-  mode = refl;
-  written = refl;
-  left = λ sound. absurd (cc);
-  still = λ broken. refl;
-  fails = λ at. sym (failing_file old.state has);
-  broke = λ sound broken. (refl, refl);
-}
+cleared_kept place {old} (swept_so.removed has) = grind (arith, common_steps, failing_file)
+cleared_kept place {old} (swept_so.stuck why has) = grind (arith, common_steps, failing_file)
 cleared_kept place {old} (swept_so.none lacks) = kept_same true (suc (suc place)) (rw lacks) refl
 
 pub swept_kept : (sweeps : Bool) (old new : List Slot) → Swept sweeps 2 old new → (place : ℕ)
@@ -536,14 +455,14 @@ pub record IsLeft (which : Speaker) (made : Outcome) (new : List Slot) (status :
 pub left_at : {which : Speaker} {made : Outcome} {new : List Slot} {status : ℕ} → IsLeft which made new status
     → (place : ℕ) → (place ≡ 1 → ⊥) → Kept made.sweeps place (slot_at (slots_of made.part) place) (slot_at new place)
 left_at {made} {new} left place differs =
-    rw (beside_error (adds made.part.out standard_output) left.error standard_error _ place differs) at (swept_kept made.sweeps _ new left.swept place)
+    rw (beside_error (adds made.part.out standard_output) left.error standard_error _ place differs) at
+    (swept_kept made.sweeps _ new left.swept place)
 
 pub left_says : {run : Run} {asked : Settings} {clears : Bool} {made : Outcome} → Fits (TellsMet run asked) clears made
     → IsLeft (speaker_of run.calling asked) made run.outputs run.status → SaysLines run asked made.messages
-left_says {run} {made} fits left =
-    record { are = fits.are; said = rw (swept_error made.sweeps (outputs_of made.part left.error) run.outputs (omega arith) left.swept) left.says }
+left_says {run} {made} fits left = grind (arith, common_steps, swept_error)
 
-pub unfailed : (failed : Bool) → ◌≡◌ {A = ℕ} 0 (cond failed 1 0) → failed ≡ false
+unfailed : (failed : Bool) → ◌≡◌ {A = ℕ} 0 (cond failed 1 0) → failed ≡ false
 unfailed true is = absurd (omega (arith, is))
 unfailed false is = refl
 
@@ -553,13 +472,7 @@ pub record IsWhole (made : Outcome) (new : List Slot) : Type 0 where
 
 pub left_whole : {Line : Message → Type 0} {which : Speaker} {clears : Bool} {made : Outcome} {new : List Slot}
     {status : ℕ} → Fits Line clears made → IsLeft which made new status → status ≡ 0 → IsWhole made new
-left_whole {made} fits left well =
-    let sound = unfailed made.failed (sym well ∙ left.is) in
-    let stay : made.sweeps ≡ false = elim (cases_Bool made.sweeps) [ inl is ↦ absurd (false≢true (sym sound ∙ (fits.sweeps is).1)) | inr is ↦ is ] in record {
-      sound = sound;
-      slots = rw stay at left.swept
-          ∙ ap (outputs_of made.part) (rw (fits.quiet sound) at left.says);
-    }
+left_whole {made} fits left well = grind (arith, common_steps, unfailed)
 
 -- `tee` where no output broke and all of the input was copied
 
@@ -602,8 +515,7 @@ met_is : {content : Content} (Leaves : List ℕ → Type 0) {is_vain : Bool} {x 
     → fault ≡ met_by content.breaks_off
 met_is Leaves left same few (tee.to_end x is ended leaves) = sym (ap met_by ended)
 met_is Leaves left same few (tee.to_break x is breaks leaves) = sym (ap met_by breaks)
-met_is Leaves left same few (tee.to_limit x piece rest is many within leaves) =
-    absurd (omega (arith, simp length-append at (ap length (same ∙ is)), length-append x piece, many, few))
+met_is Leaves left same few (tee.to_limit x piece rest is many within leaves) = grind (arith, common_steps)
 met_is Leaves left same few (tee.to_broken_output x rest is leaves) = absurd (cc)
 
 met_status : (breaks_off : Bool) → ◌≡◌ {A = ℕ} (cond (is_none (met_by breaks_off)) 0 1) (cond breaks_off 1 0)
@@ -615,7 +527,7 @@ pub quiet_outputs : (on_broken : OnBroken) (names : List (List ℕ)) (broke : Li
     → messages_of on_broken names broke pieces fault ≡ said_of_input fault
 quiet_outputs on_broken names broke pieces fault sound = search (rules, nothing_before, nothing_in)
 
-pub tee_left : {calling : Calling} {asked : TeeAsked} {content : Content}
+tee_left : {calling : Calling} {asked : TeeAsked} {content : Content}
     {source : Source} {new : List Slot} {status : ℕ}
     (ends : tee.EndsAs true true calling asked.mode asked.on_broken asked.names content source new status)
     → IsCopied ends → IsLeft (tee_called calling) (tee_made asked content) new status
@@ -624,7 +536,13 @@ tee_left {asked} {content} (tee.copied pieces fault first broke output error fil
     let met = met_is _ (sound_goes_on asked.on_broken (suc (length pieces)) first broke sound) all comes.few comes.read in record {
       error = error;
       says = rw (quiet_outputs asked.on_broken asked.names (first ∷ broke) (length pieces) fault sound ∙ ap said_of_input met) at says;
-      swept = rw (slots, whole_output true pieces first output sounds.0 left, whole_files true asked.mode pieces asked.names broke files sounds.1 rest, all, copies_are asked.mode content.bytes asked.names);
+      swept = rw (
+        slots,
+        whole_output true pieces first output sounds.0 left,
+        whole_files true asked.mode pieces asked.names broke files sounds.1 rest,
+        all,
+        copies_are asked.mode content.bytes asked.names,
+      );
       is = is ∙ sound_status asked.on_broken (first ∷ broke) fault sound ∙ rw met (met_status content.breaks_off);
     }
 tee_left (tee.no_room error says unread slots is) copied = absurd copied
@@ -643,7 +561,7 @@ status_some fault calling why = by_quiet (is_quiet fault calling why) where
 
 text_left : {which : Speaker} {text : List ℕ} {new : List Slot} {status : ℕ}
     → TellsText true which text new status → status ≡ 0 → IsLeft which (text_made text) new status
-text_left (text_whole slots is) well = record { error = standard_error; says = refl; swept = rw slots refl; is = is }
+text_left (text_whole slots is) well = grind (arith, common_steps)
 text_left (text_cut n short why error says slots is) well = absurd (status_some (Write 0) _ why (sym is ∙ well))
 text_left (no_text error says slots is) well = absurd (omega (arith, is, well))
 
@@ -651,25 +569,21 @@ text_left (no_text error says slots is) well = absurd (omega (arith, is, well))
 
 -- what is asked for makes this of its inputs
 abbrev pub Makes : Settings → List Input → Outcome → Type 0
-Makes (Head asked) inputs made = made ≡ made_by (head_task Cutters asked) inputs
-Makes (Tail asked) inputs made = made ≡ made_by (tail_task Cutters asked.ends) inputs
-Makes (Split asked) inputs made = made ≡ made_by (split_task Cutters asked) inputs
-Makes (Csplit asked) inputs made = (operands : List Operand) × Asks asked.operands operands × (made ≡ made_by (csplit_task Cutters asked operands) inputs)
 Makes (Tee asked) inputs made = (content : Content) × (inputs ≡ standard_input content ∷ []) × (made ≡ tee_made asked content)
 Makes (About which topic) inputs made = made ≡ text_made (text_about which topic)
+Makes asked inputs made = (task : Task) × IsTask Cutters asked task × (made ≡ made_by task inputs)
+
+-- with each task that is asked for
+pub makes_task : (asked : Settings) (task : Task) (inputs : List Input) {made : Outcome} → IsTask Cutters asked task
+    → Makes asked inputs made → made ≡ made_by task inputs
+makes_task (Tee asked) task inputs of makes = absurd of
+makes_task (About which topic) task inputs of makes = absurd of
+makes_task asked task inputs of (other, of_too, is) =
+    is ∙ ap (λ those. made_by those inputs) (one_task Cutters asked other task of_too of)
 
 pub same_content : {content other : Content} {inputs : List Input} → inputs ≡ standard_input content ∷ []
     → inputs ≡ standard_input other ∷ [] → content ≡ other
-same_content {content} {other} one two =
-    let both : standard_input content ∷ [] ≡ standard_input other ∷ [] = sym one ∙ two in
-    let first : standard_input content ≡ standard_input other = cc in
-    let there : Some content ≡ Some other = ap (λ (input : Input). input.content) first in cc
-
-one_made : (asked : Settings) (inputs : List Input) {made other : Outcome} → Makes asked inputs made
-    → Makes asked inputs other → made ≡ other
-one_made (Csplit asked) inputs (operands, asks, is) (operands_too, asks_too, is_too) = rw (is, asks_once asked.operands operands operands_too asks asks_too, is_too)
-one_made (Tee asked) inputs (content, only, is) (content_too, only_too, is_too) = rw (is, same_content only only_too, is_too)
-one_made asked inputs is is_too = is ∙ sym is_too
+same_content {content} {other} one two = grind (arith, common_steps)
 
 -- what a run left that did what is asked for
 pub record LeftBy (run : Run) (asked : Settings) : Type 0 where
@@ -678,22 +592,14 @@ pub record LeftBy (run : Run) (asked : Settings) : Type 0 where
   pub fits : Fits (TellsMet run asked) (removes_files asked) made
   pub left : IsLeft (speaker_of run.calling asked) made run.outputs run.status
 
-none_made : {work : Option (List ℕ) → Work} → ((shown : Option (List ℕ)) → MakesNone (work shown))
-    → AreLiving work false
-none_made makes = record { each = λ shown. (makes shown).0; clears_all = λ shown. (makes shown).1 }
-
 -- what each tool does with its inputs is so
 pub task_lives : (calling : Calling) (asked : Settings) (task : Task) → IsTask calling asked task
     → AreLiving task.work (removes_files asked)
-task_lives calling (Head asked) task is = rw is (none_made (head_makes asked.delim asked.unit (is_minus asked.count.sign) asked.count.amount))
-task_lives calling (Tail asked) task is = rw is (none_made (tail_makes asked.ends.delim asked.ends.unit (is_plus asked.ends.count.sign) asked.ends.count.amount))
-task_lives calling (Split asked) task is = rw is (record {
-  each = λ shown. way_living asked.way asked.elide (filing_of asked) (option_map length shown);
-  clears_all = λ shown. way_clears asked.way asked.elide (filing_of asked) (option_map length shown);
-})
-task_lives calling (Csplit asked) task (operands, asks, is) = rw is (record { each = λ shown. csplit_living asked.style operands; clears_all = λ shown. refl })
-task_lives calling (Tee asked) task is = absurd is
-task_lives calling (About which topic) task is = absurd is
+task_lives calling (Head asked) task is = grind (arith, common_steps, head_makes)
+task_lives calling (Tail asked) task is = grind (arith, common_steps, tail_makes)
+task_lives calling (Split asked) task is = grind (arith, common_steps, way_lives)
+task_lives calling (Csplit asked) task (operands, asks, is) = rw is (λ shown. (grind (arith, common_steps, files_there, sections_there), refl))
+task_lives calling asked task is = absurd is
 
 ends_left : {run : Run} {asked : Settings} {task : Task} → IsTask run.calling asked task
     → Makes asked (inputs_at run.world (names_of asked)) (made_by task (inputs_at run.world (names_of asked)))
@@ -706,24 +612,12 @@ ends_left {run} {asked} {task} of makes (as_defined error reached says outputs s
       fits = inputs_fit task true found (all_tell run asked task [] found [] of (sym (append-nil found))) (task_lives run.calling asked task of);
       left = record {
         error = error;
-        says = rw (speaker_is run.calling asked task of) at says;
+        says = grind (arith, common_steps, speaker_is);
         swept = rw (slots_at outputs) at swept;
         is = is;
       };
     }
 ends_left of makes ends unstopped = absurd unstopped
-
--- how the program was called is no part of what is made of inputs
-made_alike : (task : Task) (speaker : Speaker) (is_first : Bool) (inputs : List Input)
-    → of_inputs task is_first inputs ≡ of_inputs (record task { speaker = speaker }) is_first inputs
-made_alike task speaker is_first [] = refl
-made_alike task speaker is_first (input ∷ inputs) =
-    ap (joined (of_input task is_first input)) (made_alike task speaker (is_first && is_missing input.content) inputs)
-
-made_so : (run : Run) (task : Task) (names : List (List ℕ))
-    → made_by task (inputs_at run.world names)
-    ≡ made_by (record task { speaker = by Cutters task.speaker.tool }) (inputs_at run.world names)
-made_so run task names = made_alike task (by Cutters task.speaker.tool) true (inputs_at run.world names)
 
 -- it did so, over what it found
 abbrev pub Did : Run → Settings → Type 0
@@ -735,24 +629,23 @@ DidUnstopped run asked does =
     Unstopped run.calling asked (inputs_at run.world (names_of asked)) run.inputs run.outputs run.status does
 
 does_left : (run : Run) (asked : Settings) (does : Did run asked) → DidUnstopped run asked does → LeftBy run asked
-does_left run (Head asked) does unstopped =
-    ends_left {asked = Head asked} refl (made_so run (head_task run.calling asked) asked.names) does unstopped
-does_left run (Tail asked) does unstopped =
-    ends_left {asked = Tail asked} refl (made_so run (tail_task run.calling asked.ends) asked.ends.names) does unstopped
-does_left run (Split asked) does unstopped =
-    ends_left {asked = Split asked} refl (made_so run (split_task run.calling asked) (asked.input ∷ [])) does unstopped
 does_left run (Csplit asked) does unstopped = ends_left {asked = Csplit asked} (does.operands, does.asks, refl)
-    (does.operands, does.asks, made_so run (csplit_task run.calling asked does.operands) (asked.input ∷ [])) does.ends
-    unstopped
+    (_, (does.operands, does.asks, refl), refl) does.ends unstopped
 does_left run (Tee asked) does unstopped = record {
   made = tee_made asked does.content;
   of = (does.content, does.input, refl);
   fits = tee_fits asked does.content.bytes does.content.breaks_off does.content.shown
-      (λ breaks. (Read 0, codes "standard input", inr (broken_off (standard_input does.content) does.content ([], [], does.input) refl breaks (λ task of. absurd of)), refl));
+      (λ breaks. (
+        Read 0,
+        codes "standard input",
+        inr
+            (broken_off (standard_input does.content) does.content ([], [], does.input) refl breaks (λ task of. absurd of)),
+        refl,
+      ));
   left = tee_left does.ends unstopped;
 }
-does_left run (About which topic) does unstopped =
-    record { made = _; of = refl; fits = fits_well _ false refl no_live; left = text_left does unstopped }
+does_left run (About which topic) does unstopped = grind (arith, common_steps, fits_well, no_live, text_left)
+does_left run asked does unstopped = ends_left {asked = asked} refl (_, refl, refl) does unstopped
 
 pub completes_left : {run : Run} {asked : Settings} → Completes run asked → LeftBy run asked
 completes_left {run} {asked} whole = does_left run asked whole.does whole.unstopped
@@ -765,44 +658,39 @@ not_refused (inr (same, refuses)) = inr refuses
 
 pub ran_over : {run : Run} {asked : Settings} → Ran run asked
     → Did run asked ⊎ RefusesOperands true run.words asked run.outputs run.status
-ran_over ran =
-    let (found, finds, ends) = ran.ends in
-    not_refused (rw ran.read at (rw (finds.there refl) at ends))
+ran_over ran = grind (arith, common_steps, not_refused)
 
 -- Two runs that were asked for the same, over the same inputs
 
-found_same : (one other : Run) {asked : Settings} → settings_of one.calling one.words ≡ Ok asked
-    → settings_of other.calling other.words ≡ Ok asked → FindAlike one other
-    → AllAlike (inputs_at one.world (names_of asked)) (inputs_at other.world (names_of asked))
-found_same one other read read_too same = rw (read, read_too) at same
-
 -- `tee` makes the same of inputs that give the same
-given_content : {input : Input} {content : Content} {bytes : List ℕ} → input.content ≡ Some content
+pub given_content : {input : Input} {content : Content} {bytes : List ℕ} → input.content ≡ Some content
     → GivesBytes input bytes → (content.bytes ≡ bytes) × (content.breaks_off ≡ false)
-given_content {content} is gives =
-    let there : Some gives.content ≡ Some content = sym gives.is ∙ is in
-    let same : gives.content ≡ content = cc in
-    (rw same at gives.bytes_are, rw same at gives.ends)
+given_content {content} is gives = grind (arith, common_steps)
 
 tee_alike : (asked : TeeAsked) (content other : Content) → AreAlike (standard_input content) (standard_input other)
     → tee_made asked other ≡ tee_made asked content
-tee_alike asked content other (are_same is) = ap (tee_made asked) (sym (same_content {inputs = standard_input content ∷ []} refl (ap (λ input. input ∷ []) is)))
-tee_alike asked content other (give_same bytes named gives gives_too) =
-    let one = given_content refl gives in
-    let two = given_content refl gives_too in
-    rw (one.0, one.1, two.0, two.1)
+tee_alike asked content other (are_same is) = grind (arith, common_steps, same_content)
+tee_alike asked content other (give_same bytes named gives gives_too) = grind (arith, common_steps, given_content)
+
+-- what each tool makes of an input that ends is the same, whether it showed its bytes or not
+pub task_knows : (calling : Calling) (asked : Settings) (task : Task) → IsTask calling asked task
+    → KnowsNoMore task.work
+task_knows calling (Head asked) task is =
+    rw is (head_knows asked.delim asked.unit (is_minus asked.count.sign) asked.count.amount)
+task_knows calling (Tail asked) task is =
+    rw is (tail_knows asked.ends.delim asked.ends.unit (is_plus asked.ends.count.sign) asked.ends.count.amount)
+task_knows calling (Split asked) task is = rw is (way_knows asked.way asked.elide (filing_of asked))
+task_knows calling (Csplit asked) task (operands, asks, is) = rw is (shows_none _)
+task_knows calling asked task is = absurd is
 
 -- what is made of inputs is what is made of others that are alike
 alike_makes : (asked : Settings) (ones others : List Input) {made made_too : Outcome} → AllAlike ones others
     → Makes asked ones made → Makes asked others made_too → made_too ≡ made
-alike_makes (Head asked) ones others alike is is_too = is_too ∙ sym (is ∙ all_made_alike (head_task Cutters asked) (head_knows asked.delim asked.unit (is_minus asked.count.sign) asked.count.amount) true ones others alike)
-alike_makes (Tail asked) ones others alike is is_too = is_too ∙ sym (is ∙ all_made_alike (tail_task Cutters asked.ends) (tail_knows asked.ends.delim asked.ends.unit (is_plus asked.ends.count.sign) asked.ends.count.amount) true ones others alike)
-alike_makes (Split asked) ones others alike is is_too = is_too ∙ sym (is ∙ all_made_alike (split_task Cutters asked) (way_knows asked.way asked.elide (filing_of asked)) true ones others alike)
-alike_makes (Csplit asked) ones others alike (operands, asks, is) makes_too =
-    one_made (Csplit asked) others makes_too (operands, asks, is ∙ all_made_alike (csplit_task Cutters asked operands) (record { whole = λ text. refl; verdict = λ text. refl; clears = λ text. refl }) true ones others alike)
 alike_makes (Tee asked) ones others alike (content, only, is) (content_too, only_too, is_too) =
     is_too ∙ tee_alike asked content content_too (rw (only, only_too) at alike).0 ∙ sym is
 alike_makes (About which topic) ones others alike is is_too = is_too ∙ sym is
+alike_makes asked ones others alike (task, of, is) makes_too = makes_task asked task others of makes_too
+    ∙ sym (is ∙ all_made_alike task (task_knows Cutters asked task of) true ones others alike)
 
 -- what the one made is what the other does
 pub same_made : (one other : Run) {asked : Settings} {made made_too : Outcome}
@@ -810,7 +698,9 @@ pub same_made : (one other : Run) {asked : Settings} {made made_too : Outcome}
     → FindAlike one other
     → Makes asked (inputs_at one.world (names_of asked)) made
     → Makes asked (inputs_at other.world (names_of asked)) made_too → made_too ≡ made
-same_made one other {asked} read read_too same makes makes_too = alike_makes asked _ _ (found_same one other read read_too same) makes makes_too
+same_made one other {asked} read read_too same makes makes_too =
+    alike_makes asked (inputs_at one.world (names_of asked)) (inputs_at other.world (names_of asked))
+    (rw (read, read_too) at same) makes makes_too
 
 pub leave_alike : (one other : Run) (asked : Settings) → Completes one asked → Completes other asked
     → FindAlike one other → LeaveAlike asked one other
@@ -820,10 +710,10 @@ leave_alike one other asked whole whole_too same =
     let is = same_made one other whole.read whole_too.read same here.of there.of in
     let two = rw is at there.left in record {
       status = here.left.is ∙ sym two.is;
-      count = swept_count here.made.sweeps _ _ here.left.swept ∙ sym (swept_count here.made.sweeps _ _ two.swept);
+      count = grind (arith, common_steps, swept_count);
       outputs = λ place differs.
           let a = left_at here.left place differs in
           let b = left_at two place differs in
-          record { name = a.name ∙ sym b.name; mode = a.mode ∙ sym b.mode; written = a.written ∙ sym b.written; left = λ sound sound_too. a.left sound ∙ sym (b.left sound_too) };
+          record { name = a.name ∙ sym b.name; mode = a.mode ∙ sym b.mode; written = a.written ∙ sym b.written; left = grind (arith, common_steps) };
       said = (here.made.messages, left_says here.fits here.left, left_says (rw is at there.fits) two);
     }

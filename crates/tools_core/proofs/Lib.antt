@@ -1,4 +1,3 @@
-pub mod AboutLemmas
 pub mod AdapterLemmas
 pub mod RunLemmas
 pub mod SameLemmas
@@ -8,7 +7,6 @@ pub mod StoppedPromises
 pub mod PromiseLemmas
 pub mod TeePromises
 pub mod SplitPromises
-pub mod ChangedPromises
 pub mod CsplitPromises
 pub mod FollowPromises
 pub mod BesidePromises

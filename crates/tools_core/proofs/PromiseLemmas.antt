@@ -3,7 +3,7 @@
 use Rattle.std.proofs.{
   lemmas.{Grind.common_steps, List.Elements.All-map},
   Common.{◌≡◌, ℕ, Bool, true, false, if◌then◌else◌, List, [], ◌∷◌, Option, Some, None, inl, inr, refl, sym, ◌∙◌, ap},
-  Common.{arith, ◌+◌, ◌-◌, ◌++◌, map, drop, subst, length, option_map},
+  Common.{arith, map, drop, subst, length, option_map},
 }
 use Rattle.ports_core.specs.{
   Slot.{Slot, slot_at},
@@ -13,7 +13,7 @@ use Rattle.ports_core.specs.{
 }
 use Rattle.run_core.specs.{
   Input.{Input, World, shown_of, input_of, inputs_at, is_dash},
-  Task.{Outcome, Task, made_by, joined, no_outcome, of_content},
+  Task.{Outcome, Task, joined, no_outcome, of_content},
 }
 use Rattle.words_core.specs.{
   declared.settings.Settings.{Settings, TheVariants.{Tee, Head, Tail, Split, Csplit, About}},
@@ -24,34 +24,26 @@ use Rattle.words_core.specs.{
 use Rattle.tools_core.specs.{
   Tasks.{filing_of, head_task, tail_task, names_of, is_minus, is_plus},
   Promises.{GivesBytes, counted, Completes, Does, FindAlike, HasInput, Ran, Run, IsHead, IsTail, IsBare, CountAlike},
-  Promises.{output_of, AreCopies, IsSound, files_of, BeginsAs, BeginsEach},
+  Promises.{IsTask, output_of, AreCopies, IsSound, files_of, BeginsAs, BeginsEach},
 }
 use Rattle.tools_core.proofs.{
   BeginLemmas.{all_have_names, ending, is_way, part_of, bare_begins, begins_kept, begins_whole, lawful_grows},
-  BeginLemmas.{way_grows, still_begins, tee_begins, text_begins},
+  BeginLemmas.{way_grows, text_begins},
+  TeePromises.tee_begins,
   LeftLemmas.{Did, Makes, completes_left, left_whole, same_made, slots_of, copies_are, copy, tee_made, left_at},
-  LeftLemmas.ran_over,
+  LeftLemmas.{given_content, makes_task, ran_over, task_knows},
   StoppedPromises.{completes_or, silent_completes},
-  RunLemmas.can_run,
-  SameLemmas.{KnowsNoMore, head_in-None, head_in_lawful, head_knows, steady_made, tail_in-None, tail_in_lawful},
-  SameLemmas.tail_knows,
+  RunLemmas.by_words,
+  SameLemmas.{head_in-None, head_in_lawful, steady_made, tail_in-None, tail_in_lawful},
 }
-use Rattle.seg_core.specs.declared.{
-  count.Sign.{Sign, TheVariants.{Plain, Minus, Plus}},
-  unit.Unit.{Unit as Counted, TheVariants.{Lines, Bytes}},
-}
-use Rattle.ends_core.specs.{
-  Head.head_work,
-  Tail.tail_work,
-  Ends.{head_of, tail_of},
-  laws.EndsLaws.{first_then_after, ends_together},
-}
+use Rattle.seg_core.specs.declared.{count.Sign.{Sign}, unit.Unit.{Unit as Counted, TheVariants.{Lines, Bytes}}}
+use Rattle.ends_core.specs.{Head.head_work, Tail.tail_work, Ends.{head_of, tail_of}}
 use Rattle.csplit_core.specs.laws.InputLaws as csplit_law
 
 completes : {run : Run} {asked : Settings} → Does run asked → Completes run asked
 completes {run} {asked} does = elim (completes_or run asked does.ran) [
   | inl whole ↦ whole
-  | inr (inl stopped) ↦ absurd (omega (arith, does.well, stopped.failed))
+  | inr (inl stopped) ↦ grind (arith, common_steps)
   | inr (inr silent) ↦ silent_completes asked does silent
 ]
 
@@ -68,11 +60,6 @@ leave_same one other asked does does_too same =
 
 -- One input, which ends
 
-pub record HasOne (run : Run) (asked : Settings) (bytes : List ℕ) : Type 0 where
-  pub input : Input
-  pub gives : GivesBytes input bytes
-  pub only : inputs_at run.world (names_of asked) ≡ input ∷ []
-
 lies_there : (world : World) (name : List ℕ) (dash : Bool)
     → (input_of world false 1 name dash).content ≡ (if dash then Some world.standard else world.laid 1 name)
 lies_there world name true = refl
@@ -83,26 +70,6 @@ shows_all : (world : World) (name : List ℕ) (dash : Bool)
     → (input_of world false 1 name dash).shown ≡ shown_of (input_of world false 1 name dash).content
 shows_all world name true = refl
 shows_all world name false = refl
-
--- the only input of a run
-pub one_gives : {run : Run} {bytes : List ℕ} (has : HasInput run bytes)
-    → GivesBytes (input_of run.world false 1 has.name (is_dash has.name)) bytes
-one_gives {run} {bytes} has =
-    let there = lies_there run.world has.name (is_dash has.name) ∙ has.holds in record {
-      content = record { bytes = bytes; breaks_off = false; shown = has.shown };
-      is = there;
-      bytes_are = refl;
-      ends = refl;
-      steady = rw (shows_all run.world has.name (is_dash has.name), there) has.steady;
-    }
-
-pub has_one : {run : Run} {asked : Settings} {bytes : List ℕ} → Ran run asked → HasInput run bytes
-    → HasOne run asked bytes
-has_one {run} ran has = record {
-  input = input_of run.world false 1 has.name (is_dash has.name);
-  gives = one_gives has;
-  only = let only = rw ran.read at has.only in rw only;
-}
 
 -- what was made of it
 pub record DidOne (run : Run) (asked : Settings) (bytes : List ℕ) : Type 0 where
@@ -115,26 +82,31 @@ pub record DidOne (run : Run) (asked : Settings) (bytes : List ℕ) : Type 0 whe
 
 pub did_one : {run : Run} {asked : Settings} {bytes : List ℕ} → Does run asked → HasInput run bytes
     → DidOne run asked bytes
-did_one does has =
-    let one = has_one does.ran has in
+did_one {run} {asked} does has =
+    let input = input_of run.world false 1 has.name (is_dash has.name) in
+    let only : names_of asked ≡ has.name ∷ [] = rw does.ran.read at has.only in
     let all = completes_left (completes does) in
-    let whole = left_whole all.fits all.left does.well in
-    record { input = one.input; gives = one.gives; made = all.made; makes = rw one.only at all.of; sound = whole.sound; slots = whole.slots }
+    let whole = left_whole all.fits all.left does.well in record {
+      input = input;
+      gives = grind (arith, common_steps, lies_there, shows_all);
+      made = all.made;
+      makes = rw only at all.of;
+      sound = whole.sound;
+      slots = whole.slots;
+    }
 
 -- as much as if it showed nothing
 pub record IsMade (task : Task) (name bytes : List ℕ) (new : List Slot) : Type 0 where
   pub unjudged : (task.work None).verdict bytes ≡ None
   pub slots : new ≡ slots_of (part_of task name bytes)
 
-made_one : (task : Task) (name bytes : List ℕ) {made : Outcome} {new : List Slot}
-    → made ≡ joined (of_content task (task.work None) true name (Some (ending bytes))) no_outcome → made.failed ≡ false
-    → new ≡ slots_of made.part → IsMade task name bytes new
-made_one task name bytes is sound slots = grind (arith, common_steps)
-
 pub one_made : {run : Run} {asked : Settings} {bytes : List ℕ} (one : DidOne run asked bytes) (task : Task)
-    → KnowsNoMore task.work → one.made ≡ made_by task (one.input ∷ []) → IsMade task one.input.name bytes run.outputs
-one_made {bytes} one task knows is = made_one task one.input.name bytes
-    (is ∙ rw (steady_made task knows true one.input.name bytes one.input refl one.gives)) one.sound one.slots
+    → IsTask Cutters asked task → IsMade task one.input.name bytes run.outputs
+one_made {asked} {bytes} one task of =
+    let is : one.made ≡ joined (of_content task (task.work None) true one.input.name (Some (ending bytes))) no_outcome =
+    makes_task asked task _ of one.makes
+    ∙ rw (steady_made task (task_knows Cutters asked task of) true one.input.name bytes one.input refl one.gives) in
+    grind (arith, common_steps)
 
 -- What `head` and `tail` leave of one input.
 
@@ -144,14 +116,15 @@ bare_output : (task : Task) (name input : List ℕ) (work : Work) {new : List Sl
     → (slot_at new 0).written ≡ (work.whole input).out
 bare_output task name input work bare is left = rw (left, bare, is)
 
-head_output : {run : Run} (options : EndsAsked) {sign : Sign} {n : ℕ} {input : List ℕ} → IsBare options
+pub head_output : {run : Run} (options : EndsAsked) {sign : Sign} {n : ℕ} {input : List ℕ} → IsBare options
     → IsHead run options sign n → HasInput run input
     → output_of run ≡ head_of options.delim options.unit (is_minus sign) n input
 head_output options {sign} {n} {input} bare does has =
     let task = head_task Cutters (counted options sign n) in
     let one = did_one does has in
-    let made = one_made one task (head_knows options.delim options.unit (is_minus sign) n) one.makes in
-    bare_output task one.input.name input (head_work options.delim options.unit (is_minus sign) n) bare (head_in-None options.delim options.unit (is_minus sign) n) made.slots
+    let made = one_made one task refl in
+    bare_output task one.input.name input (head_work options.delim options.unit (is_minus sign) n) bare
+    (head_in-None options.delim options.unit (is_minus sign) n) made.slots
 
 tail_output : {run : Run} (options : EndsAsked) {sign : Sign} {n : ℕ} {input : List ℕ} → IsBare options
     → IsTail run options sign n → HasInput run input
@@ -159,8 +132,9 @@ tail_output : {run : Run} (options : EndsAsked) {sign : Sign} {n : ℕ} {input :
 tail_output options {sign} {n} {input} bare (looks, pause, process, does) has =
     let task = tail_task Cutters (counted options sign n) in
     let one = did_one does has in
-    let made = one_made one task (tail_knows options.delim options.unit (is_plus sign) n) one.makes in
-    bare_output task one.input.name input (tail_work options.delim options.unit (is_plus sign) n) bare (tail_in-None options.delim options.unit (is_plus sign) n) made.slots
+    let made = one_made one task refl in
+    bare_output task one.input.name input (tail_work options.delim options.unit (is_plus sign) n) bare
+    (tail_in-None options.delim options.unit (is_plus sign) n) made.slots
 
 -- lines alone have a delimiter
 tail_of-alike : (unit : Counted) (one other : ℕ) (from_nth : Bool) (n : ℕ) (x : List ℕ) → (unit ≡ Lines → one ≡ other)
@@ -169,26 +143,12 @@ tail_of-alike Lines one other from_nth n x delim = rw (delim refl)
 tail_of-alike Bytes one other false n x delim = refl
 tail_of-alike Bytes one other true n x delim = refl
 
-tail_alike : {run : Run} {first rest : EndsAsked} {sign : Sign} {n : ℕ} {input : List ℕ} → CountAlike first rest
+pub tail_alike : {run : Run} {first rest : EndsAsked} {sign : Sign} {n : ℕ} {input : List ℕ} → CountAlike first rest
     → IsTail run rest sign n → HasInput run input
     → output_of run ≡ tail_of first.delim first.unit (is_plus sign) n input
 tail_alike {first} {rest} {sign} {n} {input} alike does has =
     rw (tail_output rest alike.bare.1 does has, ← alike.unit)
     (tail_of-alike first.unit rest.delim first.delim (is_plus sign) n input (λ lines. sym (alike.delim lines)))
-
-pub first_meet : (head tail : Run) (first rest : EndsAsked) (n : ℕ) (input : List ℕ) → CountAlike first rest
-    → IsHead head first Plain n → IsTail tail rest Plus (n + 1) → HasInput head input → HasInput tail input
-    → output_of head ++ output_of tail ≡ input
-first_meet head tail first rest n input alike one other has has_too =
-    let same : n + 1 - 1 ≡ n = omega arith in
-    rw (head_output first alike.bare.0 one has, tail_alike alike other has_too, same)
-    (first_then_after first.delim first.unit n input)
-
-pub last_meet : (head tail : Run) (first rest : EndsAsked) (n : ℕ) (input : List ℕ) → CountAlike first rest
-    → IsHead head first Minus n → IsTail tail rest Plain n → HasInput head input → HasInput tail input
-    → output_of head ++ output_of tail ≡ input
-last_meet head tail first rest n input alike one other has has_too =
-    rw (head_output first alike.bare.0 one has, tail_alike alike other has_too) (ends_together first.delim first.unit n input)
 
 -- What `tee` leaves of its input.
 
@@ -210,14 +170,18 @@ pub is_copied : {tee : Run} {asked : TeeAsked} {input : List ℕ} → Does tee (
 is_copied {asked} {input} does has =
     let one = did_one does has in
     let (content, only, is) = one.makes in
-    let same : Some content ≡ Some one.gives.content = ap (first_content content) (sym only) ∙ one.gives.is in
-    let there : content ≡ one.gives.content = cc in
-    let bytes = ap (λ (those : Content). those.bytes) there ∙ one.gives.bytes_are in
+    let bytes = (given_content (ap (first_content content) only) one.gives).0 in
     let whole = one.slots ∙ ap (λ (made : Outcome). slots_of made.part) is
     ∙ ap (λ those. slots_of (tee_made asked (record { bytes = those; breaks_off = content.breaks_off; shown = content.shown })).part) bytes in
     record {
       output = rw whole;
-      files = rw (ap (drop 2) whole ∙ copies_are asked.mode input asked.names) (record { named = copies_named asked.mode input asked.names; each = All-map (λ (file : Slot). IsSound asked.mode file × (file.written ≡ input)) (copy asked.mode input) asked.names (λ k name within. ((refl, refl, refl), refl)) });
+      files = rw (ap (drop 2) whole ∙ copies_are asked.mode input asked.names)
+          (record {
+            named = copies_named asked.mode input asked.names;
+            each = All-map
+                (λ (file : Slot). IsSound asked.mode file × (file.written ≡ input)) (copy asked.mode input) asked.names
+                (λ k name within. ((refl, refl, refl), refl));
+          });
     }
 
 -- the outputs have beginnings of what is made of the inputs
@@ -225,16 +189,16 @@ begins_made : (run : Run) (asked : Settings) → CanRun asked → Did run asked
     → (made : Outcome) × Makes asked (inputs_at run.world (names_of asked)) made
     × ((place : ℕ) → (place ≡ 1 → ⊥) → BeginsAs (slot_at run.outputs place) (slot_at (slots_of made.part) place))
 begins_made run (Head asked) can does =
-    (_, refl, λ place differs. begins_whole (λ shown. lawful_grows (head_in_lawful _ _ _ _ shown)) differs does)
+    (_, (_, refl, refl), λ place differs. begins_whole (λ shown. lawful_grows (head_in_lawful _ _ _ _ shown)) differs does)
 begins_made run (Tail asked) can does =
-    (_, refl, λ place differs. begins_whole (λ shown. lawful_grows (tail_in_lawful _ _ _ _ shown)) differs does)
+    (_, (_, refl, refl), λ place differs. begins_whole (λ shown. lawful_grows (tail_in_lawful _ _ _ _ shown)) differs does)
 begins_made run (Split asked) can does =
     let grows = λ (shown : Option (List ℕ)). way_grows asked.way asked.elide (filing_of asked) (option_map length shown)
     (is_way asked can) (all_have_names asked can.named) in
-    (_, refl, λ place differs. begins_whole grows differs does)
+    (_, (_, refl, refl), λ place differs. begins_whole grows differs does)
 begins_made run (Csplit asked) can does =
     let law = csplit_law.lawful asked.style does.operands in
-    (_, (does.operands, does.asks, refl), λ place differs. begins_whole (λ shown. lawful_grows law) differs does.ends)
+    (_, (_, (does.operands, does.asks, refl), refl), λ place differs. begins_whole (λ shown. lawful_grows law) differs does.ends)
 begins_made run (Tee asked) can does =
     (_, (does.content, does.input, refl), λ place differs. tee_begins place differs does.ends)
 begins_made run (About which topic) can does = (_, refl, λ place differs. text_begins place differs does)
@@ -245,8 +209,10 @@ begins_each run well asked ran whole same =
     let all = completes_left whole in
     elim (ran_over ran) [
       | inl does ↦ λ place differs.
-          let (made, makes, begins) = begins_made run asked (can_run run.calling run.words ran.read) does in
+          let (made, makes, begins) = begins_made run asked (by_words run.calling run.words ran.read).1 does in
           let same_too = same_made run well ran.read whole.read same makes all.of in
-          begins_kept (left_at all.left place differs) (subst (λ (those : Outcome). BeginsAs (slot_at run.outputs place) (slot_at (slots_of those.part) place)) (sym same_too) (begins place differs))
-      | inr (fault, bad, refuses) ↦ λ place differs. still_begins place refuses.slots (bare_begins refuses.error place differs)
+          begins_kept (left_at all.left place differs)
+          (subst (λ (those : Outcome). BeginsAs (slot_at run.outputs place) (slot_at (slots_of those.part) place))
+          (sym same_too) (begins place differs))
+      | inr (fault, bad, refuses) ↦ λ place differs. rw refuses.slots (bare_begins refuses.error place differs)
     ]

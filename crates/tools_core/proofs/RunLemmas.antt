@@ -1,21 +1,21 @@
 -- How a run ends, by its words.
 use Rattle.std.{
   specs.Option.unwrap_or,
-  proofs.Common.{◌≡◌, ℕ, List, [], ◌∷◌, Option, Some, None, option_map, Result, Ok, Err, refl, sym, ◌∙◌, ap, subst},
-  proofs.Common.{Bool, true, false, length, map, Bor, inl, inr, codes, arith, max},
+  proofs.Common.{◌≡◌, ℕ, List, [], ◌∷◌, Option, Some, None, option_map, Result, Ok, Err, refl, ◌∙◌, ap, subst},
+  proofs.Common.{take, Bool, true, false, length, map, Bor, inl, inr, codes, arith, max},
 }
 use Rattle.ports_core.specs.{
-  declared.fault.{Fault.{Fault, TheVariants.{Memory, Usage}}, UsageKind.TheVariants.BadFollow},
+  declared.fault.{Fault.{Fault, TheVariants.{Memory, Usage, Write}}, UsageKind.TheVariants.BadFollow},
+  declared.calling.Speaker.Speaker,
+  Write.BrokeAfter,
   declared.tool.Tool.Tool,
   declared.calling.Calling.{Calling, TheVariants.{Cutters, OwnName}},
-  declared.on_broken.OnBroken.OnBroken,
-  declared.slot.Mode.Mode,
-  Slot.{Slot, changed_at, slot_at},
+  Slot.{Slot, adds, breaks, changed_at, slot_at, streams, told_of},
   Source.{Content, Source, source_at, IsFresh},
-  Text.{Message, message_of},
-  Message.{Says, SaysAll, SaysFor},
+  Text.{Message, message_of, status_after},
+  Message.{Says, SaysAll, SaysFor, TellsOn, output_named, output_reason},
   Inputs.{CameFrom, OfContent, empty},
-  Streams.standard_error,
+  Streams.{standard_error, standard_output},
 }
 use Rattle.words_core.specs.{
   declared.{
@@ -27,7 +27,7 @@ use Rattle.words_core.specs.{
   EndsWords.{ends_asked, EndsAsked},
   SplitWords.split_asked,
   TailWords.tail_asked,
-  TeeWords.{tee_asked, TeeAsked},
+  TeeWords.{tee_asked},
   Given.Given,
   Spelling.{given_by, IsRefused},
   Value.then_check,
@@ -38,9 +38,9 @@ use Rattle.words_core.specs.{
 use Rattle.words_core.proofs.LimitLemmas.{read-can}
 use Rattle.follow_core.{proofs.LookedLemmas.{ends_by, most_made}, specs.Ending.{no_room as no_room_yet, shows_by}}
 use Rattle.tools_core.specs.{
-  Outcome.{speaker, RefusesFor, RunEndsAt, TeeEndsAs, names_at},
+  Outcome.{speaker, RefusesFor, RunEndsAt, names_at},
   Tasks.{by, speaker_of, tool_of},
-  About.no_text,
+  About.{TellsText, no_text, text_cut},
   Following.{FollowingEnds, FollowingEndsAt, FollowsTail, is_name},
   Program.{ProgramEnds, ProgramEndsAt, looks_at},
 }
@@ -79,44 +79,33 @@ by_about : (which : Tool) (topic : Option Topic) (work : Result Settings Fault) 
 by_about which (Some topic) work {settings} rest is = let same : About which topic ≡ settings = cc in rw (← same) refl
 by_about which None work rest is = rest is
 
-by_given : (calling : Calling) {which : Tool} (given : Result Given Fault) {settings : Settings}
-    → then_check given (settings_for calling which) ≡ Ok settings → which ≡ tool_of settings
-by_given calling {which} (Ok given) {settings} is = by_about which (topic_in given.options) (work_for calling which given) (by_work calling which given) is
-by_given calling (Err fault) is = absurd (cc)
-
 by_topic : (topic : Option Topic) {settings : Settings} → program_asked topic ≡ Ok settings
-    → (tool_of settings ≡ tool.Cutters) × CanRun settings
+    → (tool.Cutters ≡ tool_of settings) × CanRun settings
 by_topic (Some topic) {settings} is = let same : About tool.Cutters topic ≡ settings = cc in rw (← same) (refl, tt)
 by_topic None is = absurd (cc)
 
-named : (calling : Calling) (row : Option ToolRow) (name : List ℕ) (words : List (List ℕ)) (settings : Settings)
-    → tool_settings calling name words row ≡ Ok settings
-    → unwrap_or (option_map (λ row. row.tool) row) tool.Cutters ≡ tool_of settings
-named calling (Some row) name words settings is = by_given calling (given_by calling row words) is
-named calling None name words settings is = sym (by_topic (topic_named name) is).0
+-- and what the words ask for can be done
 
-pub runs_as_named : (calling : Calling) (words : List (List ℕ)) {settings : Settings}
-    → settings_of calling words ≡ Ok settings → speaker words ≡ tool_of settings
-runs_as_named calling [] is = absurd (cc)
-runs_as_named calling (name ∷ words) {settings} is = named calling (row_named tools name) name words settings is
-
--- What words ask for can be done.
-
-can_given : (calling : Calling) (name : List ℕ) {row : ToolRow} (words : List (List ℕ)) {settings : Settings}
+by_given : (calling : Calling) (name : List ℕ) {row : ToolRow} (words : List (List ℕ)) {settings : Settings}
     (given : Result Given Fault) → Some row ≡ row_named tools name → given_by calling row words ≡ given
-    → then_check given (settings_for calling row.tool) ≡ Ok settings → CanRun settings
-can_given calling name words {settings} (Ok given) named read is = read-can calling name words (Ok settings) refl named read is
-can_given calling name words (Err fault) named read is = absurd (cc)
+    → then_check given (settings_for calling row.tool) ≡ Ok settings
+    → (row.tool ≡ tool_of settings) × CanRun settings
+by_given calling name {row} words {settings} (Ok given) named read is = (
+  by_about row.tool (topic_in given.options) (work_for calling row.tool given) (by_work calling row.tool given) is,
+  read-can calling name words (Ok settings) refl named read is,
+)
+by_given calling name words (Err fault) named read is = absurd (cc)
 
-can_tool : (calling : Calling) (name : List ℕ) (words : List (List ℕ)) {settings : Settings} (row : Option ToolRow)
-    → row ≡ row_named tools name → tool_settings calling name words row ≡ Ok settings → CanRun settings
-can_tool calling name words (Some row) named is = can_given calling name words (given_by calling row words) named refl is
-can_tool calling name words None named is = (by_topic (topic_named name) is).1
+by_row : (calling : Calling) (name : List ℕ) (words : List (List ℕ)) {settings : Settings} (row : Option ToolRow)
+    → row ≡ row_named tools name → tool_settings calling name words row ≡ Ok settings
+    → (unwrap_or (option_map (λ row. row.tool) row) tool.Cutters ≡ tool_of settings) × CanRun settings
+by_row calling name words (Some row) named is = by_given calling name words (given_by calling row words) named refl is
+by_row calling name words None named is = by_topic (topic_named name) is
 
-pub can_run : (calling : Calling) (words : List (List ℕ)) {settings : Settings}
-    → settings_of calling words ≡ Ok settings → CanRun settings
-can_run calling [] is = absurd (cc)
-can_run calling (name ∷ words) is = can_tool calling name words (row_named tools name) refl is
+pub by_words : (calling : Calling) (words : List (List ℕ)) {settings : Settings}
+    → settings_of calling words ≡ Ok settings → (speaker words ≡ tool_of settings) × CanRun settings
+by_words calling [] is = absurd (cc)
+by_words calling (name ∷ words) is = by_row calling name words (row_named tools name) refl is
 
 -- Lemmas on how a run ends, by its words.
 
@@ -137,36 +126,13 @@ ends_names same is = cc (same, is)
 -- `tee` over what is there
 
 -- the name that it reads finds standard input
-finds_standard : {told : Bool} {laid : ℕ → List ℕ → Option Content} (sources : List Source) {content : Content}
+pub finds_standard : {told : Bool} {laid : ℕ → List ℕ → Option Content} (sources : List Source) {content : Content}
     → (told ≡ true → content ≡ (source_at sources 0).left)
     → Finds told (world_of laid sources) (codes "-" ∷ []) (standard_input content ∷ [])
 finds_standard {laid} sources {content} there = record {
   are = ((record { laid = laid; standard = content }, _, refl), refl);
   there = λ t. rw (there t);
 }
-
-pub tee_runs : {told_in told : Bool} {calling : Calling}
-    {laid : ℕ → List ℕ → Option Content} {asked : TeeAsked} {mode : Mode} {on_broken : OnBroken} {names : List (List ℕ)}
-    (old : List Source) {sources : List Source} {new : List Slot} {status : ℕ} → mode ≡ asked.mode
-    → on_broken ≡ asked.on_broken → names ≡ asked.names
-    → OfContent told_in (source_at old 0).left
-    (λ content. TeeCopies told_in told calling mode on_broken names content (source_at sources 0) new status
-    × CameFrom told_in content (source_at sources 0))
-    → (told_in ≡ true → status ≡ 0 → (forgives on_broken ≡ true → AreSound new)
-    → new ≡ all_copied told mode names (source_at old 0).left.bytes)
-    → RunsOver told_in (world_of laid old) (codes "-" ∷ [])
-    (λ found. TeeEndsAs calling told_in told asked found sources new status)
-tee_runs {told} {mode} {names} old mode_is broken_is names_is (content, there, (ends, came)) whole = (
-  standard_input content ∷ [],
-  finds_standard old there,
-  record {
-    content = content;
-    input = refl;
-    ends = rw (mode_is, broken_is, names_is) at ends;
-    came = came;
-    whole = λ t well sound. rw (mode_is, names_is) at (whole t well (λ forgiving. sound (ap forgives (sym broken_is) ∙ forgiving)) ∙ ap (λ (those : Content). all_copied told mode names those.bytes) (sym (there t)));
-  },
-)
 
 -- words that weren't read for want of memory, where they ask for this
 
@@ -188,16 +154,17 @@ unread_source false fresh =
     )
 
 -- want of memory is one of the faults of operands
-pub lacks_memory : (asked : CsplitAsked) → HasBadOperand asked Memory
+lacks_memory : (asked : CsplitAsked) → HasBadOperand asked Memory
 lacks_memory asked = (record { kind = kind.Memory; index = 0 }, no_memory 0, refl)
 
 -- words that are refused, or weren't read for want of memory
 
-pub refused_memory : {told : Bool} (words : List (List ℕ)) (fault : Fault) {new : List Slot} {status : ℕ}
+refused_memory : {told : Bool} (words : List (List ℕ)) (fault : Fault) {new : List Slot} {status : ℕ}
     → RefusesFor told words Memory new status → RefusesFor told words fault new status
 refused_memory words fault refuses = record {
   error = refuses.error;
-  says = let (why, says) = refuses.says in (why, record { said = says.said; is = inr (elim says.is [ inl is ↦ is | inr is ↦ is ]); printed = says.printed });
+  says = let (why, says) = refuses.says in
+      (why, record { said = says.said; is = inr (elim says.is [ inl is ↦ is | inr is ↦ is ]); printed = says.printed });
   slots = refuses.slots;
   failed = refuses.failed;
 }
@@ -218,7 +185,7 @@ says_as : {told : Bool} (calling : Calling) (words : List (List ℕ)) {settings 
     → settings_of calling words ≡ Ok settings → (refuses : RefusesFor told words Memory new status)
     → SaysAll told (speaker_of calling settings) (message_of Memory [] ∷ []) standard_error refuses.error
 says_as calling words is refuses =
-    (refuses.error, worded_by calling (runs_as_named calling words is) refuses.says, refl)
+    (refuses.error, worded_by calling (by_words calling words is).0 refuses.says, refl)
 
 module _ (calling : Calling) (told_in told : Bool) (words : List (List ℕ))
     (laid : ℕ → List ℕ → Option Content) (sources : List Source) (new : List Slot) (status : ℕ)
@@ -231,7 +198,8 @@ module _ (calling : Calling) (told_in told : Bool) (words : List (List ℕ))
   -- the words ask for something whose operands can't be read
   operands_refused : (settings : Settings) (fault : Fault) → HasBadOperands settings fault
       → RefusesFor told words fault new status → EndsUnread (Ok settings)
-  operands_refused settings fault bad refuses = let (found, finds, untouched) = none_touched fresh in (found, finds, inr (refl, (fault, bad, refuses)))
+  operands_refused settings fault bad refuses = let (found, finds, untouched) = none_touched fresh in
+      (found, finds, inr (refl, (fault, bad, refuses)))
 
   unread_for : (meant : Result Settings Fault) → settings_of calling words ≡ meant
       → RefusesFor told words Memory new status → EndsUnread meant
@@ -241,17 +209,26 @@ module _ (calling : Calling) (told_in told : Bool) (words : List (List ℕ))
       let (content, there, (unread, came)) = unread_source told_in fresh in (
         standard_input content ∷ [],
         finds_standard sources there,
-        inl (record { content = content; input = refl; ends = copies.no_room refuses.error (says_as calling words is refuses) unread refuses.slots refuses.failed; came = came; whole = λ t well told_of. absurd (omega (arith, well, refuses.failed)) }),
+        inl (record {
+          content = content;
+          input = refl;
+          ends = copies.no_room refuses.error
+              (says_as calling words is refuses) unread refuses.slots refuses.failed;
+          came = came;
+          whole =
+              λ t well told_of. absurd (omega (arith, well, refuses.failed));
+        }),
       )
   unread_for (Ok (About which topic)) is refuses = (
     [],
     record { are = refl; there = λ t. refl },
     inl
-        (no_text refuses.error (worded_by calling (runs_as_named calling words is) refuses.says) refuses.slots
+        (no_text refuses.error (worded_by calling (by_words calling words is).0 refuses.says) refuses.slots
         refuses.failed),
   )
   unread_for (Ok settings) is refuses =
-      let (found, finds, untouched) = none_touched fresh in (found, finds, inl (no_room refuses.error (says_as calling words is refuses) refuses.slots untouched (ap length fresh.only) refuses.failed))
+      let (found, finds, untouched) = none_touched fresh in
+      (found, finds, inl (no_room refuses.error (says_as calling words is refuses) refuses.slots untouched (ap length fresh.only) refuses.failed))
 
   pub refused_or_memory : {fault : Fault} → IsRefused HasBadOperands (settings_of calling words) fault
       → RefusesFor told words fault new status → EndsUnread (settings_of calling words)
@@ -279,9 +256,11 @@ module _ (calling : Calling) (told_in told : Bool) (words : List (List ℕ)) (lo
       → FollowsTail calling told_in told words asked followed looks shows seen watched new status
   unread_tail asked None speaks refuses = (unseen, unwatched, refused_memory words (Usage BadFollow 0) refuses)
   unread_tail asked (Some followed) speaks refuses =
-      let (most, are, above) = most_made told_in asked.process (λ n. waiting (max asked.pause 1) (shows_by calling (is_name followed) shows n)) looks 0 (omega arith) (λ t. omega arith) in
+      let (most, are, above) = most_made told_in asked.process
+      (λ n. waiting (max asked.pause 1) (shows_by calling (is_name followed) shows n)) looks 0 (omega arith) (λ t. omega arith) in
       let (why, says) = worded_by calling speaks refuses.says in
-      ends_by asked.process most are (no_room_yet why unseen unwatched (λ output error since are. let is_error : standard_error ≡ error = ap (λ (slots : List Slot). slot_at slots 1) are in (
+      ends_by asked.process most are (no_room_yet why unseen unwatched
+      (λ output error since are. let is_error : standard_error ≡ error = ap (λ (slots : List Slot). slot_at slots 1) are in (
         refuses.error,
         subst (λ first. SaysFor told (by calling tool.Tail) why (message_of Memory []) first refuses.error) is_error says,
         refuses.slots ∙ ap (changed_at 1 (λ _. refuses.error)) are,
@@ -290,7 +269,7 @@ module _ (calling : Calling) (told_in told : Bool) (words : List (List ℕ)) (lo
   unread_files : (meant : Result Settings Fault) → settings_of calling words ≡ meant
       → RefusesFor told words Memory new status
       → FollowingEndsAt calling told_in told words looks shows seen watched new status meant
-  unread_files (Ok (Tail asked)) is refuses = unread_tail asked asked.followed (runs_as_named calling words is) refuses
+  unread_files (Ok (Tail asked)) is refuses = unread_tail asked asked.followed (by_words calling words is).0 refuses
   unread_files (Ok (Csplit asked)) is refuses = inr (unseen, unwatched, (Memory, lacks_memory asked, refuses))
   unread_files (Ok asked) is refuses = inl (tt, (unseen, unwatched, refused_memory words (Usage BadFollow 0) refuses))
   unread_files (Err fault) is refuses = (unseen, unwatched, refused_memory words fault refuses)
@@ -327,3 +306,19 @@ program_refuses calling told_in told_watched {told} words laid {sources} shows {
       by None =
           let all = refused_or_memory calling told_in told words laid sources new status fresh refused refuses in
           (unseen, unwatched, all)
+
+-- How a run ends that is asked for a text about a tool.
+
+-- standard output broke after a beginning of the text
+pub text_broke : {told : Bool} {speaker : Speaker} {status : ℕ} (text : List ℕ) (n : ℕ) {old mid new : List Slot}
+    {fault : Fault} → old ≡ streams → BrokeAfter told old mid 0 text n → fault ≡ Write 0
+    → TellsOn told speaker fault mid new → status ≡ status_after fault speaker.calling (output_reason mid fault)
+    → TellsText told speaker text new status
+text_broke {told} text n {mid = mid} fresh broke is tells ends =
+    let (why, slots) = broke.slots in
+    let output = breaks why (adds (told_of told (take n text)) standard_output) in
+    let there : mid ≡ output ∷ standard_error ∷ [] = rw fresh at slots in
+    let (after, says, are) = tells output standard_error [] there in
+    let name : output_named mid (Write 0) ≡ codes "standard output" = rw there in
+    let reason : output_reason mid (Write 0) ≡ why = rw there in
+    text_cut n broke.within why after (rw (reason, name) at (rw is at says)) are (rw reason at (rw is at ends))

@@ -23,6 +23,10 @@ pub record KnowsNoMore (work : Option (List ℕ) → Work) : Type 0 where
   pub verdict : (text : List ℕ) → (work (Some text)).verdict text ≡ (work None).verdict text
   pub clears : (text : List ℕ) → (work (Some text)).clears ≡ (work None).clears
 
+-- one that is the same whatever is shown
+pub shows_none : (work : Work) → KnowsNoMore (λ shown. work)
+shows_none work = record { whole = λ text. refl; verdict = λ text. refl; clears = λ text. refl }
+
 -- where nothing is shown, they know nothing
 
 pub head_in-None : (delim : ℕ) (unit : Counted) (but_last : Bool) (n : ℕ)
@@ -55,7 +59,7 @@ head_knows delim unit true n = record {
   verdict = verdict-head_shown delim unit n;
   clears = λ text. refl;
 }
-head_knows delim unit false n = record { whole = λ text. refl; verdict = λ text. refl; clears = λ text. refl }
+head_knows delim unit false n = shows_none _
 
 pub tail_knows : (delim : ℕ) (unit : Counted) (from_nth : Bool) (n : ℕ) → KnowsNoMore (tail_in delim unit from_nth n)
 tail_knows delim unit false n = record {
@@ -63,7 +67,7 @@ tail_knows delim unit false n = record {
   verdict = verdict-tail_shown delim unit n;
   clears = λ text. refl;
 }
-tail_knows delim unit true n = record { whole = λ text. refl; verdict = λ text. refl; clears = λ text. refl }
+tail_knows delim unit true n = shows_none _
 
 -- the length of the text that was shown is that of what came
 said_so : (text : List ℕ) → is_as_said (Some (length text)) text ≡ true
@@ -71,7 +75,7 @@ said_so text = eq-eqb (length text) (length text) refl
 
 pub way_knows : (way : Way) (elide : Bool) (filing : Filing)
     → KnowsNoMore (λ shown. way_work way elide filing (option_map length shown))
-way_knows (way.Cut cut) elide filing = record { whole = λ text. refl; verdict = λ text. refl; clears = λ text. refl }
+way_knows (way.Cut cut) elide filing = shows_none _
 way_knows (way.Chunks chunks) elide filing = record {
   whole = λ text. refl;
   verdict = λ text. rw (said_so text);
@@ -82,7 +86,7 @@ way_knows (way.Chunk place chunks) elide filing = record {
   verdict = λ text. rw (said_so text, or-true (is_written place chunks (Some (length text)) text));
   clears = λ text. refl;
 }
-way_knows (way.Turn place count delim) elide filing = record { whole = λ text. refl; verdict = λ text. refl; clears = λ text. refl }
+way_knows (way.Turn place count delim) elide filing = shows_none _
 
 -- what is made of an input, by its fields
 of_fields : Task → Work → Bool → List ℕ → List ℕ → Bool → Outcome

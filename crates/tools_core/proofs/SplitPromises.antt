@@ -1,46 +1,49 @@
--- What `split` leaves of its input, and that names by places are in order.
+-- What `split` leaves of its input, also where that gives fewer or more bytes than it showed before, and that names by places are in
+-- order.
 use Rattle.std.proofs.{
   lemmas.Grind.common_steps,
-  lemmas.Bool.{cases_lt, cond_both, lt-ltb, ltb-false, ltb-true},
+  lemmas.Bool.{cases_lt, cond_both},
   lemmas.List.{get_or_append_left, length-map, length-take, length-take-le, length-drop, get_or-take, get_or_past},
   lemmas.List.{take-append-drop, take-append-le, take_all},
   lemmas.List.FromFn.{get_or-map-range_with_len, length-map-range_with_len},
-  lemmas.List.Elements.{All-cons, All-map, All-nil},
+  lemmas.List.Elements.{All-map},
   lemmas.Nat.mod_below,
-  Common.{◌≡◌, ℕ, ◌+◌, ◌-◌, ◌/◌, ◌%◌, ◌^◌, ◌<◌, ◌≤◌, zero, suc, List, [], ◌∷◌, ◌++◌, length, inl, inr, refl, sym, ◌∙◌},
-  Common.{ap, arith, append_assoc, length-append, Less, nat_cmp, append-nil, div-add-mod', rules, ◌*◌, min, Bool, true},
-  Common.{false, IsTrue, not, cond, map, take, drop, subst, filter, get_or, Some, None, All, suc-mul},
-  Math.Seq.{take-append_seam, drop-append_seam, take-append-add},
+  Common.{◌≡◌, ℕ, ◌+◌, ◌-◌, ◌/◌, ◌%◌, ◌<◌, ◌≤◌, zero, suc, List, [], ◌∷◌, ◌++◌, length, inl},
+  Common.{inr, refl, sym, ◌∙◌},
+  Common.{ap, arith, append_assoc, length-append, Less, nat_cmp, append-nil, div-add-mod', rules, ◌*◌, min, Bool},
+  Common.true,
+  Common.{false, IsTrue, not, cond, map, take, drop, subst, filter, get_or, Some, None, All, suc-mul, is_some},
+  Math.Seq.{drop-append_seam, take-append-add},
 }
-use Rattle.std.specs.{Cmp.Lexicographic.slice_cmp, List.{flat_map, range_with_len}, Prelude.{Option, nat_lt}}
+use Rattle.std.specs.{Cmp.Lexicographic.slice_cmp, List.{flat_map, range_with_len}, Prelude.{Option}}
 use Rattle.ports_core.specs.{
-  Name.{ordered_count, IsWide, keeps_order, Naming, has_name, name_at},
-  declared.numbering.Numbering.TheVariants.Formatted,
-  declared.form.Form.Form,
-  declared.verdict.Verdict.TheVariants.Suffixes,
+  Name.{IsWide, keeps_order, name_at},
+  declared.verdict.Verdict.{Verdict, TheVariants.{Changed, Suffixes}},
+  Source.Content,
+  Work.Work,
   declared.slot.{Mode.TheVariants.Fresh, State.TheVariants.Closed},
   declared.calling.Calling.TheVariants.Cutters,
-  Draft.{part_of, told_of_files},
-  Part.{File, only_out},
+  Draft.{Manner, file_at, files_from, part_of, told_of_files},
+  Part.{File, Part, only_out},
   Slot.{Slot},
 }
 use Rattle.ports_core.proofs.OrderLemmas.{in_order}
 use Rattle.tools_core.{
-  specs.Promises.{AreChunks, AreEven, AreInOrder, KeepLines, Splits, makes_files, text_at, Run, Does, HasInput},
+  specs.Promises.{AreInOrder, Splits, makes_files, text_at, Run, Does, HasInput},
   specs.Promises.{AreListed, ArePieces, AreLinePieces, AreUncut, AreDealt, EndsLine, IsFilled, IsSound, contents_of},
-  specs.Promises.{files_of, lines_telling, output_of},
-  specs.Tasks.{filing_of, naming_of, split_task},
+  specs.Promises.{Completes, GivesOther, IsChunkAsShown, IsCutAsShown, TellsMet, files_of, lines_telling, output_of},
+  specs.Promises.removes_files,
+  specs.Tasks.{filing_of, names_of, naming_of, speaker_of, split_task},
   proofs.{
-    SameLemmas.way_knows,
     BeginLemmas.all_have_names,
-    RunLemmas.can_run,
-    LeftLemmas.{named_each, slot_of, slots_of},
+    RunLemmas.by_words,
+    LeftLemmas.{Fits, IsLeft, LeftBy, completes_left, each_made, left_says, makes_task, slot_of, slots_of},
     PromiseLemmas.{DidOne, IsMade, did_one, one_made},
   },
 }
 use Rattle.seg_core.specs.{
   Line.{joined, lines_of, line_count, delimiters, ends_with, first_lines, after_lines},
-  declared.{cut.{Chunks.Chunks, Cut.TheVariants.Round, Way.Way}, unit.Unit.TheVariants.{Bytes, Lines}},
+  declared.{cut.{Chunks.Chunks, Way.Way}, unit.Unit.TheVariants.{Lines}},
 }
 use Rattle.seg_core.proofs.{
   Delimiters.{delimiters-append, delimiters-le-length},
@@ -50,29 +53,28 @@ use Rattle.seg_core.proofs.{
   FirstLines.{length-first_lines-le, lines_of-first_lines, lines_of-after_lines},
   LineCounts.{line_count-open, line_count_near},
 }
-use Rattle.run_core.specs.Task.{after_part}
+use Rattle.run_core.specs.{
+  Input.{Input, inputs_at},
+  Task.{Outcome, Task, after_part, joined as both_made, made_by, no_outcome, of_content, verdict_messages},
+}
 use Rattle.split_core.specs.{
-  Chunks.{chunks_in, in_the_end, size_by},
-  ChunkWork.{files_by, kept, piece_at, way_work},
-  laws.{
-    ChunkLaws.{map_same, rest_none},
-    CutLaws.{whole_of_lines, whole_of_none},
-    DealLaws.share_none,
-    ChunkWorkLaws.length-kept,
-  },
+  Chunks.{chunks_in, has_ended, in_the_end, size_by},
+  ChunkWork.{ChunksPlan, HasAllNames, chunk_work, chunks_work, files_by, kept, piece_at, way_work},
+  laws.{ChunkLaws.{rest_none}, DealLaws.share_none, ChunkWorkLaws.length-kept},
   Parts.{parts, round_robin, whole_lines},
   Sections.AreLineByteParts,
-  inner.{CutLaws.named, Sharing.file_at, Dealt.share_of},
+  inner.{CutLaws.named, Dealt.share_of},
   Split.{Filing, manner_of, output_by, Share, share, are_named, has_bytes, dealt_files, pieces_of},
 }
 use Rattle.split_core.proofs.{
-  ChunkLemmas.{all_pieces, count_chunks, join_chunks, lines_in_chunks, longer_chunk, shorter_chunk},
+  ChunkLemmas.{count_chunks, lines_in_chunks},
   CutLaws.{first_then_after, bytes_of_shares},
   AgreedLemmas.{bytes_named, each_named},
   RoundLemmas.{joined_files, named_fewer, named_at},
   SectionLemmas.{line_at, all_dealt, first_files, joined_parts, part_lines, part_bytes, lines_count, bytes_count},
   SectionLemmas.{line_bytes_are_parts, line_bytes_once, line_bytes_within},
-  ChunkAgreedLemmas.joined-kept,
+  ChunkAgreedLemmas.{whole_files},
+  ChunkMadeLemmas.{changed_all, changed_alone, changed_told},
 }
 use Rattle.words_core.specs.{
   declared.settings.Settings.TheVariants.Split,
@@ -81,6 +83,8 @@ use Rattle.words_core.specs.{
 use Rattle.seg_core.specs.declared.cut.Way.TheVariants as way
 use Rattle.seg_core.specs.declared.cut.Limit.TheVariants as limit
 use Rattle.split_core.specs.Sections as piece
+use Rattle.split_core.specs.laws.LimitLaws.{whole_of_lines, whole_of_none}
+use Rattle.split_core.specs.Chunks.{KeepLines}
 
 by_places : (names : List (List ℕ))
     → ((k : ℕ) → k + 1 < length names → slice_cmp nat_cmp (text_at names k) (text_at names (suc k)) ≡ Less)
@@ -88,18 +92,12 @@ by_places : (names : List (List ℕ))
 by_places (name ∷ next ∷ names) each = (each 0 (omega arith), by_places (next ∷ names) (λ k within. each (suc k) (omega (arith, within))))
 by_places names each = tt
 
--- texts that are named by their places
-pub order_by : (name : ℕ → List ℕ) (names : List (List ℕ))
-    → ((place : ℕ) → place < length names → text_at names place ≡ name place)
-    → ((k : ℕ) → suc k < length names → slice_cmp nat_cmp (name k) (name (suc k)) ≡ Less) → AreInOrder names
-order_by name names named less = grind (arith, common_steps, by_places)
-
--- those of numbers that have one count of digits
-pub formatted_in_order : (naming : Naming) (form : Form) (names : List (List ℕ)) → naming.numbering ≡ Formatted form
-    → ((place : ℕ) → place < length names → text_at names place ≡ name_at naming place)
-    → length names ≤ ordered_count form → length names ≤ 2 ^ 64 → AreInOrder names
-formatted_in_order naming form names is named few least =
-    order_by (name_at naming) names named (λ k next. in_order naming k (suc k) (rw is tt) (omega arith) (rw is (lt-ltb _ _ (omega (arith, next, least)))) (rw is (lt-ltb _ _ (omega (arith, next, few)))))
+-- files that are named by their places
+pub order_by : (name : ℕ → List ℕ) (files : List Slot)
+    → ((place : ℕ) → place < length files → text_at (map (λ (file : Slot). file.name) files) place ≡ name place)
+    → ((k : ℕ) → suc k < length files → slice_cmp nat_cmp (name k) (name (suc k)) ≡ Less)
+    → AreInOrder (map (λ (file : Slot). file.name) files)
+order_by name files named less = grind (arith, common_steps, by_places, length-map)
 
 -- The pieces, and their files
 
@@ -116,30 +114,46 @@ bytes_written (file ∷ files) = rw (bytes_written files)
 all_named : (filing : Filing) {pieces : List (List ℕ)}
     → are_named filing.names (length (map (share Closed) pieces)) ≡ true
     → map (λ (file : Slot). file.written) (map slot_of (named filing 0 (map (share Closed) pieces))) ≡ pieces
-all_named filing {pieces} are = rw (bytes_written (named filing 0 (map (share Closed) pieces)), bytes_named filing 0 (map (share Closed) pieces), bytes_of_shares Closed pieces, each_named filing.names pieces (ap (are_named filing.names) (sym (length-map pieces (share Closed))) ∙ are))
+all_named filing {pieces} are = rw (
+  bytes_written (named filing 0 (map (share Closed) pieces)),
+  bytes_named filing 0 (map (share Closed) pieces),
+  bytes_of_shares Closed pieces,
+  each_named filing.names pieces (ap (are_named filing.names) (sym (length-map pieces (share Closed))) ∙ are),
+)
 
 -- Their names
 
 -- the files have these names from this place on
 abbrev pub AreNamed : (ℕ → List ℕ) → ℕ → List File → Type 0
-AreNamed name start files = (k : ℕ) → k < length (map slot_of files) → text_at (map (λ (file : Slot). file.name) (map slot_of files)) k ≡ name (start + k)
+AreNamed name start files = (k : ℕ) → k < length (map slot_of files) → text_at
+    (map (λ (file : Slot). file.name) (map slot_of files)) k ≡ name (start + k)
 
-pub named_step : (name : ℕ → List ℕ) (start : ℕ) (file : File) (made others : List File) (has : Bool)
-    → file.name ≡ name start → AreNamed name (start + 1) made
-    → AreNamed name start others → AreNamed name start (cond has (file ∷ made) others)
-named_step name start file made others true is are without zero within = search rules
-named_step name start file made others true is are without (suc k) within = are k (omega (arith, within)) ∙ ap name (omega arith)
-named_step name start file made others false is are without k within = without k within
+named_step : (name : ℕ → List ℕ) (start : ℕ) (file : File) (made : List File) → file.name ≡ name start
+    → AreNamed name (start + 1) made → AreNamed name start (file ∷ made)
+named_step name start file made is are zero within = search rules
+named_step name start file made is are (suc k) within = are k (omega (arith, within)) ∙ ap name (omega arith)
 
-have_names : (filing : Filing) (start : ℕ) (shares : List Share)
-    → AreNamed (name_at filing.names) start (named filing start shares)
-have_names filing start [] k within = search rules
-have_names filing start (share ∷ shares) k within = named_step (name_at filing.names) start (file_at filing start share) (named filing (start + 1) shares) []
-    (has_name filing.names start) refl (have_names filing (start + 1) shares) (λ k within. absurd (omega (arith, within))) k within
+named_from : (manner : Manner) (start : ℕ) (shares : List Share)
+    → AreNamed manner.name start (files_from manner start shares)
+named_from manner start [] k within = absurd (omega (arith, within))
+named_from manner start (one ∷ shares) k within = cond_both (manner.has_name start) _ _ (AreNamed manner.name start)
+    (λ has. named_step manner.name start (file_at manner start one) (files_from manner (start + 1) shares) refl
+    (named_from manner (start + 1) shares))
+    (λ lacks k within. absurd (omega (arith, within))) k within
 
-split_in_order : (asked : SplitAsked) → 0 < asked.width → (k : ℕ) → has_name (naming_of asked) (suc k) ≡ true
-    → slice_cmp nat_cmp (name_at (naming_of asked) k) (name_at (naming_of asked) (suc k)) ≡ Less
-split_in_order asked wide k has = in_order (naming_of asked) k (suc k) (cond_both asked.auto _ _ IsWide (λ is. wide) (λ is. tt)) (omega arith) has (cond_both asked.auto _ _ (λ numbering. IsTrue (keeps_order numbering (suc k))) (λ is. refl) (λ is. refl))
+-- the files that are made of shares, all of which ended
+pub record AreMade (manner : Manner) (files : List Slot) : Type 0 where
+  pub named : (place : ℕ) → place < length files
+      → text_at (map (λ (file : Slot). file.name) files) place ≡ manner.name place
+  pub sound : All (IsSound Fresh) files
+
+pub are_made : (manner : Manner) (shares : List Share) → All (λ (one : Share). one.state ≡ Closed) shares
+    → AreMade manner (map slot_of (files_from manner 0 shares))
+are_made manner shares ended = record {
+  named = λ place within. named_from manner 0 shares place within ∙ ap manner.name (omega arith);
+  sound = All-map (IsSound Fresh) slot_of _
+      (each_made (λ (file : File). IsSound Fresh (slot_of file)) manner 0 shares (λ k one within place. (refl, ended k one within, refl)));
+}
 
 -- What standard output is told of them
 
@@ -155,15 +169,13 @@ told_lines true (file ∷ files) = rw (told_lines true files)
 abbrev pub pieces_by : Way → Bool → List ℕ → List (List ℕ)
 pieces_by (way.Cut cut) elide x = pieces_of cut elide x
 pieces_by (way.Chunks chunks) elide x = kept elide (chunks_in chunks x)
-pieces_by (way.Chunk place chunks) elide x = []
-pieces_by (way.Turn place n delim) elide x = []
+pieces_by way elide x = []
 
 -- and what standard output has, where it gets what one file would have
 abbrev pub alone_by : Way → List ℕ → List ℕ
-alone_by (way.Cut cut) x = []
-alone_by (way.Chunks chunks) x = []
 alone_by (way.Chunk place chunks) x = get_or (chunks_in chunks x) place []
 alone_by (way.Turn place n delim) x = share_of delim n x place
+alone_by way x = []
 
 -- in the end a text is cut up into its chunks, and nothing is left
 ends_cut : (chunks : Chunks) (said : Option ℕ) (x : List ℕ) → 0 < chunks.count → size_by said x ≡ length x
@@ -196,9 +208,14 @@ module _ (asked : SplitAsked) (x : List ℕ) where
   named_all (way.Cut cut) limits named none = not_short _ none
   named_all (way.Chunks chunks) limits named none =
       named_fewer (naming_of asked) _ chunks.count (all_have_names (record asked { way = way.Chunks chunks }) named)
-      (omega (arith, length-map (kept asked.elide (chunks_in chunks x)) (share Closed), length-kept asked.elide (chunks_in chunks x), count_chunks chunks x limits.0))
-  named_all (way.Chunk place chunks) limits named none = refl
-  named_all (way.Turn place n delim) limits named none = refl
+      (omega (
+        arith,
+        length-map (kept asked.elide (chunks_in chunks x)) (share Closed),
+        length-kept asked.elide
+            (chunks_in chunks x),
+        count_chunks chunks x limits.0,
+      ))
+  named_all way limits named none = refl
 
 pub record IsSplit (run : Run) (asked : SplitAsked) (input : List ℕ) : Type 0 where
   pub can : CanSplit asked
@@ -208,41 +225,8 @@ pub record IsSplit (run : Run) (asked : SplitAsked) (input : List ℕ) : Type 0 
   pub none : makes_files asked.way ≡ false → files_of run ≡ []
   pub alone : makes_files asked.way ≡ false → output_of run ≡ alone_by asked.way input
 
--- where the input went to files
-record IsFiled (run : Run) (asked : SplitAsked) (pieces : List (List ℕ)) : Type 0 where
-  listed : AreListed asked (files_of run)
-  contents : contents_of run ≡ pieces
-  told : output_of run ≡ cond asked.verbose (lines_telling (files_of run)) []
-
-is_filed : (run : Run) (asked : SplitAsked) (pieces : List (List ℕ)) → CanSplit asked
-    → are_named (naming_of asked) (length (map (share Closed) pieces)) ≡ true
-    → run.outputs
-    ≡ slots_of (after_part (only_out []) (part_of (manner_of (filing_of asked)) (map (share Closed) pieces)))
-    → IsFiled run asked pieces
-is_filed run asked pieces can are left =
-    let names = naming_of asked in
-    let filing = filing_of asked in
-    let files : files_of run ≡ map slot_of (named filing 0 (map (share Closed) pieces)) = ap (drop 2) left in
-    let slots = map slot_of (named filing 0 (map (share Closed) pieces)) in
-    let size : length (map (λ (file : Slot). file.name) slots) ≡ length slots = length-map slots (λ (file : Slot). file.name) in
-    let count : length slots ≡ length (map (share Closed) pieces) = sym (length-map slots (λ (file : Slot). file.written)) ∙ ap length (all_named filing are) ∙ sym (length-map pieces (share Closed)) in
-    let called : (place : ℕ) → place < length (map (λ (file : Slot). file.name) slots) → text_at (map (λ (file : Slot). file.name) slots) place ≡ name_at names place =
-    λ place within. have_names filing 0 (map (share Closed) pieces) place (omega (arith, size, within)) ∙ ap (name_at names) (omega arith) in
-    let IsMade = λ (file : File). IsSound Fresh (slot_of file) in
-    record {
-      listed = rw files (record {
-        named = λ place within. called place (omega (arith, size, within));
-        in_order = order_by (name_at names) _ called (λ k next.
-            split_in_order asked can.width.0 k (named_at names _ (suc k) are (omega (arith, size, count, next))));
-        sound = All-map (IsSound Fresh) slot_of _ (named_each IsMade filing 0 (map (share Closed) pieces) (All-map (λ one. (place : ℕ) → IsMade (file_at filing place one)) (share Closed) pieces (λ k bytes within place. (refl, refl, refl))));
-      });
-      contents = rw (files, all_named filing are);
-      told = rw left (told_lines asked.verbose (named filing 0 (map (share Closed) pieces)));
-    }
-
--- and where standard output got it
 none_listed : (asked : SplitAsked) → AreListed asked []
-none_listed asked = record { named = λ place within. absurd (omega (arith, within)); in_order = tt; sound = All-nil (IsSound Fresh) }
+none_listed asked = grind (arith, common_steps, in_order)
 
 no_pieces : (way : Way) (elide : Bool) (x : List ℕ) → makes_files way ≡ false → pieces_by way elide x ≡ []
 no_pieces (way.Chunk place chunks) elide x makes = refl
@@ -256,21 +240,36 @@ is_split {run} {asked} {input} does has = by (makes_files asked.way) refl where
   one = did_one does has
 
   made : IsMade (split_task Cutters asked) one.input.name input run.outputs
-  made = one_made one (split_task Cutters asked) (way_knows asked.way asked.elide (filing_of asked)) one.makes
+  made = one_made one (split_task Cutters asked) refl
 
   can : CanSplit asked
-  can = can_run run.calling run.words does.ran.read
+  can = (by_words run.calling run.words does.ran.read).1
 
   by : (makes : Bool) → makes_files asked.way ≡ makes → IsSplit run asked input
   by true makes =
-      let filed = is_filed run asked (pieces_by asked.way asked.elide input) can
-      (named_all asked input asked.way can.way can.named made.unjudged)
-      (made.slots ∙ rw (whole_is asked input asked.way can.way makes)) in
+      let filing = filing_of asked in
+      let pieces = pieces_by asked.way asked.elide input in
+      let shares = map (share Closed) pieces in
+      let left : run.outputs ≡ slots_of (after_part (only_out []) (part_of (manner_of filing) shares)) = made.slots
+      ∙ rw (whole_is asked input asked.way can.way makes) in
+      let are = named_all asked input asked.way can.way can.named made.unjudged in
+      let files : files_of run ≡ map slot_of (named filing 0 shares) = ap (drop 2) left in
+      let slots = map slot_of (named filing 0 shares) in
+      let count : length slots ≡ length shares = sym (length-map slots (λ (file : Slot). file.written)) ∙ ap length
+      (all_named filing are) ∙ sym (length-map pieces (share Closed)) in
+      let ended = are_made (manner_of filing) shares (All-map (λ (one : Share). one.state ≡ Closed) (share Closed) pieces (λ k bytes within. refl)) in
       record {
         can = can;
-        listed = filed.listed;
-        contents = filed.contents;
-        told = λ is. filed.told;
+        listed = rw files (record {
+          named = ended.named;
+          in_order = order_by (name_at (naming_of asked)) slots ended.named (λ k next.
+              in_order (naming_of asked) k (suc k) (cond_both asked.auto _ _ IsWide (λ is. can.width.0) (λ is. tt)) (omega arith)
+              (named_at (naming_of asked) _ (suc k) are (omega (arith, count, next)))
+              (cond_both asked.auto _ _ (λ numbering. IsTrue (keeps_order numbering (suc k))) (λ is. refl) (λ is. refl)));
+          sound = ended.sound;
+        });
+        contents = rw (files, all_named filing are);
+        told = λ is. rw left (told_lines asked.verbose (named filing 0 shares));
         none = λ is. absurd (cc);
         alone = λ is. absurd (cc);
       }
@@ -303,9 +302,10 @@ run_pieces : (size : List ℕ → ℕ) {n all : ℕ} {x : List ℕ} {pieces : Li
     → ArePieces size n x pieces
 run_pieces size {n} {pieces} some are few each = record {
   all = are;
-  some = λ i within. let here = up_to i (length pieces) n within in let one = each i in omega (arith, one, here, few.1, some);
-  most = λ i within. let one = each i in omega (arith, one);
-  full = λ i next. let there = up_to (suc i) (length pieces) n (omega (arith, next)) in let step : suc i * n ≡ i * n + n = suc-mul i n in let one = each i in omega (arith, one, there, step, few.1);
+  some = λ i within. grind (arith, common_steps, up_to);
+  most = grind (arith, common_steps);
+  full = λ i next. let there = up_to (suc i) (length pieces) n (omega (arith, next)) in let step : suc i * n
+      ≡ i * n + n = suc-mul i n in let one = each i in omega (arith, one, there, step, few.1);
 }
 
 pub line_pieces : (delim : ℕ) {n : ℕ} {x : List ℕ} → 0 < n
@@ -322,8 +322,10 @@ lines_end delim {k} bytes false some enough is =
     let all : delimiters delim (first_lines delim k bytes) ≡ k = delimiters-first_lines delim k bytes enough in
     let count : line_count delim (first_lines delim k bytes) ≡ min k (line_count delim bytes) =
     rw (lines_of-first_lines delim k bytes) (length-take k (lines_of delim bytes)) in
-    let long : delimiters delim (first_lines delim k bytes) ≤ length (first_lines delim k bytes) = delimiters-le-length delim (first_lines delim k bytes) in
-    let one_more : line_count delim (first_lines delim k bytes) ≡ delimiters delim (first_lines delim k bytes) + 1 = line_count-open delim (first_lines delim k bytes) (omega (arith, all, long, some)) is in
+    let long : delimiters delim (first_lines delim k bytes) ≤ length (first_lines delim k bytes) =
+    delimiters-le-length delim (first_lines delim k bytes) in
+    let one_more : line_count delim (first_lines delim k bytes) ≡ delimiters delim (first_lines delim k bytes) + 1 =
+    line_count-open delim (first_lines delim k bytes) (omega (arith, all, long, some)) is in
     absurd (omega (arith, all, count, one_more))
 
 -- the lines from this place on hold a run of n lines and more
@@ -332,7 +334,8 @@ more_lines {n} i {count} all few next = grind (arith, common_steps)
 
 line_part : (delim : ℕ) {n : ℕ} (i : ℕ) (x : List ℕ) → 0 < n
     → text_at (parts (limit.Lines n delim) x) i ≡ first_lines delim n (after_lines delim (i * n) x)
-line_part delim {n} i x some = cc (joined-lines_of delim (text_at (parts (limit.Lines n delim) x) i), part_lines delim n i x some, lines_of-after_lines delim (i * n) x)
+line_part delim {n} i x some = cc
+    (joined-lines_of delim (text_at (parts (limit.Lines n delim) x) i), part_lines delim n i x some, lines_of-after_lines delim (i * n) x)
 
 pub line_ends : (delim : ℕ) {n : ℕ} (x : List ℕ) → 0 < n → AreUncut delim (parts (limit.Lines n delim) x)
 line_ends delim {n} x some i next =
@@ -383,7 +386,8 @@ line_past : (delim : ℕ) {n : ℕ} {x : List ℕ} (part rest : List ℕ) → n 
     → delimiters delim part ≡ delimiters delim (take n x) → IsFilled delim n part rest
 line_past delim {n} {x} part rest enough is same =
     let k = delimiters delim (take n x) in
-    let both : length part + length (first_lines delim 1 (rest ++ delim ∷ [])) ≡ length (take n x) + length (first_lines delim 1 (drop n x ++ delim ∷ [])) =
+    let both : length part + length (first_lines delim 1 (rest ++ delim ∷ [])) ≡ length (take n x) + length
+    (first_lines delim 1 (drop n x ++ delim ∷ [])) =
     sym (line_after delim part rest (sym same)) ∙ rw
     (← is, ← line_after delim (take n x) (drop n x) refl, take-append-drop n x) in
     let long : length (take n x) ≡ n = length-take-le n x enough in
@@ -396,14 +400,11 @@ whole_count delim text = grind (arith, common_steps, cases_lt, whole_of_lines, d
 
 same_line : (delim : ℕ) (next rest : List ℕ) → 0 < delimiters delim next
     → first_lines delim 1 ((next ++ rest) ++ delim ∷ []) ≡ first_lines delim 1 (next ++ delim ∷ [])
-same_line delim next rest some = rw (append_assoc next rest (delim ∷ []), first_lines-full delim 1 next (rest ++ delim ∷ []) (omega (arith, some)), first_lines-full delim 1 next (delim ∷ []) (omega (arith, some)))
-
-open_next : (delim : ℕ) {n : ℕ} (part next : List ℕ) → length next ≡ n → delimiters delim next ≡ 0
-    → IsFilled delim n part next
-open_next delim part next long none =
-    let line : length (first_lines delim 1 (next ++ delim ∷ [])) ≡ length next + 1 =
-    rw (first_lines-more delim 1 next delim (omega (arith, none))) (length-append next (delim ∷ [])) in
-    omega (arith, line, long)
+same_line delim next rest some = rw (
+  append_assoc next rest (delim ∷ []),
+  first_lines-full delim 1 next (rest ++ delim ∷ []) (omega (arith, some)),
+  first_lines-full delim 1 next (delim ∷ []) (omega (arith, some)),
+)
 
 -- the next piece has the next line, or n bytes of it
 filled_by : (delim : ℕ) {n : ℕ} (part rest : List ℕ) → n ≤ length rest → IsFilled delim n part rest
@@ -413,11 +414,13 @@ filled_by delim {n} part rest enough filled =
     let count : delimiters delim next ≡ delimiters delim (take n rest) = whole_count delim (take n rest) in
     let whole : next ++ drop (length next) rest ≡ rest = first_then_after (limit.LineBytes n delim) rest in
     elim (cases_lt 0 (delimiters delim (take n rest))) [
-      | inl lines ↦ rw (← whole, same_line delim next (drop (length next) rest) (omega (arith, lines, count))) at filled
+      | inl lines ↦ grind (arith, common_steps, same_line)
       | inr few ↦
           let none : delimiters delim (take n rest) ≡ 0 = omega (arith, few) in
-          open_next delim part next (rw (whole_of_none delim (take n rest) none) (length-take-le n rest enough))
-          (count ∙ none)
+          let long : length next ≡ n = grind (arith, common_steps, whole_of_none) in
+          let line : length (first_lines delim 1 (next ++ delim ∷ [])) ≡ length next + 1 =
+          rw (first_lines-more delim 1 next delim (omega (arith, none, count))) (length-append next (delim ∷ [])) in
+          omega (arith, line, long)
     ]
 
 first_filled : {delim n : ℕ} (part : List ℕ) {rest : List ℕ} {pieces : List (List ℕ)}
@@ -431,7 +434,8 @@ each_filled : {delim n : ℕ} {x : List ℕ} {pieces : List (List ℕ)} → AreL
     → place + 1 < length pieces → IsFilled delim n (text_at pieces place) (text_at pieces (suc place))
 each_filled {delim} {n} (piece.more x pieces enough past) zero next =
     let first = whole_lines delim (take n x) in
-    first_filled first past (omega (arith, next)) (line_past delim first (drop (length first) x) enough (sym (first_then_after (limit.LineBytes n delim) x)) (whole_count delim (take n x)))
+    first_filled first past (omega (arith, next))
+    (line_past delim first (drop (length first) x) enough (sym (first_then_after (limit.LineBytes n delim) x)) (whole_count delim (take n x)))
 each_filled (piece.more x pieces enough past) (suc place) next = each_filled past place (omega (arith, next))
 each_filled are place next = search rules
 
@@ -440,10 +444,7 @@ rooms : (delim n : ℕ) {x : List ℕ} {pieces : List (List ℕ)} → AreLineByt
     → place < length pieces → 0 < delimiters delim (text_at pieces place)
     → ends_with delim (text_at pieces place) ≡ false → length (text_at pieces place) < n
 rooms delim n (piece.one x has short) zero within lines cut = short
-rooms delim n (piece.more x pieces enough past) zero within lines cut = elim (ends_line delim (take n x) (length-take-le n x enough)) [
-  | inl ends ↦ absurd (cc)
-  | inr long ↦ absurd (omega (arith, lines, long.1))
-]
+rooms delim n (piece.more x pieces enough past) zero within lines cut = grind (arith, common_steps, ends_line)
 rooms delim n (piece.more x pieces enough past) (suc place) within lines cut = rooms delim n past place (omega (arith, within)) lines cut
 rooms delim n are place within lines cut = absurd (omega (arith, within))
 
@@ -454,7 +455,7 @@ line_byte_pieces {delim} {n} {x} some =
       all = joined_parts (limit.LineBytes n delim) x;
       some = λ place less. (within place [] less).0;
       most = λ place less. (within place [] less).1;
-      uncut = uncut delim n x (parts (limit.LineBytes n delim) x) are;
+      uncut = grind (arith, common_steps, uncut);
       filled = each_filled are;
       room = rooms delim n are;
     }
@@ -490,7 +491,8 @@ whole_closed : (delim : ℕ) (text rest : List ℕ) → ends_with delim text ≡
 whole_closed delim text rest ends none =
     let count : delimiters delim (text ++ rest) ≡ delimiters delim text =
     omega (arith, delimiters-append delim text rest, none) in
-    whole_of_lines delim (text ++ rest) (omega (arith, count, closed_some delim text ends)) ∙ first_lines-whole delim text rest (delimiters delim (text ++ rest)) ends count
+    whole_of_lines delim (text ++ rest) (omega (arith, count, closed_some delim text ends))
+    ∙ first_lines-whole delim text rest (delimiters delim (text ++ rest)) ends count
 
 last_piece : (delim n : ℕ) (one : List ℕ) → 0 < length one → length one ≤ n
     → (0 < delimiters delim one → ends_with delim one ≡ false → length one < n)
@@ -510,18 +512,18 @@ last_piece delim n one some most room = elim (cases_lt (length one) n) [
 
 front_piece : (delim n : ℕ) (one next more : List ℕ) → length one ≤ n → EndsLine delim n one → IsFilled delim n one next
     → (n ≤ length (one ++ (next ++ more))) × (whole_lines delim (take n (one ++ (next ++ more))) ≡ one)
-front_piece delim n one next more most (inr (long, none)) filled = (
-  omega (arith, long, length-append one (next ++ more)),
-  rw (← long, take-append_seam one (next ++ more)) (whole_of_none delim one none),
-)
+front_piece delim n one next more most (inr (long, none)) filled = grind (arith, common_steps, whole_of_none)
 front_piece delim n one next more most (inl ends) filled =
     let m = n - length one in
-    let long : length (first_lines delim 1 (next ++ delim ∷ [])) ≤ length next + 1 = (let all : length (next ++ delim ∷ []) ≡ length next + 1 = length-append next (delim ∷ []) in omega (arith, all, length-first_lines-le delim 1 (next ++ delim ∷ []))) in
+    let long : length (first_lines delim 1 (next ++ delim ∷ [])) ≤ length next + 1 =
+    (let all : length (next ++ delim ∷ []) ≡ length next + 1 = length-append next (delim ∷ []) in omega
+    (arith, all, length-first_lines-le delim 1 (next ++ delim ∷ []))) in
     let few : m ≤ length next = omega (arith, filled, long) in
     let front : take n (one ++ (next ++ more)) ≡ one ++ take m next =
-    ap (λ k. take k (one ++ (next ++ more))) (let e : n ≡ length one + m = omega (arith, most) in e) ∙ take-append-add one (next ++ more) m ∙ ap (λ those. one ++ those) (take-append-le m next more few) in (
+    ap (λ k. take k (one ++ (next ++ more))) (let e : n ≡ length one + m = omega (arith, most) in e)
+    ∙ take-append-add one (next ++ more) m ∙ ap (λ those. one ++ those) (take-append-le m next more few) in (
       omega (arith, few, most, length-append one (next ++ more), length-append next more),
-      ap (whole_lines delim) front ∙ whole_closed delim one (take m next) ends (before_end delim m next (omega (arith, filled, most))),
+      grind (arith, common_steps, whole_closed, before_end),
     )
 
 later_pieces : {delim n : ℕ} {x one : List ℕ} {pieces : List (List ℕ)} → AreLinePieces delim n x (one ∷ pieces)
@@ -531,7 +533,7 @@ later_pieces are = record {
   some = λ place within. are.some (suc place) (omega (arith, within));
   most = λ place within. are.most (suc place) (omega (arith, within));
   uncut = λ place within. are.uncut (suc place) (omega (arith, within));
-  filled = λ place within. are.filled (suc place) (omega (arith, within));
+  filled = grind (arith, common_steps);
   room = λ place within. are.room (suc place) (omega (arith, within));
 }
 
@@ -555,12 +557,13 @@ one_line_list delim n input some other positive these those =
 dealt_at : (delim : ℕ) {n : ℕ} (elide : Bool) (x : List ℕ) {file : ℕ} → file < n
     → text_at (dealt_files delim elide n x) file ≡ text_at (round_robin delim n x) file
 dealt_at delim false x within = refl
-dealt_at delim {n} true x {file} within = grind (arith, common_steps, first_files, cases_lt, get_or-take, length-take, get_or_past, get_or-map-range_with_len, share_none)
+dealt_at delim {n} true x {file} within = grind
+    (arith, common_steps, first_files, cases_lt, get_or-take, length-take, get_or_past, get_or-map-range_with_len, share_none)
 
 all_some : (files : List (List ℕ)) → All (λ bytes. 0 < length bytes) (filter has_bytes files)
 all_some [] = search rules
 all_some ([] ∷ files) = all_some files
-all_some ((byte ∷ bytes) ∷ files) = All-cons (λ bytes. 0 < length bytes) (byte ∷ bytes) (filter has_bytes files) (omega arith) (all_some files)
+all_some ((byte ∷ bytes) ∷ files) = grind (arith, common_steps, (all_some files))
 
 pub dealt_lines : {delim n : ℕ} {elide : Bool} {x : List ℕ} → 0 < n
     → AreDealt delim n elide x (dealt_files delim elide n x)
@@ -573,20 +576,6 @@ dealt_lines {delim} {n} {elide} {x} some = record {
 }
 
 -- Chunks
-
-pub chunk_files : (chunks : Chunks) (elide : Bool) (x : List ℕ) → 0 < chunks.count
-    → AreChunks chunks.count elide x (chunks_in chunks x) (kept elide (chunks_in chunks x))
-chunk_files chunks elide x some = record {
-  count = count_chunks chunks x some;
-  files = refl;
-  all = joined-kept elide (chunks_in chunks x) ∙ join_chunks chunks x some;
-}
-
-pub even_files : (chunks : Chunks) (x : List ℕ) → chunks.unit ≡ Bytes → AreEven chunks.count x (chunks_in chunks x)
-even_files chunks x unit place within = cond_both (nat_lt place (length x % chunks.count)) 1 0
-    (λ more. length (text_at (chunks_in chunks x) place) ≡ length x / chunks.count + more)
-    (λ is. longer_chunk chunks x place within unit (ltb-true _ _ is))
-    (λ is. shorter_chunk chunks x place within unit (ltb-false _ _ is) ∙ omega arith)
 
 -- empty files have no lines
 pub whole_line_files : (chunks : Chunks) (elide : Bool) (x : List ℕ) → 0 < chunks.count → chunks.unit ≡ Lines
@@ -623,38 +612,115 @@ module _ {one : Run} {asked : SplitAsked} {place n delim : ℕ} {input : List �
   can_turn = rw splits.is at (is_split splits.does splits.has).can.way
 
   -- it is one of those that all files have
-  turn_is : output_of one ≡ text_at (round_robin delim n input) place
+  pub turn_is : output_of one ≡ text_at (round_robin delim n input) place
   turn_is = wrote_alone splits refl
       ∙ sym (get_or-map-range_with_len (share_of delim n input) 0 n place place [] can_turn.1 (omega arith))
 
   pub turn_lines : (k : ℕ) → text_at (lines_of delim (output_of one)) k ≡ text_at (lines_of delim input) (place + k * n)
   turn_lines k = rw turn_is (line_at delim n place k input can_turn.1)
 
-pub turn_alone : {one split : Run} {alone asked : SplitAsked} {place n delim : ℕ} {input : List ℕ}
-    → Splits one alone (way.Turn place n delim) input → Splits split asked (way.Cut (Round n delim)) input
-    → asked.elide ≡ false → output_of one ≡ text_at (contents_of split) place
-turn_alone {asked = asked} {place} {n} {delim} {input} splits too elide = turn_is splits
-    ∙ sym (by_way (λ contents. text_at contents place ≡ text_at (round_robin delim n input) place) (λ some. rw elide refl)
-    too.does too.has too.is)
-
-pub all_turns : (runs : ℕ → Run) (asked : ℕ → SplitAsked) (n delim : ℕ) (input : List ℕ) → 0 < n
-    → ((place : ℕ) → place < n → Splits (runs place) (asked place) (way.Turn place n delim) input)
-    → AreDealt delim n false input (map (λ place. output_of (runs place)) (range_with_len 0 n))
-all_turns runs asked n delim input some each = rw (map_same (λ place. output_of (runs place)) (share_of delim n input) 0 n
-    (λ place from within. wrote_alone (each place (omega (arith, within))) refl)) (dealt_lines some)
-
-flat_alike : (f g : ℕ → List ℕ) (start n : ℕ) → ((place : ℕ) → place < start + n → f place ≡ g place)
+pub flat_alike : (f g : ℕ → List ℕ) (start n : ℕ) → ((place : ℕ) → place < start + n → f place ≡ g place)
     → flat_map f (range_with_len start n) ≡ flat_map g (range_with_len start n)
 flat_alike f g start zero same = refl
 flat_alike f g start (suc n) same =
     rw (same start (omega arith), flat_alike f g (start + 1) n (λ place within. same place (omega (arith, within))))
 
-pub all_alone : (runs : ℕ → Run) (asked : ℕ → SplitAsked) (chunks : Chunks) (input : List ℕ) → 0 < chunks.count
-    → ((place : ℕ) → place < chunks.count → Splits (runs place) (asked place) (way.Chunk place chunks) input)
-    → flat_map (λ place. output_of (runs place)) (range_with_len 0 chunks.count) ≡ input
-all_alone runs asked chunks input some each =
-    flat_alike (λ place. output_of (runs place)) (λ place. get_or (chunks_in chunks input) place []) 0 chunks.count
-    (λ place within. wrote_alone (each place (omega (arith, within))) refl)
-    ∙ ap (λ n. flat_map (λ place. get_or (chunks_in chunks input) place []) (range_with_len 0 n)) (sym (count_chunks chunks input some))
-    ∙ all_pieces (chunks_in chunks input) 0 (chunks_in chunks input) (λ i. ap (λ at. get_or (chunks_in chunks input) at []) (omega arith))
-    ∙ join_chunks chunks input some
+-- Of an input that gives fewer or more bytes than it showed before
+
+-- what is made of an input that ends, where its work has this whole and this verdict
+abbrev made_at : Task → List ℕ → Part → Option Verdict → Outcome
+made_at task name whole verdict = record {
+  part = whole;
+  messages = verdict_messages task name verdict;
+  failed = is_some verdict;
+  sweeps = false;
+}
+
+-- so it is of one input without a header, where files stay
+judged_made : (task : Task) (work : Work) (name : List ℕ) (content : Content) (verdict : Option Verdict)
+    → content.breaks_off ≡ false → work.verdict content.bytes ≡ verdict → work.clears ≡ false → task.with_header ≡ false
+    → both_made (of_content task work true name (Some content)) no_outcome
+    ≡ made_at task name (work.whole content.bytes) verdict
+judged_made task work name content None ends judged stay bare = grind (arith, common_steps)
+judged_made task work name content (Some verdict) ends judged stay bare = grind (arith, common_steps)
+
+module _ {split : Run} {asked : SplitAsked} {input : Input} {shown bytes : List ℕ}
+    (whole : Completes split (Split asked)) (gives : GivesOther split input shown bytes) where
+  abbrev task : Task
+  task = split_task Cutters asked
+
+  -- the run left this, of which each line tells what it met
+  abbrev LeftSo : Outcome → Type 0
+  LeftSo made = Fits (TellsMet split (Split asked)) (removes_files (Split asked)) made
+      × IsLeft (speaker_of split.calling (Split asked)) made split.outputs split.status
+
+  -- it left what its work makes of what came
+  left_so : (work : Work) (verdict : Option Verdict)
+      → way_work asked.way asked.elide (filing_of asked) (Some (length shown)) ≡ work → work.clears ≡ false
+      → work.verdict bytes ≡ verdict → LeftSo (made_at task input.name (work.whole bytes) verdict)
+  left_so work verdict is stay judged = subst LeftSo made (all.fits, all.left) where
+    all : LeftBy split (Split asked)
+    all = completes_left whole
+
+    content : Content
+    content = record { bytes = bytes; breaks_off = false; shown = Some shown }
+
+    only : inputs_at split.world (names_of (Split asked)) ≡ input ∷ []
+    only = rw whole.read at gives.only
+
+    made : all.made ≡ made_at task input.name (work.whole bytes) verdict
+    made = makes_task (Split asked) task (inputs_at split.world (names_of (Split asked))) refl all.of ∙ ap
+        (made_by task) only ∙ rw (gives.showed, gives.gave, is)
+        (judged_made task work input.name content verdict refl judged stay refl)
+
+  -- by the way that was asked for
+  way_is : {way : Way} → asked.way ≡ way → way_work asked.way asked.elide (filing_of asked) (Some (length shown))
+      ≡ way_work way asked.elide (filing_of asked) (Some (length shown))
+  way_is is = rw is
+
+  pub cut_as_shown : {chunks : Chunks} → asked.way ≡ way.Chunks chunks
+      → IsCutAsShown split asked chunks input.name shown bytes
+  cut_as_shown {chunks} is = record {
+    files = written ∙ whole_files plan (Some size) bytes some named;
+    all = rw written (changed_all plan size bytes some named);
+    told = ([], [], left_says left.0 left.1);
+    failed = left.1.is;
+  } where
+    plan : ChunksPlan
+    plan = record { chunks = chunks; elide = asked.elide; filing = filing_of asked }
+
+    size : ℕ
+    size = length shown
+
+    can : CanSplit asked
+    can = (by_words split.calling split.words whole.read).1
+
+    limits : IsInLimits (way.Chunks chunks)
+    limits = rw is at can.way
+
+    some : 0 < chunks.count
+    some = limits.0
+
+    named : HasAllNames (way.Chunks chunks) (naming_of asked)
+    named = rw is at (all_have_names asked can.named)
+
+    left : LeftSo (made_at task input.name ((chunks_work plan (Some size)).whole bytes) (Some Changed))
+    left = left_so (chunks_work plan (Some size)) (Some Changed) (way_is is) refl (changed_told plan size bytes gives.other)
+
+    written : contents_of split ≡ map (λ file. file.bytes) ((chunks_work plan (Some size)).whole bytes).files
+    written = rw left.1.swept (bytes_written ((chunks_work plan (Some size)).whole bytes).files)
+
+  pub chunk_as_shown : {place : ℕ} {chunks : Chunks} → asked.way ≡ way.Chunk place chunks
+      → IsChunkAsShown split asked place chunks input.name shown bytes
+  chunk_as_shown {place} {chunks} is = record {
+    out = rw (left_so work (work.verdict bytes) (way_is is) refl refl).1.swept;
+    told = λ short. let left = changed short in ([], [], left_says left.0 left.1);
+    failed = λ short. (changed short).1.is;
+  } where
+    work : Work
+    work = chunk_work place chunks (Some (length shown))
+
+    changed : has_ended chunks (length shown) bytes place ≡ false
+        → LeftSo (made_at task input.name (work.whole bytes) (Some Changed))
+    changed short = left_so work (Some Changed) (way_is is) refl
+        (changed_alone place chunks (length shown) bytes gives.other short)

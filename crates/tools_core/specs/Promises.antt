@@ -1,7 +1,8 @@
 -- What people rest on, in a manual's words: what a run leaves, over inputs and outputs that tell their bytes, as those
 -- in memory do.
 use Rattle.std.specs.{
-  Prelude.{◌≡◌, ℕ, ◌+◌, ◌^◌, ◌/◌, ◌%◌, ◌<◌, ◌≤◌, ◌==◌, suc, nat_lt, Bool, true, false, not, List, [], ◌∷◌, ◌++◌},
+  Prelude.{◌≡◌, ℕ, ◌+◌, ◌^◌, ◌/◌, ◌%◌, ◌<◌, ◌≤◌, ◌==◌, suc, Bool, true, false, not, List, []},
+  Prelude.{◌∷◌, ◌++◌},
   Prelude.{length, map, take, drop, All, slice_index_or, ◌⊎◌, Option, Some, None, Ok, if◌then◌else◌},
   List.{concat, flat_map},
   declared.cmp.Ordering.TheVariants.Less,
@@ -9,7 +10,7 @@ use Rattle.std.specs.{
   Cmp.Lexicographic.slice_cmp,
 }
 use Rattle.seg_core.specs.{
-  Line.{delimiters, ends_with, first_lines, joined, line_count, lines_of},
+  Line.{delimiters, ends_with, first_lines, joined, lines_of},
   declared.{count.Sign.Sign, unit.Unit.TheVariants.Lines, cut.{Way.Way, Chunks.Chunks}},
 }
 use Rattle.ports_core.specs.{
@@ -45,17 +46,21 @@ use Rattle.run_core.specs.{
   Task.Task,
 }
 use Rattle.tee_core.specs.{
-  Run.{AreSound, EndsAs as TeeCopies, are_sound, copied, ends_run, forgives, is_quiet, no_room as no_memory, stands_as},
+  Run.{AreSound, EndsAs as TeeCopies, are_sound, copied, ends_run, forgives, is_quiet, no_room as no_memory},
+  Run.stands_as,
   declared.standing.Standing.{Standing, TheVariants.Sound},
 }
 use Rattle.words_core.specs.{
-  declared.{settings.Settings.{Settings, TheVariants.{Head, Tail, Split, Csplit, Tee, About}}, value.Followed.Followed},
+  declared.{
+    settings.Settings.{Settings, TheVariants.{Head, Tail, Split, Csplit, Tee, About}},
+    value.Followed.Followed,
+  },
   EndsWords.EndsAsked,
   SplitWords.SplitAsked,
   TeeWords.TeeAsked,
   Words.{HasBadOperands, settings_of},
 }
-use Rattle.split_core.specs.{Chunks.{IsInChunk, IsInPiece, chunks_of, has_ended, pieces_in}, ChunkWork.{files_by, kept}}
+use Rattle.split_core.specs.{Chunks.{chunks_of, has_ended, pieces_in}, ChunkWork.{files_by, kept}}
 use Rattle.watch_core.specs.{Snapshot.Snapshot, Watched.Watched}
 use Rattle.follow_core.specs.Ending.{shows_by}
 use Rattle.tools_core.specs.{
@@ -277,21 +282,6 @@ pub record AreChunks (n : ℕ) (elide : Bool) (input : List ℕ) (pieces content
   pub count : length pieces ≡ n
   pub files : contents ≡ kept elide pieces
   pub all : joined contents ≡ input
-
--- each has as many bytes as any other, or one more: the first ones do
-abbrev pub AreEven : ℕ → List ℕ → List (List ℕ) → Type 0
-AreEven n input pieces = (place : ℕ) → place < n
-    → length (text_at pieces place) ≡ length input / n + (if nat_lt place (length input % n) then 1 else 0)
-
--- their lines are those of the input, in their order, so none is cut
-abbrev pub KeepLines : ℕ → List ℕ → List (List ℕ) → Type 0
-KeepLines delim input contents = flat_map (lines_of delim) contents ≡ lines_of delim input
-
--- each line is in the piece in whose chunk its first byte is
-abbrev pub BeginInChunks : ℕ → ℕ → List ℕ → List (List ℕ) → Type 0
-BeginInChunks delim n input pieces = (place i : ℕ) → place < n → i < line_count delim input
-    → IsInChunk n (length input) place (length (first_lines delim i input))
-    → IsInPiece pieces place (length (first_lines delim i input))
 
 -- the input goes to files, and not what one of them would have to standard output
 abbrev pub makes_files : Way → Bool

@@ -21,14 +21,14 @@ ghost use Rattle.seg_core.specs.{
   },
 };
 ghost use Rattle.run_core.specs.Input.{Input};
-ghost use Rattle.split_core.specs.Chunks.{chunks_in};
+ghost use Rattle.split_core.specs.Chunks.{AreEven, BeginInChunks, KeepLines, chunks_in};
 ghost use Rattle.operand_core.specs.{Reading.Asks, declared.operand.Operand.Operand};
 ghost use Rattle.tools_core.specs.{
   Following.is_name,
-  Promises.{AreChunks, AreCopies, AreDealt, AreEven, AreLinePieces, AreListed, AreNumbered, ArePieces, AreSections},
-  Promises.{AreUncut, BeginInChunks, BeginsEach, Completes, CountAlike, Does, AsksToFollow, EndsWithBreak, FindAlike},
+  Promises.{AreChunks, AreCopies, AreDealt, AreLinePieces, AreListed, AreNumbered, ArePieces, AreSections},
+  Promises.{AreUncut, BeginsEach, Completes, CountAlike, Does, AsksToFollow, EndsWithBreak, FindAlike},
   Promises.{Follows, GivesOther, HasInput, HasLong, IsBare, IsChunkAsShown, IsCutAsShown, IsHead, IsOfProgram},
-  Promises.{IsSilent, IsStopped, IsTail, KeepLines, SaysWhy, LeaveAlike, OnlyGrows, Ran, Run, SkipNothing, Splits},
+  Promises.{IsSilent, IsStopped, IsTail, SaysWhy, LeaveAlike, OnlyGrows, Ran, Run, SkipNothing, Splits},
   Promises.{WhyBroken, contents_of, files_of, lines_telling, makes_files, output_of, showing, text_at},
   Tasks.is_plus,
 };

@@ -1,6 +1,7 @@
 -- What edits do to the files.
 use Rattle.std.proofs.{
-  Common.{◌≡◌, ℕ, ◌<◌, ◌≤◌, zero, suc, List, [], ◌∷◌, ◌++◌, length, Option, Some, None, refl, sym, ◌∙◌, ap, arith, ◌⊎◌},
+  Common.{◌≡◌, ℕ, ◌<◌, ◌≤◌, zero, suc, List, [], ◌∷◌, ◌++◌, length, Option, Some, None, refl, sym, ◌∙◌, ap, arith},
+  Common.◌⊎◌,
   Common.{inl, inr, slice_index_or, get_or, set},
 }
 use Rattle.ports_core.{proofs.SlotLemmas.set-changed, specs.Slot.changed_at}
@@ -64,5 +65,6 @@ pub file_changed : (world : World) (links : List Link) (files : List (List ℕ))
     → file < length files → held ≡ get_or files file held → new ≡ change held
     → record { links = links; files = set files file new; ended = ended; bars = bars } ≡ with_file led change world
 file_changed world links files ended bars led file change held new is leads within there changed =
-    ap (λ those. record { links = links; files = those; ended = ended; bars = bars }) (ap (set files file) changed ∙ set-changed files file change held within there)
+    ap (λ those. record { links = links; files = those; ended = ended; bars = bars })
+    (ap (set files file) changed ∙ set-changed files file change held within there)
     ∙ ap (with_file (Some file) change) is ∙ ap (λ those. with_file those change world) (sym leads)

@@ -6,7 +6,8 @@ use Rattle.std.proofs.{
     List.{take-append-drop, take_rest},
     Str.{IsCharBoundary-after_ascii, IsCharBoundary-before_ascii, IsCharBoundary-end},
   },
-  Common.{◌≡◌, ℕ, ◌+◌, ◌-◌, ◌^◌, ◌<◌, ◌≤◌, ◌==◌, ◌&&◌, suc, min, not, nat_le, Bool, true, false, cond, List, [], ◌∷◌},
+  Common.{◌≡◌, ℕ, ◌+◌, ◌-◌, ◌^◌, ◌<◌, ◌≤◌, ◌==◌, ◌&&◌, suc, min, not, nat_le, Bool, true, false, cond, List},
+  Common.{[], ◌∷◌},
   Common.{◌++◌, length, take, drop, get_or, Option, Some, None, inl, inr, refl, sym, subst, ◌∙◌, ap, arith},
   Common.{append_assoc, length-append},
   Math.Seq.{drop-append_seam, get_or-append_seam},
@@ -33,7 +34,8 @@ no_form false form none = refl
 
 too_wide : (flags : List ℕ) (width : ℕ) (precision : Option ℕ) (base : Base) → 255 < width
     → form_of flags width precision (Some base) ≡ None
-too_wide flags width precision base wide = no_form (go_with base flags && (nat_le width 255 && nat_le (digits_by precision) 255)) _ (λ fits. grind (arith, nat_tests))
+too_wide flags width precision base wide =
+    no_form (go_with base flags && (nat_le width 255 && nat_le (digits_by precision) 255)) _ (λ fits. grind (arith, nat_tests))
 
 too_many : (flags : List ℕ) (width digits : ℕ) (base : Base) → 255 < digits
     → form_of flags width (Some digits) (Some base) ≡ None
@@ -65,7 +67,13 @@ letter_clipped flags width precision (letter ∷ rest) = ap (λ form. with_rest 
 -- what follows a letter
 
 pub after_drop : (n : ℕ) (text : List ℕ) {rest : List ℕ} → AfterLetter (drop n text) rest → AfterLetter text rest
-after_drop n text (front, letter, ascii, is) = (take n text ++ front, letter, ascii, sym (take-append-drop n text) ∙ ap (λ back. take n text ++ back) is ∙ sym (append_assoc (take n text) front _))
+after_drop n text (front, letter, ascii, is) = (
+  take n text ++ front,
+  letter,
+  ascii,
+  sym (take-append-drop n text)
+      ∙ ap (λ back. take n text ++ back) is ∙ sym (append_assoc (take n text) front _),
+)
 
 after_more : (byte : ℕ) {text rest : List ℕ} → AfterLetter text rest → AfterLetter (byte ∷ text) rest
 after_more byte (front, letter, ascii, is) = (byte ∷ front, letter, ascii, ap (λ text. byte ∷ text) is)
@@ -152,7 +160,8 @@ conversion_begins text =
 drop_past : (front : List ℕ) (letter : ℕ) (rest : List ℕ) → drop (length front + 1) (front ++ letter ∷ rest) ≡ rest
 drop_past front letter rest =
     let size : length front + 1 ≡ length (front ++ letter ∷ []) = sym (length-append front (letter ∷ [])) in
-    ap (λ n. drop n (front ++ letter ∷ rest)) size ∙ ap (drop (length (front ++ letter ∷ []))) (sym (append_assoc front (letter ∷ []) rest)) ∙ drop-append_seam (front ++ letter ∷ []) rest
+    ap (λ n. drop n (front ++ letter ∷ rest)) size ∙ ap (drop (length (front ++ letter ∷ []))) (sym (append_assoc front (letter ∷ []) rest))
+    ∙ drop-append_seam (front ++ letter ∷ []) rest
 
 letter_rest : {text rest : List ℕ} → AfterLetter text rest → drop (length text - length rest) text ≡ rest
 letter_rest {text} {rest} (front, letter, ascii, is) =
@@ -187,10 +196,12 @@ is_format text {bytes} {conversion} {rest} {front} {back} {form} same is ends re
     let before : front ≡ before_it text = first ∙ ap (λ n. take n text)
     (let n : length bytes - length conversion - 0 ≡ length text - length (after_text text) =
     omega (arith, ap length conv) in n) in
-    let after : back ≡ rest = last ∙ ap (λ n. drop n text) (let n : length bytes - length rest ≡ length text - length rest = omega arith in n) ∙ ends.2 in
+    let after : back ≡ rest = last
+    ∙ ap (λ n. drop n text) (let n : length bytes - length rest ≡ length text - length rest = omega arith in n) ∙ ends.2 in
     let made : List ℕ → List ℕ → Format = λ front back. record { before = plain_text front; form = form; after = plain_text back } in
     ap (λ front. Some (made front back)) before ∙ ap (λ back. Some (made (before_it text) back)) after
-    ∙ sym (ap (around (before_it text)) (ap conversion_in (sym conv) ∙ sym read) ∙ ap (λ empty. cond empty (Some (made (before_it text) rest)) None) none)
+    ∙ sym (ap (around (before_it text)) (ap conversion_in (sym conv) ∙ sym read)
+    ∙ ap (λ empty. cond empty (Some (made (before_it text) rest)) None) none)
 
 -- pieces of a text, without the second `%` of two
 
@@ -206,7 +217,8 @@ plain_percent : (byte : ℕ) (text : List ℕ) → is_percent byte ≡ true
 plain_percent byte [] is = let same : byte ≡ 37 = grind (arith, nat_tests) in ap (λ byte. byte ∷ []) same
 plain_percent byte (next ∷ rest) is =
     let same : byte ≡ 37 = grind (arith, nat_tests) in
-    ap (λ percent. cond (percent && is_percent next) (37 ∷ plain_text rest) (byte ∷ plain_text (next ∷ rest))) is ∙ ap (λ byte. cond (is_percent next) (37 ∷ plain_text rest) (byte ∷ plain_text (next ∷ rest))) same
+    ap (λ percent. cond (percent && is_percent next) (37 ∷ plain_text rest) (byte ∷ plain_text (next ∷ rest))) is
+    ∙ ap (λ byte. cond (is_percent next) (37 ∷ plain_text rest) (byte ∷ plain_text (next ∷ rest))) same
     ∙ by (is_percent next) where
       by : (second : Bool)
           → cond second (37 ∷ plain_text rest) (37 ∷ plain_text (next ∷ rest))

@@ -2,7 +2,8 @@
 use Rattle.std.proofs.{
   lemmas.{Grind.common_steps, Bool.{and_parts, lt-ltb, Decides.nat_tests}, List.Elements.recursion_from_All},
   Math.Seq.{drop-append_seam, take-append_seam},
-  Common.{◌≡◌, ◌⊎◌, inl, inr, refl, ℕ, ◌≤◌, ◌==◌, Bool, true, false, if◌then◌else◌, arith, List, [], ◌∷◌, ◌++◌, ◌*◌},
+  Common.{◌≡◌, ◌⊎◌, inl, inr, refl, ℕ, ◌≤◌, ◌==◌, Bool, true, false, if◌then◌else◌, arith, List, [], ◌∷◌},
+  Common.{◌++◌, ◌*◌},
   Common.{length, Some, None, Result, Ok, Err, sym, ap, ◌∙◌, rules},
 }
 use Rattle.std.specs.{Char.is_ascii_digit, List.{AllByRecursion, list_all, prefix_len}, Prelude.{nat_lt, bytes_eq, ⊤}}
@@ -77,7 +78,8 @@ AreAll P (name ∷ names) = P name × AreAll P names
 pub begins_with_unit : (P : List ℕ → Type 0) (names : List (List ℕ)) (text : List ℕ) → is_among names text ≡ true
     → AreAll P names → P text
 begins_with_unit P [] text is all = absurd (cc)
-begins_with_unit P (known ∷ names) text is all = found_by P known text names (bytes_eq known text) refl is all.0 (λ among. begins_with_unit P names text among all.1)
+begins_with_unit P (known ∷ names) text is all =
+    found_by P known text names (bytes_eq known text) refl is all.0 (λ among. begins_with_unit P names text among all.1)
 
 pub tail_letters : (text : List ℕ) (place : ℕ) → is_lettered tail_table OfTail text ≡ true
     → mixed tail_table place (45 ∷ text) ≡ Err (Usage UnknownOption place)
@@ -85,7 +87,8 @@ tail_letters text place is =
     let P : List ℕ → Type 0 = λ text. mixed tail_table place (45 ∷ text) ≡ Err (Usage UnknownOption place) in
     let either_way : (nat_lt 0 (length (leading_digits text)) ≡ true) ⊎ (is_among without_digits text ≡ true) = grind (arith, nat_tests) in
     elim either_way [
-      | inl some ↦ begins_with_digit P text some (λ byte rest least most. unknown_first tail_table place byte rest (tail_has_no_digit byte least most) (grind (arith, nat_tests)))
+      | inl some ↦ begins_with_digit P text some (λ byte rest least most. unknown_first tail_table place byte rest
+          (tail_has_no_digit byte least most) (grind (arith, nat_tests)))
       | inr among ↦ begins_with_unit P without_digits text among (refl, (refl, (refl, (refl, tt))))
     ]
 
@@ -201,9 +204,11 @@ module _ (rows : List OptionRow) where
       (λ count. Ok (joined (one_option (Amount unit.0 count) place) given))
   letters_ask sign text digits options unit place given (of_lines is all are) gives =
       let others = recursion_from_All IsOther options are in
-      asked_by_parts sign text {letters = options} place (rw is (parts digits options all (no_digit options others))) (no_unit options others) (given_so place options others gives)
+      asked_by_parts sign text {letters =
+      options} place (rw is (parts digits options all (no_digit options others))) (no_unit options others) (given_so place options others gives)
   letters_ask sign text digits options unit place given (of_unit before letter after says is options_are all are) gives =
       let others : AreOthers (before ++ after) = rw options_are at (recursion_from_All IsOther options are) in
-      asked_by_parts sign text {letters = before ++ letter ∷ after} place (rw is (parts digits (before ++ letter ∷ after) all (no_digit_first before letter after says others)))
+      asked_by_parts sign text {letters =
+      before ++ letter ∷ after} place (rw is (parts digits (before ++ letter ∷ after) all (no_digit_first before letter after says others)))
       (the_unit before letter after says others)
       (their_switches place before letter after says ∙ given_so place (before ++ after) others (rw options_are at gives))

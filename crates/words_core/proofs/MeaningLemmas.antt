@@ -2,7 +2,8 @@
 use Rattle.std.{
   proofs.{
     lemmas.Grind.common_steps,
-    Common.{◌≡◌, refl, ℕ, ◌-◌, ◌^◌, ◌==◌, ◌&&◌, ◌≤◌, ◌<◌, arith, List, [], ◌∷◌, ◌++◌, Option, Some, None, Result, Ok},
+    Common.{◌≡◌, refl, ℕ, ◌-◌, ◌^◌, ◌==◌, ◌&&◌, ◌≤◌, ◌<◌, arith, List, [], ◌∷◌, ◌++◌, Option, Some, None},
+    Common.{Result, Ok},
     Common.{Err, IfOk, inl, inr, ◌⊎◌, rules},
   },
   specs.Prelude.{⊤, IfSome, nat_lt},
@@ -123,7 +124,8 @@ abbrev GivesOptions : List OptionRow → ℕ → Result Meaning Fault → Type 0
 GivesOptions rows place meant = Gives (AreSafe rows) (λ operands. operands ≡ []) place meant
 
 abbrev pub GivesItself : List OptionRow → ℕ → List ℕ → Result Meaning Fault → Type 0
-GivesItself rows place word meant = Gives (AreSafe rows) (λ operands. (operands ≡ []) ⊎ (operands ≡ record { text = word; word = place } ∷ [])) place meant
+GivesItself rows place word meant =
+    Gives (AreSafe rows) (λ operands. (operands ≡ []) ⊎ (operands ≡ record { text = word; word = place } ∷ [])) place meant
 
 -- what `-n` says
 
@@ -207,7 +209,8 @@ module _ (rows : List OptionRow) (place : ℕ) where
   switches-give : (letters : List ℕ) → GivesSound (switches rows place letters)
   switches-give [] = (λ _. tt, refl)
   switches-give (letter ∷ letters) =
-      either GivesSound (is_unit letter) _ _ (switches-give letters) (switched-gives _ (letter_named rows letter) (found-safe rows (45 ∷ letter ∷ [])) (switches-give letters))
+      either GivesSound (is_unit letter) _ _ (switches-give letters)
+      (switched-gives _ (letter_named rows letter) (found-safe rows (45 ∷ letter ∷ [])) (switches-give letters))
 
   counted-gives : (unit : Measured) (options : Given) (count : Result Count UsageKind) → GivesSound options
       → GivesOptions rows place (given_at place (counted_with unit place options count))
@@ -216,7 +219,8 @@ module _ (rows : List OptionRow) (place : ℕ) where
 
   numbered-gives : (sign : Sign) (text : List ℕ)
       → GivesOptions rows place (given_at place (with_letters rows sign place text))
-  numbered-gives sign text = counted-gives (unit_in (after_digits text)).0 _ (times sign (leading_digits text) (unit_in (after_digits text)).1) (switches-give (after_digits text))
+  numbered-gives sign text = counted-gives (unit_in (after_digits text)).0 _
+      (times sign (leading_digits text) (unit_in (after_digits text)).1) (switches-give (after_digits text))
 
   dashed-gives : (rest : List ℕ) → GivesOptions rows place (dashed rows place rest)
   dashed-gives [] = (λ _. tt, refl, tt)

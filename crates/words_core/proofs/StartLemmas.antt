@@ -1,7 +1,8 @@
 -- Lemmas on a first word of `tail` that is a hyphen or a `+`, digits and letters.
 use Rattle.std.proofs.{
   lemmas.Bool.{and_parts, Decides.nat_tests},
-  Common.{◌≡◌, refl, ℕ, ◌-◌, ◌*◌, ◌^◌, ◌≤◌, ◌<◌, ◌==◌, true, false, arith, append-nil, List, [], ◌∷◌, ◌++◌, length, Ok},
+  Common.{◌≡◌, refl, ℕ, ◌-◌, ◌*◌, ◌^◌, ◌≤◌, ◌<◌, ◌==◌, true, false, arith, append-nil, List, [], ◌∷◌},
+  Common.{◌++◌, length, Ok},
   Common.{Err, subst},
   Math.Bool.{and-false, or-true},
 }
@@ -98,6 +99,7 @@ unfolding foremost
 letters_last calling digits letter letters place amount number other of_tail many =
     let whole = and_parts (nat_lt 0 (length digits)) (list_all is_ascii_digit digits) number in
     let is = parts digits (letter ∷ letters) whole.1 (rw other refl) in
-    let no_number : is_number (digits ++ letter ∷ letters) ≡ false = rw (not_all digits letter letters other, and-false (nat_lt 0 (length (digits ++ letter ∷ letters)))) refl in
+    let no_number : is_number (digits ++ letter ∷ letters) ≡ false = rw
+    (not_all digits letter letters other, and-false (nat_lt 0 (length (digits ++ letter ∷ letters)))) refl in
     let lettered : is_lettered tail_table OfTail (digits ++ letter ∷ letters) ≡ true = rw (is.0, is.1, of_tail, whole.0) refl in
     rw (no_number, lettered, asked_so Plain (digits ++ letter ∷ letters) place amount is number many) refl

@@ -1,6 +1,6 @@
 -- The laws of what `csplit` makes of an input.
 use Rattle.std.proofs.{
-  Common.{◌≡◌, ℕ, ◌+◌, ◌≤◌, List, ◌++◌, map, take, drop, sym, ◌∙◌, ap, subst, arith},
+  Common.{rules, ◌≡◌, ℕ, ◌≤◌, List, ◌++◌, map, take, drop, sym, ◌∙◌, ap, arith},
   lemmas.{List.{map-append, take-append-drop}, Bool.false≢true},
 }
 use Rattle.seg_core.{
@@ -11,25 +11,24 @@ use Rattle.ports_core.specs.{Part.Begins, Work.IsLawful}
 use Rattle.csplit_core.specs.{
   Operand.{Operand, Line},
   Output.Style,
-  Csplit.{settled_of, settled_by, whole_by, csplit_work},
+  Csplit.{settled_by, whole_by, csplit_work},
   Input.{newline, marked, all_lines, complete_lines},
   laws.SectionLaws.{take_begins, grows, ends_with},
 }
 
 same_lines : (x y : List ℕ) → take (delimiters newline x) (lines_of newline (x ++ y))
     ≡ take (delimiters newline x) (lines_of newline x)
-same_lines x y = sym (lines_of-first_lines newline (delimiters newline x) (x ++ y))
+same_lines x y = sym (search (rules, lines_of-first_lines))
     ∙ ap (lines_of newline) (first_lines-full newline (delimiters newline x) x y (omega arith))
     ∙ lines_of-first_lines newline (delimiters newline x) x
 
 pub complete_grow : (x y : List ℕ) → (more : List Line) × (complete_lines (x ++ y) ≡ complete_lines x ++ more)
 complete_grow x y =
     let less : delimiters newline x ≤ delimiters newline (x ++ y) =
-    (let sum : delimiters newline (x ++ y)
-    ≡ delimiters newline x + delimiters newline y = delimiters-append newline x y in omega arith) in
+    omega (arith, delimiters-append newline x y) in
     let rest = take_begins (delimiters newline x) (delimiters newline (x ++ y)) (lines_of newline (x ++ y)) less in (
       map marked rest.0,
-      ap (map marked) (rest.1 ∙ ap (λ those. those ++ rest.0) (same_lines x y))
+      ap (map marked) (search (rules, same_lines))
           ∙ map-append marked (take (delimiters newline x) (lines_of newline x)) rest.0,
     )
 
@@ -37,7 +36,7 @@ pub all_grow : (x : List ℕ) → (more : List Line) × (all_lines x ≡ complet
 all_grow x = (
   map marked (drop (delimiters newline x) (lines_of newline x)),
   ap (map marked)
-      (sym (take-append-drop (delimiters newline x) (lines_of newline x)))
+      (search (rules, take-append-drop))
       ∙ map-append marked (take (delimiters newline x) (lines_of newline x))
       (drop (delimiters newline x) (lines_of newline x)),
 )
@@ -45,9 +44,7 @@ all_grow x = (
 pub settled_grows : (style : Style) (operands : List Operand) (x y : List ℕ)
     → Begins (settled_by style operands x) (settled_by style operands (x ++ y))
 settled_grows style operands x y =
-    let more = complete_grow x y in subst
-    (λ those. Begins (settled_by style operands x) (settled_of style operands those)) (sym more.1)
-    (grows style operands (complete_lines x) more.0)
+    let more = complete_grow x y in rw (← more.1) at (grows style operands (complete_lines x) more.0)
 
 pub settled_ends : (style : Style) (operands : List Operand) (x : List ℕ)
     → Begins (settled_by style operands x) (whole_by style operands x)

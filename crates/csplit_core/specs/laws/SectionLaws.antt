@@ -1,21 +1,22 @@
 -- Laws that traits cite: what sections are when more lines come.
 use Rattle.std.proofs.{
   lemmas.{Grind.{common_steps, flat_map-append}, List.{append-nil, map-append}},
-  Common.{◌≡◌, ◌⊎◌, inl, inr, ℕ, zero, suc, ◌+◌, ◌-◌, ◌≤◌, Bool, true, false, cond, List, [], ◌∷◌, ◌++◌, length, map},
-  Common.{take, drop, refl, sym, ◌∙◌, ap, subst, arith, append_assoc, length-append},
+  Common.{rules, ◌≡◌, ◌⊎◌, inl, inr, ℕ, zero, suc, ◌+◌, ◌-◌, ◌≤◌, Bool, false, List, [], ◌∷◌, ◌++◌},
+  Common.{length, map},
+  Common.{take, drop, refl, sym, subst, arith, append_assoc, length-append},
 }
 use Rattle.ports_core.{
   specs.{
     Draft.{share, made_of, part_of as part_by},
     Part.Begins,
     inner.Shares.SharesBegin,
-    declared.slot.State.TheVariants.{Open, Closed},
+    declared.slot.State.TheVariants.{Open},
   },
   proofs.ShareLemmas.{made_begin, part_grows, shares_wider},
 }
 use Rattle.csplit_core.specs.{
-  Operand.{Operand, Line, is_kept},
-  Plan.{State, Step, Ending, above, below, Runs, is_used_up, misses, is_above, is_below, cuts},
+  Operand.{Operand, Line},
+  Plan.{State, Step, Ending, below, Runs, is_used_up, misses, is_above, is_below, cuts},
   Planned.plan,
   Section.{Section, section, section_of, lines_between, bytes_of, is_last_kept, whole_end, settled_end, sections_by},
   Section.settled_sections,
@@ -32,7 +33,7 @@ take_begins zero m xs less = (take m xs, refl)
 take_begins (suc n) zero xs less = absurd (omega arith)
 take_begins (suc n) (suc m) [] less = ([], refl)
 take_begins (suc n) (suc m) (x ∷ xs) less = let rest = take_begins n m xs (omega arith) in
-    (rest.0, ap (λ those. x ∷ those) rest.1)
+    (rest.0, cc)
 
 -- more lines change nothing before them
 pub between_still : (first past : ℕ) (a b : List Line) → 1 ≤ first → past ≤ length a + 1
@@ -44,11 +45,11 @@ pub between_grows : (first past more : ℕ) (a b : List Line) → 1 ≤ first �
     ⊎ (past ≤ first) → (rest : List Line) × (lines_between first more (a ++ b) ≡ lines_between first past a ++ rest)
 between_grows first past more a b some within (inl less) =
     let grown = take_begins (past - first) (more - first) (drop (first - 1) (a ++ b)) (omega arith) in
-    (grown.0, grown.1 ∙ ap (λ those. those ++ grown.0) (between_still first past a b some within))
+    (search (rules, between_still))
 between_grows first past more a b some within (inr less) =
     let none : past - first ≡ 0 = omega arith in (
       lines_between first more (a ++ b),
-      sym (ap (λ n. take n (drop (first - 1) a) ++ lines_between first more (a ++ b)) none),
+      sym (search rules),
     )
 
 pub ends_as : {suppress : Bool} {lines : List Line} {first : State} {steps : List Step} {last : State} {ending : Ending}
@@ -56,25 +57,20 @@ pub ends_as : {suppress : Bool} {lines : List Line} {first : State} {steps : Lis
 ends_as (is_used_up state none) = none
 ends_as (misses state operand operands is none) = (operands, is, none, refl)
 ends_as (is_above state operand operands matched cut is at far) = (operands, is, at, far, refl)
-ends_as (is_below state operand operands matched cut is at within low) = grind (arith, common_steps)
+ends_as (is_below state operand operands matched cut is at within low) = search rules
 ends_as (cuts state operand operands matched cut steps' last' ending' is at from within rest) = ends_as rest
 
 pub are_within : {suppress : Bool} {lines : List Line} {first : State} {steps : List Step} {last : State}
     {ending : Ending} → Runs suppress lines first steps last ending → 1 ≤ first.current
     → AreWithin (length lines) steps × (1 ≤ last.current)
 are_within {suppress} (cuts state operand operands matched cut steps' last' ending' is at from within rest) some =
-    let those = are_within rest (omega (arith, line_some suppress cut)) in
-    ((some, from, within, those.0), those.1)
+    search (rules, line_some, are_within rest)
 are_within run some = (tt, some)
 
 pub closed_still : (a b : List Line) (steps : List Step) → AreWithin (length a) steps
     → map (section_of (a ++ b)) steps ≡ map (section_of a) steps
 closed_still a b [] within = refl
-closed_still a b (step ∷ steps) within =
-    ap (λ lines. section (is_kept step.operand.target) true lines ∷ map (section_of (a ++ b)) steps)
-    (between_still step.current step.cut a b within.0
-    (omega arith)) ∙ ap (λ those. section_of a step ∷ those)
-    (closed_still a b steps within.3)
+closed_still a b (step ∷ steps) within = search (rules, between_still, closed_still a b steps within.3)
 
 next_by : (a b : List Line) (current past more : ℕ) {kept : Bool}
     (closed : Bool) {other_kept : Bool} {rest : List Section} → 1 ≤ current
@@ -99,7 +95,7 @@ pub cuts_from : (suppress : Bool) (a b : List Line) (state : State) (ending : En
 cuts_from suppress a b state ending ends are = grind (arith, common_steps)
 
 pub settled_most : (total : ℕ) (ending : Ending) → settled_end total ending ≤ total + 1
-settled_most total ending = grind (arith, common_steps)
+settled_most total ending = search rules
 
 next_of : {suppress : Bool} (closed : Bool) (end_of : ℕ → Ending → ℕ) → Covers end_of
     → (a b : List Line) {last : State} (ending : Ending) → 1 ≤ last.current → EndsAs suppress a last ending
@@ -112,23 +108,16 @@ next_of closed end_of covers a b ending some ends more end (misses state operand
     (arith, common_steps, cuts_from, next_by, settled_most)
 next_of {suppress} closed end_of covers a b ending some ends more end
     (is_above state operand operands matched cut are at far) =
-    let most : suc (length (a ++ b)) ≤ end_of (length (a ++ b)) (above operand state.repetition matched cut) =
-    covers (length (a ++ b)) (above operand state.repetition matched cut) in
-    next_by a b state.current (settled_end (length a) ending)
-    (end_of (length (a ++ b)) (above operand state.repetition matched cut)) closed some
-    (settled_most (length a) ending) (inl (omega (arith, settled_most (length a) ending, length-append a b)))
-    (let so = cuts_from suppress a b state ending ends are in so.0)
+    search (rules, next_by, settled_most, length-append, cuts_from)
 next_of {suppress} closed end_of covers a b ending some ends more end
     (is_below state operand operands matched cut are at in_lines low) =
     let so = cuts_from suppress a b state ending ends are in
     next_by a b state.current (settled_end (length a) ending)
     (end_of (length (a ++ b)) (below operand state.repetition)) closed some
-    (settled_most (length a) ending) (inr (omega (arith, so.1 matched cut at))) so.0
+    (settled_most (length a) ending) (search rules) so.0
 next_of {suppress} closed end_of covers a b ending some ends more end
-    (cuts state operand operands matched cut steps' last' ending' are at from in_lines rest) =
-    let so = cuts_from suppress a b state ending ends are in
-    next_by a b state.current (settled_end (length a) ending) cut true some (settled_most (length a) ending)
-    (inl (so.1 matched cut at)) so.0
+    (cuts state operand operands matched cut steps' last' ending' are at from in_lines rest) = search
+    (rules, next_by, settled_most, (cuts_from suppress a b state ending ends are))
 
 sections_grow : {suppress : Bool} (closed : Bool) (end_of : ℕ → Ending → ℕ) → Covers end_of
     → {a : List Line} (b : List Line) {first : State} {steps : List Step} {last : State} {ending : Ending}
@@ -158,12 +147,11 @@ plan_grows suppress closed end_of covers operands a b =
 
 pub bytes-append : (a b : List Line) → bytes_of (a ++ b) ≡ bytes_of a ++ bytes_of b
 bytes-append [] b = refl
-bytes-append (line ∷ a) b = ap (λ those. line.text ++ those) (bytes-append a b) ∙ sym
-    (append_assoc line.text (bytes_of a) (bytes_of b))
+bytes-append (line ∷ a) b = search (rules, append_assoc, bytes-append a b)
 
 pub shares-append : (style : Style) (a b : List Section)
     → shares_in style (a ++ b) ≡ shares_in style a ++ shares_in style b
-shares-append style a b = flat_map-append (λ section. map (share (state_in section)) (file_in style section)) a b
+shares-append style a b = search (rules, flat_map-append)
 
 -- what is written of sections whose last one goes on, and may end
 pub section_grows : (style : Style) (front : List Section) (begun other : Section) (more : List Section)
@@ -172,35 +160,34 @@ pub section_grows : (style : Style) (front : List Section) (begun other : Sectio
     → Begins (part_of style (front ++ begun ∷ [])) (part_of style (front ++ other ∷ more))
 section_grows style front begun other more is_open kept rest bytes =
     subst (λ those. Begins (part_by (manner_of style) those) (part_of style (front ++ other ∷ more)))
-    (sym (shares-append style front (begun ∷ []) ∙ ap (λ those. shares_in style front ++ those) last))
+    (search (rules, shares-append, last))
     (rw (← shares-append style front (other ∷ more)) at
     (part_grows (manner_of style) (shares_in style front) (file_in style begun) _
     (shares_wider _ _ (shares_in style more)
     (subst (λ k. SharesBegin (map (share Open) (made_of (opening_of style k) (bytes_of begun.lines)))
     (map (share (state_in other)) (file_in style other))) (sym kept)
-    (made_begin (opening_of style other.is_kept) (state_in other) (bytes_of begun.lines) (bytes_of other.lines)
-    (rest, bytes)))))) where
+    (search (rules, made_begin)))))) where
       last : shares_in style (begun ∷ []) ≡ map (share Open) (file_in style begun)
-      last = append-nil _ ∙ ap (λ closed. map (share (cond closed Closed Open)) (file_in style begun)) is_open
+      last = search (rules, append-nil)
 
 pub parts_grow : (style : Style) {low high : List Section} → Grow low high
     → Begins (part_of style low) (part_of style high)
 parts_grow style grow =
     rw (grow.low_is, grow.high_is, grow.next.are) (section_grows style grow.front grow.begun grow.next.other
     grow.next.more grow.is_open grow.next.kept (bytes_of grow.next.rest)
-    (ap bytes_of grow.next.lines ∙ bytes-append grow.begun.lines grow.next.rest))
+    (search (rules, bytes-append)))
 
 pub settled_covers : Covers settled_end
 settled_covers total ending = omega arith
 
 pub whole_covers : Covers whole_end
-whole_covers total ending = grind (arith, common_steps)
+whole_covers total ending = search rules
 
 -- The two laws of what is settled: it only grows, and what is put out in the end begins with it.
 pub grows : (style : Style) (operands : List Operand) (a b : List Line)
     → Begins (settled_of style operands a) (settled_of style operands (a ++ b))
-grows style operands a b = parts_grow style (plan_grows style.suppress false settled_end settled_covers operands a b)
+grows style operands a b = search (rules, parts_grow, plan_grows, settled_covers)
 
 pub ends_with : (style : Style) (operands : List Operand) (a b : List Line)
     → Begins (settled_of style operands a) (whole_of style operands (a ++ b))
-ends_with style operands a b = parts_grow style (plan_grows style.suppress true whole_end whole_covers operands a b)
+ends_with style operands a b = search (rules, parts_grow, plan_grows, whole_covers)

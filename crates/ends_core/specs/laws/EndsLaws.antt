@@ -5,7 +5,8 @@ use Rattle.std.proofs.{
     List.{append-nil, take_all, drop-drop, drop-append-le, take-append-drop, append_cancel_left, append_cancel_right},
     Bool.cases_lt,
   },
-  Common.{◌≡◌, ℕ, ◌+◌, ◌-◌, ◌<◌, ◌≤◌, zero, suc, List, [], ◌∷◌, ◌++◌, length, take, drop, refl, sym, ◌∙◌, ap, arith},
+  Common.{◌≡◌, ℕ, ◌+◌, ◌-◌, ◌<◌, ◌≤◌, zero, suc, List, [], ◌∷◌, ◌++◌, length, take, drop, refl, sym, ◌∙◌},
+  Common.{ap, arith},
   Common.{append_assoc, length-append, length-drop, inl, inr},
 }
 use Rattle.seg_core.{

@@ -1,6 +1,7 @@
 -- Sets of a code's numbers as words, 64 numbers in each.
 use Rattle.std.specs.{
-  Prelude.{◌≡◌, ◌⊎◌, ◌↔◌, ℕ, zero, suc, ◌+◌, ◌-◌, ◌*◌, ◌/◌, ◌%◌, ◌^◌, ◌<◌, ◌≤◌, ◌==◌, Bool, List, [], ◌∷◌, ◌++◌},
+  Prelude.{◌≡◌, ◌⊎◌, ◌↔◌, ℕ, zero, suc, ◌+◌, ◌-◌, ◌*◌, ◌/◌, ◌%◌, ◌^◌, ◌<◌, ◌≤◌, ◌==◌, Bool},
+  Prelude.{List, [], ◌∷◌, ◌++◌},
   Prelude.{length, slice_index_or},
   Int.bit_at,
 }

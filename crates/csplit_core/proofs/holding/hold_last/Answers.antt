@@ -1,12 +1,12 @@
-use Rattle.ports_core.proofs.{HandedOn.handed_on, WriterSteps.goes_or_lacks}
-use Rattle.std.proofs.{Common.{◌++◌, drop, ◌∙◌, ap, arith}, lemmas.Grind.common_steps}
-use Rattle.seg_core.specs.{Line.but_last_lines, Window.Window}
-use Rattle.csplit_core.proofs.CutterLemmas.{hold_on, hold_short, kept_window, parted, rest_fits}
+use Rattle.ports_core.proofs.{HandedOn.handed_on, WriterSteps.{goes_as, goes_or_lacks, stops_among}}
+use Rattle.std.proofs.{Common.{arith}, lemmas.Grind.common_steps}
+use Rattle.csplit_core.proofs.CutterLemmas.{hold_on, kept_window, parted, rest_fits}
 use Rattle.csplit_core.proofs.holding.hold_last.Goals as goal
 
 pub returns-in_err-write_front-clause-goes : goal.returns-in_err-write_front-clause-goes
 returns-in_err-write_front-clause-goes g c = rw (handed_on _ _ c.from_residual.ensures.1)
-    (hold_short (parted c.over-over.ensures c.len.ensures.len c.min-front.ensures) c.in_err-write_front.ensures.goes)
+    (let parts = parted {delim = c.args.window.now.delim} {most = c.args.window.now.most} c.over-over.ensures c.len.ensures.len
+    c.min-front.ensures in goes_as parts.goes (stops_among _ _ c.in_err-write_front.ensures.goes))
 
 pub split_at-requires : goal.split_at-requires
 split_at-requires g c = let parts =
@@ -18,10 +18,7 @@ returns-in_err-put-clause-goes g c = rw (handed_on _ _ c.from_residual-in_err-pu
     c.in_ok-write_front.ensures.goes c.in_err-put.ensures.goes)
 
 pub keep-requires : goal.keep-requires
-keep-requires g c =
-    ap (λ (w : Window). but_last_lines w.delim w.most (w.held ++ c.split_at.result.1.now)) c.in_ok-write_front.ensures.window
-    ∙ ap (λ rest. but_last_lines c.args.window.now.delim c.args.window.now.most (drop c.min-front.result c.args.window.now.held ++ rest)) c.split_at.ensures.back
-    ∙ rest_fits (parted c.over-over.ensures c.len.ensures.len c.min-front.ensures)
+keep-requires g c = grind (arith, common_steps, rest_fits, parted)
 
 pub returns-clause-goes : goal.returns-clause-goes
 returns-clause-goes g c = goes_or_lacks c.keep.result

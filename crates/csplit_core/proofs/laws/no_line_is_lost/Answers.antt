@@ -1,5 +1,7 @@
-use Rattle.csplit_core.proofs.WholeLemmas.{none_lost, none_lost_at_end}
+use Rattle.std.proofs.lemmas.Grind.{common_steps}
+use Rattle.std.proofs.Common.{arith}
+use Rattle.csplit_core.proofs.WholeLemmas.{none_lost_at_end, all_with}
 use Rattle.csplit_core.proofs.laws.no_line_is_lost.Goals as goal
 
 pub returns : goal.returns
-returns c = record { settled = none_lost; whole = none_lost_at_end }
+returns c = grind (arith, common_steps, all_with, none_lost_at_end)

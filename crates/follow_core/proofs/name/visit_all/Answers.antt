@@ -1,14 +1,14 @@
 use Rattle.std.proofs.{
-  Common.{◌≡◌, ◌<◌, ◌≤◌, ◌+◌, length, refl, sym, ◌∙◌, subst, arith},
-  lemmas.List.{length-set, get_or_default},
+  Common.{◌≡◌, ◌<◌, ◌≤◌, ◌+◌, length, refl, replicate, [], sym, ◌∙◌, subst, arith},
+  lemmas.List.{length-set, get_or_default, length-replicate},
 }
 use Rattle.watch_core.specs.Watched.{opens}
 use Rattle.follow_core.{
   proofs.{
     CallGivesLemmas.keeps_others,
-    FollowLemmas.{next_ready, same_length, texts_set, visited_more, visited_none, visited_short},
+    FollowLemmas.{next_ready, same_length, texts_set, visited_more, nothing_shared, visited_short},
   },
-  specs.Standing.no_state,
+  specs.{Standing.no_state, Look.sound, Reading.no_names},
 }
 use Rattle.follow_core.proofs.name.visit_all.Goals as goal
 
@@ -17,7 +17,18 @@ loop-place-init g c = record {
   within = omega arith;
   same = refl;
   ready = c.requires.ready;
-  visited = λ from looks stood. visited_none stood.stand;
+  visited = λ from looks stood. record {
+    fates = replicate from sound;
+    shares = [];
+    count = length-replicate from sound ∙ omega arith;
+    are = λ t all front. refl;
+    found = λ all front. no_names;
+    is_failed = refl;
+    shared = nothing_shared;
+    same = refl;
+    done = λ all front other below. absurd (omega arith);
+    rest = λ other above within. stood.stand other within;
+  };
   count = refl;
   others = λ number other. refl;
   can = c.requires.can;

@@ -12,8 +12,11 @@ returns-in-Ok-make_looks g c =
     let ways = ways_of 0 c.args.by_name c.args.start in
     let slots = g.O.Outs.slots c.args.outs.now in
     let (most, are, gave) = c.in-Ok-make_looks.ensures.looked in
-    let all = gave c.args.calling ways c.args.headers names slots (open_holds c.in-Ok.ensures.ok (c.forgive_by.ensures.watched ∙ c.requires.unwatched)) in
-    rw (← c.forgive_by.ensures.shows) (ends_by c.args.limits.process most are (looked all.looks all.holds.shares all.observed (watched_are all.holds) all.made all.within all.over all.holds.are all.holds.found (record {
+    let all = gave c.args.calling ways c.args.headers names slots
+    (open_holds c.in-Ok.ensures.ok (c.forgive_by.ensures.watched ∙ c.requires.unwatched)) in
+    rw (← c.forgive_by.ensures.shows) (ends_by c.args.limits.process most are
+    (looked all.looks all.holds.shares all.observed (watched_are all.holds) all.made all.within all.over all.holds.are all.holds.found
+    (record {
       wrote = all.holds.shared.slots;
       status_is = c.from.ensures ∙ as_status c.failed.result ∙ ap (λ those. if those then 1 else 0) (c.failed.ensures ∙ sym all.holds.failed);
     })))
@@ -32,6 +35,8 @@ returns g c =
 
 pub returns-in-Err : goal.returns-in-Err
 returns-in-Err g c =
-    let (most, are, above) = most_made g.W.Watch.told c.args.limits.process (shows_by c.args.calling c.args.by_name (g.W.Watch.shows c.args.watch.now)) c.args.limits.looks 0 (omega arith) (λ t. omega arith) in
+    let (most, are, above) = most_made g.W.Watch.told c.args.limits.process
+    (shows_by c.args.calling c.args.by_name (g.W.Watch.shows c.args.watch.now)) c.args.limits.looks 0 (omega arith)
+    (λ t. omega arith) in
     let tells = rw c.in-Err.ensures.err at c.tell.ensures in
     ends_by c.args.limits.process most are (no_room Other c.requires.unseen c.requires.unwatched tells.told tells.status)

@@ -1,7 +1,8 @@
-use Rattle.std.proofs.Common.{◌≡◌, ◌+◌, ◌-◌, ◌∙◌, ◌∷◌, [], ap, refl, arith, length, length-append}
-use Rattle.follow_core.proofs.{
-  LookedLemmas.{ended, most_made, none_made, one_more, one_stopped, still_made, until_last, until_more, until_some},
+use Rattle.std.proofs.{
+  lemmas.{Bool.false≢true, List.length-map},
+  Common.{sym, ◌≡◌, ◌+◌, ◌-◌, ◌∙◌, ◌∷◌, [], ap, refl, arith, length, length-append},
 }
+use Rattle.follow_core.proofs.LookedLemmas.{ended, most_made, one_more, until_last, until_more, most_more}
 use Rattle.follow_core.proofs.run.make_looks.Goals as goal
 
 pub loop-made-init : goal.loop-made-init
@@ -12,44 +13,63 @@ loop-made-init g c = record {
   can = c.requires.can;
   error = c.requires.error;
   shows = refl;
-  progress = λ calling ways headers names first holds. none_made c.requires.unseen holds;
+  progress = λ calling ways headers names first holds. record {
+    looks = [];
+    count = refl;
+    observed = c.requires.unseen;
+    is_made = record { saw = refl; alive = λ t n above below. absurd (omega arith) };
+    alive = λ t above. absurd (omega arith);
+    ends = λ over. absurd (false≢true (sym over));
+    holds = holds;
+  };
 }
 
 pub returns-in-Err-clause-stopped : goal.returns-in-Err-clause-stopped
 returns-in-Err-clause-stopped g c =
     let l = c.loop-made in
     let below = c.loop-made-test.true in
-    let (most, are, above) = most_made g.W.Watch.told c.args.limits.process (g.W.Watch.shows c.args.watch.now) c.args.limits.looks (l.made + 1) (omega arith)
-    (λ t. until_some c.args.limits.process (g.W.Watch.shows c.args.watch.now) (l.invariant.left t) below) in (
+    let (most, are, above) = most_more {process = c.args.limits.process} l.invariant.left below in (
       most,
       are,
-      (λ calling ways headers names first holds. one_stopped
-          (c.has_ended-is_last.ensures.shows ∙ l.invariant.shows)
-          (still_made c.has_ended-is_last.ensures.watched c.has_ended-is_last.ensures.seen
-          (l.invariant.progress calling ways headers names first holds)) c.in-Err.ensures.saw
-          (omega arith) c.in-Err.ensures.stopped),
+      (λ calling ways headers names first holds.
+          let p = rw (← c.has_ended-is_last.ensures.watched, ← c.has_ended-is_last.ensures.seen) at
+          (l.invariant.progress calling ways headers names first holds) in
+          let shows = c.has_ended-is_last.ensures.shows ∙ l.invariant.shows in record {
+            looks = p.looks;
+            saw = rw (shows, p.observed, length-map) at c.in-Err.ensures.saw;
+            made = p.is_made;
+            within = rw p.count (omega arith);
+            alive = p.alive;
+            halted = rw (shows, p.observed, length-map) at (c.in-Err.ensures.stopped calling ways headers names p.looks first p.holds);
+          }),
     )
 
 pub returns-then-not-alive-clause-looked : goal.returns-then-not-alive-clause-looked
 returns-then-not-alive-clause-looked g c =
     let l = c.loop-made in
     let below = c.loop-made-test.true in
-    let (most, are, above) = most_made g.W.Watch.told c.args.limits.process (g.W.Watch.shows c.args.watch.now) c.args.limits.looks (l.made + 1) (omega arith)
-    (λ t. until_some c.args.limits.process (g.W.Watch.shows c.args.watch.now) (l.invariant.left t) below) in (
+    let (most, are, above) = most_more {process = c.args.limits.process} l.invariant.left below in (
       most,
       are,
       (λ calling ways headers names first holds. ended above (λ fewer. (omega arith, c.if-not-alive.true))
-          (one_more {next = l.made + 1} (c.has_ended-is_last.ensures.shows ∙ l.invariant.shows) (still_made c.has_ended-is_last.ensures.watched c.has_ended-is_last.ensures.seen (l.invariant.progress calling ways headers names first holds)) c.in_default.ensures.looked c.in_default.ensures.seen c.alive.ensures.alive c.alive.ensures.none (omega arith))),
+          (one_more (c.has_ended-is_last.ensures.shows ∙ l.invariant.shows)
+          (rw (← c.has_ended-is_last.ensures.watched, ← c.has_ended-is_last.ensures.seen) at
+          (l.invariant.progress calling ways headers names first holds)) c.in_default.ensures.looked c.in_default.ensures.seen
+          c.alive.ensures.alive c.alive.ensures.none)),
     )
 
 pub returns-then-is_last-clause-looked : goal.returns-then-is_last-clause-looked
 returns-then-is_last-clause-looked g c =
     let l = c.loop-made in
-    let are = until_last {process = c.args.limits.process} l.invariant.left c.loop-made-test.true c.has_ended-is_last.ensures.found c.if-is_last.true l.invariant.shows l.invariant.count in (
+    let are = until_last {process = c.args.limits.process} l.invariant.left c.loop-made-test.true c.has_ended-is_last.ensures.found
+    c.if-is_last.true l.invariant.shows l.invariant.count in (
       l.made + 1,
       are,
       (λ calling ways headers names first holds. ended (omega arith) (λ fewer. absurd (omega arith))
-          (rw c.if-not-alive.false at (one_more {next = l.made + 1} (c.has_ended-is_last.ensures.shows ∙ l.invariant.shows) (still_made c.has_ended-is_last.ensures.watched c.has_ended-is_last.ensures.seen (l.invariant.progress calling ways headers names first holds)) c.in_default.ensures.looked c.in_default.ensures.seen c.alive.ensures.alive c.alive.ensures.none (omega arith)))),
+          (rw c.if-not-alive.false at (one_more (c.has_ended-is_last.ensures.shows ∙ l.invariant.shows)
+          (rw (← c.has_ended-is_last.ensures.watched, ← c.has_ended-is_last.ensures.seen) at
+          (l.invariant.progress calling ways headers names first holds)) c.in_default.ensures.looked c.in_default.ensures.seen
+          c.alive.ensures.alive c.alive.ensures.none))),
     )
 
 pub loop-made-preserved : goal.loop-made-preserved
@@ -57,14 +77,20 @@ loop-made-preserved g c =
     let l = c.loop-made in
     record {
       within = let below = c.loop-made-test.true in omega arith;
-      count = let one = length-append (g.W.Watch.seen c.has_ended-is_last.new.watch) (g.W.Watch.shows c.has_ended-is_last.new.watch (length (g.W.Watch.seen c.has_ended-is_last.new.watch)) ∷ []) in
-          let before = ap length c.has_ended-is_last.ensures.seen in let count = l.invariant.count in ap length c.in_default.ensures.seen ∙ omega arith;
-      left = λ t. until_more c.args.limits.process (l.invariant.left t) c.loop-made-test.true (c.has_ended-is_last.ensures.told t) c.if-is_last.false l.invariant.shows l.invariant.count;
+      count = let one = length-append (g.W.Watch.seen c.has_ended-is_last.new.watch)
+          (g.W.Watch.shows c.has_ended-is_last.new.watch (length (g.W.Watch.seen c.has_ended-is_last.new.watch)) ∷ []) in
+          let before = ap length c.has_ended-is_last.ensures.seen in let count = l.invariant.count in ap length c.in_default.ensures.seen
+          ∙ omega arith;
+      left = λ t. until_more c.args.limits.process (l.invariant.left t) c.loop-made-test.true
+          (c.has_ended-is_last.ensures.told t) c.if-is_last.false l.invariant.shows l.invariant.count;
       can = c.in_default.ensures.can;
       error = c.look.ensures.error l.invariant.error;
       shows = c.look.ensures.shows ∙ c.has_ended-is_last.ensures.shows ∙ l.invariant.shows;
-      progress = λ calling ways headers names first holds. rw c.if-not-alive.false at (one_more {next = l.made + 1} (c.has_ended-is_last.ensures.shows ∙ l.invariant.shows)
-          (still_made c.has_ended-is_last.ensures.watched c.has_ended-is_last.ensures.seen (l.invariant.progress calling ways headers names first holds)) c.in_default.ensures.looked c.in_default.ensures.seen c.alive.ensures.alive c.alive.ensures.none (omega arith));
+      progress = λ calling ways headers names first holds. rw c.if-not-alive.false at
+          (one_more (c.has_ended-is_last.ensures.shows ∙ l.invariant.shows)
+          (rw (← c.has_ended-is_last.ensures.watched, ← c.has_ended-is_last.ensures.seen) at
+          (l.invariant.progress calling ways headers names first holds)) c.in_default.ensures.looked c.in_default.ensures.seen
+          c.alive.ensures.alive c.alive.ensures.none);
     }
 
 pub returns-clause-looked : goal.returns-clause-looked

@@ -16,7 +16,9 @@ returns-in-Begins-clause-part g c told =
     let size : c.min-size.result ≡ min c.loop-end.end (length c.loop-end.buffer) = c.min-size.ensures in
     begins_last contents (omega arith) (begins_in (c.loop-end.end - c.min-size.result) c.min-size.result contents
     (c.loop-end.invariant.lines told) (omega arith) (omega arith)
-    (block_read c.loop-end.buffer c.read_block.new.block (c.loop-end.end - c.min-size.result) c.loop-end.end c.min-size.ensures c.in_ok-n.ensures.bound c.read_block.ensures.length (contents_same c.args.place c.loop-end.invariant.seen c.loop-end.invariant.watched) (c.in_ok-n.ensures.bytes told))
+    (block_read c.loop-end.buffer c.read_block.new.block
+    (c.loop-end.end - c.min-size.result) c.loop-end.end c.min-size.ensures c.in_ok-n.ensures.bound c.read_block.ensures.length
+    (contents_same c.args.place c.loop-end.invariant.seen c.loop-end.invariant.watched) (c.in_ok-n.ensures.bytes told))
     c.in-Begins.ensures)
 
 pub loop-end-preserved : goal.loop-end-preserved

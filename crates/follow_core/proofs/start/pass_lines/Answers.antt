@@ -7,7 +7,9 @@ pub returns-in-Ends-clause-part : goal.returns-in-Ends-clause-part
 returns-in-Ends-clause-part g c told =
     let contents = open_contents (latest (g.W.Watch.seen c.args.watch.now)) (watched_at (g.W.Watch.watched c.args.watch.now) c.args.place) in
     passed_in c.loop-at.at c.min-size.result contents
-    (block_read c.loop-at.buffer c.read_block.new.block c.loop-at.at (c.args.len - c.loop-at.at) c.min-size.ensures c.in_ok-n.ensures.bound c.read_block.ensures.length (contents_same c.args.place c.loop-at.invariant.seen c.loop-at.invariant.watched) (c.in_ok-n.ensures.bytes told))
+    (block_read c.loop-at.buffer c.read_block.new.block c.loop-at.at
+    (c.args.len - c.loop-at.at) c.min-size.ensures c.in_ok-n.ensures.bound c.read_block.ensures.length
+    (contents_same c.args.place c.loop-at.invariant.seen c.loop-at.invariant.watched) (c.in_ok-n.ensures.bytes told))
     c.in-Ends.ensures (c.loop-at.invariant.lines told)
 
 pub loop-at-preserved : goal.loop-at-preserved

@@ -1,8 +1,10 @@
-use Rattle.std.proofs.{Common.{arith, false, drop, sym, ap, ◌∙◌, length, inl, inr}, lemmas.Grind.common_steps}
+use Rattle.std.proofs.{
+  Common.{arith, false, drop, ◌∙◌, inl, inr},
+  lemmas.{List.{take_all, length-drop}, Grind.common_steps, Bool.and_parts},
+}
 use Rattle.follow_core.proofs.{
-  CallGivesLemmas.{all_taken, breaks_at, copied_more, copied_none, copies_all, copies_part, copies_short, found_at},
-  CallGivesLemmas.{held_many, opened_is, some_read},
-  StartLemmas.contents_same,
+  CallGivesLemmas.{copied_more, copied_none, copies_all, copies_part, copies_short},
+  CallGivesLemmas.{held_many, some_read},
 }
 use Rattle.watch_core.specs.{Snapshot.latest, Watched.watched_at}
 use Rattle.follow_core.proofs.visitor.copy.Goals as goal
@@ -14,8 +16,10 @@ pub loop-at-preserved : goal.loop-at-preserved
 loop-at-preserved g c =
     let l = c.loop-at in
     let past = l.invariant.past in record {
-      copied = copied_more (drop c.min-room.result l.buffer) past (contents_same c.args.place (sym l.invariant.seen) (sym l.invariant.watched))
-          c.in-Ok.ensures.bound c.read_at.ensures.length c.in-Ok.ensures.bytes (found_at c.args.place _ _ l.invariant.seen l.invariant.watched (c.in-Ok.ensures.found (grind (arith, common_steps)))) l.invariant.copied c.in-Ok-put.ensures.puts;
+      copied = copied_more (drop c.min-room.result l.buffer) past
+          c.in-Ok.ensures.bound c.read_at.ensures.length (λ t. rw (l.invariant.seen, l.invariant.watched) at (c.in-Ok.ensures.bytes t))
+          (rw (l.invariant.seen, l.invariant.watched) at (c.in-Ok.ensures.found (grind (arith, common_steps)))) l.invariant.copied
+          c.in-Ok-put.ensures.puts;
       writable = c.in-Ok-put.ensures.writable;
       within = grind (arith, common_steps);
       past = omega arith;
@@ -26,30 +30,35 @@ loop-at-preserved g c =
     }
 
 pub returns-in-Err-clause-copies : goal.returns-in-Err-clause-copies
-returns-in-Err-clause-copies g c = let l = c.loop-at in copies_part l.at l.invariant.past c.loop-at-test.true c.requires.whole l.invariant.copied l.invariant.watched c.in-Err.ensures.err.0 c.in-Err.ensures.err.1 (breaks_at l.invariant.seen c.in-Err.ensures.breaks)
+returns-in-Err-clause-copies g c = let l = c.loop-at in
+    copies_part l.at l.invariant.past c.loop-at-test.true c.requires.whole l.invariant.copied l.invariant.watched c.in-Err.ensures.err.0
+    c.in-Err.ensures.err.1 (rw l.invariant.seen at c.in-Err.ensures.breaks)
 
 pub returns-in-Err-put-clause-copies : goal.returns-in-Err-put-clause-copies
 returns-in-Err-put-clause-copies g c =
     let l = c.loop-at in
-    copies_short _ (copied_more (drop c.min-room.result l.buffer) l.invariant.past (contents_same c.args.place (sym l.invariant.seen) (sym l.invariant.watched))
-    c.in-Ok.ensures.bound c.read_at.ensures.length c.in-Ok.ensures.bytes (found_at c.args.place _ _ l.invariant.seen l.invariant.watched (c.in-Ok.ensures.found (grind (arith, common_steps)))) l.invariant.copied c.in-Err-put.ensures.puts) (c.in-Ok.ensures.same ∙ l.invariant.watched)
+    copies_short _ (copied_more (drop c.min-room.result l.buffer) l.invariant.past
+    c.in-Ok.ensures.bound c.read_at.ensures.length (λ t. rw (l.invariant.seen, l.invariant.watched) at (c.in-Ok.ensures.bytes t))
+    (rw (l.invariant.seen, l.invariant.watched) at (c.in-Ok.ensures.found (grind (arith, common_steps)))) l.invariant.copied
+    c.in-Err-put.ensures.puts) (c.in-Ok.ensures.same ∙ l.invariant.watched)
 
 pub returns-clause-copies : goal.returns-clause-copies
 returns-clause-copies g c =
     let l = c.loop-at in let past = c.loop-at-test.false in
-    copies_all l.at (λ t. all_taken _ c.args.from l.at (c.requires.whole t) (omega arith)) l.invariant.copied
+    copies_all l.at (λ t. grind (arith, common_steps, take_all, length-drop, c.requires.whole t)) l.invariant.copied
     (inl (
       c.args.len,
       held_many false (latest (g.W.Watch.seen c.args.watch.now))
           (watched_at (g.W.Watch.watched c.args.watch.now) c.args.place).name c.args.len
           (watched_at (g.W.Watch.watched c.args.watch.now) c.args.place).opened
-          (opened_is (g.W.Watch.watched c.args.watch.now) c.args.place c.requires.readable) c.requires.found,
+          (and_parts _ _ c.requires.readable).0 c.requires.found,
       omega arith,
     )) l.invariant.watched
 
 pub returns-in-Ok-eq0-clause-copies : goal.returns-in-Ok-eq0-clause-copies
 returns-in-Ok-eq0-clause-copies g c =
     let l = c.loop-at in
-    let same = contents_same c.args.place (sym l.invariant.seen) (sym l.invariant.watched) in
-    copies_all l.at (λ t. absurd (some_read _ (c.requires.whole t ∙ ap length same) c.loop-at-test.true c.in-Ok-eq0.field-0-test (grind (arith, common_steps)) (c.in-Ok-eq0.ensures.bytes t))) l.invariant.copied
-    (inr (found_at c.args.place _ _ l.invariant.seen l.invariant.watched (rw c.in-Ok-eq0.field-0-test at (c.in-Ok-eq0.ensures.found (grind (arith, common_steps)))))) (c.in-Ok-eq0.ensures.same ∙ l.invariant.watched)
+    copies_all l.at (λ t. absurd (some_read _ (c.requires.whole t) c.loop-at-test.true c.in-Ok-eq0.field-0-test
+    (grind (arith, common_steps)) (rw (l.invariant.seen, l.invariant.watched) at (c.in-Ok-eq0.ensures.bytes t)))) l.invariant.copied
+    (inr (rw (l.invariant.seen, l.invariant.watched, c.in-Ok-eq0.field-0-test) at
+    (c.in-Ok-eq0.ensures.found (grind (arith, common_steps))))) (c.in-Ok-eq0.ensures.same ∙ l.invariant.watched)

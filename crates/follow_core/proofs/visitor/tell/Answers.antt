@@ -1,9 +1,35 @@
-use Rattle.std.proofs.Common.{◌∙◌}
-use Rattle.follow_core.proofs.CallGivesLemmas.{over_first, tells}
+use Rattle.std.proofs.{Common.{◌∙◌, refl, sym, inl, ◌∷◌, [], Some}, lemmas.Option.none-some, Math.Bool.and-false}
+use Rattle.follow_core.{
+  proofs.CallLemmas.{no_failure, no_memory, wrote_line, wrote_text},
+  specs.Event.{begins_none, notes},
+}
+use Rattle.ports_core.specs.declared.fault.Fault.TheVariants as fault
 use Rattle.follow_core.proofs.visitor.tell.Goals as goal
 
 pub returns-in-Ok-clause-ends : goal.returns-in-Ok-clause-ends
-returns-in-Ok-clause-ends g c told_in printer = tells (c.deref.ensures.value ∙ c.in-Ok.ensures.ok) c.print.ensures
+returns-in-Ok-clause-ends g c told_in printer = record {
+  events = notes c.args.found ∷ [];
+  are = λ t. refl;
+  found = (refl, tt);
+  came = record {
+    printer_is = λ none. rw (and-false printer.headers) refl;
+    slots = rw (and-false printer.headers) (wrote_line (λ output error others are.
+        let said = c.print.ensures output error others are in (
+          said.0,
+          record { said = _; is = inl (no_failure c.args.found _, c.deref.ensures.value ∙ c.in-Ok.ensures.ok); printed = said.1 },
+          said.2,
+        )));
+  };
+}
 
+-- there was no memory for the first line
 pub returns-in-Err-clause-ends : goal.returns-in-Err-clause-ends
-returns-in-Err-clause-ends g c told_in printer = rw c.in-Err.ensures.err (over_first tt)
+returns-in-Err-clause-ends g c told_in printer = rw c.in-Err.ensures.err (record {
+  events = [];
+  are = λ t. begins_none;
+  found = tt;
+  came = record {
+    printer_is = λ none. absurd (none-some _ (sym none));
+    slots = wrote_text g.O.Outs.told printer.calling _ _ (Some fault.Memory) no_memory;
+  };
+})

@@ -45,7 +45,7 @@ pieces-init g c =
       -- of what is taken in without a read all is used
       few = λ standard n spare. elim took.going [
         | inl none ↦ omega (arith, ap length none, ap length spare.joined ∙ length-append spare.used spare.rest)
-        | inr going ↦ omega (arith, none_spare _ loads.front n (g.met.S.Stage.lawful _) going spare)
+        | inr going ↦ omega (arith, none_spare _ loads.front n (g.met.S.Stage.lawful _ _ c.requires.fresh.within) going spare)
       ];
       room = refl;
       needed = needed_front took.going;
@@ -59,12 +59,16 @@ pieces-init g c =
 pub returns-in-Err : goal.returns-in-Err
 returns-in-Err g c =
     let so_far = c.pieces.invariant in
-    let going : (g.S.Stage.terms.work c.pieces.engine.stage).is_complete so_far.fed ≡ false = sym (c.done.ensures.complete so_far.fed so_far.feeds.holds) ∙ c.pieces-test.true in record {
+    let going : (g.S.Stage.terms.work c.pieces.engine.stage).is_complete so_far.fed ≡ false = sym
+    (c.done.ensures.complete so_far.fed so_far.feeds.holds) ∙ c.pieces-test.true in record {
       ends = λ before opening own at.
-          of_read g.I.Inputs.told _ so_far.fed true _ _ (λ told. read_broken _ _ _ _ (so_far.read told) (c.in-Err.ensures.break_off told)) (λ content. came_broken g.I.Inputs.told _ _ _ _ so_far.readable c.in-Err.ensures.err)
+          of_read g.I.Inputs.told _ so_far.fed true _ _ (λ told. read_broken _ _ _ _ (so_far.read told) (c.in-Err.ensures.break_off told))
+          (λ content. came_broken g.I.Inputs.told _ _ _ _ so_far.readable c.in-Err.ensures.err)
           (λ content is bytes breaks came. (
             rw (← so_far.feeds.same)
-                (broke_off breaks (ap (g.S.Stage.terms.work c.pieces.engine.stage).is_complete bytes ∙ going) (g.O.Outs.slots c.pieces.outs) (rw bytes (so_far.feeds.outputs before own at)) (c.abandon.ensures.sweeps.swept (length before) (so_far.feeds.owns (length before) own))),
+                (broke_off breaks (ap (g.S.Stage.terms.work c.pieces.engine.stage).is_complete bytes ∙ going)
+                (g.O.Outs.slots c.pieces.outs) (rw bytes (so_far.feeds.outputs before own at))
+                (c.abandon.ensures.sweeps.swept (length before) (so_far.feeds.owns (length before) own))),
             λ ends sound going. absurd (false≢true (sym sound ∙ breaks)),
           ));
       others = keeps_again _ _ _ _ so_far.others (keeps_others _ _ _ _ c.in-Err.ensures.err.1);
@@ -85,11 +89,14 @@ returns-in-Err g c =
 pub returns-then-n-eq0 : goal.returns-then-n-eq0
 returns-then-n-eq0 g c =
     let so_far = c.pieces.invariant in
-    let going : (g.S.Stage.terms.work c.pieces.engine.stage).is_complete so_far.fed ≡ false = sym (c.done.ensures.complete so_far.fed so_far.feeds.holds) ∙ c.pieces-test.true in
+    let going : (g.S.Stage.terms.work c.pieces.engine.stage).is_complete so_far.fed ≡ false = sym
+    (c.done.ensures.complete so_far.fed so_far.feeds.holds) ∙ c.pieces-test.true in
     let nothing : take c.in-Ok.n c.read_part.new.buffer ≡ [] = ap (λ k. take k c.read_part.new.buffer) c.if-n-eq0.true in
     let at_end = ended_now _ _ c.in-Ok.n _ _ so_far.readable c.in-Ok.ensures.rest c.if-n-eq0.true c.piece_size-size.ensures.some in
-    let far : g.I.Inputs.told ≡ true → IsUnread (source_at (g.I.Inputs.sources c.args.inputs.now) c.args.slot) → (source_at (g.I.Inputs.sources c.read_part.new.inputs) c.args.slot).reached ≤ length so_far.fed
-    = λ told unread. rw (ap (λ more. so_far.fed ++ more) nothing ∙ append-nil so_far.fed) at ((takes_more _ (so_far.took told) so_far.readable (c.in-Ok.ensures.bytes told) c.in-Ok.ensures.rest).far unread) in record {
+    let far : g.I.Inputs.told ≡ true → IsUnread (source_at (g.I.Inputs.sources c.args.inputs.now) c.args.slot) →
+    (source_at (g.I.Inputs.sources c.read_part.new.inputs) c.args.slot).reached ≤ length so_far.fed
+    = λ told unread. rw (ap (λ more. so_far.fed ++ more) nothing ∙ append-nil so_far.fed) at
+    ((takes_more _ (so_far.took told) so_far.readable (c.in-Ok.ensures.bytes told) c.in-Ok.ensures.rest).far unread) in record {
       ends = λ before opening own at.
           of_read g.I.Inputs.told _ so_far.fed false _ _
           (λ told. let at_end = (c.in-Ok.ensures.bytes told).ended c.if-n-eq0.true (omega arith) in let all =
@@ -100,7 +107,8 @@ returns-then-n-eq0 g c =
                 (rw so_far.feeds.same so_far.needed) (
                   record {
                     came = came;
-                    sound = sound_at (g.I.Inputs.sources c.read_part.new.inputs) c.args.slot (still_readable _ _ _ _ c.in-Ok.n c.in-Ok.ensures.rest so_far.readable);
+                    sound = sound_at (g.I.Inputs.sources c.read_part.new.inputs) c.args.slot
+                        (still_readable _ _ _ _ c.in-Ok.n c.in-Ok.ensures.rest so_far.readable);
                     ended = λ _. at_end;
                     joined = λ told. is told ∙ read_none_more _ _ _ _ _ _ c.in-Ok.n (so_far.read told) so_far.readable c.if-n-eq0.true c.in-Ok.ensures.rest;
                   },
@@ -110,7 +118,12 @@ returns-then-n-eq0 g c =
             λ ends sound going. at_end,
           ));
       others = keeps_again _ _ _ _ so_far.others (keeps_others _ _ _ _ c.in-Ok.ensures.rest);
-      reads = λ told. (so_far.fed, so_far.needed, read_none_more _ _ _ _ _ _ c.in-Ok.n (so_far.read told) so_far.readable c.if-n-eq0.true c.in-Ok.ensures.rest);
+      reads = λ told. (
+        so_far.fed,
+        so_far.needed,
+        read_none_more _ _ _ _ _ _ c.in-Ok.n
+            (so_far.read told) so_far.readable c.if-n-eq0.true c.in-Ok.ensures.rest,
+      );
       used = λ told ends unread.
           let gave = c.in-Ok.ensures.bytes told in
           let none = (gave.ended c.if-n-eq0.true (omega arith)).0 in
@@ -135,7 +148,10 @@ pieces-preserved g c =
       others = keeps_again _ _ _ _ so_far.others (keeps_others _ _ _ _ c.in-Ok.ensures.rest);
       read = λ told. read_more _ _ _ _ _ _ _ _ _ (so_far.read told) so_far.readable (c.in-Ok.ensures.bytes told) c.in-Ok.ensures.rest;
       took = λ told. takes_more _ (so_far.took told) so_far.readable (c.in-Ok.ensures.bytes told) c.in-Ok.ensures.rest;
-      last = λ told. needed_more so_far.fed c.read_part.new.buffer (ap (λ (work : Work). work.is_complete so_far.fed) (sym so_far.feeds.same) ∙ sym (c.done.ensures.complete so_far.fed so_far.feeds.holds) ∙ c.pieces-test.true) (omega (arith, ap (λ (source : Source). source.last) (changed_source _ _ _ _ so_far.readable c.in-Ok.ensures.rest), length-take-le c.in-Ok.n _ (c.in-Ok.ensures.bytes told).within));
+      last = λ told. needed_more so_far.fed c.read_part.new.buffer
+          (ap (λ (work : Work). work.is_complete so_far.fed) (sym so_far.feeds.same)
+          ∙ sym (c.done.ensures.complete so_far.fed so_far.feeds.holds) ∙ c.pieces-test.true)
+          (omega (arith, ap (λ (source : Source). source.last) (changed_source _ _ _ _ so_far.readable c.in-Ok.ensures.rest), length-take-le c.in-Ok.n _ (c.in-Ok.ensures.bytes told).within));
       few = λ standard n spare. rw (← so_far.feeds.same)
           (c.wanted.ensures.few so_far.fed (take c.in-Ok.n c.read_part.new.buffer) c.feed.new.self.stage n so_far.feeds.holds.within
           (sym (c.done.ensures.complete so_far.fed so_far.feeds.holds) ∙ c.pieces-test.true)
@@ -143,7 +159,10 @@ pieces-preserved g c =
           c.in-Ok-feed.ensures.passes.same (c.in-Ok-feed.ensures.holds so_far.fed so_far.feeds.holds).within
           (rw so_far.feeds.same spare));
       room = c.read_part.ensures.room ∙ so_far.room;
-      needed = needed_more so_far.fed c.read_part.new.buffer (ap (λ (work : Work). work.is_complete so_far.fed) (sym so_far.feeds.same) ∙ sym (c.done.ensures.complete so_far.fed so_far.feeds.holds) ∙ c.pieces-test.true) (omega (arith, c.in-Ok.ensures.bound, c.piece_size-size.ensures.within, c.pieces.invariant.room));
+      needed = needed_more so_far.fed c.read_part.new.buffer
+          (ap (λ (work : Work). work.is_complete so_far.fed) (sym so_far.feeds.same)
+          ∙ sym (c.done.ensures.complete so_far.fed so_far.feeds.holds) ∙ c.pieces-test.true)
+          (omega (arith, c.in-Ok.ensures.bound, c.piece_size-size.ensures.within, c.pieces.invariant.room));
       asked = λ within. asked_again _ _ _ _ _ _ so_far.readable c.in-Ok.ensures.rest (omega arith) (so_far.asked within);
       laid = c.read_part.ensures.kept ∙ so_far.laid;
       ready = c.in-Ok-feed.ensures.passes.ready;
@@ -154,30 +173,45 @@ pieces-preserved g c =
 pub returns-in-Err-feed : goal.returns-in-Err-feed
 returns-in-Err-feed g c =
     let so_far = c.pieces.invariant in
-    let going : (g.S.Stage.terms.work c.pieces.engine.stage).is_complete so_far.fed ≡ false = sym (c.done.ensures.complete so_far.fed so_far.feeds.holds) ∙ c.pieces-test.true in
-    let settles : is_stop (Err c.given_up.result) ≡ false → OfVerdict c.in-Err-feed.fault (IsSettled (g.S.Stage.terms.work c.pieces.engine.stage) (so_far.fed ++ take c.in-Ok.n c.read_part.new.buffer))
-    = λ ends. let (verdict, is, settled) = judges (g.S.Stage.terms.work c.pieces.engine.stage).means _ (EndsWith g.S.Stage.terms (take c.in-Ok.n c.read_part.new.buffer) c.pieces.engine.stage) (ap is_verdict (sym c.given_up.ensures.same) ∙ not-false (is_verdict c.given_up.result) ends) c.in-Err-feed.ensures.passes.met in (verdict, is, settled so_far.fed so_far.feeds.holds.within) in record {
+    let going : (g.S.Stage.terms.work c.pieces.engine.stage).is_complete so_far.fed ≡ false = sym
+    (c.done.ensures.complete so_far.fed so_far.feeds.holds) ∙ c.pieces-test.true in
+    let settles : is_stop (Err c.given_up.result) ≡ false → OfVerdict c.in-Err-feed.fault
+    (IsSettled (g.S.Stage.terms.work c.pieces.engine.stage) (so_far.fed ++ take c.in-Ok.n c.read_part.new.buffer))
+    = λ ends. let (verdict, is, settled) = judges (g.S.Stage.terms.work c.pieces.engine.stage).means _
+    (EndsWith g.S.Stage.terms (take c.in-Ok.n c.read_part.new.buffer) c.pieces.engine.stage)
+    (ap is_verdict (sym c.given_up.ensures.same) ∙ not-false (is_verdict c.given_up.result) ends) c.in-Err-feed.ensures.passes.met in
+    (verdict, is, settled so_far.fed so_far.feeds.holds.within) in record {
       ends = λ before opening own at.
-          let within : length (take c.in-Ok.n c.read_part.new.buffer) ≤ length c.args.buffer.now = piece_within c.read_part.new.buffer (omega (arith, c.in-Ok.ensures.bound, c.piece_size-size.ensures.within, so_far.room)) in
-          let more = λ (told : g.I.Inputs.told ≡ true). (read_more _ _ _ _ _ _ _ _ _ (so_far.read told) so_far.readable (c.in-Ok.ensures.bytes told) c.in-Ok.ensures.rest).bytes in
-          of_more g.I.Inputs.told _ (so_far.fed ++ take c.in-Ok.n c.read_part.new.buffer) _ _ _ more (λ content. came_sound g.I.Inputs.told _ c.args.slot (still_readable _ _ _ _ c.in-Ok.n c.in-Ok.ensures.rest so_far.readable))
+          let within : length (take c.in-Ok.n c.read_part.new.buffer) ≤ length c.args.buffer.now = piece_within c.read_part.new.buffer
+          (omega (arith, c.in-Ok.ensures.bound, c.piece_size-size.ensures.within, so_far.room)) in
+          let more = λ (told : g.I.Inputs.told ≡ true).
+          (read_more _ _ _ _ _ _ _ _ _ (so_far.read told) so_far.readable (c.in-Ok.ensures.bytes told) c.in-Ok.ensures.rest).bytes in
+          of_more g.I.Inputs.told _ (so_far.fed ++ take c.in-Ok.n c.read_part.new.buffer) _ _ _ more
+          (λ content. came_sound g.I.Inputs.told _ c.args.slot (still_readable _ _ _ _ c.in-Ok.n c.in-Ok.ensures.rest so_far.readable))
           (λ content is rest bytes came. (
-            rw c.given_up.ensures.same (stopped_feeding _ g.met.S.Stage.lawful _ c.feed.new.self _ (take c.in-Ok.n c.read_part.new.buffer) rest so_far.feeds own at bytes within going (
-              record {
-                came = came;
-                sound = sound_at (g.I.Inputs.sources c.read_part.new.inputs) c.args.slot (still_readable _ _ _ _ c.in-Ok.n c.in-Ok.ensures.rest so_far.readable);
-                ended = λ ends. absurd (cc);
-                joined = λ told. is told ∙ more told;
-              },
-              λ told unread standard. omega (arith, (takes_more _ (so_far.took told) so_far.readable (c.in-Ok.ensures.bytes told) c.in-Ok.ensures.rest).far unread),
-            )
+            rw c.given_up.ensures.same (stopped_feeding _ g.met.S.Stage.lawful _ c.feed.new.self _
+                (take c.in-Ok.n c.read_part.new.buffer) rest so_far.feeds own at bytes within going (
+                  record {
+                    came = came;
+                    sound = sound_at (g.I.Inputs.sources c.read_part.new.inputs) c.args.slot
+                        (still_readable _ _ _ _ c.in-Ok.n c.in-Ok.ensures.rest so_far.readable);
+                    ended = λ ends. absurd (cc);
+                    joined = λ told. is told ∙ more told;
+                  },
+                  λ told unread standard. omega (
+                    arith,
+                    (takes_more _ (so_far.took told) so_far.readable (c.in-Ok.ensures.bytes told) c.in-Ok.ensures.rest).far unread,
+                  ),
+                )
                 c.in-Err-feed.ensures.passes c.given_up.ensures.judged c.given_up.ensures.swept),
-            λ ends. rw (← so_far.feeds.same) (told_by_complete content (source_at (g.I.Inputs.sources c.read_part.new.inputs) c.args.slot) rest (g.met.S.Stage.lawful _) (settles ends).2.0 bytes),
+            λ ends. rw (← so_far.feeds.same) (told_by_complete content (source_at (g.I.Inputs.sources c.read_part.new.inputs) c.args.slot) rest
+                (g.met.S.Stage.lawful _ _ so_far.feeds.holds.within) (settles ends).2.0 bytes),
           ));
       others = keeps_again _ _ _ _ so_far.others (keeps_others _ _ _ _ c.in-Ok.ensures.rest);
       reads = λ told. (
         so_far.fed ++ take c.in-Ok.n c.read_part.new.buffer,
-        needed_more so_far.fed c.read_part.new.buffer (ap (λ (work : Work). work.is_complete so_far.fed) (sym so_far.feeds.same) ∙ going) (omega (arith, c.in-Ok.ensures.bound, c.piece_size-size.ensures.within, so_far.room)),
+        needed_more so_far.fed c.read_part.new.buffer (ap (λ (work : Work). work.is_complete so_far.fed) (sym so_far.feeds.same) ∙ going)
+            (omega (arith, c.in-Ok.ensures.bound, c.piece_size-size.ensures.within, so_far.room)),
         (read_more _ _ _ _ _ _ _ _ _ (so_far.read told) so_far.readable (c.in-Ok.ensures.bytes told) c.in-Ok.ensures.rest).bytes,
       );
       used = λ told ends unread.
@@ -197,23 +231,29 @@ returns-in-Err-feed g c =
 pub give_back-requires-clause-within : goal.give_back-requires-clause-within
 give_back-requires-clause-within g c told =
     let so_far = c.pieces.invariant in
-    spare_within _ _ _ so_far.fed (g.met.S.Stage.lawful _) (rw so_far.feeds.same (so_far.last told)) (c.unused-unused.ensures so_far.fed so_far.feeds.holds)
+    spare_within _ _ _ so_far.fed (g.met.S.Stage.lawful _ _ so_far.feeds.holds.within) (rw so_far.feeds.same (so_far.last told))
+    (c.unused-unused.ensures so_far.fed so_far.feeds.holds)
 
 pub returns : goal.returns
 returns g c =
     let so_far = c.pieces.invariant in
-    let done : (g.S.Stage.terms.work c.pieces.engine.stage).is_complete so_far.fed ≡ true = sym (c.done.ensures.complete so_far.fed so_far.feeds.holds) ∙ c.pieces-test.false in
+    let done : (g.S.Stage.terms.work c.pieces.engine.stage).is_complete so_far.fed ≡ true = sym
+    (c.done.ensures.complete so_far.fed so_far.feeds.holds) ∙ c.pieces-test.false in
     let spare = c.unused-unused.ensures so_far.fed so_far.feeds.holds in
-    let few : c.args.slot ≡ 0 → c.unused-unused.result ≤ (g.S.Stage.terms.work c.pieces.engine.stage).ahead = λ standard. rw so_far.feeds.same (so_far.few standard _ (rw so_far.feeds.same at spare)) in
+    let few : c.args.slot ≡ 0 → c.unused-unused.result ≤ (g.S.Stage.terms.work c.pieces.engine.stage).ahead = λ standard. rw so_far.feeds.same
+    (so_far.few standard _ (rw so_far.feeds.same at spare)) in
     let back = c.give_back.ensures.rest in record {
       broke = ends_sound _ _ _ (inr refl) c.end-2.ensures;
       ends = λ before opening own at.
           let used = complete_used _ so_far.fed _ spare done in
-          let readable = ap (λ (source : Source). source.is_open && not source.is_broken) (changed_source _ (gets_back _) _ _ so_far.readable back) ∙ so_far.readable in
-          of_more g.I.Inputs.told _ so_far.fed _ _ _ (λ told. (so_far.read told).bytes) (λ content. came_sound g.I.Inputs.told (g.I.Inputs.sources c.give_back.new.self) c.args.slot readable)
+          let readable = ap (λ (source : Source). source.is_open && not source.is_broken) (changed_source _ (gets_back _) _ _ so_far.readable back)
+          ∙ so_far.readable in
+          of_more g.I.Inputs.told _ so_far.fed _ _ _ (λ told. (so_far.read told).bytes)
+          (λ content. came_sound g.I.Inputs.told (g.I.Inputs.sources c.give_back.new.self) c.args.slot readable)
           (λ content is rest bytes came. (
             ended _ g.met.S.Stage.lawful _ _ so_far.feeds own at (done, (rest, bytes))
-                (enough (spare.rest ++ rest) (bytes ∙ ap (λ those. those ++ rest) spare.joined ∙ append_assoc spare.used spare.rest rest) used) (alike_after spare.rest (g.met.S.Stage.lawful _) used spare.joined)
+                (enough (spare.rest ++ rest) (bytes ∙ ap (λ those. those ++ rest) spare.joined ∙ append_assoc spare.used spare.rest rest) used)
+                (alike_after spare.rest (g.met.S.Stage.lawful _ _ so_far.feeds.holds.within) used spare.joined)
                 (needed_within c.requires.room spare.needed) (
                   record {
                     came = came;
@@ -223,7 +263,8 @@ returns g c =
                   },
                   λ told unread. rw used (read_to_used spare few (so_far.took told) unread so_far.readable back),
                 ) c.end-2.ensures,
-            λ ends. rw (← so_far.feeds.same) (told_by_complete content (source_at (g.I.Inputs.sources c.give_back.new.self) c.args.slot) rest (g.met.S.Stage.lawful _) done bytes),
+            λ ends. rw (← so_far.feeds.same) (told_by_complete content (source_at (g.I.Inputs.sources c.give_back.new.self) c.args.slot) rest
+                (g.met.S.Stage.lawful _ _ so_far.feeds.holds.within) done bytes),
           ));
       reads = λ told. (
         spare.used,
@@ -232,7 +273,8 @@ returns g c =
       );
       used = λ told ends unread.
           rw (← so_far.feeds.same)
-          (uses_part spare (read_used spare (so_far.read told) (so_far.took told) so_far.readable back) c.requires.room (complete_used _ so_far.fed _ spare done)
+          (uses_part spare (read_used spare (so_far.read told) (so_far.took told) so_far.readable back) c.requires.room
+          (complete_used _ so_far.fed _ spare done)
           few
           (so_far.took told) unread so_far.readable back);
       others = keeps_again _ _ _ _ so_far.others (keeps_others _ _ _ _ back);

@@ -1,6 +1,6 @@
 use Rattle.std.proofs.Common.{◌∙◌, ap}
 use Rattle.ports_core.specs.declared.fault.Fault.TheVariants.{Write}
-use Rattle.tools_core.proofs.AboutLemmas.{text_broke}
+use Rattle.tools_core.proofs.RunLemmas.{text_broke}
 use Rattle.tools_core.proofs.about.tell_text.Goals as goal
 
 pub returns-in-Err : goal.returns-in-Err

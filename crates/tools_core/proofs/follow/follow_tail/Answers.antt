@@ -8,4 +8,15 @@ returns g c =
     let process = ap (λ (those : TailSettings). those.process) c.settings.view_is in
     let pause = ap (λ (those : TailSettings). those.pause) c.settings.view_is in
     let names = ends_names c.deref.ensures.value (ap (λ (those : TailSettings). those.ends) c.settings.view_is) in
-    rw (c.is_name.ensures, c.start_of.ensures, c.has_headers.ensures, names, c.requires.outputs, c.wait_at_most.ensures.shows, process, pause, shows_by-waiting c.args.calling (is_name c.args.followed) (max c.args.settings.now.pause 1) (g.W.Watch.shows c.args.watch.now)) at c.follow_files.ensures
+    rw (
+      c.is_name.ensures,
+      c.start_of.ensures,
+      c.has_headers.ensures,
+      names,
+      c.requires.outputs,
+      c.wait_at_most.ensures.shows,
+      process,
+      pause,
+      shows_by-waiting c.args.calling (is_name c.args.followed)
+          (max c.args.settings.now.pause 1) (g.W.Watch.shows c.args.watch.now),
+    ) at c.follow_files.ensures

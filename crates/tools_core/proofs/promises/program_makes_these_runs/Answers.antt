@@ -1,5 +1,9 @@
-use Rattle.tools_core.proofs.FollowPromises.{runs_following, runs_tool}
+use Rattle.std.proofs.{Common.arith, lemmas.Grind.common_steps}
+use Rattle.tools_core.proofs.FollowPromises.{ends_at}
 use Rattle.tools_core.proofs.promises.program_makes_these_runs.Goals as goal
 
 pub returns : goal.returns
-returns c = record { runs = runs_tool; followed = runs_following }
+returns c = record {
+  runs = λ run asked ends read none. grind (arith, common_steps, ends_at);
+  followed = λ run options followed looks ends read well. grind (arith, common_steps, ends_at);
+}

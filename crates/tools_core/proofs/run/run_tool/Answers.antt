@@ -1,7 +1,8 @@
-use Rattle.std.proofs.Common.{Bor, ℕ, List, map, ◌∙◌, ◌∷◌, [], refl, ap}
-use Rattle.run_core.{specs.Input.has_dash, proofs.InputLemmas.fresh_counts}
+use Rattle.std.proofs.Common.{Bor, ℕ, List, map, ◌∙◌, ◌∷◌, [], refl, sym, ap}
+use Rattle.run_core.{specs.Input.{has_dash, standard_input}, proofs.InputLemmas.fresh_counts}
 use Rattle.words_core.{specs.{CsplitWords.CsplitAsked, SplitWords.SplitAsked, TeeWords.TeeAsked}}
-use Rattle.tools_core.{proofs.RunLemmas.{ends_names, tee_runs}}
+use Rattle.tee_core.specs.Run.{forgives}
+use Rattle.tools_core.{proofs.RunLemmas.{ends_names, finds_standard}}
 use Rattle.ports_core.proofs.InputsLemmas.{fresh_asks}
 use Rattle.tools_core.proofs.run.run_tool.Goals as goal
 
@@ -36,7 +37,12 @@ returns-in-Split g c =
 pub returns-in-Csplit : goal.returns-in-Csplit
 returns-in-Csplit g c = record {
   ends = let (found, finds, ends) = c.run_inputs-in-Csplit.ensures.ends in
-      rw c.in-Csplit.is (found, rw (ap (λ (asked : CsplitAsked). asked.input) c.asked.view_is) at finds, record { operands = _; asks = c.operands.ensures; ends = ends });
+      rw c.in-Csplit.is (
+        found,
+        rw (ap (λ (asked : CsplitAsked). asked.input) c.asked.view_is) at finds,
+        record
+            { operands = _; asks = c.operands.ensures; ends = ends },
+      );
   opened = rw c.in-Csplit.is (rw (ap (λ (asked : CsplitAsked). asked.input) c.asked.view_is) at c.run_inputs-in-Csplit.ensures.opened);
   asked = c.run_inputs-in-Csplit.ensures.asked;
   untouched = λ none. c.run_inputs-in-Csplit.ensures.untouched
@@ -53,5 +59,21 @@ returns-in-About g c = record {
 
 pub returns-in-Tee-clause-ends : goal.returns-in-Tee-clause-ends
 returns-in-Tee-clause-ends g c =
-    rw c.in-Tee.is (tee_runs (g.I.Inputs.sources c.args.inputs.now) (ap (λ (those : TeeAsked). those.mode) c.settings-in-Tee.view_is) (ap (λ (those : TeeAsked). those.on_broken) c.settings-in-Tee.view_is)
-    (ap (map (λ (name : Bor (List ℕ)). name.now)) c.deref-in-Tee.ensures.value ∙ ap (λ (those : TeeAsked). those.names) c.settings-in-Tee.view_is) c.run_tee.ensures.ends c.run_tee.ensures.whole)
+    let old = g.I.Inputs.sources c.args.inputs.now in
+    let mode = ap (λ (those : TeeAsked). those.mode) c.settings-in-Tee.view_is in
+    let on_broken = ap (λ (those : TeeAsked). those.on_broken) c.settings-in-Tee.view_is in
+    let names = ap (map (λ (name : Bor (List ℕ)). name.now)) c.deref-in-Tee.ensures.value ∙ ap
+    (λ (those : TeeAsked). those.names) c.settings-in-Tee.view_is in
+    let (content, there, (ends, came)) = c.run_tee.ensures.ends in
+    rw c.in-Tee.is (
+      standard_input content ∷ [],
+      finds_standard old there,
+      record {
+        content = content;
+        input = refl;
+        ends = rw (mode, on_broken, names) at ends;
+        came = came;
+        whole = λ t well sound. rw (mode, names, ← (there t)) at
+            (c.run_tee.ensures.whole t well (λ forgiving. sound (ap forgives (sym on_broken) ∙ forgiving)));
+      },
+    )

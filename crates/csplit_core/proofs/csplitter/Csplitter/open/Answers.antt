@@ -1,16 +1,24 @@
 use Rattle.std.proofs.Common.{List, [], length, refl, ap, arith}
 use Rattle.seg_core.specs.Line.{delimiters}
-use Rattle.ports_core.{specs.{Part.{OutputsAt, StoppedBetween, nothing}, Slot.Slot}, proofs.HandedOn.fault_is}
+use Rattle.ports_core.{
+  specs.{Part.{OutputsAt, StoppedBetween, nothing}, Slot.Slot},
+  proofs.{HandedOn.fault_is, PartLemmas.stopped_in_turn, ShareLemmas.nothing_told},
+}
 use Rattle.csplit_core.{
   specs.{Output.sizes_wanted, Csplit.settled_by, Input.newline},
-  proofs.StageLemmas.{begins_at, cannot_begin},
+  proofs.StageLemmas.none_stands,
 }
 use Rattle.csplit_core.proofs.csplitter.Csplitter.open.Goals as goal
 
 pub returns-clause-holds : goal.returns-clause-holds
 returns-clause-holds g c =
     let empty = c.new.ensures.items in
-    rw c.new-2.ensures (record { live = refl; count = refl; within = record { stands = c.in_ok-cutter.ensures.stands; live = λ differs. empty; past = λ below. empty } })
+    rw c.new-2.ensures (record {
+      live = refl;
+      count = refl;
+      within = record
+          { stands = c.in_ok-cutter.ensures.stands; live = λ differs. empty; past = λ below. empty };
+    })
 
 pub returns-clause-ready : goal.returns-clause-ready
 returns-clause-ready g c =
@@ -31,8 +39,13 @@ pub returns-clause-owns : goal.returns-clause-owns
 returns-clause-owns g c = rw c.new-2.ensures (record { writer = c.in_ok-cutter.ensures.owns; all = c.in_ok-cutter.ensures.all })
 
 pub returns-clause-outputs : goal.returns-clause-outputs
-returns-clause-outputs g c = begins_at g.O.Outs.told c.args.style c.as_slice.ensures c.requires.streams c.in_ok-cutter.ensures.reaches
+returns-clause-outputs g c before at = rw c.as_slice.ensures at (c.in_ok-cutter.ensures.reaches.there before
+    (none_stands g.O.Outs.told c.args.style c.requires.streams at)).outputs
 
 pub returns-in_err-cutter-clause-cut : goal.returns-in_err-cutter-clause-cut
-returns-in_err-cutter-clause-cut g c = fault_is c.from_residual.result (λ fault. (before : List Slot) → OutputsAt g.O.Outs.told before nothing _ → StoppedBetween (sizes_wanted c.args.style) g.O.Outs.told before nothing (settled_by c.args.style c.args.operands.now []) fault _) _ c.from_residual.ensures.1
-    (cannot_begin g.O.Outs.told c.as_slice.ensures c.requires.streams c.in_err-cutter.ensures)
+returns-in_err-cutter-clause-cut g c = fault_is c.from_residual.result
+    (λ fault. (before : List Slot) → OutputsAt g.O.Outs.told before nothing _ → StoppedBetween
+    (sizes_wanted c.args.style) g.O.Outs.told before nothing (settled_by c.args.style c.args.operands.now []) fault _) _ c.from_residual.ensures.1
+    (λ before at. rw c.as_slice.ensures at (stopped_in_turn (sizes_wanted c.args.style) g.O.Outs.told before nothing _ _ _
+    (nothing_told (sizes_wanted c.args.style)) (c.in_err-cutter.ensures.reaches.there before
+    (none_stands g.O.Outs.told c.args.style c.requires.streams at))))

@@ -1,10 +1,9 @@
+use Rattle.csplit_core.proofs.LineLemmas.{others_whole}
+use Rattle.csplit_core.proofs.StageLemmas.{lines_alone}
 use Rattle.ports_core.proofs.HandedOn.{handed_on}
 use Rattle.std.proofs.{Common.{◌∙◌, arith, sym}, lemmas.Grind.common_steps}
 use Rattle.seg_core.proofs.LineCounts.{ends_with-some}
-use Rattle.csplit_core.{
-  specs.Input.newline,
-  proofs.{LineLemmas.{first_line, others_whole}, StageLemmas.{lacks_at, line_at, lines_alone, lines_stop, lines_after}},
-}
+use Rattle.csplit_core.{proofs.{LineLemmas.{first_line}, StageLemmas.{lacks_at, line_at, lines_stop, lines_after}}}
 use Rattle.csplit_core.proofs.csplitter.Csplitter.take_lines.Goals as goal
 
 pub returns-then-is_empty-clause-rest : goal.returns-then-is_empty-clause-rest
@@ -20,12 +19,12 @@ pub take_line-requires-clause-fits : goal.take_line-requires-clause-fits
 take_line-requires-clause-fits g c = grind (arith, common_steps)
 
 pub take_line-requires-clause-line : goal.take_line-requires-clause-line
-take_line-requires-clause-line g c = line_at c.next_line.result.0.now c.self.view_is (c.deref.ensures.value ∙ c.in_ok-extend_from_slice.ensures.items) c.requires.open
-    (first_line c.args.lines.now c.next_line.result.0.now c.next_line.result.1.now (c.next_line.ensures.first (ends_with-some newline c.args.lines.now c.requires.whole)))
+take_line-requires-clause-line g c = grind (arith, common_steps, line_at, first_line, ends_with-some)
 
 pub returns-in_err-take_line-clause-takes : goal.returns-in_err-take_line-clause-takes
 returns-in_err-take_line-clause-takes g c = rw (handed_on _ _ c.from_residual-in_err-take_line.ensures.1)
-    (lines_stop c.next_line.result.0.now c.self.view_is (c.deref.ensures.value ∙ c.in_ok-extend_from_slice.ensures.items) c.next_line.ensures.joined c.next_line.ensures.last c.requires.whole c.in_err-take_line.ensures)
+    (lines_stop c.next_line.result.0.now c.self.view_is
+    (c.deref.ensures.value ∙ c.in_ok-extend_from_slice.ensures.items) c.next_line.ensures.joined c.next_line.ensures.last c.requires.whole c.in_err-take_line.ensures)
 
 pub take-requires-2-clause-whole : goal.take-requires-2-clause-whole
 take-requires-2-clause-whole g c = others_whole c.next_line.result.0.now c.next_line.result.1.now c.next_line.ensures.joined c.requires.whole
@@ -34,5 +33,6 @@ pub take-requires-2-clause-fits : goal.take-requires-2-clause-fits
 take-requires-2-clause-fits g c = grind (arith, common_steps)
 
 pub returns-clause-takes : goal.returns-clause-takes
-returns-clause-takes g c = lines_after c.next_line.result.0.now c.self.view_is (c.deref.ensures.value ∙ c.in_ok-extend_from_slice.ensures.items) c.next_line.ensures.joined c.next_line.ensures.last c.requires.whole
+returns-clause-takes g c = lines_after c.next_line.result.0.now c.self.view_is
+    (c.deref.ensures.value ∙ c.in_ok-extend_from_slice.ensures.items) c.next_line.ensures.joined c.next_line.ensures.last c.requires.whole
     c.in_ok-take_line.ensures c.take-2.ensures

@@ -1,7 +1,6 @@
-use Rattle.ports_core.{proofs.{HandedOn.handed_on, WriterSteps.goes_lacking}, specs.FileWriter.size_of}
-use Rattle.std.proofs.{Common.{◌+◌, length, ap, refl, sym, ◌∙◌, arith}, lemmas.Grind.common_steps}
+use Rattle.ports_core.{proofs.{HandedOn.handed_on, WriterSteps.goes_lacking}}
+use Rattle.std.proofs.{Common.{refl, sym, ◌∙◌, arith}, lemmas.Grind.common_steps}
 use Rattle.csplit_core.{
-  specs.Cutter.CutterState,
   proofs.{CutterLemmas.cut_put_stopped, TakeLemmas.{cut_drained, spread_held, spread_fit, spread_ready}},
 }
 use Rattle.csplit_core.proofs.line_cutter.LineCutter.cut_line.Goals as goal
@@ -21,13 +20,7 @@ returns-in_err-left g c = rw (handed_on _ _ c.from_residual-in_err-left.ensures.
     (c.len.ensures ∙ sym c.deref.ensures.len) c.count_delimiters-lines.ensures c.saturating_sub-place.ensures c.in_err-left.ensures.err)
 
 pub hold-requires : goal.hold-requires
-hold-requires g c =
-    let spread = c.in_ok-left.ensures.ok in
-    let same = ap (λ (cutter : CutterState). size_of cutter.writer.current + length cutter.window.held) spread.is in record {
-      fits = grind (arith, common_steps, same, ap length spread.so_far.held, spread.so_far.size);
-      fit = spread_fit spread.is spread.so_far.fit;
-      ready = spread_ready spread.now spread.is spread.so_far.keeps.writer.ready;
-    }
+hold-requires g c = grind (arith, common_steps, spread_fit, spread_ready)
 
 pub returns : goal.returns
 returns g c = cut_drained (c.deref-2.ensures.value ∙ c.in_ok-waiting.ensures.ok)

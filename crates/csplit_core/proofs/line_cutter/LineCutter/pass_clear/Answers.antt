@@ -1,10 +1,11 @@
-use Rattle.std.proofs.Common.{arith}
-use Rattle.csplit_core.proofs.TryLemmas.{counts_clear, fits_clear}
+use Rattle.csplit_core.proofs.LineLemmas.{whole_count}
+use Rattle.std.proofs.lemmas.List.{length-take-le}
+use Rattle.seg_core.proofs.Delimiters.{delimiters-le-length}
+use Rattle.std.proofs.Common.{rules}
 use Rattle.csplit_core.proofs.line_cutter.LineCutter.pass_clear.Goals as goal
 
 pub overflow_add-self : goal.overflow_add-self
-overflow_add-self c =
-    omega (arith, fits_clear c.args.text.now c.clear_lines-size.ensures.same c.requires.fits c.clear_lines-size.ensures.within c.count_delimiters.ensures)
+overflow_add-self c = search (rules, delimiters-le-length, length-take-le)
 
 pub returns : goal.returns
-returns c = counts_clear c.clear_lines-size.ensures.same c.clear_lines-size.ensures.within c.clear_lines-size.ensures.whole c.count_delimiters.ensures c.clear_lines-size.ensures.clear
+returns c = search (rules, whole_count)

@@ -1,6 +1,8 @@
 use Rattle.std.proofs.{Common.{Err, Ok, arith}, lemmas.Grind.common_steps}
 use Rattle.ports_core.{proofs.HandedOn.handed_on}
-use Rattle.csplit_core.{proofs.TakeLemmas.{none_there, stretch_cut, stretch_first, stretch_on, stretch_past, took_past}}
+use Rattle.csplit_core.{
+  proofs.TakeLemmas.{none_there, stretch_cut, stretch_first, stretch_on, stretch_past, took_past},
+}
 use Rattle.csplit_core.proofs.line_cutter.LineCutter.stretch.Goals as goal
 
 pub returns-then-is_past : goal.returns-then-is_past
@@ -8,30 +10,14 @@ returns-then-is_past g c = stretch_past c.unfound.result c.requires.start
     (took_past (c.is_past.ensures.past c.if-is_past.true) c.requires.sound c.requires.ready) c.unfound.ensures.size c.unfound.ensures.found
 
 pub go_on-requires : goal.go_on-requires
-go_on-requires g c = record {
-  «from» = omega arith;
-  within = c.requires.start.within;
-  rest = c.requires.start.rest;
-  lines = grind (arith, common_steps);
-  fits = grind (arith, common_steps);
-  sound = record { fit = c.try_line.ensures.fit; aim = c.in_default.ensures.aim };
-  ready = grind (arith, common_steps);
-}
+go_on-requires g c = grind (arith, common_steps)
 
 pub returns-in_default : goal.returns-in_default
 returns-in_default g c = stretch_on c.go_on.result c.requires.sound.fit
     (c.is_past.ensures.live c.if-is_past.false) c.requires.start c.try_line.ensures.same c.in_default.ensures.tries c.go_on.ensures
 
 pub cut_on-requires : goal.cut_on-requires
-cut_on-requires g c = record {
-  start = c.requires.start;
-  lines = grind (arith, common_steps);
-  fits = grind (arith, common_steps);
-  fit = c.try_line.ensures.fit;
-  none = grind (arith, common_steps);
-  cuts = c.in-Some.ensures.cuts;
-  ready = grind (arith, common_steps);
-}
+cut_on-requires g c = grind (arith, common_steps)
 
 pub returns-then-is_empty : goal.returns-then-is_empty
 returns-then-is_empty g c = stretch_cut c.cut_on.result c.requires.sound.fit
@@ -39,14 +25,7 @@ returns-then-is_empty g c = stretch_cut c.cut_on.result c.requires.sound.fit
     (none_there c.is_empty.ensures c.if-is_empty.true) c.in-Some.ensures.cuts c.in-Some.ensures.tries c.cut_on.ensures
 
 pub cut_line-requires : goal.cut_line-requires
-cut_line-requires g c = record {
-  line = c.requires.start.line;
-  few = grind (arith, common_steps);
-  fits = grind (arith, common_steps);
-  fit = c.try_line.ensures.fit;
-  cuts = c.in-Some.ensures.cuts;
-  ready = grind (arith, common_steps);
-}
+cut_line-requires g c = grind (arith, common_steps)
 
 pub returns-in_err-cut_line : goal.returns-in_err-cut_line
 returns-in_err-cut_line g c = rw (handed_on _ _ c.from_residual.ensures.1)

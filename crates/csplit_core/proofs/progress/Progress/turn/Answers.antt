@@ -1,7 +1,7 @@
-use Rattle.std.proofs.{Common.arith, lemmas.{Bool.Decides.nat_tests, List.drop_all}}
+use Rattle.std.proofs.{Common.{arith, refl, ◌+◌, ◌*◌}, lemmas.{Bool.Decides.nat_tests, List.drop_all}}
 use Rattle.csplit_core.{
   specs.Plan.{used_up, is_used_up},
-  proofs.TryLemmas.{left_is, falls_number, falls_search, misses_search},
+  proofs.TryLemmas.{left_is, falls, falls_search, misses_search},
 }
 use Rattle.csplit_core.proofs.progress.Progress.turn.Goals as goal
 
@@ -25,9 +25,10 @@ returns-then-not-found-clause-says c lines seen =
     c.in-Some.ensures.lookup.1) seen c.in-Search.is (λ near. c.if-not-found.true)
 
 pub returns-in-Number-clause-says : goal.returns-in-Number-clause-says
-returns-in-Number-clause-says c lines seen = falls_number lines
+returns-in-Number-clause-says c lines seen = falls lines
     (left_is c.args.operands.now c.args.self.now.done c.in-Some.ensures.lookup.3.0 c.in-Some.ensures.lookup.1) seen
-    c.in-Number.number c.in-Number.is c.saturating_mul-cut.ensures c.requires.few c.fall.result c.fall.ensures
+    c.args.self.now.matched (c.in-Number.number * (c.args.self.now.repetition + 1)) (rw c.in-Number.is (refl, refl))
+    c.saturating_mul-cut.ensures c.requires.few c.fall.result c.fall.ensures
 
 pub returns-else-not-found-clause-says : goal.returns-else-not-found-clause-says
 returns-else-not-found-clause-says c lines seen = falls_search lines

@@ -1,15 +1,15 @@
-use Rattle.std.proofs.Common.{◌∙◌, ap, sym}
+use Rattle.std.proofs.{Common.{◌∙◌, ap, arith, rules}, lemmas.Grind.common_steps}
 use Rattle.follow_core.{
   specs.{FollowState.FollowState, inner.Visits.any_goes_on},
-  proofs.LookedLemmas.{alive_is, none_going},
+  proofs.LookedLemmas.{alive_from, fresh_alive, goes_on_there, none_going},
 }
 use Rattle.follow_core.proofs.follow.Follow.alive.Goals as goal
 
 pub returns-clause-alive : goal.returns-clause-alive
 returns-clause-alive c told calling ways headers names looks first slots watched holds =
     c.any_goes_on.ensures ∙ ap (any_goes_on c.self.inside.by_name) c.deref.ensures.value
-    ∙ ap (λ (state : FollowState). any_goes_on state.by_name state.names) c.self.view_is ∙ alive_is holds
+    ∙ ap (λ (state : FollowState). any_goes_on state.by_name state.names) c.self.view_is ∙ search (rules, alive_from, fresh_alive, goes_on_there)
 
 pub returns-clause-none : goal.returns-clause-none
 returns-clause-none c told_in told calling ways headers names looks first slots watched holds some ends = none_going holds some
-    (sym (c.any_goes_on.ensures ∙ ap (any_goes_on c.self.inside.by_name) c.deref.ensures.value ∙ ap (λ (state : FollowState). any_goes_on state.by_name state.names) c.self.view_is) ∙ ends)
+    (grind (arith, common_steps, ends))

@@ -4,4 +4,7 @@ use Rattle.follow_core.specs.Printing.{broke}
 use Rattle.follow_core.proofs.printer.Printer.show.Goals as goal
 
 pub returns-clause-short : goal.returns-clause-short
-returns-clause-short g c = rw c.if-not-due.false (broke c.in-Err.field-0.written (subst (λ text. BrokeAfter g.O.Outs.told (g.O.Outs.slots c.args.outs.now) (g.O.Outs.slots c.write_whole.new.outs) 0 text c.in-Err.field-0.written) (c.deref.ensures.value ∙ c.in-Ok.ensures.ok ∙ ap (header_of c.args.name.now) c.is_first.ensures) c.in-Err.ensures.cut))
+returns-clause-short g c = rw c.if-not-due.false (broke c.in-Err.field-0.written
+    (subst (λ text. BrokeAfter g.O.Outs.told (g.O.Outs.slots c.args.outs.now)
+    (g.O.Outs.slots c.write_whole.new.outs) 0 text c.in-Err.field-0.written)
+    (c.deref.ensures.value ∙ c.in-Ok.ensures.ok ∙ ap (header_of c.args.name.now) c.is_first.ensures) c.in-Err.ensures.cut))

@@ -24,4 +24,5 @@ returns-in-Ok-follow_name-clause-visits g c first start seeks =
 pub returns-in-Err-follow_name-clause-visits : goal.returns-in-Err-follow_name-clause-visits
 returns-in-Err-follow_name-clause-visits g c first start seeks =
     let again = led_looks c.if-not-by_name.false (ap latest c.catch_up.ensures.seen) c.in-Ok.ensures.adds c.in-Err-follow_name.ensures.leads in
-    gave_fails again.fate c.in-Err-follow_name.stop c.requires.name c.requires.watchable again.follows (later_gave again) c.stop-in-Err-follow_name.ensures.tells
+    gave_fails again.fate c.in-Err-follow_name.stop c.requires.name c.requires.watchable again.follows
+    (later_gave again) c.stop-in-Err-follow_name.ensures.tells

@@ -1,6 +1,6 @@
 use Rattle.std.proofs.{
   lemmas.Grind.common_steps,
-  Common.{◌≡◌, ◌∙◌, ap, refl, sym, false, None, Some, [], if◌then◌else◌, arith},
+  Common.{◌≡◌, ◌∙◌, ap, refl, false, None, Some, [], if◌then◌else◌, arith},
 }
 use Rattle.watch_core.specs.Snapshot.{latest}
 use Rattle.follow_core.{
@@ -10,7 +10,7 @@ use Rattle.follow_core.{
     Look.sound,
     inner.Giving.{Noted, Nothing, found_begun},
   },
-  proofs.CallGivesLemmas.{ends_can, follows_from, header_only, long_at, stops_early, opened_there},
+  proofs.CallGivesLemmas.{ends_can, follows_from, header_only, stops_early, opened_there},
   proofs.LookGivesLemmas.{first_gave, first_long, first_missing, first_started, first_unopened, gave_fails},
   proofs.LookGivesLemmas.gave_through,
 }
@@ -27,7 +27,8 @@ returns-else-by_name-clause-visits g c first =
     rw now (first_missing c.in-Ok-false.ensures.ok c.in-Ok-false.field-0-test c.requires.name c.requires.watchable c.say_failure.ensures)
 
 pub returns-in-Err-clause-visits : goal.returns-in-Err-clause-visits
-returns-in-Err-clause-visits g c first = first_unopened c.requires.name c.requires.watchable c.in-Err.ensures.err.0 c.in-Err.ensures.err.1 c.in-Err.ensures.breaks c.stop.ensures.tells
+returns-in-Err-clause-visits g c first = first_unopened c.requires.name c.requires.watchable c.in-Err.ensures.err.0 c.in-Err.ensures.err.1
+    c.in-Err.ensures.breaks c.stop.ensures.tells
 
 pub returns-in-Err-put-clause-visits : goal.returns-in-Err-put-clause-visits
 returns-in-Err-put-clause-visits g c first = gave_fails sound (Over c.in-Err-put.fault) c.requires.name c.requires.watchable
@@ -41,25 +42,31 @@ pub write_start-requires-clause-readable : goal.write_start-requires-clause-read
 write_start-requires-clause-readable g c = grind (arith, common_steps, opened_there)
 
 pub write_start-requires-clause-can : goal.write_start-requires-clause-can
-write_start-requires-clause-can g c = ends_can (header_only {told_in = false} {Is = Noted Nothing} {before = []} None tt c.in_default.ensures.puts) c.requires.can
+write_start-requires-clause-can g c = ends_can (header_only {told_in = false} {Is = Noted Nothing}
+    {before = []} None tt c.in_default.ensures.puts) c.requires.can
 
 pub returns-in-Ok-clause-visits : goal.returns-in-Ok-clause-visits
 returns-in-Ok-clause-visits g c first = gave_through c.in-Ok.ensures.starts.fate c.requires.name c.requires.watchable
     (follows_from _ _ _ c.in-Ok.ensures.starts.fate None c.in-Ok-true.ensures.ok.names
     (λ none t. c.in-Ok-true.ensures.ok.leads t ∙ ap
     (latest (g.W.Watch.seen c.args.watch.now)).leads c.requires.name) c.in-Ok.ensures.starts.keeps)
-    (first_started _ c.self.view_is c.in-Ok-true.ensures.ok c.in-Ok-true.field-0-test c.requires.name c.requires.watchable (ap latest c.reopen.ensures.seen)
+    (first_started _ c.self.view_is c.in-Ok-true.ensures.ok c.in-Ok-true.field-0-test c.requires.name c.requires.watchable
+    (ap latest c.reopen.ensures.seen)
     (λ Is found. header_only {Is = Is} {before = []} None found c.in_default.ensures.puts) c.in-Ok.ensures.starts c.in-Ok.ensures.len)
-    (first_long (latest (g.W.Watch.seen c.args.watch.now)) c.in-Ok.len c.args.by_name c.in-Ok-true.ensures.ok c.in-Ok-true.field-0-test c.requires.watchable c.in-Ok.ensures.starts.keeps (long_at c.args.place _ c.reopen.ensures.seen (sym c.in-Ok.ensures.starts.keeps) c.in-Ok.ensures.long))
+    (first_long (latest (g.W.Watch.seen c.args.watch.now)) c.in-Ok.len c.args.by_name c.in-Ok-true.ensures.ok c.in-Ok-true.field-0-test
+    c.requires.watchable c.in-Ok.ensures.starts.keeps (rw c.reopen.ensures.seen at c.in-Ok.ensures.long))
 
 pub returns-in-Err-write_start-clause-visits : goal.returns-in-Err-write_start-clause-visits
-returns-in-Err-write_start-clause-visits g c first = gave_fails c.in-Err-write_start.ensures.starts.fate c.in-Err-write_start.stop c.requires.name c.requires.watchable
+returns-in-Err-write_start-clause-visits g c first = gave_fails c.in-Err-write_start.ensures.starts.fate c.in-Err-write_start.stop
+    c.requires.name c.requires.watchable
     (follows_from {told = g.W.Watch.told} {led = (latest (g.W.Watch.seen c.args.watch.now)).leads c.args.name.now} _ _ _
     c.in-Err-write_start.ensures.starts.fate (Some c.in-Err-write_start.stop) c.in-Ok-true.ensures.ok.names
     (λ none. absurd (cc)) c.in-Err-write_start.ensures.starts.keeps)
-    (first_started _ c.self.view_is c.in-Ok-true.ensures.ok c.in-Ok-true.field-0-test c.requires.name c.requires.watchable (ap latest c.reopen.ensures.seen)
+    (first_started _ c.self.view_is c.in-Ok-true.ensures.ok c.in-Ok-true.field-0-test c.requires.name c.requires.watchable
+    (ap latest c.reopen.ensures.seen)
     (λ Is found. header_only {Is = Is} {before = []} None found c.in_default.ensures.puts) c.in-Err-write_start.ensures.starts tt)
     c.stop-in-Err-write_start.ensures.tells
 
 pub returns-in-Err-put-clause-can : goal.returns-in-Err-put-clause-can
-returns-in-Err-put-clause-can g c = ends_can (header_only {told_in = false} {Is = Noted Nothing} {before = []} (Some c.in-Err-put.fault) tt c.in-Err-put.ensures.puts) c.requires.can
+returns-in-Err-put-clause-can g c = ends_can (header_only {told_in = false} {Is = Noted Nothing} {before = []}
+    (Some c.in-Err-put.fault) tt c.in-Err-put.ensures.puts) c.requires.can

@@ -1,33 +1,85 @@
-use Rattle.std.proofs.{lemmas.Grind.common_steps, Common.{◌∙◌, ap, arith, refl}}
-use Rattle.watch_core.specs.Snapshot.{latest}
-use Rattle.follow_core.proofs.{
-  CallGivesLemmas.{breaks_at, change_seen, opened_led, opened_there, reopens_as},
-  CatchLemmas.{leads_opened, leads_same, leads_unled, leads_unopened, leads_unsaid, none_seen, told_now},
+use Rattle.std.proofs.{Common.{◌∙◌, ap, arith, refl, sym, None, Some}, lemmas.Grind.common_steps}
+use Rattle.watch_core.specs.{declared.watch.Broken.TheVariants.{Look, Open}, Snapshot.latest}
+use Rattle.follow_core.{
+  proofs.{
+    CallGivesLemmas.{broke_at, broke_first, due_by, goes_after, noted_found, opened_there},
+    CallGivesLemmas.{opens_same, stops_early},
+    CatchLemmas.{all_held, change_led, change_seen, held_notes, leads_opened, leads_same},
+  },
+  specs.{inner.Giving.found_before, Look.{sound, unled, unopened}, Event.{notes_in}},
 }
 use Rattle.follow_core.proofs.visitor.Visitor.follow_name.Goals as goal
 
 pub returns-in-Err-clause-leads : goal.returns-in-Err-clause-leads
-returns-in-Err-clause-leads g c = leads_unled c.in-Err.ensures.err.0 c.in-Err.ensures.err.1 c.in-Err.ensures.breaks
+returns-in-Err-clause-leads g c = record {
+  fate = unled;
+  ends = λ last stands. broke_first (found_before c.in-Err.ensures.breaks tt);
+  stands = tt;
+  long = λ known. tt;
+  follows = broke_at (λ file. Look) refl refl c.in-Err.ensures.err.0 c.in-Err.ensures.err.1;
+  other = λ t. refl;
+  met = λ seeks. refl;
+}
 
 pub returns-in_default-clause-leads : goal.returns-in_default-clause-leads
 returns-in_default-clause-leads g c =
-    leads_same (λ t. change_seen (latest (g.W.Watch.seen c.args.watch.now)) c.args.place c.change_of.ensures c.open_id.ensures c.in-Ok.ensures.same c.requires.name c.in-Ok.ensures.ok t ∙ c.in_default.is)
-    (λ none by. none_seen (latest (g.W.Watch.seen c.args.watch.now)) c.args.place c.change_of.ensures c.open_id.ensures c.in-Ok.ensures.same c.in-Ok.ensures.found c.in_default.is none) c.in-Ok.ensures.same
+    let seen = latest (g.W.Watch.seen c.args.watch.now) in
+    let (changed, told, lost) = change_seen seen c.args.place c.change_of.ensures c.open_id.ensures c.in-Ok.ensures.same c.requires.name
+    c.in-Ok.ensures.ok c.in-Ok.ensures.found in
+    leads_same (λ t. changed t ∙ c.in_default.is)
+    (λ none by. lost c.in_default.is none) c.in-Ok.ensures.same
 
 pub returns-in-Err-tell-clause-leads : goal.returns-in-Err-tell-clause-leads
-returns-in-Err-tell-clause-leads g c = leads_unsaid (λ t. change_seen (latest (g.W.Watch.seen c.args.watch.now)) c.args.place c.change_of.ensures c.open_id.ensures c.in-Ok.ensures.same c.requires.name c.in-Ok.ensures.ok t ∙ c.in-Some.is)
-    (refl, told_now (latest (g.W.Watch.seen c.args.watch.now)) c.args.place c.change_of.ensures c.open_id.ensures c.in-Ok.ensures.same c.in-Ok.ensures.found c.in-Some.is) (c.in-Err-tell.ensures.ends g.W.Watch.told c.args.self.now) c.in-Ok.ensures.same
+returns-in-Err-tell-clause-leads g c =
+    let seen = latest (g.W.Watch.seen c.args.watch.now) in
+    let (changed, told, lost) = change_seen seen c.args.place c.change_of.ensures c.open_id.ensures c.in-Ok.ensures.same c.requires.name
+    c.in-Ok.ensures.ok c.in-Ok.ensures.found in record {
+      fate = sound;
+      ends = λ last stands. due_by (λ t. (sym (change_led seen last _ (stands t).file (changed t ∙ c.in-Some.is)).0, tt))
+          (stops_early (all_held seen _) (noted_found (Some c.in-Err-tell.fault)
+          (λ notice is. rw is (told _ c.in-Some.is))
+          (c.in-Err-tell.ensures.ends g.W.Watch.told c.args.self.now)));
+      stands = tt;
+      long = λ known. tt;
+      follows = (_, c.in-Ok.ensures.same ∙ sym (opens_same _ c.args.place));
+      other = tt;
+      met = tt;
+    }
 
+-- it was told, and what the name leads to couldn't be opened
 pub returns-in-Err-reopen-clause-leads : goal.returns-in-Err-reopen-clause-leads
-returns-in-Err-reopen-clause-leads g c = leads_unopened (λ t. change_seen (latest (g.W.Watch.seen c.args.watch.now)) c.args.place c.change_of.ensures c.open_id.ensures c.in-Ok.ensures.same c.requires.name c.in-Ok.ensures.ok t ∙ c.in-Some.is)
-    (refl, told_now (latest (g.W.Watch.seen c.args.watch.now)) c.args.place c.change_of.ensures c.open_id.ensures c.in-Ok.ensures.same c.in-Ok.ensures.found c.in-Some.is) (c.in_default-tell.ensures.ends g.W.Watch.told c.args.self.now) c.in-Ok.ensures.same c.in-Err-reopen.ensures.err.0 c.in-Err-reopen.ensures.err.1 (breaks_at c.look.ensures.seen c.in-Err-reopen.ensures.breaks)
+returns-in-Err-reopen-clause-leads g c =
+    let seen = latest (g.W.Watch.seen c.args.watch.now) in
+    let (changed, told, lost) = change_seen seen c.args.place c.change_of.ensures c.open_id.ensures c.in-Ok.ensures.same c.requires.name
+    c.in-Ok.ensures.ok c.in-Ok.ensures.found in record {
+      fate = unopened;
+      ends = λ last stands. due_by (λ t.
+          let due = (change_led seen last _ (stands t).file (changed t ∙ c.in-Some.is)).0 in
+          (sym due, sym (ap notes_in due ∙ held_notes seen _ _)))
+          (goes_after (noted_found None
+          (λ notice is. rw is (told _ c.in-Some.is))
+          (c.in_default-tell.ensures.ends g.W.Watch.told c.args.self.now))
+          (broke_first {due = all_held seen _} (found_before (rw c.look.ensures.seen at c.in-Err-reopen.ensures.breaks) tt)));
+      stands = tt;
+      long = λ known. tt;
+      follows = broke_at (λ file. Open) refl c.in-Ok.ensures.same c.in-Err-reopen.ensures.err.0 c.in-Err-reopen.ensures.err.1;
+      other = λ t. refl;
+      met = λ seeks. refl;
+    }
 
 pub catch_up-requires-clause-watchable : goal.catch_up-requires-clause-watchable
-catch_up-requires-clause-watchable g c = grind (arith, common_steps, reopens_as, common_steps, opened_there)
+catch_up-requires-clause-watchable g c =
+    let reopens = rw (c.look.ensures.seen, c.in-Ok.ensures.same) at c.in_default-reopen.ensures.ok in
+    grind (arith, common_steps, opened_there)
 
 pub returns-clause-leads : goal.returns-clause-leads
 returns-clause-leads g c =
-    let reopens = reopens_as c.look.ensures.seen c.in-Ok.ensures.same c.in_default-reopen.ensures.ok in
-    leads_opened c.requires.watchable (λ t. change_seen (latest (g.W.Watch.seen c.args.watch.now)) c.args.place c.change_of.ensures c.open_id.ensures c.in-Ok.ensures.same c.requires.name c.in-Ok.ensures.ok t ∙ c.in-Some.is)
-    (refl, told_now (latest (g.W.Watch.seen c.args.watch.now)) c.args.place c.change_of.ensures c.open_id.ensures c.in-Ok.ensures.same c.in-Ok.ensures.found c.in-Some.is) reopens.opens (c.in_default-tell.ensures.ends g.W.Watch.told c.args.self.now) (ap latest (c.reopen.ensures.seen ∙ c.look.ensures.seen)) reopens.names
-    (λ t. reopens.leads t ∙ ap (latest (g.W.Watch.seen c.args.watch.now)).leads c.requires.name) (opened_led c.requires.watchable reopens c.requires.name) c.catch_up.ensures.adds
+    let seen = latest (g.W.Watch.seen c.args.watch.now) in
+    let (changed, told, lost) = change_seen seen c.args.place c.change_of.ensures c.open_id.ensures c.in-Ok.ensures.same c.requires.name
+    c.in-Ok.ensures.ok c.in-Ok.ensures.found in
+    leads_opened c.requires.watchable c.requires.name
+    (λ t. changed t ∙ c.in-Some.is)
+    (told _ c.in-Some.is)
+    (c.in_default-tell.ensures.ends g.W.Watch.told c.args.self.now)
+    (rw (c.look.ensures.seen, c.in-Ok.ensures.same) at c.in_default-reopen.ensures.ok)
+    (rw (c.reopen.ensures.seen, c.look.ensures.seen) at c.catch_up.ensures.adds)

@@ -1,9 +1,11 @@
 use Rattle.std.proofs.{Common.{Ok, None, Some, true, false, refl, sym, ◌∙◌, ap}, lemmas.Bool.false≢true}
 use Rattle.run_core.{proofs.InputLemmas.shows_something}
+use Rattle.seg_core.specs.declared.unit.Unit.TheVariants.{Bytes}
+use Rattle.ends_core.specs.Shown.{place_of}
 use Rattle.words_core.specs.EndsWords.{EndsAsked}
 use Rattle.tools_core.{
   specs.Tasks.is_minus,
-  proofs.AdapterLemmas.{head_by, head_waits, head_begins, head_shown_begins, no_memory_for, opened_still},
+  proofs.AdapterLemmas.{head_by, head_begins, no_memory_for, opened_still},
 }
 use Rattle.tools_core.proofs.ends.HeadAdapterAdapter.open.Goals as goal
 
@@ -13,7 +15,8 @@ returns-then-not-is_minus-clause-opens g c =
     let is = head_by shown c.settings.view_is (sym c.is_minus.ensures ∙ c.if-not-is_minus.true) in (
       shown,
       says,
-      opened_still _ _ c.open.result is c.open.ensures.holds c.open.ensures.does c.open.ensures.bound c.requires.output (head_begins c.settings.inside.delim c.settings.inside.unit false c.settings.inside.count.amount c.requires.streams),
+      opened_still _ _ c.open.result is c.open.ensures.holds c.open.ensures.does c.open.ensures.bound
+          c.requires.output (head_begins c.settings.inside.delim c.settings.inside.unit false c.settings.inside.count.amount c.requires.streams),
       no_memory_for _ _ _ _ c.open.result _ (λ may. absurd (false≢true (may))) c.requires.streams c.open.ensures.err,
     )
 
@@ -25,8 +28,9 @@ returns-in-Some-clause-opens g c =
     let is = head_by (Some seen.text) {those = asked} refl signed in (
       Some seen.text,
       rw at (λ t. sym (seen.shown t)),
-      opened_still _ _ (Ok c.up_to.result) is c.up_to.ensures.holds (c.up_to.ensures.does asked.delim asked.unit asked.count.amount seen.text (sym seen.place)) c.up_to.ensures.bound c.requires.output
-          (head_shown_begins asked.delim asked.unit asked.count.amount seen.text c.requires.streams),
+      opened_still _ _ (Ok c.up_to.result) is c.up_to.ensures.holds
+          (c.up_to.ensures.does asked.delim asked.unit asked.count.amount seen.text (sym seen.place)) c.up_to.ensures.bound c.requires.output
+          (head_begins 0 Bytes false (place_of asked.delim asked.unit asked.count.amount seen.text) c.requires.streams),
       tt,
     )
 
@@ -35,6 +39,8 @@ returns-in-None-clause-opens g c =
     let is = head_by None c.settings.view_is (sym c.is_minus.ensures ∙ c.if-not-is_minus.false) in (
       None,
       c.in-None.ensures.none,
-      opened_still _ _ c.open-in-None.result is c.open-in-None.ensures.holds c.open-in-None.ensures.does c.open-in-None.ensures.bound c.requires.output (head_begins c.settings.inside.delim c.settings.inside.unit true c.settings.inside.count.amount c.requires.streams),
-      no_memory_for _ _ _ _ c.open-in-None.result _ (λ may. head_waits c.settings.view_is (sym c.is_minus.ensures ∙ c.if-not-is_minus.false)) c.requires.streams c.open-in-None.ensures.err,
+      opened_still _ _ c.open-in-None.result is c.open-in-None.ensures.holds c.open-in-None.ensures.does c.open-in-None.ensures.bound
+          c.requires.output (head_begins c.settings.inside.delim c.settings.inside.unit true c.settings.inside.count.amount c.requires.streams),
+      no_memory_for _ _ _ _ c.open-in-None.result _
+          (λ may. rw (← c.settings.view_is, sym c.is_minus.ensures ∙ c.if-not-is_minus.false) refl) c.requires.streams c.open-in-None.ensures.err,
     )

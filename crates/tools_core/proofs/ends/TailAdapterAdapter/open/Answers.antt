@@ -1,9 +1,11 @@
-use Rattle.std.proofs.{Common.{Ok, None, Some, true, false, refl, sym, ◌∙◌, ap}, lemmas.Bool.false≢true}
+use Rattle.std.proofs.{Common.{suc, Ok, None, Some, true, false, refl, sym, ◌∙◌, ap}, lemmas.Bool.false≢true}
 use Rattle.run_core.{proofs.InputLemmas.shows_something}
+use Rattle.seg_core.specs.declared.unit.Unit.TheVariants.{Bytes}
+use Rattle.ends_core.specs.Shown.{place_of}
 use Rattle.words_core.specs.EndsWords.{EndsAsked}
 use Rattle.tools_core.{
   specs.Tasks.is_plus,
-  proofs.AdapterLemmas.{tail_by, tail_waits, tail_starts, tail_shown_begins, no_memory_for, opened_still},
+  proofs.AdapterLemmas.{tail_by, tail_starts, no_memory_for, opened_still},
 }
 use Rattle.tools_core.proofs.ends.TailAdapterAdapter.open.Goals as goal
 
@@ -13,7 +15,8 @@ returns-then-is_plus-clause-opens g c =
     let is = tail_by shown c.settings.view_is (sym c.is_plus.ensures ∙ c.if-is_plus.true) in (
       shown,
       says,
-      opened_still _ _ c.open.result is c.open.ensures.holds c.open.ensures.does c.open.ensures.bound c.requires.output (tail_starts c.settings.inside.delim c.settings.inside.unit true c.settings.inside.count.amount c.requires.streams),
+      opened_still _ _ c.open.result is c.open.ensures.holds c.open.ensures.does c.open.ensures.bound
+          c.requires.output (tail_starts c.settings.inside.delim c.settings.inside.unit true c.settings.inside.count.amount c.requires.streams),
       no_memory_for _ _ _ _ c.open.result _ (λ may. absurd (false≢true (sym may))) c.requires.streams c.open.ensures.err,
     )
 
@@ -25,8 +28,10 @@ returns-in-Some-clause-opens g c =
     let is = tail_by (Some seen.text) {those = asked} refl signed in (
       Some seen.text,
       rw at (λ t. sym (seen.shown t)),
-      opened_still _ _ (Ok c.after.result) is c.after.ensures.holds (c.after.ensures.does asked.delim asked.unit asked.count.amount seen.text (sym seen.place) (sym seen.len)) c.after.ensures.bound c.requires.output
-          (tail_shown_begins asked.delim asked.unit asked.count.amount seen.text c.requires.streams),
+      opened_still _ _ (Ok c.after.result) is c.after.ensures.holds
+          (c.after.ensures.does asked.delim asked.unit asked.count.amount seen.text (sym seen.place)
+          (sym seen.len)) c.after.ensures.bound c.requires.output
+          (tail_starts 0 Bytes true (suc (place_of asked.delim asked.unit asked.count.amount seen.text)) c.requires.streams),
       tt,
     )
 
@@ -35,6 +40,8 @@ returns-in-None-clause-opens g c =
     let is = tail_by None c.settings.view_is (sym c.is_plus.ensures ∙ c.if-is_plus.false) in (
       None,
       c.in-None.ensures.none,
-      opened_still _ _ c.open-in-None.result is c.open-in-None.ensures.holds c.open-in-None.ensures.does c.open-in-None.ensures.bound c.requires.output (tail_starts c.settings.inside.delim c.settings.inside.unit false c.settings.inside.count.amount c.requires.streams),
-      no_memory_for _ _ _ _ c.open-in-None.result _ (λ may. tail_waits c.settings.view_is (sym c.is_plus.ensures ∙ c.if-is_plus.false)) c.requires.streams c.open-in-None.ensures.err,
+      opened_still _ _ c.open-in-None.result is c.open-in-None.ensures.holds c.open-in-None.ensures.does c.open-in-None.ensures.bound
+          c.requires.output (tail_starts c.settings.inside.delim c.settings.inside.unit false c.settings.inside.count.amount c.requires.streams),
+      no_memory_for _ _ _ _ c.open-in-None.result _
+          (λ may. rw (← c.settings.view_is, sym c.is_plus.ensures ∙ c.if-is_plus.false) refl) c.requires.streams c.open-in-None.ensures.err,
     )
