@@ -20,7 +20,7 @@ use Rattle.follow_core.specs.{
   Telling.Tells,
   Printing.{PrinterState, broke as short_broke, no_room},
   declared.{notice.Notice.{Notice}, visitor.Stop.{Stop, TheVariants.{Broke, Over}}},
-  inner.Giving.{IsFront, ArePut, BrokeAt, Came, CanGoOn, Copies, Ends, Follows, IfBroke, Keeps},
+  inner.Giving.{IsFront, ArePut, BrokeAt, Came, CanGoOn, Copies, GivesDue, Follows, IfBroke, Keeps},
   inner.Giving.{HoldsMany, Noted, Puts, WereFound, fault_by, found_all, found_before},
   inner.Giving.{found_begun, over_by},
   inner.Visits.KeepsOthers,
@@ -56,8 +56,8 @@ if_so (Some (Over why)) so = tt
 module _ {told_in told opened : Bool} {Is : List Event → Type 0} {printer after name due before old new : _} where
   -- what is due may be said in another way
   pub due_by : {other more stop : _} → (told_in ≡ true → (due ≡ other) × IfBroke stop (before ≡ more))
-      → Ends told_in Is told opened printer name due before old after new stop
-      → Ends told_in Is told opened printer name other more old after new stop
+      → GivesDue told_in Is told opened printer name due before old after new stop
+      → GivesDue told_in Is told opened printer name other more old after new stop
   due_by {more} {stop} same ends = record {
     events = ends.events;
     are = λ t. grind (arith, common_steps, same t, ends.are t);
@@ -67,8 +67,8 @@ module _ {told_in told opened : Bool} {Is : List Event → Type 0} {printer afte
 
   -- what stops the first of two steps stops both
   pub stops_early : (more : List Event) {stop : Stop}
-      → Ends told_in Is told opened printer name due before old after new (Some stop)
-      → Ends told_in Is told opened printer name (due ++ more) before old after new (Some stop)
+      → GivesDue told_in Is told opened printer name due before old after new (Some stop)
+      → GivesDue told_in Is told opened printer name (due ++ more) before old after new (Some stop)
   stops_early more {stop} ends = record {
     events = ends.events;
     are = λ t. grind (arith, common_steps, ends.are t, begins_more);
@@ -77,12 +77,12 @@ module _ {told_in told opened : Bool} {Is : List Event → Type 0} {printer afte
   }
 
 pub nothing_due : {told_in told : Bool} {Is : List Event → Type 0} {printer name before slots : _} → Is []
-    → Ends told_in Is told false printer name [] before slots printer slots None
+    → GivesDue told_in Is told false printer name [] before slots printer slots None
 nothing_due found = record { events = []; are = λ t. refl; found = found; came = came_none }
 
 -- a call failed before anything was given
 pub broke_first : {told_in told : Bool} {Is : List Event → Type 0} {printer name due slots why : _} → Is []
-    → Ends told_in Is told false printer name due [] slots printer slots (Some (Broke why))
+    → GivesDue told_in Is told false printer name due [] slots printer slots (Some (Broke why))
 broke_first found = record { events = []; are = λ t. refl; found = found; came = came_none }
 
 -- what reads gave
@@ -147,9 +147,10 @@ module _ {told_in told opened : Bool} {Tells : Notice → Type 0} {Begin : Optio
   pub found_as : {Told : Notice → Type 0} {Other : Option ℕ → ℕ → Type 0} {fate due before stop : _}
       → ((notice : Notice) → Tells notice → Told notice)
       → ((file : Option ℕ) (from : ℕ) → Begin file from → Other file from)
-      → Ends told_in (WereFound Tells Begin snapshot known fate stop) told opened printer name due before old after new
-      stop → Ends told_in (WereFound Told Other snapshot known fate stop) told opened printer name due before old after
-      new stop
+      → GivesDue told_in (WereFound Tells Begin snapshot known fate stop) told opened printer name due before
+      old after new stop
+      → GivesDue told_in (WereFound Told Other snapshot known fate stop) told opened printer name due before
+      old after new stop
   found_as told so ends = record {
     events = ends.events;
     are = ends.are;
@@ -160,9 +161,9 @@ module _ {told_in told opened : Bool} {Tells : Notice → Type 0} {Begin : Optio
   -- lines alone
   pub noted_found : {Note : Notice → Type 0} {due before : _} (over : Option Fault)
       → ((notice : Notice) → Note notice → Tells notice)
-      → Ends told_in (Noted Note) told opened printer name due before old after new (option_map Over over)
-      → Ends told_in (WereFound Tells Begin snapshot known sound (option_map Over over)) told opened printer name due
-      before old after new (option_map Over over)
+      → GivesDue told_in (Noted Note) told opened printer name due before old after new (option_map Over over)
+      → GivesDue told_in (WereFound Tells Begin snapshot known sound (option_map Over over)) told opened printer name
+      due before old after new (option_map Over over)
   noted_found {Note} over so ends = record {
     events = ends.events;
     are = ends.are;
@@ -177,10 +178,12 @@ module _ {told_in told opened : Bool} {Tells : Notice → Type 0} {Begin : Optio
 
   -- once the first is done, both end as the second
   pub goes_after : {one fate mid first none second before now stop : _}
-      → Ends told_in (WereFound Tells Begin snapshot known one None) told opened printer name first none old mid now
-      None → Ends told_in (WereFound Tells Begin snapshot known fate stop) told false mid name second before now after
-      new stop → Ends told_in (WereFound Tells Begin snapshot known fate stop) told opened printer name
-      (first ++ second) (first ++ before) old after new stop
+      → GivesDue told_in (WereFound Tells Begin snapshot known one None) told opened printer name first none
+      old mid now None
+      → GivesDue told_in (WereFound Tells Begin snapshot known fate stop) told false mid name second before
+      now after new stop
+      → GivesDue told_in (WereFound Tells Begin snapshot known fate stop) told opened printer name (first ++ second)
+      (first ++ before) old after new stop
   goes_after {second} {before} {stop} one two = record {
     events = one.events ++ two.events;
     are = λ t. grind (arith, common_steps, one.are t, two.are t, begins_after);
@@ -205,7 +208,7 @@ none_put (Some why) {bytes = byte ∷ bytes} (rest, is) = absurd (cc)
 
 pub header_only : {told_in told opened : Bool} {Is : List Event → Type 0} {printer after name before old new : _}
     (over : Option Fault) → Is [] → Puts told opened printer name [] old after new over
-    → Ends told_in Is told opened printer name [] before old after new (option_map Over over)
+    → GivesDue told_in Is told opened printer name [] before old after new (option_map Over over)
 header_only None found put = grind (arith, common_steps, none_put)
 header_only (Some why) found put =
     record { events = []; are = λ t. begins_none; found = found; came = rw (none_put (Some why) put.are) at put.came }
@@ -266,7 +269,7 @@ use_after told text output error others new (Some (Over why)) (short_broke n par
 use_after told text output error others new (Some (Over why)) (no_room n within is) can = grind (arith, common_steps)
 
 pub ends_can : {told_in told opened : Bool} {Is : List Event → Type 0} {printer after name due before old new stop : _}
-    → Ends told_in Is told opened printer name due before old after new stop → CanPrint old → CanGoOn stop new
+    → GivesDue told_in Is told opened printer name due before old after new stop → CanPrint old → CanGoOn stop new
 ends_can {old = []} ends can = search rules
 ends_can {old = output ∷ []} ends can = search rules
 ends_can {told} {name} {old = output ∷ error ∷ others} {stop} ends can =

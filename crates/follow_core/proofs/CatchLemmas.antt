@@ -13,7 +13,7 @@ use Rattle.std.proofs.{
 use Rattle.ports_core.specs.{Slot.{Slot}}
 use Rattle.follow_core.specs.{
   Printing.PrinterState,
-  inner.Giving.{Adds, Ends, Follows, IfBroke, Leads, Noted, ReadsOf},
+  inner.Giving.{Adds, GivesDue, Follows, IfBroke, Leads, Noted, ReadsOf},
   inner.Giving.{ToldLed, ToldShort, WereFound, change_between, found_all, measures, notes_past, reads_on, stop_in},
   declared.{visitor.Stop.{Stop}, notice.Notice.{Notice, TheVariants.{Appeared, Inaccessible}}},
   Share.{Due, came_before, due_later, given_by, is_kept, led_before, left_from},
@@ -180,7 +180,7 @@ pub leads_opened : {told_in told is_there : Bool} {snapshot : Snapshot} {place :
     → IsTrue (is_watchable watched place) → (watched_at watched place).name ≡ name
     → (told_in ≡ true → change_between (watched_at watched place).opened (snapshot.leads name) ≡ Some change)
     → ToldLed true snapshot (watched_at watched place) change
-    → Ends told_in (Noted (λ notice. notice ≡ change)) told false printer name
+    → GivesDue told_in (Noted (λ notice. notice ≡ change)) told false printer name
     (notes change ∷ []) before slots printer mid None → Reopens told_in snapshot watched watched_mid place is_there
     → Adds told_in told snapshot place name 0 watched_mid printer mid watched_new after slots_new result
     → Leads told_in told true snapshot (snapshot.leads name) place name position watched printer slots watched_new after
@@ -259,7 +259,7 @@ pub record LooksAgain (told_in told by_name : Bool) (snapshot : Snapshot) (place
   pub ends : let known = watched_at watched place in (last : Entry)
       → (told_in ≡ true → StandsAt last known.opened position)
       → let due = due_later by_name name known.opened last snapshot in
-      Ends told_in
+      GivesDue told_in
       (WereFound (ToldAgain by_name snapshot known position) (FromFrontOr known.opened position)
       snapshot known.name fate
       (stop_in result)) told false printer name (due.came ++ due.led) (given_by due snapshot known.opened fate) slots

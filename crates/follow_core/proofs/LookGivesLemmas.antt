@@ -12,7 +12,7 @@ use Rattle.follow_core.specs.{
   Version.{Entry, entries_at_look, entries_led, held_at, open_after_later, open_after_look},
   Gain.{last_from, last_of, gains_after},
   inner.{
-    Giving.{Anywhere, BrokeAt, Came, Nothing, WereFound, Ends, Follows, IfBroke, Keeps, Shared, Starts, fault_by},
+    Giving.{Anywhere, BrokeAt, Came, Nothing, WereFound, GivesDue, Follows, IfBroke, Keeps, Shared, Starts, fault_by},
     Giving.{found_all, found_before, found_begun, is_read, stop_in, text_under},
     Visits.{Visits, TellsStop, Visited},
   },
@@ -90,7 +90,7 @@ shared_as opened name events failure = record { name = name; is_opened = opened;
 module _ {told_in told ways before snapshot name due opened : _} {printer : PrinterState} {after old mid : _}
     (dues : IsDue told_in ways before snapshot name due opened) where
   -- all that is due was given
-  pub looked_whole : {none fate : _} → Ends told_in (WereFound (IsTold before snapshot name)
+  pub looked_whole : {none fate : _} → GivesDue told_in (WereFound (IsTold before snapshot name)
       (StartsIn before name) snapshot name fate None) told (is_first before) printer name
       (due.came ++ due.led) none old after mid None → (is_first before ≡ true
       → (file : ℕ) × Found snapshot name (opens_as (Some file)))
@@ -114,7 +114,7 @@ module _ {told_in told ways before snapshot name due opened : _} {printer : Prin
   pub looked_broke : (place : ℕ) {new why : _} (fate : Fate) → is_some (failed_by fate None) ≡ true
       → why ≡ fault_by place fate
       → (not (is_unopened fate) && is_first before) ≡ is_first before
-      → Ends told_in
+      → GivesDue told_in
       (WereFound (IsTold before snapshot name) (StartsIn before name) snapshot name fate (Some (Broke why))) told
       (is_first before) printer name (due.came ++ due.led) (given_by due snapshot opened fate) old after mid
       (Some (Broke why))
@@ -168,7 +168,7 @@ pub record Gave (told_in told : Bool) (ways : Ways) (looks : List Look) (snapsho
   pub due : Due
   pub opened : Option ℕ
   pub is_due : IsDue told_in ways looks snapshot name due opened
-  pub ends : Ends told_in
+  pub ends : GivesDue told_in
       (WereFound (IsTold looks snapshot name) (StartsIn looks name) snapshot name fate (stop_in result)) told
       (is_first looks) printer name (due.came ++ due.led) (given_by due snapshot opened fate) slots after slots_new
       (stop_in result)
@@ -401,7 +401,7 @@ pub first_gave : {told_in told : Bool} {ways : Ways} {snapshot : Snapshot} {plac
     → Keeps place mid new fate (stop_in result)
     → IfBroke (stop_in result) (can_meet true ways.by_name ways.seeks fate ≡ true)
     → IfOk result (λ len. told_in ≡ true → len ≡ length contents)
-    → Ends told_in (WereFound Nothing Anywhere snapshot name fate (stop_in result)) told true inside name
+    → GivesDue told_in (WereFound Nothing Anywhere snapshot name fate (stop_in result)) told true inside name
     (gives (ways.start contents) ∷ []) (led_before snapshot fate (gives (ways.start contents) ∷ [])) slots after
     slots_new (stop_in result) → (looks : List Look) → Stands told_in ways looks place name (watched_at old place) New
     → Gave told_in told ways looks snapshot place name (snapshot.leads name) printer slots after slots_new fate result
@@ -446,7 +446,8 @@ pub first_started : {told_in told : Bool} {ways : Ways} {snapshot : Snapshot} {n
     {name printer inside middle after slots slots_mid slots_new old mid : _} (new : List Watched)
     {is_there none result : _} → inside ≡ printer → Reopens told_in snapshot old mid place is_there → is_there ≡ true
     → (watched_at old place).name ≡ name → IsTrue (is_watchable old place) → now ≡ snapshot
-    → ((Is : List Event → Type 0) → Is [] → Ends told_in Is told true inside name [] none slots middle slots_mid None)
+    → ((Is : List Event → Type 0) → Is []
+    → GivesDue told_in Is told true inside name [] none slots middle slots_mid None)
     → (starts : Starts told_in told ways.seeks now ways.start place name mid middle slots_mid new after slots_new
     (stop_in result)) → IfOk result (λ len. told_in ≡ true → len ≡ length (open_contents now (watched_at mid place)))
     → (looks : List Look) → Stands told_in ways looks place name (watched_at old place) New

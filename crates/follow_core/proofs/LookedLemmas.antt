@@ -17,13 +17,13 @@ use Rattle.follow_core.specs.{
   FollowState.opened_follow,
   Look.{Look, Ways, snapshots, ways_of},
   inner.{
-    Visits.{StandFrom, VisitedTo, VisitsAll, any_goes_on, goes_on_as, AddsSome, Begins, MakesLook, LookedAll},
+    Visits.{StandFrom, VisitedTo, VisitsAll, any_goes_on, goes_on_as, AddsSome, BeginsLook, MakesLook, LookedAll},
     Giving.{IsFront, HasStopped},
   },
   Reading.{looks_more, no_looks},
   Sharing.CanPrint,
   Standing.{AllStand, NoneGoesOn, NameState, Stands, no_state, state_at, texts, AreWatched},
-  declared.{name.Standing.{Standing, TheVariants.{New}}, follow.Stage.{Stage, TheVariants.{Fresh, Looking, Over}}},
+  declared.{name.Standing.{Standing, TheVariants.{New}}, follow.Phase.{Phase, TheVariants.{Fresh, Looking, Over}}},
   Ending.{AreMost, FollowEndsAs, FollowEndsBy, is_over, until_over, Made},
 }
 use Rattle.follow_core.proofs.{
@@ -60,15 +60,15 @@ added_ready names {first} before first_is place within = grind (arith, common_st
 
 -- following stands as before, but that its names are watched, after those that were
 pub record IsAdded (old mid : FollowState) (watched watched_mid : List Watched) : Type 0 where
-  pub fresh : old.stage ≡ Fresh
-  pub mid_is : mid ≡ record old { stage = Looking; first = mid.first }
+  pub fresh : old.phase ≡ Fresh
+  pub mid_is : mid ≡ record old { phase = Looking; first = mid.first }
   pub watched_is : watched_mid ≡ watched ++ map added (texts old.names)
   pub first_is : 0 < length old.names → mid.first ≡ length watched
 
 pub added_begins : {told_in old mid watched watched_mid : _} → IsAdded old mid watched watched_mid
-    → Begins told_in old watched mid watched_mid
+    → BeginsLook told_in old watched mid watched_mid
 added_begins {told_in} {old} {mid} {watched} {watched_mid} is = record {
-  stage = ap (λ (f : FollowState). f.stage) is.mid_is;
+  phase = ap (λ (f : FollowState). f.phase) is.mid_is;
   ready = rw (is.mid_is, is.watched_is) (added_ready old.names watched is.first_is);
   -- a name that others added is before them
   others = λ number other. search (rules, get_or_append_left);
@@ -142,12 +142,12 @@ no_more_of told ways looks place name watched standing stands some none = grind 
 -- why a look was stopped
 
 -- following isn't over
-can_print : (old : FollowState) (watched : List Watched) (slots : List Slot) → (old.stage ≡ Over → ⊥)
+can_print : (old : FollowState) (watched : List Watched) (slots : List Slot) → (old.phase ≡ Over → ⊥)
     → CanLook old watched slots → CanPrint slots
 can_print old watched slots live can = grind (arith, common_steps)
 
 cause_is : {old : FollowState} {slots slots_new why : _} (watched : List Watched)
-    → (old.stage ≡ Over → ⊥) → CanLook old watched slots → HasStopped why slots_new → IsCause old slots slots_new why
+    → (old.phase ≡ Over → ⊥) → CanLook old watched slots → HasStopped why slots_new → IsCause old slots slots_new why
 cause_is {old} {slots} {slots_new} watched live can (inl memory, error) = rw memory lacks_memory
 cause_is {old} {slots} {slots_new} watched live can (inr (is, broken), error) = grind (arith, common_steps, can_print, output_broke)
 
@@ -170,23 +170,23 @@ none_broken names before watched none first_is (rest, are) = rw none (
 module _ {told_in told calling : _} {ways : Ways} {headers names looks first slots : _} {follow : FollowState}
     {watched : _} (holds : Holds told_in told calling ways headers names looks first follow watched slots) where
   pub none_going : 0 < length looks → any_goes_on follow.by_name follow.names ≡ false → NoneGoesOn ways watched
-  none_going some none = stage follow.stage holds.stand where
-    stage : (stage : Stage) → StandsIn told_in ways looks follow.names watched stage → NoneGoesOn ways watched
-    stage Fresh stand = absurd (let empty = ap length stand.0 in omega arith)
-    stage Looking stand = λ place within.
+  none_going some none = phase follow.phase holds.stand where
+    phase : (phase : Phase) → StandsIn told_in ways looks follow.names watched phase → NoneGoesOn ways watched
+    phase Fresh stand = absurd (let empty = ap length stand.0 in omega arith)
+    phase Looking stand = λ place within.
         let inside : place < length follow.names = (let as_many = stand.1 in omega arith) in
         no_more_of told_in ways looks (ways.first + place) _ (watched_at watched (ways.first + place))
         (state_at follow.names place).standing (stand.0 place inside) some
         (rw (ap (λ (those : Ways). those.by_name) holds.asked)
         (none_before follow.by_name follow.names place inside none))
-    stage Over stand = absurd stand
+    phase Over stand = absurd stand
 
   pub watched_are : AreWatched ways looks names watched
-  watched_are = stage follow.stage holds.stand where
-    stage : (stage : Stage) → StandsIn told_in ways looks follow.names watched stage
+  watched_are = phase follow.phase holds.stand where
+    phase : (phase : Phase) → StandsIn told_in ways looks follow.names watched phase
         → AreWatched ways looks names watched
-    stage Fresh stand = none_broken names watched watched stand.0 stand.2 (map added names, refl)
-    stage Looking stand =
+    phase Fresh stand = none_broken names watched watched stand.0 stand.2 (map added names, refl)
+    phase Looking stand =
         let many = rw (length_names follow holds.same) at stand.1 in (
           omega arith,
           (λ above. many),
@@ -196,10 +196,10 @@ module _ {told_in told calling : _} {ways : Ways} {headers names looks first slo
               (watched_there told_in _ (watched_at watched (ways.first + place)) (state_at follow.names place).standing
               (stand.0 place inside)),
         )
-    stage Over stand = absurd stand
+    phase Over stand = absurd stand
 
   -- they stand as the looks before left them
-  stand_from : follow.stage ≡ Looking
+  stand_from : follow.phase ≡ Looking
       → StandFrom told_in (ways_of ways.first follow.by_name follow.start) looks follow.first follow.names watched
   stand_from looking = let (stand, many) = rw looking at holds.stand in
       rw (← holds.asked) (record {
@@ -211,7 +211,7 @@ module _ {told_in told calling : _} {ways : Ways} {headers names looks first slo
 -- A look from where following stands
 
 module _ {told_in told snapshot seen seen_new : _} {old : FollowState} {new watched watched_new slots why : _}
-    (live : old.stage ≡ Over → ⊥) (can : CanLook old watched slots) (is : why ≡ fault.Memory)
+    (live : old.phase ≡ Over → ⊥) (can : CanLook old watched slots) (is : why ≡ fault.Memory)
     (same : seen_new ≡ seen) where
   -- there was no memory to begin one: some names were added, or all, and no call was made on one
   makes_none : ((calling ways headers names looks first : _)
@@ -235,7 +235,7 @@ module _ {told_in told snapshot seen seen_new : _} {old : FollowState} {new watc
     };
     seen_is = tt;
     saw = inl same;
-    stage = tt;
+    phase = tt;
     ready = tt;
     can = tt;
     cause = rw is lacks_memory;
@@ -243,16 +243,16 @@ module _ {told_in told snapshot seen seen_new : _} {old : FollowState} {new watc
     others = others;
   }
 
-  pub makes_few : old.stage ≡ Fresh → AddsSome (texts old.names) watched watched_new
+  pub makes_few : old.phase ≡ Fresh → AddsSome (texts old.names) watched watched_new
       → MakesLook told_in told snapshot seen old watched slots seen_new new watched_new slots (Err why)
   makes_few fresh adds = makes_none
       (λ calling ways headers names looks first holds.
       let stand = rw fresh at holds.stand in
       none_broken names watched watched_new stand.0 stand.2 (rw holds.same at adds.front))
       (λ number other. rw adds.kept.1 (get_or_append_left watched adds.kept.0 no_name number
-      (subst (λ stage. IsOther (record old { stage = stage }) watched number) fresh other)))
+      (subst (λ phase. IsOther (record old { phase = phase }) watched number) fresh other)))
 
-  pub makes_all : {mid watched_mid : _} → Begins told_in old watched mid watched_mid
+  pub makes_all : {mid watched_mid : _} → BeginsLook told_in old watched mid watched_mid
       → watched_new ≡ watched_mid
       → MakesLook told_in told snapshot seen old watched slots seen_new new watched_new slots (Err why)
   makes_all begins added_now = makes_none
@@ -262,8 +262,8 @@ module _ {told_in told snapshot seen seen_new : _} {old : FollowState} {new watc
 
 -- the names were looked at, once they were watched and the watch saw what the files hold
 pub makes_look : {told_in told snapshot seen seen_new : _} {old mid : FollowState}
-    {names_new watched watched_mid watched_new printer slots slots_new result : _} → (old.stage ≡ Over → ⊥)
-    → CanLook old watched slots → Begins told_in old watched mid watched_mid → seen_new ≡ seen ++ snapshot ∷ []
+    {names_new watched watched_mid watched_new printer slots slots_new result : _} → (old.phase ≡ Over → ⊥)
+    → CanLook old watched slots → BeginsLook told_in old watched mid watched_mid → seen_new ≡ seen ++ snapshot ∷ []
     → VisitsAll told_in told snapshot mid.by_name mid.start mid.first mid.names watched_mid mid.printer slots names_new
     watched_new printer slots_new result → MakesLook told_in told snapshot seen old watched slots seen_new
     (record mid { names = names_new; printer = printer }) watched_new slots_new result
@@ -274,7 +274,7 @@ makes_look {told_in} {told} {snapshot} {seen} {seen_new} {old} {mid} {names_new}
           → watched_at watched_new number ≡ watched_at watched number
       others visits number other =
           let (others, same) = begins.others number other in
-          visits.others number (subst (λ stage. IsOther (record mid { stage = stage }) watched_mid number) begins.stage others) ∙ same
+          visits.others number (subst (λ phase. IsOther (record mid { phase = phase }) watched_mid number) begins.phase others) ∙ same
 
       by : (result : Result Bool Fault)
           → VisitsAll told_in told snapshot mid.by_name mid.start mid.first mid.names watched_mid mid.printer slots
@@ -284,7 +284,7 @@ makes_look {told_in} {told} {snapshot} {seen} {seen_new} {old} {mid} {names_new}
       by (Ok failed) visits = record {
         looked = λ calling ways headers names looks first before.
             let holds = begins.holds told calling ways headers names looks first slots before in
-            let stood = stand_from holds begins.stage in
+            let stood = stand_from holds begins.phase in
             let visited : VisitedTo told_in told ways looks snapshot (length mid.names) mid.names mid.printer slots printer
             slots_new watched_new names_new failed = rw holds.asked (visits.visited ways.first looks stood) in
             let look : Look = record { snapshot = snapshot; fates = visited.fates } in
@@ -298,7 +298,7 @@ makes_look {told_in} {told} {snapshot} {seen} {seen_new} {old} {mid} {names_new}
                 asked = holds.asked;
                 same = visited.same ∙ holds.same;
                 numbered = holds.numbered;
-                stand = subst (StandsIn told_in ways (looks ++ look ∷ []) names_new watched_new) (sym begins.stage) (
+                stand = subst (StandsIn told_in ways (looks ++ look ∷ []) names_new watched_new) (sym begins.phase) (
                   (λ place within. visited.done visited.fates front place (omega (arith, within, many))),
                   rw (← many) (visits.count ∙ stood.many),
                 );
@@ -312,7 +312,7 @@ makes_look {told_in} {told} {snapshot} {seen} {seen_new} {old} {mid} {names_new}
         stopped = tt;
         seen_is = saw;
         saw = tt;
-        stage = begins.stage;
+        phase = begins.phase;
         ready = visits.ready;
         can = visits.can;
         cause = tt;
@@ -324,7 +324,7 @@ makes_look {told_in} {told} {snapshot} {seen} {seen_new} {old} {mid} {names_new}
         stopped = λ calling ways headers names looks first before.
             let holds = begins.holds told calling ways headers names looks first slots before in
             let (whole, part, begun, printer, reached, shared, short) =
-            visits.stopped ways.first looks (stand_from holds begins.stage) in record {
+            visits.stopped ways.first looks (stand_from holds begins.phase) in record {
               shares = holds.shares;
               are = holds.are;
               found = holds.found;
@@ -338,7 +338,7 @@ makes_look {told_in} {told} {snapshot} {seen} {seen_new} {old} {mid} {names_new}
             };
         seen_is = tt;
         saw = inr saw;
-        stage = tt;
+        phase = tt;
         ready = tt;
         can = tt;
         cause = cause_is watched live can visits.error;

@@ -15,7 +15,7 @@ use Rattle.ports_core.specs.{
   Part.writes,
   Slot.{SlotBreaks, Slot, with_written, told_of, changed_at, opened, closes, is_writable},
   inner.{FileWriter.{MakesNone, Made, Appends, TellsSize, CountsOn, files_with}, Write.Wrote},
-  Turn.{AllClosed, fault_in},
+  InTurn.{AllClosed, fault_in},
   declared.fault.Fault.{Fault, TheVariants.Verdict},
   declared.verdict.Verdict.TheVariants.Suffixes,
   declared.file_writer.Current.{Current, TheVariants.{File, Unopened, Skipped, Due}},

@@ -16,7 +16,7 @@ use Rattle.ports_core.specs.{
   Slot.{Slot, with_written, told_of, Rose, has_file, slot_at, opened, is_writable, KeepsBroken},
   Swept.{AreThere, is_among},
   inner.{FileWriter.{Made, Appends, CountsOn, files_with}, Write.{Wrote, WritesShort}},
-  Turn.{AllClosed, InTurn, IsThere, LinesTo, fault_in},
+  InTurn.{AllClosed, InTurn, IsThere, LinesTo, fault_in},
   Write.BrokeAfter,
   declared.fault.Fault.{Fault, TheVariants.{Memory, Verdict}},
   declared.verdict.Verdict.TheVariants.Suffixes,

@@ -9,7 +9,7 @@ use Rattle.ports_core.specs.{
   Names.no_name,
   Slot.{Slot, FailsToOpen, broke, numberless, unopened, told_of, with_written},
   Part.{File, Part, Begins, IsAt, IsBeginning, IsDueLine, IsNext, Marks, Output},
-  Turn.AllClosed,
+  InTurn.AllClosed,
   Draft.{output_of, part_with, told_before, told_of_files},
   Write.BrokeAfter,
   inner.Names.TellsOpening,

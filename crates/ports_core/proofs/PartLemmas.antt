@@ -14,7 +14,7 @@ use Rattle.ports_core.specs.{
   Part.{File, Part, nothing, only_out, OutputsAt, IsBeginning, FilesBegin, Begins, IsNext, Marks, IsAt, InOrder},
   Part.{StoppedBetween, Output, gets_none, gets_bytes, gets_lines, gets_openings, openings_for, IsDueLine},
   Part.LinesInOrder,
-  Turn.{AllClosed, InTurn, StoppedInTurn, LinesTo},
+  InTurn.{AllClosed, InTurn, StoppedInTurn, LinesTo},
   inner.Part.HasLines,
   declared.{reason.Reason.Reason, slot.State.State, fault.Fault.{Fault, TheVariants.{Memory, Write, Open}}},
 }

@@ -11,7 +11,7 @@ use Rattle.ports_core.specs.{
   Slot.{SlotBreaks, Slot, opened, changed_at, adds, closes, with_written, told_of},
   Part.{File, Part, OutputsAt, Begins, FilesBegin, IsNext, Marks, IsAt, IsDueLine, Output, gets_none, gets_bytes},
   Part.{gets_lines, gets_openings, lines_for, openings_for},
-  Turn.{AllClosed, InTurn, IsThere, LinesTo},
+  InTurn.{AllClosed, InTurn, IsThere, LinesTo},
   inner.Write.Wrote,
 }
 use Rattle.ports_core.proofs.{

@@ -9,7 +9,7 @@ use Rattle.ports_core.specs.{
   Draft.{Draft, shares_of, draft_part, with_bytes, with_next},
   Part.{File, nothing, Begins, FilesBegin, IsBeginning, Output, gets_none, gets_bytes, gets_lines, gets_openings},
   Part.{lines_for, openings_for},
-  Turn.AllClosed,
+  InTurn.AllClosed,
   inner.{Part.HasLines, Shares.SharesBegin},
   declared.{
     file_writer.Opening.{Opening, TheVariants.{Never, Late, AtOnce}},

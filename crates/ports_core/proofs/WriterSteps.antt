@@ -10,7 +10,7 @@ use Rattle.ports_core.specs.{
   Part.{OutputsAt, Begins},
   Slot.Slot,
   Swept.Removes,
-  Turn.fault_in,
+  InTurn.fault_in,
   declared.{
     fault.Fault.{Fault, TheVariants.{Memory, Verdict}},
     verdict.Verdict.TheVariants.Suffixes,

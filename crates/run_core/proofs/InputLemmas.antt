@@ -42,7 +42,7 @@ use Rattle.run_core.specs.{
   Reading.{AreDone, AreUntouched, IsDone, IsUntouched, Leaves, count_after},
   inner.RunSteps.{TakesOne, OfSource, HeaderFails, no_room, broke, TookInput, took, cut_off, input_from, TookAll, all},
   inner.RunSteps.{stopped_at, not_begun, HasStreams, OfName, standard_source},
-  declared.{inputs.Progress.Progress, feeding.Fed.{Fed, TheVariants.{Whole, Enough, Broken}}},
+  declared.{inputs.RunProgress.RunProgress, feeding.Fed.{Fed, TheVariants.{Whole, Enough, Broken}}},
   RunEnds.{unheaded, heading, calling, step_after, EndsAs, as_defined, stopped as run_stopped, no_room as run_unmade},
   RunEnds.{RunsOver, unopened},
   RunSteps.{IsShown, OnlyLooked, world_of},
@@ -326,7 +326,7 @@ module _ (told_in told : Bool) (task : Task) (most : ℕ) (is_first failed was_r
     (mid : List Slot) (counted : length mid ≡ count) (streams_there : 2 ≤ count)
     (at : OutputsAt told (streams_with error)
     (after_part so_far (only_out (header_text task.with_header is_first name))) mid) where
-  abbrev pub TookSo : Content → List Slot → Result Progress Fault → Type 0
+  abbrev pub TookSo : Content → List Slot → Result RunProgress Fault → Type 0
   TookSo content new result = TookInput told_in told task most (input_from name source shown content)
       (of_content task (task.work shown) is_first name (Some content)) is_first failed was_read so_far error count sources new result
 
@@ -505,7 +505,7 @@ dash_at false laid sources slot name shown P dash says (content, there, holds) =
 -- the file was opened
 pub took_opened : {told_in told : Bool} {task : Task} {most : ℕ} {is_first failed was_read : Bool}
     {laid : ℕ → List ℕ → Option Content} {name : List ℕ} {old mid : List Source} {slot : ℕ} {so_far : Part}
-    {error : Slot} {first : ℕ} {sources : List Source} {new : List Slot} {result : Result Progress Fault}
+    {error : Slot} {first : ℕ} {sources : List Source} {new : List Slot} {result : Result RunProgress Fault}
     → is_dash name ≡ false → OpensFile told_in laid old mid name slot
     → (shown : Option (List ℕ)) × IsShown told_in (Some slot) mid shown
     × OfSource told_in (Some slot) mid
@@ -526,7 +526,7 @@ took_opened {was_read} {laid} {name} {old} {slot} differs opened_it (shown, says
 -- standard input, for the operand `-`
 pub took_standard : {told_in told : Bool} {task : Task} {most : ℕ} {is_first failed : Bool} (was_read : Bool)
     {source : Option ℕ} (laid : ℕ → List ℕ → Option Content) (name : List ℕ) (old : List Source) {sources : List Source}
-    {so_far : Part} {error : Slot} {first : ℕ} {new : List Slot} {result : Result Progress Fault}
+    {so_far : Part} {error : Slot} {first : ℕ} {new : List Slot} {result : Result RunProgress Fault}
     → source ≡ standard_source was_read → is_dash name ≡ true
     → (shown : Option (List ℕ)) × IsShown told_in source old shown
     × OfSource told_in source old
@@ -600,7 +600,8 @@ are_from world was_read slot (name ∷ names) =
     ((world, _, sym (says_itself _)), are_from world (was_read || is_dash name) (next_slot slot name) names)
 
 -- what was done before the names that are left
-pub record Walked (told_in told : Bool) (task : Task) (world : World) (names left : List (List ℕ)) (progress : Progress)
+pub record Walked (told_in told : Bool) (task : Task) (world : World) (names left : List (List ℕ))
+    (progress : RunProgress)
     (laid : ℕ → List ℕ → Option Content) (sources : List Source) (slots : List Slot) : Type 0 where
   pub done : List Input
   pub made : Outcome
@@ -660,7 +661,7 @@ walk_begins {told} {sources = sources} {slots} fresh are alone =
     }
 
 -- where names are left, no file was removed
-pub slots_at : {told_in told : Bool} {task : Task} {world : World} {names left : List (List ℕ)} {progress : Progress}
+pub slots_at : {told_in told : Bool} {task : Task} {world : World} {names left : List (List ℕ)} {progress : RunProgress}
     {laid : ℕ → List ℕ → Option Content}
     {sources : List Source} {slots : List Slot} → 1 ≤ length left
     → (walked : Walked told_in told task world names left progress laid sources slots)
@@ -668,14 +669,14 @@ pub slots_at : {told_in told : Bool} {task : Task} {world : World} {names left :
 slots_at some walked = grind (arith, common_steps)
 
 pub walked_error : {told_in : Bool} (told : Bool) {task : Task} {world : World} {names left : List (List ℕ)}
-    {progress : Progress}
+    {progress : RunProgress}
     {laid : ℕ → List ℕ → Option Content} {sources : List Source} {slots : List Slot}
     → (walked : Walked told_in told task world names left progress laid sources slots)
     → is_open walked.error.state ≡ true
 walked_error told {task} walked = rw (all_said_state told task.speaker _ _ _ walked.says) refl
 
 pub walk_streams : {told_in told : Bool} {task : Task} {world : World} {names left : List (List ℕ)}
-    {progress : Progress} {laid : ℕ → List ℕ → Option Content} {sources : List Source} {slots : List Slot}
+    {progress : RunProgress} {laid : ℕ → List ℕ → Option Content} {sources : List Source} {slots : List Slot}
     → 1 ≤ length left
     → Walked told_in told task world names left progress laid sources slots → HasStreams told slots
 walk_streams {told} some walked = record { part = walked.made.part; error = walked.error; at = slots_at some walked; opened = walked_error told walked }
@@ -698,8 +699,8 @@ taken_alone {left} slots alone is = elim (alone is) [
   | inr few ↦ (nil_from_length left (omega arith), few.1)
 ]
 
-abbrev pub Takes : Bool → Bool → Task → ℕ → Progress → (ℕ → List ℕ → Option Content) → List Source → List Source
-    → List ℕ → Part → Slot → List Slot → List Slot → Result Progress Fault → Type 0
+abbrev pub Takes : Bool → Bool → Task → ℕ → RunProgress → (ℕ → List ℕ → Option Content) → List Source → List Source
+    → List ℕ → Part → Slot → List Slot → List Slot → Result RunProgress Fault → Type 0
 Takes told_in told task most progress laid sources new_sources name so_far error slots new result =
     OfName told_in (world_of laid sources) progress.was_read (length sources) name
     (λ input. TookInput told_in told task most input (of_input task progress.is_first input) progress.is_first progress.failed
@@ -707,7 +708,7 @@ Takes told_in told task most progress laid sources new_sources name so_far error
 
 -- one more name was taken
 pub walk_goes_on : {told_in told : Bool} {task : Task} {world : World} {names : List (List ℕ)} {name : List ℕ}
-    {left : List (List ℕ)} {progress next : Progress}
+    {left : List (List ℕ)} {progress next : RunProgress}
     {laid new_laid : ℕ → List ℕ → Option Content} {sources new_sources : List Source} {slots new : List Slot}
     → (walked : Walked told_in told task world names (name ∷ left) progress laid sources slots)
     → TakesOne largest_piece progress.was_read name sources new_sources
@@ -718,7 +719,7 @@ pub walk_goes_on : {told_in told : Bool} {task : Task} {world : World} {names : 
 walk_goes_on {told_in} {told} {task} {world} {name = name} {left} {progress} {next} {sources = sources} {new_sources}
     {slots} {new} walked leaves opened_it same (input, is_for, there, took _ after reached is is_done says at swept) =
     let one = of_input task progress.is_first input in
-    let was : next.was_read ≡ (progress.was_read || is_dash name) = ap (λ (p : Progress). p.was_read) is in
+    let was : next.was_read ≡ (progress.was_read || is_dash name) = ap (λ (p : RunProgress). p.was_read) is in
     let unswept : walked.made.sweeps ≡ false = walked.unswept (omega arith) in
     let sweeps_one : (walked.made.sweeps || one.sweeps) ≡ one.sweeps = ap (λ (b : Bool). b || one.sweeps) unswept in
     let only : one.sweeps ≡ true → (left ≡ []) × (length slots ≡ 2) = λ sweeps. taken_alone slots
@@ -737,7 +738,7 @@ walk_goes_on {told_in} {told} {task} {world} {name = name} {left} {progress} {ne
       first = rw (is, walked.first, and_push are_missing (λ (one : Input). is_missing one.content) refl (λ one inputs. refl) walked.done input);
       rest_made = λ rest. ap (of_inputs task true) (append_assoc walked.done (input ∷ []) rest) ∙ walked.rest_made (input ∷ rest)
           ∙ (simp (append_assoc, or_assoc))
-          ∙ ap (λ (b : Bool). joined (joined walked.made one) (of_inputs task b rest)) (sym (ap (λ (p : Progress). p.is_first) is));
+          ∙ ap (λ (b : Bool). joined (joined walked.made one) (of_inputs task b rest)) (sym (ap (λ (p : RunProgress). p.is_first) is));
       rest_are = λ rest are_rest. rw (append_assoc walked.done (input ∷ []) rest)
           (walked.rest_are (input ∷ rest) (is_for, rw was at (rw opened_it at are_rest)));
       rest_there = λ t. append_assoc walked.done (input ∷ []) (inputs_from world next.was_read (length new_sources) left)
@@ -761,7 +762,7 @@ walk_goes_on {told_in} {told} {task} {world} {name = name} {left} {progress} {ne
 -- a fault stopped the run at a name
 pub walk_stops : {told_in : Bool} (told : Bool) {task : Task} {world : World} {names : List (List ℕ)} {name : List ℕ}
     {left : List (List ℕ)}
-    {progress : Progress} {laid : ℕ → List ℕ → Option Content} {sources new_sources : List Source}
+    {progress : RunProgress} {laid : ℕ → List ℕ → Option Content} {sources new_sources : List Source}
     {slots new : List Slot} (fault : Fault)
     → (walked : Walked told_in told task world names (name ∷ left) progress laid sources slots)
     → TakesOne largest_piece progress.was_read name sources new_sources
@@ -793,7 +794,8 @@ walk_stops {told_in} told {task} {world} {names} {name} {left} {progress} {laid}
     )
 
 -- all names were taken
-pub walk_ends : {told_in told : Bool} {task : Task} {world : World} {names left : List (List ℕ)} {progress : Progress}
+pub walk_ends : {told_in told : Bool} {task : Task} {world : World} {names left : List (List ℕ)}
+    {progress : RunProgress}
     {laid : ℕ → List ℕ → Option Content} {sources : List Source} {slots : List Slot} → left ≡ []
     → Walked told_in told task world names left progress laid sources slots
     → RunsOver told_in world names (λ found. TookAll told_in told task found sources slots (Ok progress.failed))
@@ -813,7 +815,7 @@ walk_ends {task = task} {progress = progress} none walked =
 
 -- the words that a loop has left are the first of them and the rest
 pub walked_at : {told_in : Bool} (told : Bool) {task : Task} {world : World} {names : List (List ℕ)}
-    (none : Bor (List ℕ)) (left : List (Bor (List ℕ))) {progress : Progress} {laid : ℕ → List ℕ → Option Content}
+    (none : Bor (List ℕ)) (left : List (Bor (List ℕ))) {progress : RunProgress} {laid : ℕ → List ℕ → Option Content}
     {sources : List Source} {slots : List Slot} → 1 ≤ length left
     → Walked told_in told task world names (map (λ word. word.now) left) progress laid sources slots
     → Walked told_in told task world names

@@ -21,12 +21,12 @@ use Rattle.std.specs.Int.{bit_at, trailing_zeros, bit_not, Bits.{or_zero_l, or_z
 use mir.Val.{bool_byte}
 use Rattle.scan_core.specs.{
   Code.At,
-  declared.{closures.Closures.Closures, hops.Hop.Hop, node.Node.Node, way.Way.Way},
+  declared.{closures.Closures.Closures, hops.Hop.Hop, node.Node.Node, branch.Branch.Branch},
   inner.Closing.{Closer, Follows, HasLanded, IsApart, Passes},
   inner.Closures.{AreClosures, Closes, HasAnchors, IsBase, IsBegun, IsPlain, Stays},
   inner.Hops.{AreHops, AreLandings, HopsTo, IsHop, IsLanding, Meets, PartsTo, end_of, no_hop},
   inner.Sets.{Flows, FlowsOn, LeadsOn},
-  inner.Ways.IsWay,
+  inner.Branches.IsBranch,
   inner.Words.{Adds, IsIn, SpreadsOut, unset, width},
 }
 use Rattle.scan_core.proofs.{
@@ -73,9 +73,9 @@ meets_kept base old grown (inr (inl based)) = inr (inl based)
 meets_kept base old grown (inr (inr hop)) = inr (inr (hops_added _ _ grown.1 hop))
 
 -- what a node leads to is met once both are
-pub both_met : {code : List Node} (base : List ℕ) (old new : List Hop) {number : ℕ} {way : Way} {T E : Type 0}
-    (result : Result T E) → IsWay code number way → Meets base old (number / 64) way.one
-    → OnOk result ((more : List Hop) × (new ≡ old ++ more)) → OnOk result (Meets base new (number / 64) way.other)
+pub both_met : {code : List Node} (base : List ℕ) (old new : List Hop) {number : ℕ} {branch : Branch} {T E : Type 0}
+    (result : Result T E) → IsBranch code number branch → Meets base old (number / 64) branch.one
+    → OnOk result ((more : List Hop) × (new ≡ old ++ more)) → OnOk result (Meets base new (number / 64) branch.other)
     → OnOk result ((to : ℕ) → Flows code false false number to → Meets base new (number / 64) to)
 both_met base old new {number} (Ok done) w one grown other = λ to f. led_by (Meets base new (number / 64)) w (meets_kept base old grown one) other f
 both_met base old new (Err fault) w one grown other = tt

@@ -8,11 +8,11 @@ use Rattle.bre_core.specs.{Match.Parts, ByteSet.has}
 use Rattle.scan_core.specs.{
   declared.{
     node.Node.{Node, TheVariants.{Take, First, Last, Choose, Back}},
-    way.{Way.Way, When.TheVariants.{Never, AtFront, AtEnd, Always}},
+    branch.{Branch.Branch, When.TheVariants.{Never, AtFront, AtEnd, Always}},
   },
   Code.{At, weight_of, weight},
   Sets.{weight_if, positions_among},
-  inner.{Sets.{LeadsOn, Flows, IsCode, Passes}, Ways.IsWay, Each.AreEach},
+  inner.{Sets.{LeadsOn, Flows, IsCode, Passes}, Branches.IsBranch, Each.AreEach},
 }
 
 pub weight_most : (node : Node) → weight_of node ≤ 1
@@ -86,11 +86,11 @@ weight_length (node ∷ code) = let w = weight_most node in let r = weight_lengt
 -- Where the numbers of a code lead without a byte.
 
 pub way_nowhere : {code : List Node} {number : ℕ} → length code ≤ number
-    → IsWay code number (record { when = Never; one = 0; other = 0 })
+    → IsBranch code number (record { when = Never; one = 0; other = 0 })
 way_nowhere h = search (rules, at_least)
 
 -- where a node leads
-abbrev pub way_at : Node → ℕ → Way
+abbrev pub way_at : Node → ℕ → Branch
 way_at (Take bytes) number = record { when = Never; one = 0; other = 0 }
 way_at First number = record { when = AtFront; one = number + 1; other = number + 1 }
 way_at Last number = record { when = AtEnd; one = number + 1; other = number + 1 }
@@ -102,7 +102,7 @@ one_of (inl a) = a
 one_of (inr a) = a
 
 pub way_is : {code : List Node} {number : ℕ} (node : Node) → IsCode code → At code number node
-    → IsWay code number (way_at node number)
+    → IsBranch code number (way_at node number)
 way_is (Take bytes) c here = record {
   one = omega arith;
   other = omega arith;
@@ -132,10 +132,10 @@ way_is {code} {number} (Back by) c here = let l = at_least code number (Back by)
   );
 }
 
-module _ {code : List Node} {number : ℕ} {way : Way} where
+module _ {code : List Node} {number : ℕ} {branch : Branch} where
   -- what is so of both is so of all that is led to
-  pub led_by : {at_first at_last : Bool} {to : ℕ} (So : ℕ → Type 0) → IsWay code number way → So way.one → So way.other
-      → Flows code at_first at_last number to → So to
+  pub led_by : {at_first at_last : Bool} {to : ℕ} (So : ℕ → Type 0) → IsBranch code number branch → So branch.one
+      → So branch.other → Flows code at_first at_last number to → So to
   led_by {at_first} {at_last} {to} So w one other f = elim ((w.exact at_first at_last to).0 f).1 [ inl e ↦ rw e one | inr e ↦ rw e other ]
 
 -- Lists of which each entry is what its place asks for.

@@ -19,11 +19,11 @@ use Rattle.scan_core.{
   specs.inner.{
     Sets.{Flows, FlowsOn},
     Words.{GoesOn, IsIn, unset, Grows, Adds, SpreadsOut, width},
-    Ways.{IsWay, Opens},
+    Branches.{IsBranch, Opens},
     Each.AreEach,
     Closures.{Closes, IsInside, chosen_at},
   },
-  specs.declared.{node.Node.Node, way.Way.Way},
+  specs.declared.{node.Node.Node, branch.Branch.Branch},
   proofs.Enterings.{at_least, parts_anywhere},
 }
 use Rattle.bre_core.specs.Match.{Parts}
@@ -140,14 +140,14 @@ pub grows_both : {Added Other : ℕ → Type 0} {old middle new : List ℕ} {bef
 grows_both f g = search rules
 
 -- a node that leads nowhere at this place, and one that leads to two numbers
-pub grows_closed : {code : List Node} {number : ℕ} {way : Way} {at_first at_last : Bool} {words : List ℕ} {on : ℕ}
-    → IsWay code number way → (Opens way.when at_first at_last → ⊥)
+pub grows_closed : {code : List Node} {number : ℕ} {branch : Branch} {at_first at_last : Bool} {words : List ℕ} {on : ℕ}
+    → IsBranch code number branch → (Opens branch.when at_first at_last → ⊥)
     → Grows (Flows code at_first at_last number) words words on on
 grows_closed {at_first} {at_last} w never = grows_none (λ to f. absurd (never ((w.exact at_first at_last to).0 f).0))
 
-pub grows_way : {code : List Node} {number : ℕ} {way : Way} {at_first at_last : Bool} {old middle new : List ℕ}
-    {before between on : ℕ} → IsWay code number way → Opens way.when at_first at_last
-    → Grows (λ n. n ≡ way.one) old middle before between → Grows (λ n. n ≡ way.other) middle new between on
+pub grows_way : {code : List Node} {number : ℕ} {branch : Branch} {at_first at_last : Bool} {old middle new : List ℕ}
+    {before between on : ℕ} → IsBranch code number branch → Opens branch.when at_first at_last
+    → Grows (λ n. n ≡ branch.one) old middle before between → Grows (λ n. n ≡ branch.other) middle new between on
     → Grows (Flows code at_first at_last number) old new before on
 grows_way {at_first} {at_last} w o f g =
     grows_by (grows_both f g)
@@ -260,8 +260,9 @@ bit_is number bit here h =
     )
 
 -- what a number of a word leads to in it
-pub both_led : {code : List Node} {number to : ℕ} {way : Way} (one other bit : ℕ) → IsWay code number way
-    → Opens way.when false false → ((bit_at one bit ≡ 1) ↔ (way.one ≡ to)) → ((bit_at other bit ≡ 1) ↔ (way.other ≡ to))
+pub both_led : {code : List Node} {number to : ℕ} {branch : Branch} (one other bit : ℕ) → IsBranch code number branch
+    → Opens branch.when false false → ((bit_at one bit ≡ 1) ↔ (branch.one ≡ to))
+    → ((bit_at other bit ≡ 1) ↔ (branch.other ≡ to))
     → (bit_at (bit_or one other) bit ≡ 1) ↔ Flows code false false number to
 both_led {to} one other bit w o a b = (
   λ k. (w.exact false false to).1 (o, elim (either_bit _ _ _ k) [ inl first ↦ inl (sym (a.0 first)) | inr second ↦ inr (sym (b.0 second)) ]),

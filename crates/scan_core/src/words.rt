@@ -7,8 +7,8 @@ ghost use Rattle.scan_core.specs.{
   Sets.positions_among,
 };
 
+use crate::branch::{branch_of, is_open};
 use crate::node::Node;
-use crate::way::{is_open, way_of};
 
 /// Whether a number is in a set.
 #[tactic(auto, using(crate::proofs::Insides::has_tests))]
@@ -47,12 +47,12 @@ pub fn lead(
     requires room { length nodes.now < 64 * length words.old }
     ensures { Grows (Flows nodes.now at_first at_last number) words.old words.new on result }
 {
-    let way = way_of(nodes, number);
-    if !is_open(way.when, at_first, at_last) {
+    let branch = branch_of(nodes, number);
+    if !is_open(branch.when, at_first, at_last) {
         return on;
     }
-    let on = enter(words, way.one, on);
-    enter(words, way.other, on)
+    let on = enter(words, branch.one, on);
+    enter(words, branch.other, on)
 }
 
 /// Takes all out.

@@ -20,7 +20,7 @@ use Rattle.ports_core.specs.{
   Part.{File, Part, OutputsAt, FilesBegin, Begins, IsBeginning, IsDueLine, IsNext, IsAt, LinesInOrder, Marks},
   Draft.{manner_by, opening_line, output_of, part_with, told_before, told_of_files},
   FileWriter.Breaks,
-  Turn.fault_in,
+  InTurn.fault_in,
   inner.Write.Wrote,
 }
 use Rattle.ports_core.proofs.{

@@ -34,7 +34,7 @@ use Rattle.split_core.specs.declared.splitter.Splitter.TheVariants as way
 -- The engine is to write this chunk of an input of this size, and was fed nothing.
 pub record AsksFor (chunker : ChunkerState) (size chunk : ℕ) : Type 0 where
   pub said : chunker.said ≡ Some size
-  pub aim : chunker.cutter.target.aim ≡ to_output chunk
+  pub aim : chunker.cutter.sink.aim ≡ to_output chunk
   pub fresh : Holds chunker []
 
 -- A text that it may have been fed: no more bytes than stand before the chunk. With them the chunk at a place was begun.

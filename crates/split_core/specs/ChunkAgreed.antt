@@ -9,7 +9,7 @@ use Rattle.seg_core.specs.{Line.joined, declared.cut.Chunks.Chunks}
 use Rattle.ports_core.specs.{
   Agreed.{CanCome, Spot, file_bytes, output_at, spots_from},
   Part.{File, Part, IsBeginning, Begins},
-  Turn.AllClosed,
+  InTurn.AllClosed,
   Work.Work,
   declared.slot.State.TheVariants.Open,
 }
