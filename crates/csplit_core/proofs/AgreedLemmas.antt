@@ -1,10 +1,8 @@
 -- What is settled is what all continuations agree on, and where lines go.
 use Rattle.std.proofs.{
   Common.{◌≡◌, inl, inr, ℕ, suc, ◌+◌, ◌-◌, ◌<◌, ◌≤◌, ◌&&◌, Bool, true, false, cond, List, [], ◌∷◌, ◌++◌},
-  Common.length,
-  Common.{get_or, refl, sym, ◌∙◌, ap, arith, length-append, zero, map, take, drop, append_assoc, nat_lt},
-  Common.nat_le,
-  Common.{min, length-take, ◌⊎◌, ne_eqb, eq-eqb, length-drop, length-take-le, rules, ◌≢◌},
+  Common.{length, get_or, refl, sym, ◌∙◌, ap, arith, length-append, zero, map, take, drop, append_assoc, nat_lt},
+  Common.{nat_le, min, length-take, ◌⊎◌, ne_eqb, eq-eqb, length-drop, length-take-le, rules, ◌≢◌},
   lemmas.{
     Bool.{cases_lt, false≢true, Decides.nat_tests},
     List.{append-nil, map-append, take-append-drop, drop-drop},
@@ -15,8 +13,7 @@ use Rattle.csplit_core.specs.{
   Agreed.{CanCome, kept_lines, whole_outputs, settled_outputs, AreFronts, IsAgreed},
   Operand.{Minus, Target, Number, Search, Operand, Line, Plus, is_kept},
   Plan.{State, start, Step, Ending, below, search_line, MatchesNone, CutsAt, line_after, step_of, Runs, is_below},
-  Plan.cuts,
-  Plan.{missed, Misses, is_used_up, misses, is_above},
+  Plan.{cuts, missed, Misses, is_used_up, misses, is_above},
   laws.PlanLaws.{line_some, runs_on, goes_on, plan_runs, plan_once, cuts_still, less_test, not_less_test},
   laws.SectionLaws.{between_still, ends_as, are_within, closed_still, plan_grows, whole_covers, plan_goes_on},
   inner.PlanLaws.{AreWithin, EndsAs, GoesOn},

@@ -1,8 +1,7 @@
 -- Taking lines in, one by one and stretch by stretch, and cutting them as often as operands cut.
 use Rattle.std.proofs.{
   lemmas.{Grind.common_steps, Bool.{false≢true, cases_lt}},
-  Common.{◌≡◌, ◌⊎◌, inl, inr, ℕ, ◌+◌, ◌-◌, ◌≤◌, Bool, true, Option, Some, None, List, [], ◌∷◌},
-  Common.{◌++◌, length},
+  Common.{◌≡◌, ◌⊎◌, inl, inr, ℕ, ◌+◌, ◌-◌, ◌≤◌, Bool, true, Option, Some, None, List, [], ◌∷◌, ◌++◌, length},
   Common.{refl, sym, ◌∙◌, ap, subst, arith, append_assoc, length-append, IfSome, Ok, Err, take, drop, eqb, Result},
   Common.{take_all, append-nil, take-append-drop, length-drop, length-take-le, drop_at, take_at, drop-drop, is_some},
   Common.{IfOk, rules},
@@ -33,9 +32,8 @@ use Rattle.csplit_core.specs.{
   Output.{Style, manner_of},
   Planned.{Plan, plan},
   laws.{PlanLaws.plan_runs, SectionLaws.{ends_as, cuts_from, grows}},
-  inner.Cutter.{CutsIn, bare, IsFound, settled_part, part_at, IsWhole, IsLine, Joins, Arrives, Held, HoldsLines, CutsNow},
-  inner.Cutter.{CutsAll, WillCut, TriesNext, Takes, IsNextFound, Stretches, IsEnd, Tries, IsAfter},
-  inner.Cutter.CutAt,
+  inner.Cutter.{CutsIn, bare, IsFound, settled_part, part_at, IsWhole, IsLine, Joins, Arrives, Held, HoldsLines},
+  inner.Cutter.{CutsNow, CutsAll, WillCut, TriesNext, Takes, IsNextFound, Stretches, IsEnd, Tries, IsAfter, CutAt},
   inner.Cutter.{Spreading, Spread, PassesOver, Starts, StopsAt, CutsOn, PassesThenHolds},
   Section.{is_final, most_waiting, settled_end},
   declared.{line_cutter.{CutPoint.CutPoint, Passed.Passed}, progress.Attempt.{Attempt, TheVariants.Below}},

@@ -1,10 +1,8 @@
 -- What stays of a plan when more lines come, what an attempt says of it, what trying the next operand says, and over which lines it stands as it does.
 use Rattle.std.proofs.{
   Common.{◌≡◌, inl, inr, ℕ, suc, ◌+◌, ◌-◌, ◌<◌, ◌≤◌, Bool, true, false, List, [], ◌∷◌, ◌++◌, length, get_or},
-  Common.{refl, ◌∙◌},
-  Common.{ap, arith, length-append, zero, ◌^◌, drop, sym, subst, None, Result, Ok, Err, OnOk, IfErr, Option},
-  Common.Some,
-  Common.{rules, append-nil, min, take, append_assoc},
+  Common.{refl, ◌∙◌, ap, arith, length-append, zero, ◌^◌, drop, sym, subst, None, Result, Ok, Err, OnOk, IfErr},
+  Common.{Option, Some, rules, append-nil, min, take, append_assoc},
   lemmas.{
     Grind.common_steps,
     Bool.{cases_lt, eq-eqb, eqb-true, ne_eqb, false≢true},
@@ -13,16 +11,16 @@ use Rattle.std.proofs.{
 }
 use Rattle.csplit_core.specs.{
   Operand.{Target, Number, Search, Operand, Line, unmarked, is_match, Offset, moved, has_more},
-  Plan.{State, Step, Ending, missed, above, search_line, MatchesNone, line_after, Runs, is_used_up, misses},
-  Plan.{is_above, is_below, cuts, below, CutsAt, state_after},
+  Plan.{State, Step, Ending, missed, above, search_line, MatchesNone, line_after, Runs, is_used_up, misses, is_above},
+  Plan.{is_below, cuts, below, CutsAt, state_after},
   Planned.plan,
   laws.{
     PlanLaws.{cuts_still, goes_on, plan_runs, plan_once, line_some, fewer_left, fewer_moves},
     SectionLaws.ends_as,
   },
   Progress.{state_of, EndsHere, AimsAt},
-  inner.Cutter.{AreSeen, AgreesWithPlan, FallsAt, GoesPast, WillCut, PassesOn, PassesCut, IsWhole, IsLine, Joins, Looked},
-  inner.Cutter.{IsFound, IsNoCut, StaysNear, Tries, TriesNext, AreClear, IsNextFound, Lacks, equipped},
+  inner.Cutter.{AreSeen, AgreesWithPlan, FallsAt, GoesPast, WillCut, PassesOn, PassesCut, IsWhole, IsLine, Joins},
+  inner.Cutter.{Looked, IsFound, IsNoCut, StaysNear, Tries, TriesNext, AreClear, IsNextFound, Lacks, equipped},
   inner.Cutter.{PassesClear, PassesOver, StopsAt},
   inner.PlanLaws.{needed, EndsAs},
   declared.{

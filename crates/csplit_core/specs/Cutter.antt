@@ -1,6 +1,7 @@
 -- What contracts see of the cutter of lines, and what its calls do.
 use Rattle.std.specs.{
-  Prelude.{◌≡◌, ◌⊎◌, ℕ, ◌+◌, ◌-◌, ◌≤◌, max, Bool, true, false, List, [], ◌∷◌, ◌++◌, length, map, Option, Some, None},
+  Prelude.{◌≡◌, ◌⊎◌, ℕ, ◌+◌, ◌-◌, ◌≤◌, max, Bool, true, false, List, [], ◌∷◌, ◌++◌, length, map, Option, Some},
+  Prelude.None,
   List.flat_map,
 }
 use Rattle.bre_core.specs.Pattern.{Pattern}

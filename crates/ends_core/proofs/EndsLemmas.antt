@@ -8,9 +8,8 @@ use Rattle.std.proofs.lemmas.{
 }
 use Rattle.std.proofs.{
   Common.{◌≡◌, ℕ, ◌+◌, ◌-◌, ◌<◌, ◌≤◌, ◌&&◌, not, List, [], ◌∷◌, ◌++◌, ◌⊎◌, length, Bool, true, false},
-  Common.{IsTrue, Ok, Err},
-  Common.{Result, OnOk, nat_le, inl, inr, None, refl, sym, ◌∙◌, ap, subst, arith, length-append, ◌↔◌, replicate, lit<},
-  Common.{zero, suc, take, drop, rules},
+  Common.{IsTrue, Ok, Err, Result, OnOk, nat_le, inl, inr, None, refl, sym, ◌∙◌, ap, subst, arith, length-append},
+  Common.{◌↔◌, replicate, lit<, zero, suc, take, drop, rules},
 }
 use Rattle.ports_core.specs.{
   Slot.{Slot, is_writable, with_written, told_of},

@@ -9,7 +9,11 @@ use Rattle.ports_core.specs.{
 }
 use Rattle.watch_core.specs.{Snapshot.Snapshot, Watched.{Watched, watched_at}}
 use Rattle.follow_core.specs.{
-  declared.{follow.Phase.{Phase, TheVariants.{Fresh, Looking, Over}}, name.Standing.TheVariants.New, start.Start.Start},
+  declared.{
+    follow.Phase.{Phase, TheVariants.{Fresh, Looking, Over}},
+    name.Standing.TheVariants.New,
+    start.Start.Start,
+  },
   Sharing.{CanPrint, AllShared, AllShort},
   Followed.any_failed,
   Look.{Fate, Look, Ways, is_dropped, snapshots, ways_of},

@@ -1,9 +1,9 @@
 -- Lemmas on the loop that feeds an engine, and on what an engine uses of its input.
 use Rattle.std.proofs.{
-  lemmas.{Grind.common_steps, List.{append-nil, drop_at, length-take}, Bool.{or_right}},
-  Common.{◌⊎◌, ◌≡◌, ℕ, ◌+◌, ◌<◌, ◌≤◌, ◌^◌, Bool, true, false, List, [], ◌++◌, length, take, Result, Ok, Err, IfOk},
-  Common.{None, arith, length-append, length-take, inl, inr, refl, sym, ◌∙◌, ap, IsTrue, ◌-◌, drop, not, if◌then◌else◌},
-  Common.{append_assoc, rules},
+  lemmas.{Grind.common_steps, List.{append-nil, drop_at, length-take}, Bool.or_right},
+  Common.{◌⊎◌, ◌≡◌, ℕ, ◌+◌, ◌<◌, ◌≤◌, ◌^◌, Bool, true, false, List, [], ◌++◌, length, take, Result, Ok, Err},
+  Common.{IfOk, None, arith, length-append, length-take, inl, inr, refl, sym, ◌∙◌, ap, IsTrue, ◌-◌, drop, not},
+  Common.{if◌then◌else◌, append_assoc, rules},
 }
 use Rattle.ports_core.specs.{
   Slot.{Slot, changed_at},
@@ -11,7 +11,8 @@ use Rattle.ports_core.specs.{
   Part.{Part, OutputsAt},
   Swept.Swept,
   Work.{Work, Means, Needs, IsLawful, IsComplete, IsNeeded, IsSpare, Judges, IsSettled},
-  Engine.{Clears, Terms, Ended, EndsThere, EndsWith, IsCaused, IsMet, KeepsOwn, Passes, StandsAt, TakesIn, is_verdict},
+  Engine.{Clears, Terms, Ended, EndsThere, EndsWith, IsCaused, IsMet, KeepsOwn, Passes, StandsAt, TakesIn},
+  Engine.is_verdict,
   Guard.{GuardState, HoldsIn, IsRefusedWith},
   declared.{fault.Fault.Fault, verdict.Verdict.Verdict},
   Inputs.{CameFrom, empty, OfContent},

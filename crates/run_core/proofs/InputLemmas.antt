@@ -5,9 +5,9 @@ use Rattle.std.proofs.{
     Bool.{false≢true, or_parts, or_left, or_right, false_from_ne_true},
     List.{append-nil, nil_from_length, Recursion.and_push},
   },
-  Common.{◌≡◌, ℕ, ◌+◌, ◌<◌, ◌≤◌, zero, suc, Bool, true, false, ◌||◌, IsTrue, if◌then◌else◌, List, [], ◌∷◌, ◌++◌},
-  Common.{length, Option, Some, None, IfSome, arith, inl, inr, refl, ◌⊎◌, not, take, Result, Ok, Err, sym, ◌∙◌, ap},
-  Common.{subst, lit≤, codes, ◌-◌, drop, map, get_or, Bor, append_assoc, lit<, rules},
+  Common.{◌≡◌, ℕ, ◌+◌, ◌<◌, ◌≤◌, zero, suc, Bool, true, false, ◌||◌, IsTrue, if◌then◌else◌, List, [], ◌∷◌},
+  Common.{◌++◌, length, Option, Some, None, IfSome, arith, inl, inr, refl, ◌⊎◌, not, take, Result, Ok, Err, sym, ◌∙◌},
+  Common.{ap, subst, lit≤, codes, ◌-◌, drop, map, get_or, Bor, append_assoc, lit<, rules},
   Math.Bool.{and-false, and-true, or-false, or-true, or_assoc},
 }
 use Rattle.ports_core.specs.{
@@ -40,8 +40,8 @@ use Rattle.run_core.specs.{
   Input.{Input, World, IsFor, shown_of, showing, is_dash, input_of, inputs_from, next_slot, has_dash, AreFrom},
   Input.{inputs_at, file_input, standard_input, read_before},
   Reading.{AreDone, AreUntouched, IsDone, IsUntouched, Leaves, count_after},
-  inner.RunSteps.{TakesOne, OfSource, HeaderFails, no_room, broke, TookInput, took, cut_off, input_from, TookAll, all},
-  inner.RunSteps.{stopped_at, not_begun, HasStreams, OfName, standard_source},
+  inner.RunSteps.{TakesOne, OfSource, HeaderFails, no_room, broke, TookInput, took, cut_off, input_from, TookAll},
+  inner.RunSteps.{all, stopped_at, not_begun, HasStreams, OfName, standard_source},
   declared.{inputs.RunProgress.RunProgress, feeding.Fed.{Fed, TheVariants.{Whole, Enough, Broken}}},
   RunEnds.{unheaded, heading, calling, step_after, EndsAs, as_defined, stopped as run_stopped, no_room as run_unmade},
   RunEnds.{RunsOver, unopened},

@@ -1,8 +1,8 @@
 -- Lemmas on what is written after what was written before, on outputs that a fault stopped, and on the message that tells it.
 use Rattle.std.proofs.{
   lemmas.{Grind.common_steps, List.{map-append, append-nil}},
-  Common.{◌≡◌, ℕ, ◌+◌, ◌<◌, ◌≤◌, suc, Bool, true, false, List, [], ◌∷◌, ◌++◌, length, take, drop, ◌⊎◌, inl, inr, refl},
-  Common.{sym, ◌∙◌, ap, arith, append_assoc, length-append, zero, lit<, subst},
+  Common.{◌≡◌, ℕ, ◌+◌, ◌<◌, ◌≤◌, suc, Bool, true, false, List, [], ◌∷◌, ◌++◌, length, take, drop, ◌⊎◌, inl},
+  Common.{inr, refl, sym, ◌∙◌, ap, arith, append_assoc, length-append, zero, lit<, subst},
   Math.Seq.{take-append-add, drop-append-add},
 }
 use Rattle.ports_core.specs.{

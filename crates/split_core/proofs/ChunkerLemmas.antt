@@ -7,8 +7,7 @@ use Rattle.std.proofs.{
     List.{append-nil, drop_all, take_at, take-append-drop, length-append, length-drop, length-take},
   },
   Common.{◌≡◌, ℕ, ◌+◌, ◌-◌, ◌<◌, ◌≤◌, min, Bool, true, false, eqb, nat_lt, List, [], ◌++◌, ◌⊎◌, length, take},
-  Common.drop,
-  Common.{Option, Some, None, Ok, Err, inl, inr, refl, sym, ◌∙◌, ap, arith, append_assoc},
+  Common.{drop, Option, Some, None, Ok, Err, inl, inr, refl, sym, ◌∙◌, ap, arith, append_assoc},
 }
 use Rattle.ports_core.{
   specs.{
@@ -29,7 +28,7 @@ use Rattle.split_core.specs.{
     Chunker.{Comes, EndsAs, IsLike, PassesAs},
     Cutter.{CutsMore, CutsAs, IsCut, part_so, said_work},
     Seen.{is_each_on, is_past_at, is_past_on},
-    Sends.{Brings, EndsAll},
+    Brings.{Brings, EndsAll},
   },
   Parts.CutUp,
   laws.{

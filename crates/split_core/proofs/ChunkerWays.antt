@@ -2,10 +2,9 @@
 use Rattle.std.proofs.Common.{rules}
 use Rattle.std.{
   specs.Option.is_none,
-  proofs.lemmas.{Grind.common_steps},
+  proofs.lemmas.Grind.common_steps,
   proofs.Common.{◌≡◌, ℕ, ◌+◌, ◌≤◌, Bool, true, false, IsTrue, List, ◌++◌, length, Option, Some, None, Result, Ok},
-  proofs.Common.Err,
-  proofs.Common.{IfNone, IfSome, refl, sym, ap, subst, arith},
+  proofs.Common.{Err, IfNone, IfSome, refl, sym, ap, subst, arith},
 }
 use Rattle.ports_core.specs.{
   Engine.{IsMet, StandsAt},
@@ -26,7 +25,7 @@ use Rattle.split_core.specs.{
   ChunkerState.{AimState, ChunkerState, Course, Holds, HoldsBy, IsAimed, course, course_of},
   ChunkerState.{to_files, to_output, in_files, in_output, total, work, work_on},
   Split.{manner_of},
-  inner.{Chunker.{Comes, EndsAs, IsLike, PassesAs}, Sends.{AtAim, IsOf, manner_on, output_on}},
+  inner.{Chunker.{Comes, EndsAs, IsLike, PassesAs}, Brings.{AtAim, IsOf, manner_on, output_on}},
 }
 use Rattle.split_core.proofs.{PartsLemmas.{met_files, unjudged}, WayLemmas.passes_lacking}
 use Rattle.ports_core.specs.Engine as engine

@@ -7,8 +7,7 @@ use Rattle.std.proofs.{
   lemmas.List.FromFn.length-map-range_with_len,
   Math.Seq.take-add,
   Common.{◌≡◌, ℕ, ◌+◌, ◌-◌, ◌<◌, ◌≤◌, min, zero, suc, Bool, true, false, cond, nat_lt, List, [], ◌∷◌, ◌++◌},
-  Common.◌⊎◌,
-  Common.{length, take, drop, replicate, Option, Some, None, Ok, inl, inr, refl, sym, ◌∙◌, ap, subst, arith},
+  Common.{◌⊎◌, length, take, drop, replicate, Option, Some, None, Ok, inl, inr, refl, sym, ◌∙◌, ap, subst, arith},
   Common.append_assoc,
 }
 use Rattle.ports_core.{
@@ -29,17 +28,16 @@ use Rattle.seg_core.{
   proofs.FirstLines.{delimiters-first_lines, first_lines-is_take, lines_of-first_lines},
 }
 use Rattle.split_core.specs.{
-  Chunks.{before_chunk, begun_before, chunk_start, chunks_of, chunks_within, ended, is_within, open_from},
-  Chunks.{passed},
-  ChunkWork.{draft_by},
-  ChunkerState.{Carries, Course, CutterState, HasAll, HasCut, IsAimed, can_cut},
-  ChunkerState.{part_on, work_on, SinkState, course, in_files, in_output},
+  Chunks.{before_chunk, begun_before, chunk_start, chunks_of, chunks_within, ended, is_within, open_from, passed},
+  ChunkWork.draft_by,
+  ChunkerState.{Carries, Course, CutterState, HasAll, HasCut, IsAimed, can_cut, part_on, work_on, SinkState, course},
+  ChunkerState.{in_files, in_output},
   Parts.CutUp,
   Split.manner_of,
   inner.Cutter.{CutsMore, CutsAs, EndsFull, IsCut, IsCutOff, IsOpen, CutsStretch, WritesTo, cut_to, said_work},
   inner.Chunks.GoesOn as Goes,
   inner.Seen.{is_past_at, is_past_on},
-  inner.Sends.{Changes, Gives, HasName, Stays, with_full, with_fulls, with_rest},
+  inner.Brings.{Changes, Gives, HasName, Stays, with_full, with_fulls, with_rest},
   laws.BegunLaws.{begun_begins, begun_long, begun_some, begun_stays, begun_within, open_append, open_within},
   laws.ChunkLaws.{ended_grows, ended_is, ended_only, ends_here, goes_on, passed_full, passed_open, piece_all},
   laws.ChunkLaws.{start_grows, start_past, start_within},
@@ -393,10 +391,10 @@ end_here : {cutter : CutterState} {size : ℕ} {x : List ℕ} → Place cutter s
 end_here {cutter} at = grind (arith, common_steps)
 
 -- all of it stands before that
-all_before : {cutter : CutterState} {size : ℕ} {x : List ℕ} (text : List ℕ) → IsCut cutter size x → Place cutter size x
+all_within : {cutter : CutterState} {size : ℕ} {x : List ℕ} (text : List ℕ) → IsCut cutter size x → Place cutter size x
     → before_chunk cutter.chunks size (ended cutter.chunks size x + 1) (x ++ cut_to cutter (end_so cutter size) text)
     ≡ x ++ cut_to cutter (end_so cutter size) text
-all_before {cutter} {size} {x} text is at = grind (arith, common_steps, ended_is, end_here, piece_all)
+all_within {cutter} {size} {x} text is at = grind (arith, common_steps, ended_is, end_here, piece_all)
 
 -- and the chunks end that have all then
 pub record Cutting (cutter mid : CutterState) (y : List ℕ) : Type 0 where
@@ -432,7 +430,7 @@ cuts_on {told} {cutter} {mid} {next} {size} text {y} {old} {new = new} fault is 
       → Gives told (course cutter) cutter.sink next.sink (chunks_within cutter.chunks size x)
       (chunks_within cutter.chunks size (x ++ y)) old new fault
   both x has within = let place = place_of y has step.some within in
-      let all : before_chunk cutter.chunks size (ended cutter.chunks size x + 1) (x ++ y) ≡ x ++ y = rw is (all_before text has place) in
+      let all : before_chunk cutter.chunks size (ended cutter.chunks size x + 1) (x ++ y) ≡ x ++ y = rw is (all_within text has place) in
       let first = changes.gives _ (has.cut.carries, name_of _ _ _ has.cut.all place.less) in
       let cut : with_fulls (ended mid.chunks size (x ++ y) - mid.sink.place) (with_rest y (chunks_within cutter.chunks size x))
       ≡ chunks_within cutter.chunks size (x ++ y) =
@@ -463,7 +461,7 @@ cuts_not {cutter = cutter} {size = size} text {y} {why = why} is some chunks at 
   brings = λ x has within. let some : 0 < length y = rw is (begun_some cutter.chunks.unit cutter.chunks.delim _ text (omega arith) some) in
       let here = place_of y has some within in
       brings_wider (fulls_follow (course cutter) _ (ended cutter.chunks size (x ++ y) - ended cutter.chunks size x)
-      (grown cutter.chunks size x y here.some within (rw is (all_before text has here))))
+      (grown cutter.chunks size x y here.some within (rw is (all_within text has here))))
       (stopped.gives _ (has.cut.carries, name_of _ _ _ has.cut.all here.less)).brings;
   leads = λ x has within. tt;
 }
@@ -509,7 +507,7 @@ needed_in {cutter} {size} {x} text n going some few is has within = let chunks =
     let front : take (n - 1) (take n text) ≡ take (n - 1) text = take-take (n - 1) n text (omega arith) in
     let both : z ++ last ≡ x ++ take n text =
     rw (append_assoc x (take (n - 1) text) last, ← front, take-append-drop (n - 1) (take n text)) refl in
-    let all : before_chunk chunks size (ended chunks size x + 1) (z ++ last) ≡ z ++ last = rw (both, is) (all_before _ has place) in
+    let all : before_chunk chunks size (ended chunks size x + 1) (z ++ last) ≡ z ++ last = rw (both, is) (all_within _ has place) in
     let one : length last ≡ 1 = omega (arith, length-drop (n - 1) (take n text), length-take n text) in
     not_yet _ _ _ _ z
     (omega (arith, length-append x (take (n - 1) text), length-take (n - 1) text, length-append x text))

@@ -2,8 +2,7 @@
 use Rattle.std.proofs.Common.{rules}
 use Rattle.std.proofs.{
   Common.{◌≡◌, ℕ, ◌<◌, Bool, true, false, List, [], Option, Some, None, IfSome, refl, sym, ◌∙◌, ap, subst, arith},
-  Common.inl,
-  Common.{zero, suc, max},
+  Common.{inl, zero, suc, max},
   Math.Seq.{drop-nil, take-nil},
 }
 use Rattle.seg_core.specs.declared.{cut.Chunks.Chunks, unit.Unit.{Unit as Counted, TheVariants.{Bytes, Lines}}}

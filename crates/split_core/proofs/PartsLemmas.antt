@@ -9,9 +9,8 @@ use Rattle.std.proofs.{
 use Rattle.ports_core.specs.{
   Draft.{Manner, Draft, share, Share, shares_of, draft_part, output_of, with_bytes, with_next},
   Engine.{CutsOff, EndsWith, EndsThere, IsMet, StandsAt, is_verdict},
-  FileWriter.{Leaves, At, Breaks, CanCount, CanTell, Goes, IsWrite, is_file},
-  FileWriter.manner_in,
-  Name.{has_name},
+  FileWriter.{Leaves, At, Breaks, CanCount, CanTell, Goes, IsWrite, is_file, manner_in},
+  Name.has_name,
   Part.writes,
   Slot.{Slot, is_writable},
   InTurn.fault_in,
@@ -32,8 +31,7 @@ use Rattle.seg_core.specs.{Cut.most}
 use Rattle.split_core.specs.{
   Parts.{cut_up, is_full, parts, settled_rest, unless_empty, waiting_rest},
   PartsState.{PartsState, IsReady, Lacks, Stands, filing_of, work},
-  Split.{Filing, TellsNoSizes, are_named, is_verbose, draft_of, manner_of, output_by, settled_parts},
-  Split.split_means,
+  Split.{Filing, TellsNoSizes, are_named, is_verbose, draft_of, manner_of, output_by, settled_parts, split_means},
   declared.step.Step.{Step, TheVariants.{Goes as GoesOn, Ends, Begins, Waits}},
   inner.CutLaws.{cut_so, named},
   inner.Sharing.{CannotClose, always_named},

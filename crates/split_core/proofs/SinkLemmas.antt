@@ -2,10 +2,9 @@
 use Rattle.std.proofs.Common.{rules}
 use Rattle.std.proofs.lemmas.Grind.{common_steps}
 use Rattle.std.proofs.{
-  lemmas.{Bool.{false≢true}, List.{append-nil, length-append}},
-  Common.{◌≡◌, ℕ, ◌+◌, ◌≤◌, zero, suc, Bool, true, false, List, [], ◌∷◌, ◌++◌, length, get_or, cond},
-  Common.eqb,
-  Common.{Option, Some, None, Result, Ok, Err, IfSome, IfNone, IfErr, IsTrue, inl, refl, sym, ◌∙◌, ap, subst, arith},
+  lemmas.{Bool.false≢true, List.{append-nil, length-append}},
+  Common.{◌≡◌, ℕ, ◌+◌, ◌≤◌, zero, suc, Bool, true, false, List, [], ◌∷◌, ◌++◌, length, get_or, cond, eqb, Option},
+  Common.{Some, None, Result, Ok, Err, IfSome, IfNone, IfErr, IsTrue, inl, refl, sym, ◌∙◌, ap, subst, arith},
 }
 use Rattle.ports_core.specs.{
   Draft.{Draft, Manner, draft_part, made_of, manner_by, output_of, with_bytes, with_next},
@@ -24,8 +23,7 @@ use Rattle.ports_core.specs.{
   },
 }
 use Rattle.ports_core.proofs.{
-  FileWriterLemmas.{in_any, leaves_again, reaches_again, reaches_as, stops_wider, where_well},
-  FileWriterLemmas.where_short,
+  FileWriterLemmas.{in_any, leaves_again, reaches_again, reaches_as, stops_wider, where_well, where_short},
   PartLemmas.{out_begins, out_cut, out_more, part_begins_itself, part_trans, turn_between},
   PartSteps.there_from,
   ShareLemmas.{bytes_begin, next_begins},
@@ -33,13 +31,12 @@ use Rattle.ports_core.proofs.{
 use Rattle.split_core.specs.{
   ChunkWork.{draft_by, kept},
   Chunks.pieces_in,
-  ChunkerState.{AimState, Course, IsAimed, SinkState, course_of, filing_by, in_files, in_output, to_files},
-  ChunkerState.{part_on, to_output, whole_on},
+  ChunkerState.{AimState, Course, IsAimed, SinkState, course_of, filing_by, in_files, in_output, to_files, part_on},
+  ChunkerState.{to_output, whole_on},
   Parts.CutUp,
   Split.{Filing, TellsNoSizes, manner_of},
-  inner.Sends.{AtAim, Brings, Changes, EndsAll, Files, Gives, CarriesOn, IsOf, Stays, begun_by, empties_by, ends_by},
-  inner.Sends.manner_on,
-  inner.Sends.{output_on, with_full, with_rest},
+  inner.Brings.{AtAim, Brings, Changes, EndsAll, Files, Gives, CarriesOn, IsOf, Stays, begun_by, empties_by, ends_by},
+  inner.Brings.{manner_on, output_on, with_full, with_rest},
   laws.ChunkWorkLaws.length-kept,
 }
 use Rattle.split_core.proofs.FilesLemmas.{named_before}

@@ -8,10 +8,8 @@ use Rattle.std.proofs.{
   lemmas.List.nil_from_length,
   lemmas.List.FromFn.{get_or-map-range_with_len, length-map-range_with_len, map-range_with_len_more},
   Common.{◌≡◌, ℕ, ◌+◌, ◌-◌, ◌<◌, ◌≤◌, max, min, zero, suc, Bool, true, false, ◌||◌, nat_lt, List, [], ◌∷◌},
-  Common.{◌++◌, ◌⊎◌},
-  Common.{IfNone, length, map, take, drop, replicate, get_or, Option, Some, None, Result, Ok, Err, inl},
-  Common.{inr, refl},
-  Common.{sym, ◌∙◌, ap, arith, append_assoc},
+  Common.{◌++◌, ◌⊎◌, IfNone, length, map, take, drop, replicate, get_or, Option, Some, None, Result, Ok, Err, inl},
+  Common.{inr, refl, sym, ◌∙◌, ap, arith, append_assoc},
   Math.Seq.{drop-append-add, drop-nil},
 }
 use Rattle.ports_core.{
@@ -29,18 +27,17 @@ use Rattle.ports_core.{
 }
 use Rattle.seg_core.specs.declared.{cut.Chunks.Chunks, unit.Unit.Unit as Counted}
 use Rattle.split_core.specs.{
-  Chunks.{before_chunk, pieces_in, begun_before, chunk_at, chunk_start, chunks_within, ended},
-  Chunks.{is_within, open_from},
+  Chunks.{before_chunk, pieces_in, begun_before, chunk_at, chunk_start, chunks_within, ended, is_within, open_from},
   Parts.{CutUp, uncut},
-  ChunkerState.{AimState, Carries, ChunkerState, Course, course_of, to_files, to_output, CutterState, Holds},
-  ChunkerState.{IsAimed, IsUnsaid, SinkState, can_cut, course, first_on, in_files, in_output, part_on, whole_on},
-  ChunkerState.{work, work_on},
+  ChunkerState.{AimState, Carries, ChunkerState, Course, course_of, to_files, to_output, CutterState, Holds, IsAimed},
+  ChunkerState.{IsUnsaid, SinkState, can_cut, course, first_on, in_files, in_output, part_on, whole_on, work},
+  ChunkerState.work_on,
   Split.manner_of,
   ChunkWork.draft_by,
   inner.Chunker.{EndsAs, PassesAs},
   inner.Cutter.{BeginsBefore, CutsMore, CutsAs, EndsFull, EndsHeld, IsCut, IsCutOff, IsFront, Settles, WritesTo},
   inner.Cutter.{all_before, cut_to},
-  inner.Sends.{Brings, Changes, EndsAll, Gives, Stays, with_fulls, with_rest},
+  inner.Brings.{Brings, Changes, EndsAll, Gives, Stays, with_fulls, with_rest},
   laws.ChunkLaws.{chunk_none, cut_all, ended_all, passed_open, ended_only, start_first, begin_then_rest},
   laws.ChunkLaws.start_by_size,
   laws.BegunLaws.{begun_of_none, begun_again, begun_begins, begun_monotone, begun_on, begun_some, begun_stays},

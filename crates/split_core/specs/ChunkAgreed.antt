@@ -2,8 +2,7 @@
 -- they agree on is said of each output by itself.
 use Rattle.std.specs.{
   Prelude.{◌≡◌, ◌≢◌, ◌⊎◌, ℕ, ◌-◌, ◌<◌, ◌≤◌, suc, nat_lt, true, List, [], ◌∷◌, ◌++◌, get_or, length, take},
-  Prelude.Option,
-  Prelude.if◌then◌else◌,
+  Prelude.{Option, if◌then◌else◌},
 }
 use Rattle.seg_core.specs.{Line.joined, declared.cut.Chunks.Chunks}
 use Rattle.ports_core.specs.{

@@ -58,12 +58,14 @@ abbrev pub whole_on : Course → CutUp → Part
 whole_on (in_files filing elide) cut = part_of (manner_of filing) (map (share Closed) (files_by elide cut))
 whole_on (in_output chunk) cut = piece_at chunk cut
 
--- what is made of an input, and in both ways what is decided of it is written
+-- what is made of an input
 abbrev way_on : Course → Chunks → Option ℕ → Work
 way_on (in_files filing elide) chunks said =
     chunks_work (record { chunks = chunks; elide = elide; filing = filing }) said
 way_on (in_output chunk) chunks said = chunk_work chunk chunks said
 
+-- The same, said of any course: what is decided is written, and in the end the whole. (These fields are those that the
+-- works of both courses have.)
 abbrev pub work_on : Course → Chunks → Option ℕ → Work
 work_on on chunks said = record (way_on on chunks said) {
   settled = λ x. part_on on (decided chunks (first_on on) said x);

@@ -10,7 +10,7 @@ ghost use Rattle.split_core.specs.{
   ChunkerState.{IsAimed, course_of, first_on},
   inner.{
     Seen.{new_files, new_output, is_each_on, is_past_on, seen_sink},
-    Sends.{Changes, EndsAll, Files, empties_by, ends_by, with_full, with_rest},
+    Brings.{Changes, EndsAll, Files, empties_by, ends_by, with_full, with_rest},
   },
 };
 

@@ -2,8 +2,7 @@
 use Rattle.std.proofs.{
   lemmas.{Grind.common_steps, Bool.{cases_eq, cases_lt, Decides.nat_tests}, List.take-append-le},
   Common.{◌≡◌, ℕ, ◌+◌, ◌<◌, ◌≤◌, zero, suc, List, [], ◌∷◌, length, Bool, true, false, not, ◌&&◌, if◌then◌else◌},
-  Common.◌⊎◌,
-  Common.{inl, inr, refl, sym, ◌∙◌, ap, arith, ◌++◌, take, length-append},
+  Common.{◌⊎◌, inl, inr, refl, sym, ◌∙◌, ap, arith, ◌++◌, take, length-append},
   Math.Seq.take-append-add,
 }
 use Rattle.tee_core.specs.{

@@ -26,8 +26,8 @@ use Rattle.tee_core.specs.{
   Run.{standing_before, standing_of, standings_before, tee_called, tells_in, stands_as},
   inner.Steps.{HasStreams, SaysTo, said_since, standings_of, tells, Copies, FileHas, has_all, has_none, has_begun},
   inner.Steps.{IsTeeOf, HasCopied, output_slot},
-  Outputs.{ChangesEach, Gets, gets_all, breaks_off, gets_none, IsFile, IsOutput, IsReady, IsUsable, Closes, is_closed},
-  Outputs.{fails_to_close, was_broken},
+  Outputs.{ChangesEach, Gets, gets_all, breaks_off, gets_none, IsFile, IsOutput, IsReady, IsUsable, Closes},
+  Outputs.{is_closed, fails_to_close, was_broken},
   TeeState.TeeState,
   declared.standing.Standing.{Standing, TheVariants.{Sound, Broken, Gone}},
 }

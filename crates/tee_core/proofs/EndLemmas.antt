@@ -1,9 +1,9 @@
 -- Lemmas on what a run reads of its input, and on how it ends.
 use Rattle.std.{
   proofs.lemmas.{Grind.common_steps, Bool.{cases_Bool, false≢true}},
-  proofs.Common.{◌≡◌, ℕ, ◌+◌, ◌<◌, ◌≤◌, ◌^◌, List, [], ◌∷◌, ◌++◌, length, take, Bool, true, false, Option, Some, None},
-  proofs.Common.{IsTrue, ◌⊎◌, refl, sym, ◌∙◌, ap, subst, arith, length-append, append-nil, inl, inr, All, zero, suc},
-  proofs.Common.{map, not, ◌&&◌, ◌||◌, if◌then◌else◌, is_none},
+  proofs.Common.{◌≡◌, ℕ, ◌+◌, ◌<◌, ◌≤◌, ◌^◌, List, [], ◌∷◌, ◌++◌, length, take, Bool, true, false, Option, Some},
+  proofs.Common.{None, IsTrue, ◌⊎◌, refl, sym, ◌∙◌, ap, subst, arith, length-append, append-nil, inl, inr, All, zero},
+  proofs.Common.{suc, map, not, ◌&&◌, ◌||◌, if◌then◌else◌, is_none},
   specs.List.{concat, list_any},
 }
 use Rattle.ports_core.specs.{
@@ -20,8 +20,8 @@ use Rattle.ports_core.specs.{
   Streams.{standard_output, standard_error},
 }
 use Rattle.ports_core.proofs.{
-  InputsLemmas.{HasRead, changed_source, came_broken, came_sound, still_readable, read_broken, read_failed, read_more},
-  InputsLemmas.{read_none_more, read_to_end, of_content},
+  InputsLemmas.{HasRead, changed_source, came_broken, came_sound, still_readable, read_broken, read_failed},
+  InputsLemmas.{read_more, read_none_more, read_to_end, of_content},
 }
 use Rattle.tee_core.specs.{
   Run.{AreSound, lost_for, GaveLast, IsRead, LeavesOf, to_end, to_break, to_limit, to_broken_output, EndsAs, copied},

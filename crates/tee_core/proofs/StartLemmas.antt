@@ -2,9 +2,8 @@
 use Rattle.std.{
   proofs.lemmas.{Grind.common_steps, List.{append-nil, get_or-append-add, get_or_append_left, length-map}},
   proofs.Common.{◌≡◌, ℕ, ◌+◌, ◌-◌, ◌^◌, ◌<◌, ◌≤◌, zero, suc, List, [], ◌∷◌, ◌++◌, length, map, take, drop},
-  proofs.Common.{get_or, Bor},
-  proofs.Common.{true, inl, inr, refl, sym, ◌∙◌, ap, arith, append_assoc, length-append, replicate, Bool, false},
-  proofs.Common.{Option, Some, None},
+  proofs.Common.{get_or, Bor, true, inl, inr, refl, sym, ◌∙◌, ap, arith, append_assoc, length-append, replicate},
+  proofs.Common.{Bool, false, Option, Some, None},
   specs.List.list_any,
 }
 use Rattle.ports_core.{

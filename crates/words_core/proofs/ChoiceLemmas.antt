@@ -22,9 +22,9 @@ use Rattle.words_core.specs.{
   TailWords.{retry_by, tail_by, tail_of, unfollowed},
   TeeWords.{TeeAsked, fresh, tee_by},
   Words.{about_or, or_later, settings_for, topic_in, topic_of, work_for},
-  Laws.{LastDecides, amount_of, appends, counts, counts_looks, counts_pause, names_process, drops_sizes, elides_files},
-  Laws.{tells_of_files, ends_with_zero, gives_ending, gives_format, has, heads, keeps_files, leaves_lines_out},
-  Laws.{names_prefix, retries, says_followed, says_on_broken, separates, spells, widens},
+  Laws.{LastDecides, amount_of, appends, counts, counts_looks, counts_pause, names_process, drops_sizes},
+  Laws.{elides_files, tells_of_files, ends_with_zero, gives_ending, gives_format, has, heads, keeps_files},
+  Laws.{leaves_lines_out, names_prefix, retries, says_followed, says_on_broken, separates, spells, widens},
 }
 use Rattle.ports_core.specs.declared.tool.Tool.TheVariants as tool
 use Rattle.ports_core.specs.declared.slot.Mode.TheVariants as mode

@@ -7,8 +7,7 @@ use Rattle.std.proofs.{
     Str.{IsCharBoundary-after_ascii, IsCharBoundary-before_ascii, IsCharBoundary-end},
   },
   Common.{◌≡◌, ℕ, ◌+◌, ◌-◌, ◌^◌, ◌<◌, ◌≤◌, ◌==◌, ◌&&◌, suc, min, not, nat_le, Bool, true, false, cond, List},
-  Common.{[], ◌∷◌},
-  Common.{◌++◌, length, take, drop, get_or, Option, Some, None, inl, inr, refl, sym, subst, ◌∙◌, ap, arith},
+  Common.{[], ◌∷◌, ◌++◌, length, take, drop, get_or, Option, Some, None, inl, inr, refl, sym, subst, ◌∙◌, ap, arith},
   Common.{append_assoc, length-append},
   Math.Seq.{drop-append_seam, get_or-append_seam},
 }

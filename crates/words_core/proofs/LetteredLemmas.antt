@@ -3,8 +3,7 @@ use Rattle.std.proofs.{
   lemmas.{Grind.common_steps, Bool.{and_parts, lt-ltb, Decides.nat_tests}, List.Elements.recursion_from_All},
   Math.Seq.{drop-append_seam, take-append_seam},
   Common.{◌≡◌, ◌⊎◌, inl, inr, refl, ℕ, ◌≤◌, ◌==◌, Bool, true, false, if◌then◌else◌, arith, List, [], ◌∷◌},
-  Common.{◌++◌, ◌*◌},
-  Common.{length, Some, None, Result, Ok, Err, sym, ap, ◌∙◌, rules},
+  Common.{◌++◌, ◌*◌, length, Some, None, Result, Ok, Err, sym, ap, ◌∙◌, rules},
 }
 use Rattle.std.specs.{Char.is_ascii_digit, List.{AllByRecursion, list_all, prefix_len}, Prelude.{nat_lt, bytes_eq, ⊤}}
 use Rattle.seg_core.specs.{

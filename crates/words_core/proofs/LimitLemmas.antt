@@ -1,8 +1,8 @@
 -- Whatever words spell, sizes, counts of files and widths are within their limits, and files that lines are dealt to have names.
 use Rattle.std.{
   proofs.lemmas.{Grind.common_steps, Bool.cond_both},
-  proofs.Common.{◌≡◌, ℕ, zero, suc, ◌+◌, ◌-◌, ◌^◌, ◌≤◌, false, arith, List, [], ◌∷◌, ◌++◌, Option, Some, None, Result},
-  proofs.Common.{Ok, Err, IfOk, inl, inr, ◌⊎◌, rules},
+  proofs.Common.{◌≡◌, ℕ, zero, suc, ◌+◌, ◌-◌, ◌^◌, ◌≤◌, false, arith, List, [], ◌∷◌, ◌++◌, Option, Some, None},
+  proofs.Common.{Result, Ok, Err, IfOk, inl, inr, ◌⊎◌, rules},
   specs.Prelude.{⊤, IfSome, filter, ◌==◌},
 }
 use Rattle.ports_core.{

@@ -3,8 +3,7 @@ use Rattle.std.{
   proofs.{
     lemmas.Grind.common_steps,
     Common.{◌≡◌, refl, ℕ, ◌-◌, ◌^◌, ◌==◌, ◌&&◌, ◌≤◌, ◌<◌, arith, List, [], ◌∷◌, ◌++◌, Option, Some, None},
-    Common.{Result, Ok},
-    Common.{Err, IfOk, inl, inr, ◌⊎◌, rules},
+    Common.{Result, Ok, Err, IfOk, inl, inr, ◌⊎◌, rules},
   },
   specs.Prelude.{⊤, IfSome, nat_lt},
 }

@@ -2,8 +2,7 @@
 use Rattle.std.proofs.{
   lemmas.Bool.{and_parts, Decides.nat_tests},
   Common.{◌≡◌, refl, ℕ, ◌-◌, ◌*◌, ◌^◌, ◌≤◌, ◌<◌, ◌==◌, true, false, arith, append-nil, List, [], ◌∷◌},
-  Common.{◌++◌, length, Ok},
-  Common.{Err, subst},
+  Common.{◌++◌, length, Ok, Err, subst},
   Math.Bool.{and-false, or-true},
 }
 use Rattle.std.specs.{Char.is_ascii_digit, List.{list_all, prefix_len}, Prelude.nat_lt}

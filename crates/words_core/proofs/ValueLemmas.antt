@@ -1,8 +1,8 @@
 -- Lemmas on the ways in which the value of an option is spelled.
 use Rattle.std.proofs.{
   lemmas.{Grind.common_steps, Bool.{cond-false, cond-true, eq-eqb, ne_eqb, or_parts}},
-  Common.{◌≡◌, ◌≢◌, ℕ, ◌+◌, ◌==◌, not, false, arith, List, [], ◌∷◌, ◌++◌, length, Option, Some, None, Result, Ok, cond},
-  Common.{refl, ap, ◌∙◌, append-nil, rules},
+  Common.{◌≡◌, ◌≢◌, ℕ, ◌+◌, ◌==◌, not, false, arith, List, [], ◌∷◌, ◌++◌, length, Option, Some, None, Result, Ok},
+  Common.{cond, refl, ap, ◌∙◌, append-nil, rules},
   Math.Seq.{take-append_seam, drop-append-add, take-length},
 }
 use Rattle.std.specs.List.{list_any, position_or_len, before_first}

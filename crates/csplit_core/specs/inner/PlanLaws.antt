@@ -1,6 +1,7 @@
 -- What private calls say: the plan that is computed is the one plan there is, and what sections are as more lines come.
 use Rattle.std.specs.{
-  Prelude.{◌≡◌, ℕ, suc, ◌+◌, ◌<◌, true, false, List, length, Option, Some, None, ◌-◌, ◌*◌, Bool, [], ◌∷◌, ◌≤◌, ◌++◌},
+  Prelude.{◌≡◌, ℕ, suc, ◌+◌, ◌<◌, true, false, List, length, Option, Some, None, ◌-◌, ◌*◌, Bool, [], ◌∷◌, ◌≤◌},
+  Prelude.◌++◌,
 }
 use Rattle.csplit_core.specs.{
   Operand.{Operand, Line, Target, Number, Search, is_kept, most_held},

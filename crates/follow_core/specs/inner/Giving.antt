@@ -1,8 +1,8 @@
 -- What a look gives for one name, call by call: bytes on standard output, under headers, and lines on standard error;
 -- and what one call on a name owes, and what is due of it.
 use Rattle.std.specs.{
-  Prelude.{◌≡◌, ◌<◌, ◌-◌, Bool, true, false, ℕ, List, Option, Some, None, Result, Ok, Err, ◌⊎◌, nat_lt, [], ◌∷◌, ◌++◌},
-  Prelude.{drop, length, if◌then◌else◌, IfOk, is_some},
+  Prelude.{◌≡◌, ◌<◌, ◌-◌, Bool, true, false, ℕ, List, Option, Some, None, Result, Ok, Err, ◌⊎◌, nat_lt, [], ◌∷◌},
+  Prelude.{◌++◌, drop, length, if◌then◌else◌, IfOk, is_some},
 }
 use Rattle.ports_core.specs.{declared.{reason.Reason.Reason, fault.Fault.Fault}, Slot.{Slot, changed_at, slot_at}}
 use Rattle.watch_core.specs.{Snapshot.Snapshot, Watched.{NameBreaks, Watched, open_contents, opens, watched_at}}

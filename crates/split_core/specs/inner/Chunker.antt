@@ -6,7 +6,7 @@ use Rattle.split_core.specs.{
   ChunkerState.{ChunkerState, Holds, course, work},
   Ways.terms,
   declared.splitter.Splitter.TheVariants.Chunks,
-  inner.Sends.{Brings, Stays},
+  inner.Brings.{Brings, Stays},
 }
 use Rattle.split_core.specs.inner.Ways as ways
 

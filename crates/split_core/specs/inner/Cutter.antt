@@ -1,8 +1,7 @@
 -- What private calls say: cutting an input into chunks.
 use Rattle.std.specs.{
   Prelude.{◌≡◌, ℕ, ◌+◌, ◌-◌, ◌<◌, ◌≤◌, ◌⊎◌, max, min, Bool, true, false, List, ◌++◌, length, take, drop, Option},
-  Prelude.Some,
-  Prelude.{None, IfNone, Result, Ok, Err, IfErr, IfOk, OnOk},
+  Prelude.{Some, None, IfNone, Result, Ok, Err, IfErr, IfOk, OnOk},
 }
 use Rattle.ports_core.specs.{Part.Part, Slot.Slot, InTurn.fault_in, Work.{IsNeeded, Work}, declared.fault.Fault.Fault}
 use Rattle.split_core.specs.{
@@ -10,7 +9,7 @@ use Rattle.split_core.specs.{
   ChunkerState.{Carries, CutterState, HasAll, HasCut, course, first_on, part_on, whole_on, work_on},
   Parts.{CutUp, uncut},
   declared.chunk_cutter.ChunkCutter.ChunkCutter,
-  inner.{Seen.{is_past_on, seen_sink}, Sends.{Brings, Changes, Gives, Stays, with_fulls, with_rest}},
+  inner.{Seen.{is_past_on, seen_sink}, Brings.{Brings, Changes, Gives, Stays, with_fulls, with_rest}},
 }
 
 abbrev pub seen_cutter : ChunkCutter → CutterState

@@ -13,9 +13,9 @@ use Rattle.ports_core.{
 }
 use Rattle.run_core.{
   specs.Feeding.{IsUnread, enough, is_stop, to_end, broke_off},
-  proofs.FeedingLemmas.{OfVerdict, of_more, of_read, read_to_used, told_by_complete, alike_after, alike_itself, judges},
-  proofs.FeedingLemmas.{goes_on, stopped_feeding, ended, needed_more, piece_within, ends_sound, needed_within},
-  proofs.FeedingLemmas.{read_used, takes_more, uses_all, uses_judged, uses_part, needed_front},
+  proofs.FeedingLemmas.{OfVerdict, of_more, of_read, read_to_used, told_by_complete, alike_after, alike_itself},
+  proofs.FeedingLemmas.{judges, goes_on, stopped_feeding, ended, needed_more, piece_within, ends_sound},
+  proofs.FeedingLemmas.{needed_within, read_used, takes_more, uses_all, uses_judged, uses_part, needed_front},
 }
 use Rattle.run_core.proofs.feeding.feed_input.Goals as goal
 

@@ -1,6 +1,6 @@
 use Rattle.std.{
-  proofs.Common.{◌≡◌, sym, refl, arith, ℕ, zero, suc, Bool, true, false, eqb, if◌then◌else◌, List, [], ◌∷◌, ◌++◌, drop},
-  proofs.Common.length,
+  proofs.Common.{◌≡◌, sym, refl, arith, ℕ, zero, suc, Bool, true, false, eqb, if◌then◌else◌, List, [], ◌∷◌, ◌++◌},
+  proofs.Common.{drop, length},
   proofs.lemmas.{Bool.Decides.Decides-eqb, List.Elements.Contains-append_right, Slice.Eq.starts_is},
   specs.List.{Contains, starts_with},
 }

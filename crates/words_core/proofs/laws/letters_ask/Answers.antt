@@ -22,7 +22,8 @@ use Rattle.words_core.{
   specs.Lettered.{are_known, are_of_tail, is_known, is_lettered, is_switch, is_unit, letter_named, unit_of},
   specs.Lettered.without_digits,
   specs.Table.{OptionRow, alone, head_table, is_among, tail_table},
-  proofs.LetteredLemmas.{AreOthers, HasParts, IsOther, begins_with_unit, letters_ask, no_digit, no_digit_first, parts},
+  proofs.LetteredLemmas.{AreOthers, HasParts, IsOther, begins_with_unit, letters_ask, no_digit, no_digit_first},
+  proofs.LetteredLemmas.parts,
 }
 use Rattle.words_core.specs.declared.choice.Choice.TheVariants as choice
 use Rattle.words_core.specs.declared.table.Takes.TheVariants as takes
