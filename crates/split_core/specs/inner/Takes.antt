@@ -45,7 +45,7 @@ Extends told parts bytes old new next fault =
     Moves told parts (parts.left, parts.has_line, []) (with_bytes (parts.waiting ++ bytes)) old new next fault
 
 -- what is begun ends, and these bytes begin the next
-abbrev pub turns : List ℕ → Draft → Draft
+abbrev pub begins_next : List ℕ → Draft → Draft
 begins_next past draft = with_bytes past (with_next Late draft)
 
 -- the part that was begun ended, and what waits and these bytes begin the next
