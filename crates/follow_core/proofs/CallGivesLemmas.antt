@@ -235,7 +235,7 @@ pub record Copied (told_in told : Bool) (snapshot : Snapshot) (known : Watched) 
   pub are : told_in ≡ true → bytes ≡ take (at - from) (drop from (open_contents snapshot known))
   pub read : AreRead snapshot known.name known.opened from bytes at
 
-pub copied_none : {told_in told : Bool} {snapshot : Snapshot} {known : List ℕ} {from : ℕ} {name : List ℕ}
+pub copied_none : {told_in told : Bool} {snapshot : Snapshot} {known : Watched} {from : ℕ} {name : List ℕ}
     {printer : PrinterState} {slots : List Slot}
     → Copied told_in told snapshot known from name printer slots printer slots from None
 copied_none {snapshot} {known} {from} = record {

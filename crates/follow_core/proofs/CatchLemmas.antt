@@ -177,8 +177,8 @@ module _ {told_in told by_name : Bool} {snapshot : Snapshot} {led : Option ℕ} 
 
 -- it was told, and all that the file holds was given, or a beginning
 pub leads_opened : {told_in told is_there : Bool} {snapshot : Snapshot} {place : ℕ} {name : List ℕ} {position : ℕ}
-    {watched_mid watched_new : List Watched} {after : PrinterState} {mid slots_new : List Slot} {before : List Event}
-    {change : Notice} {result : Result ℕ Stop} {watched : List Watched} {printer : PrinterState} {slots : List Slot}
+    {watched watched_mid watched_new : List Watched} {printer after : PrinterState} {slots mid slots_new : List Slot}
+    {before : List Event} {change : Notice} {result : Result ℕ Stop}
     → IsTrue (is_watchable watched place) → (watched_at watched place).name ≡ name
     → (told_in ≡ true → change_between (watched_at watched place).opened (snapshot.leads name) ≡ Some change)
     → ToldLed true snapshot (watched_at watched place) change

@@ -9,7 +9,7 @@ use Rattle.std.proofs.{
   lemmas.List.{append-nil, get_or-map, get_or-set_other, get_or-set_same, length-append, length-map},
   lemmas.List.{length-set, length-take-le, get_or_past},
 }
-use Rattle.ports_core.specs.{Slot.{Slot, changed_at}}
+use Rattle.ports_core.specs.{Slot.{Slot, changed_at}, declared.fault.Fault.Fault}
 use Rattle.follow_core.specs.{
   FollowState.{AllReady, Begun, up_to},
   Look.{Fate, Look, Ways, failed_in, is_dropped, sound},
@@ -27,7 +27,7 @@ use Rattle.follow_core.proofs.{
   LookLemmas.{broken_sound, met_none},
   RunLemmas.{failed-append, last-append, messages-append, text-append},
 }
-use Rattle.watch_core.specs.{Watched.{Watched, opens, watched_at}}
+use Rattle.watch_core.specs.{Snapshot.Snapshot, Watched.{Watched, opens, watched_at}}
 
 -- A look at one name after another.
 

@@ -218,8 +218,7 @@ looked_visited fate kept looked stands = record {
 }
 
 module _ {told_in told : Bool} {ways : Ways} {snapshot : Snapshot} {place : ℕ} {name : List ℕ} {standing : Standing}
-    {old : List Slot} {new : List Watched} {printer : PrinterState}
-    {after : PrinterState} {slots slots_new : List Slot} where
+    {old new : List Watched} {printer after : PrinterState} {slots slots_new : List Slot} where
   visits_by : (now : Standing) {failed : Bool} (change : Watched → Watched) → new ≡ changed_at place change old
       → IsTrue (is_watchable old place)
       → CanVisit (record { text = name; standing = now }) (change (watched_at old place))

@@ -14,6 +14,7 @@ use Rattle.follow_core.specs.{
   FollowState.{AllReady, CanLook, FollowState, Holds, IsCause, IsOther, LooksOn, StandsIn, goes_on_at, is_alive},
   FollowState.{is_alive_from, new_state, nothing, lacks_memory, output_broke, opened_follow},
   Look.{Look, Ways, snapshots, ways_of},
+  Printing.PrinterState,
   inner.{
     Visits.{StandFrom, VisitedTo, VisitsAll, any_goes_on, goes_on_as, AddsSome, BeginsLook, MakesLook, LookedAll},
     Giving.{IsFront, HasStopped},
@@ -21,6 +22,7 @@ use Rattle.follow_core.specs.{
   Reading.{looks_more, no_looks},
   Sharing.CanPrint,
   Standing.{AllStand, NoneGoesOn, NameState, Stands, no_state, state_at, texts, AreWatched},
+  declared.start.Start.Start,
   declared.{name.Standing.{Standing, TheVariants.New}, follow.Phase.{Phase, TheVariants.{Fresh, Looking, Over}}},
   Ending.{AreMost, FollowEndsAs, FollowEndsBy, is_over, until_over, Made},
 }
@@ -261,7 +263,7 @@ module _ {told_in told : Bool} {snapshot : Snapshot} {seen seen_new : List Snaps
       (λ number other. rw added_now (begins.others number other).1)
 
 -- the names were looked at, once they were watched and the watch saw what the files hold
-pub makes_look : {told_in told : Bool} {seen seen_new : List Snapshot} {snapshot : Snapshot} {old mid : FollowState}
+pub makes_look : {told_in told : Bool} {snapshot : Snapshot} {seen seen_new : List Snapshot} {old mid : FollowState}
     {names_new : List NameState} {watched watched_mid watched_new : List Watched} {printer : PrinterState}
     {slots slots_new : List Slot} {result : Result Bool Fault} → (old.phase ≡ Over → ⊥)
     → CanLook old watched slots → BeginsLook told_in old watched mid watched_mid → seen_new ≡ seen ++ snapshot ∷ []

@@ -36,7 +36,7 @@ use Rattle.split_core.specs.{
   inner.CutLaws.{cut_so, named},
   inner.Sharing.{CannotClose, always_named},
   inner.Step.{IsTurned, Leads},
-  inner.Takes.{Extends, Finishes, Moves, TakesStretch, Takes, BeginsNext, numbers, settled_part, turns, whole_part},
+  inner.Takes.{Extends, Finishes, Moves, TakesStretch, Takes, BeginsNext, numbers, settled_part, begins_next, whole_part},
   laws.{
     CutLaws.{cut_none, cut_on},
     ShareLaws.{are_named_more, named_short, part_begins, settled_count, settled_grow, shares_fewer},
@@ -256,10 +256,10 @@ module _ {state : PartsState} (piece : List ℕ) (end bytes : ℕ) (leads : Lead
       → BeginsNext told mid (take (bytes - end) (drop end piece)) wet new next fault
       → Takes told state (taken bytes piece fault) old new next fault
   ends_on {mid = mid} fault low extends turn = takes_by piece bytes fault
-      (λ draft. turns _ _) ends_to (record {
+      (λ draft. begins_next _ _) ends_to (record {
         limit = turn.limit ∙ extends.limit;
         same = where_well fault turn.same (λ same. same ∙ cc (all));
-        goes = goes_again _ (λ draft. ap (λ bytes. turns bytes (with_bytes (state.waiting ++ take end piece) draft)) all)
+        goes = goes_again _ (λ draft. ap (λ bytes. begins_next bytes (with_bytes (state.waiting ++ take end piece) draft)) all)
             (λ manner draft. bytes_begin manner (state.waiting ++ take end piece) draft) extends.goes turn.goes;
       }) where
         all : mid.waiting ++ take (bytes - end) (drop end piece) ≡ drop end (take bytes piece)
