@@ -48,13 +48,14 @@ use Rattle.tools_core.specs.{
   About.{TellsText, no_text, text_cut, text_whole},
   Outcome.{refuser, speaker, word_of},
   Tasks.{by, names_of, speaker_of, tool_of},
-  Promises.{BrokeAt, Completes, Does, HasGone, HasLong, IsCalled, IsCopied, IsGone, IsSilent, IsUnread, IsStopped, IsTask},
-  Promises.{IsUnstopped, Ran, Run, SaysLines, SaysWhy, StopsRun, Tells, TellsMet, WhyBroken, broken_off, failing},
-  Promises.{named, removes_files},
+  Promises.{BrokeAt, Completes, Does, HasGone, HasLong, IsCalled, IsCopied, IsGone, IsSilent, IsUnread, IsStopped},
+  Promises.{IsTask, IsUnstopped, Ran, Run, SaysLines, SaysWhy, StopsRun, Tells, TellsMet, WhyBroken, broken_off},
+  Promises.{failing, named, removes_files},
 }
 use Rattle.tools_core.proofs.{
   BeginLemmas.{IsMarked, marked_at},
-  TeePromises.{IsLoud, any_gone, broken_tells, failing_stops, input_line, tee_lines, tee_broke, tee_told, unsound_broke},
+  TeePromises.{IsLoud, any_gone, broken_tells, failing_stops, input_line, tee_lines, tee_broke, tee_told},
+  TeePromises.unsound_broke,
   LeftLemmas.{tells_one, HasLine, all_tell, completes_left, left_at, left_says, one_line, ran_over, slots_at},
   LeftLemmas.{swept_gone, swept_kept, speaker_is, AreLive, IsSoundAt, inputs_fit, live_begin, outputs_live, Did},
   LeftLemmas.{DidUnstopped, says_line, step_live, task_lives},
@@ -187,9 +188,11 @@ quiet_own fault Cutters why is = absurd (cc)
 
 gone_reason : (fault : Fault) (calling : Calling) (why : Reason) → is_quiet fault calling why ≡ true
     → why ≡ reason.Gone
-gone_reason fault OwnName reason.Gone is = refl
+gone_reason (Write slot) OwnName reason.Gone is = refl
 gone_reason (Write slot) OwnName why is = absurd (cc)
-gone_reason fault calling why is = absurd (cc)
+gone_reason (Write slot) Cutters why is = absurd (cc)
+gone_reason fault OwnName why is = absurd (cc)
+gone_reason fault Cutters why is = absurd (cc)
 
 quiet_gone : (run : Run) (asked : Settings) (name : List ℕ) (fault : Fault) (calling : Calling)
     → is_quiet fault calling (output_reason run.outputs fault) ≡ true → StopsRun run asked name fault → HasGone run

@@ -6,7 +6,8 @@ use Rattle.std.proofs.{
   lemmas.{
     List.Elements.{All-append, All-cons, All-nil},
     Grind.common_steps,
-    Bool.{and_parts, cases_lt, cond_both, eq-eqb, eqb-true, lt-ltb, not-true, or_parts, false≢true, or_cases},
+    Bool.{and_parts, cases_Bool, cases_lt, cond_both, eq-eqb, eqb-true, lt-ltb, not-true, or_parts, false≢true},
+    Bool.or_cases,
     Bool.Decides.nat_tests,
     List.Folds.concat-append,
   },
@@ -39,8 +40,8 @@ use Rattle.tee_core.specs.{
 use Rattle.words_core.specs.{TeeWords.TeeAsked, declared.settings.Settings.{Settings, TheVariants.Tee}}
 use Rattle.tools_core.{
   specs.{
-    Promises.{BeginsAs, BrokeAt, EndsWithBreak, HasGone, HasUpTo, IsCalled, IsUnread, OneIs, Ran, Run, SaysLines, StopsRun},
-    Promises.{Tells, TellsMet, failing},
+    Promises.{BeginsAs, BrokeAt, EndsWithBreak, HasGone, HasUpTo, IsCalled, IsUnread, OneIs, Ran, Run, SaysLines},
+    Promises.{StopsRun, Tells, TellsMet, failing},
     Tasks.speaker_of,
   },
   proofs.BeginLemmas.{bare_begins, empty_begins},
