@@ -285,28 +285,15 @@ all_older on_broken zero names past marked = refl
 all_older on_broken (suc end) names past marked =
     grind (arith, common_steps, marked, said_older, all_older on_broken end names (omega arith) marked)
 
--- how the outputs stood before a call
-
-pub stood_sooner : {call : ℕ} (other : ℕ) {befores afters : List (Option Break)} {nows : List Standing} → other ≤ call
-    → AllMark call befores afters nows → standings_before other afters ≡ standings_before other befores
-stood_sooner other within none_marked = refl
-stood_sooner other within (all_marked before after now _ _ _ one rest) =
-    cc (one.sooner other within, stood_sooner other within rest)
-
-pub stood_then : {call : ℕ} {befores afters : List (Option Break)} {nows : List Standing}
-    → AllMark call befores afters nows → standings_before call afters ≡ map standing_of befores
-stood_then none_marked = refl
-stood_then (all_marked before after now _ _ _ one rest) = cc (one.then_is, stood_then rest)
-
-pub stand_now : {call : ℕ} {befores afters : List (Option Break)} {nows : List Standing}
-    → AllMark call befores afters nows → standings_before (suc call) afters ≡ nows
-stand_now none_marked = refl
-stand_now (all_marked before after now _ _ _ one rest) = cc (one.now_is, stand_now rest)
-
-pub stand_so : {call : ℕ} {befores afters : List (Option Break)} {nows : List Standing}
-    → AllMark call befores afters nows → nows ≡ map standing_of afters
-stand_so none_marked = refl
-stand_so (all_marked before after now _ _ _ one rest) = cc (one.stands, stand_so rest)
+-- how the outputs stood before the calls so far and before this one, and how they stand now
+pub stood : {call : ℕ} {befores afters : List (Option Break)} {nows : List Standing} → AllMark call befores afters nows
+    → ((other : ℕ) → other ≤ call → standings_before other afters ≡ standings_before other befores)
+    × (standings_before call afters ≡ map standing_of befores) × (standings_before (suc call) afters ≡ nows)
+    × (nows ≡ map standing_of afters)
+stood none_marked = (λ other within. refl, refl, refl, refl)
+stood (all_marked before after now _ _ _ one rest) =
+    let (sooner, known, lately, so) = stood rest in
+    (λ other within. cc (one.sooner other within, sooner other within), cc (one.then_is, known), cc (one.now_is, lately), cc (one.stands, so))
 
 -- one output
 
@@ -346,14 +333,14 @@ output_more told {pieces} {piece} output_whole (breaks_off _ n why within) = (
   rw (begun_now told why pieces piece n standard_output) (output_cut pieces piece [] n refl within),
   marked_now why,
 )
-output_more told output_whole (gets_none broken) = absurd (cc)
-output_more told (output_cut _ _ _ n is _) (gets_all again) = absurd (cc)
-output_more told (output_cut _ _ _ n is _) (breaks_off again m _ _) = absurd (cc)
 output_more told {piece} (output_cut {why} before that after n is within) (gets_none _) = (
   Some (break_now (suc (length before)) why),
   output_cut before that (after ++ piece ∷ []) n (still_there before after that piece is) within,
   marked_before _ (call_before before after that is),
 )
+output_more told output_whole (gets_none broken) = absurd (cc)
+output_more told so_far (gets_all again) = absurd (cc)
+output_more told so_far (breaks_off again m _ _) = absurd (cc)
 
 file_more : (told : Bool) {mode : Mode} {pieces : List (List ℕ)} {piece : List ℕ} {name : List ℕ} {first : Option Break}
     {old new : Slot} → FileHas told mode pieces name first old → Gets told piece old new
@@ -365,17 +352,15 @@ file_more told {mode} {pieces} {piece} {name} has_all (breaks_off _ n why within
   rw (begun_now told why pieces piece n (opened name mode)) (has_begun pieces piece [] n refl within),
   marked_now why,
 )
-file_more told has_all (gets_none broken) = absurd (cc)
-file_more told (has_none _ _) (gets_all again) = absurd (cc)
-file_more told (has_none _ _) (breaks_off again m _ _) = absurd (cc)
 file_more told (has_none {why} kept named) (gets_none broken) = (Some (break_now 0 why), has_none kept named, marked_before _ (omega arith))
-file_more told (has_begun _ _ _ n is _) (gets_all again) = absurd (cc)
-file_more told (has_begun _ _ _ n is _) (breaks_off again m _ _) = absurd (cc)
 file_more told {piece} (has_begun {why} before that after n is within) (gets_none _) = (
   Some (break_now (suc (length before)) why),
   has_begun before that (after ++ piece ∷ []) n (still_there before after that piece is) within,
   marked_before _ (call_before before after that is),
 )
+file_more told has_all (gets_none broken) = absurd (cc)
+file_more told so_far (gets_all again) = absurd (cc)
+file_more told so_far (breaks_off again m _ _) = absurd (cc)
 
 -- each of the files is changed by the call
 pub files_go : {Is Then : List ℕ → Option Break → Slot → Type 0} {Change : Slot → Slot → Type 0} {call : ℕ}
@@ -386,12 +371,11 @@ pub files_go : {Is Then : List ℕ → Option Break → Slot → Type 0} {Change
     → ((n : ℕ) → n < length olds → Change (slot_at olds n) (slot_at news n)) → EachFile Is names broke olds
     → (after : List (Option Break)) × EachFile Then names after news × AllMark call broke after (map stands_as news)
 files_go go [] many changes no_file = ([], no_file, none_marked)
-files_go go (new ∷ news) many changes no_file = absurd (omega arith)
-files_go go [] many changes (one_file name _ _ _ old _ one rest) = absurd (omega arith)
 files_go go (new ∷ news) many changes (one_file name _ first _ old _ one rest) =
     let here = go name first old new one (changes 0 (omega arith)) in
     let there = files_go go news (omega arith) (λ n within. changes (suc n) (omega arith)) rest in
     (here.0 ∷ there.0, one_file _ _ _ _ _ _ here.1 there.1, all_marked _ _ _ _ _ _ here.2 there.2)
+files_go go news many changes files = absurd (omega arith)
 
 -- the outputs of a run
 
@@ -474,8 +458,6 @@ module _ (told : Bool) (calling : Calling) (mode : Mode) (on_broken : OnBroken) 
       → nows ≡ standings_of mid → After OutputIs FileIs call copies mid nows
   called {OutputIs} {FileIs} {Change} {mid = mid} is copies call count error one changes go sees = rw sees (by mid refl) where
     by : (those : List Slot) → mid ≡ those → After OutputIs FileIs call copies mid (standings_of those)
-    by [] short = absurd (cc)
-    by (output ∷ []) short = absurd (cc)
     by (output ∷ other ∷ files) are =
         let same : other ≡ copies.error = cc in
         let here = one output (cc) in let many = length-files copies.files_have in
@@ -492,6 +474,7 @@ module _ (told : Bool) (calling : Calling) (mode : Mode) (on_broken : OnBroken) 
           files_are = rest.1;
           marked = all_marked copies.first here.0 (stands_as output) copies.broke rest.0 (map stands_as files) here.2 rest.2;
         }
+    by those short = absurd (cc)
 
   -- what is on standard error once it was told
   pub said_after : {OutputIs : Option Break → Slot → Type 0} {FileIs : List ℕ → Option Break → Slot → Type 0}
@@ -542,9 +525,9 @@ module _ (told : Bool) (calling : Calling) (mode : Mode) (on_broken : OnBroken) 
     said = rw (ap (λ texts. texts ++ said_in on_broken (suc (length pieces)) (output_names names) (next.first ∷ next.broke)) (append-nil _)
         ∙ sym (append-nil _) ∙ ap (λ call. said_before on_broken (suc call) (output_names names) (next.first ∷ next.broke) ++ []) one_more_call) at
         (said_after copies next says);
-    known_are = stand_so next.marked;
-    goes_on = ap (λ call. is_done on_broken (standings_before call (next.first ∷ next.broke))) (sym one_more_call) ∙ ap (is_done on_broken) (stood_then next.marked ∙ sym copies.known_are) ∙ some;
-    are_known = ap (λ call. standings_before (suc call) (next.first ∷ next.broke)) (sym one_more_call) ∙ stand_now next.marked;
+    known_are = (stood next.marked).3;
+    goes_on = ap (λ call. is_done on_broken (standings_before call (next.first ∷ next.broke))) (sym one_more_call) ∙ ap (is_done on_broken) ((stood next.marked).1 ∙ sym copies.known_are) ∙ some;
+    are_known = ap (λ call. standings_before (suc call) (next.first ∷ next.broke)) (sym one_more_call) ∙ (stood next.marked).2;
   } where
     one_more_call : suc (length pieces) ≡ length (pieces ++ piece ∷ [])
     one_more_call = omega (arith, length-append pieces (piece ∷ []))
@@ -572,11 +555,10 @@ module _ (told : Bool) (calling : Calling) (mode : Mode) (on_broken : OnBroken) 
   pub mid_streams : {pieces : List (List ℕ)} {messages : List Message} {old mid : List Slot} {known : List Standing}
       → Copies told calling mode on_broken names pieces messages old known → length mid ≡ length old
       → slot_at mid 1 ≡ slot_at old 1 → HasStreams mid (length names)
-  mid_streams {mid = []} copies count error = absurd (cc)
-  mid_streams {mid = output ∷ []} copies count error = absurd (cc)
   mid_streams {mid = output ∷ other ∷ files} copies count error =
       streams_after copies (ap (λ slot. output ∷ slot ∷ files) (error ∙ ap (λ those. slot_at those 1) copies.are))
       (omega (arith, ap length copies.are, length-files copies.files_have))
+  mid_streams copies count error = absurd (cc)
 
   pub known_many : {pieces : List (List ℕ)} {messages : List Message} {slots : List Slot} {known : List Standing}
       → Copies told calling mode on_broken names pieces messages slots known → length known ≡ length names + 1
@@ -596,14 +578,12 @@ file_ends : (told : Bool) {mode : Mode} {pieces : List (List ℕ)} {name : List 
 file_ends told has_all (is_closed _) = (None, file_whole, marked_none)
 file_ends told {pieces = pieces} has_all (fails_to_close _ why) =
     (Some (break_now (suc (length pieces)) why), file_unclosed, marked_now why)
-file_ends told has_all (was_broken broken) = absurd (cc)
-file_ends told (has_none _ _) (is_closed sound) = absurd (cc)
-file_ends told (has_none _ _) (fails_to_close sound _) = absurd (cc)
 file_ends told (has_none {why} kept named) (was_broken broken) = (Some (break_now 0 why), file_unopened kept named, marked_before _ (omega arith))
-file_ends told (has_begun _ _ _ n is _) (is_closed sound) = absurd (cc)
-file_ends told (has_begun _ _ _ n is _) (fails_to_close sound _) = absurd (cc)
 file_ends told (has_begun {why} before that after n is within) (was_broken broken) =
     (Some (break_now (suc (length before)) why), file_cut before that after n is within, marked_before _ (call_before before after that is))
+file_ends told has_all (was_broken broken) = absurd (cc)
+file_ends told has (is_closed sound) = absurd (cc)
+file_ends told has (fails_to_close sound _) = absurd (cc)
 
 module _ (told : Bool) (calling : Calling) (mode : Mode) (on_broken : OnBroken) (names : List (List ℕ)) where
   -- a message more on standard error, while the files are open
@@ -659,7 +639,7 @@ module _ (told : Bool) (calling : Calling) (mode : Mode) (on_broken : OnBroken) 
     output_left = next.output_is;
     files_left = next.files_are;
     said = said_after told calling mode on_broken names copies next says;
-    known_are = stand_so next.marked;
-    goes_on = cc (stood_sooner (length pieces) (omega arith) next.marked);
-    before_are = cc (stood_sooner (suc (length pieces)) (omega arith) next.marked);
+    known_are = (stood next.marked).3;
+    goes_on = cc ((stood next.marked).0 (length pieces) (omega arith));
+    before_are = cc ((stood next.marked).0 (suc (length pieces)) (omega arith));
   }

@@ -23,15 +23,7 @@ use Rattle.ports_core.proofs.{
   InputsLemmas.{HasRead, changed_source, came_broken, came_sound, still_readable, read_broken, read_failed},
   InputsLemmas.{read_more, read_none_more, read_to_end, of_content},
 }
-use Rattle.tee_core.specs.{
-  Run.{AreSound, lost_for, GaveLast, IsRead, LeavesOf, to_end, to_break, to_limit, to_broken_output, EndsAs, copied},
-  Run.{no_room, FileLeft, file_whole, file_unopened, file_cut, file_unclosed, FilesLeft, no_file, one_file, ComesIn},
-  Run.{IsAsFound, OutputLeft, output_whole, output_cut, Break, all_copied, any_is, are_sound, ends_run, forgives},
-  Run.{gone_status, is_done, is_same, messages_of, output_names, said_before, said_in, standing_of, standings_before},
-  Run.{status_for, status_of, tee_called},
-  declared.standing.Standing.{Standing, TheVariants.{Sound, Broken, Gone}},
-  inner.Steps.{Copies, CopiesRead, HasCopied},
-}
+use Rattle.tee_core.specs.{Run.{AreSound, lost_for, GaveLast, IsRead, LeavesOf, to_end, EndsAs, copied}, Run.{no_room, FileLeft, file_whole, FilesLeft, no_file, one_file, ComesIn}, Run.{IsAsFound, OutputLeft, output_whole, output_cut, Break, all_copied, any_is, are_sound, ends_run, forgives}, Run.{gone_status, is_done, is_same, messages_of, output_names, said_before, said_in, standing_of, standings_before}, Run.{status_for, status_of, tee_called}, declared.standing.Standing.{Standing, TheVariants.{Sound, Broken, Gone}}, inner.Steps.{Copies, CopiesRead, HasCopied}}
 use Rattle.ports_core.specs.declared.reason.Reason.TheVariants as reason
 
 nothing_more : {x : List ℕ} (rest : List ℕ) → x ≡ x ++ rest → rest ≡ []
@@ -251,9 +243,7 @@ pub whole_files : (told : Bool) (mode : Mode) (pieces : List (List ℕ)) (names 
 whole_files told mode pieces _ _ _ sound no_file = refl
 whole_files told mode pieces _ _ _ sound (one_file name names _ broke _ files file_whole rest) =
     cc (whole_files told mode pieces names broke files sound rest)
-whole_files told mode pieces _ _ _ sound (one_file name _ _ _ _ _ (file_unopened _ _) _) = absurd (cc)
-whole_files told mode pieces _ _ _ sound (one_file name _ _ _ _ _ (file_cut _ _ _ n is _) _) = absurd (cc)
-whole_files told mode pieces _ _ _ sound (one_file name _ _ _ _ _ _ _) = absurd (cc)
+whole_files told mode pieces names broke files sound left = absurd (cc)
 
 -- outputs of which none is broken never broke
 
@@ -265,9 +255,7 @@ output_sound whole (output_cut _ _ _ n is _) = absurd (cc)
 file_sound : {told : Bool} {mode : Mode} {pieces : List (List ℕ)} {name : List ℕ} {first : Option Break} {file : Slot}
     → file.is_broken ≡ false → FileLeft told mode pieces name first file → first ≡ None
 file_sound whole file_whole = refl
-file_sound whole (file_unopened _ _) = absurd (cc)
-file_sound whole (file_cut _ _ _ n is _) = absurd (cc)
-file_sound whole file_unclosed = absurd (cc)
+file_sound whole left = absurd (cc)
 
 files_sound : {told : Bool} {mode : Mode} {pieces names : List (List ℕ)} {broke : List (Option Break)}
     {files : List Slot} → ((place : ℕ) → (slot_at files place).is_broken ≡ false)
@@ -317,9 +305,7 @@ status_zero on_broken broke fault strict = by (any_is Gone (map standing_of brok
 read_whole : {content : Content} (Leaves : List ℕ → Type 0) {is_vain : Bool} {x : List ℕ} {fault : Option Fault}
     → is_vain ≡ false → is_none fault ≡ true → IsRead content Leaves is_vain x fault → content.bytes ≡ x
 read_whole Leaves left sound (to_end x is _ _) = is
-read_whole Leaves left sound (to_break x is _ _) = absurd (cc)
-read_whole Leaves left sound (to_limit x _ _ is _ _ _) = absurd (cc)
-read_whole Leaves left sound (to_broken_output x _ is _) = absurd (cc)
+read_whole Leaves left sound read = absurd (cc)
 
 -- where nothing broke the run goes on
 none_ends : (on_broken : OnBroken) (call : ℕ) (broke : List (Option Break)) → are_sound broke ≡ true

@@ -25,8 +25,7 @@ use Rattle.tee_core.specs.{
   declared.standing.Standing.{Standing, TheVariants.Sound},
 }
 use Rattle.tee_core.proofs.{
-  CopyLemmas.{AllMark, Marked, all_marked, break_now, marked_none, marked_now, none_marked, said_marked, stand_now},
-  CopyLemmas.stand_so,
+  CopyLemmas.{AllMark, Marked, all_marked, break_now, marked_none, marked_now, none_marked, said_marked, stood},
 }
 use Rattle.ports_core.specs.declared.fault.Fault.TheVariants as fault
 
@@ -228,9 +227,9 @@ starts told on_broken {names} {known = known} {nows} opens unknown says sees =
       said = rw (ap (λ those. says_since those nows) unbroken ∙ ap (says_since known_so) stand
           ∙ sym (said_marked on_broken (output_names names) all.2) ∙ sym (append-nil _)) at
           (rw (ap (λ those. slot_at those 1) opens.slots) at says.1);
-      known_are = stand ∙ stand_so all.2;
+      known_are = stand ∙ (stood all.2).3;
       goes_on = goes_at_first on_broken all.0;
-      are_known = stand_now all.2 ∙ sym stand;
+      are_known = (stood all.2).2 ∙ sym stand;
     }
 
 pub length-names : (names : List (Bor (List ℕ))) {known : List Standing} → known ≡ replicate (length names + 1) Sound
