@@ -5,7 +5,7 @@ use Rattle.std.{
     Bool.{cond_both, Decides.nat_tests},
     List.{append-nil, length-map, Folds.concat-append},
   },
-  proofs.Common.{◌≡◌, ℕ, ◌+◌, ◌<◌, zero, suc, List, [], ◌∷◌, ◌++◌, length, map, take, codes, get_or, set, Bor, Bool},
+  proofs.Common.{◌≡◌, ℕ, ◌+◌, ◌<◌, zero, suc, List, [], ◌∷◌, ◌++◌, length, map, take, drop, codes, get_or, set, Bor, Bool},
   proofs.Common.{true, false, if◌then◌else◌, refl, sym, ◌∙◌, ap, arith, ◌≤◌, Option, Some, None, inl, inr},
   proofs.Common.{length-append, append-nil},
   proofs.Math.ListN.get_or-map,
@@ -58,47 +58,39 @@ none_said on_broken fault (name ∷ names) (was ∷ known) = rw (tells_same on_b
 
 -- outputs up to a place that were looked at, and after it those that weren't
 abbrev SeenTo : ℕ → List Standing → List Standing → List Standing → Type 0
-SeenTo zero known stand nows = nows ≡ known
-SeenTo (suc n) (was ∷ known) (one ∷ stand) (now ∷ nows) = (now ≡ one) × SeenTo n known stand nows
-SeenTo (suc n) known stand nows = ⊥
+SeenTo n known stand nows = nows ≡ take n stand ++ drop n known
 
-seen_next : (n : ℕ) (known : List Standing) (stand : List Standing) (nows : List Standing) {now : Standing}
-    → n < length known → length stand ≡ length known → SeenTo n known stand nows
-    → now ≡ get_or stand n Sound → SeenTo (suc n) known stand (set nows n now)
-seen_next zero (was ∷ known) (one ∷ stand) nows within many so_far sees = rw so_far (sees, refl)
-seen_next (suc n) (was ∷ known) (one ∷ stand) (now ∷ nows) within many so_far sees =
-    (so_far.0, seen_next n known stand nows (omega arith) (omega arith) so_far.1 sees)
-seen_next (suc n) (was ∷ known) (one ∷ stand) [] within many so_far sees = absurd so_far
-seen_next n known stand nows within many so_far sees = absurd (omega arith)
+set_next : (n : ℕ) (known stand : List Standing) → n < length known → length stand ≡ length known
+    → set (take n stand ++ drop n known) n (get_or stand n Sound) ≡ take (suc n) stand ++ drop (suc n) known
+set_next zero (was ∷ known) (one ∷ stand) within many = refl
+set_next (suc n) (was ∷ known) (one ∷ stand) within many =
+    ap (λ rest. one ∷ rest) (set_next n known stand (omega arith) (omega arith))
+set_next n known stand within many = absurd (omega arith)
 
-get_next : (n : ℕ) (known : List Standing) (stand : List Standing) (nows : List Standing) (other : Standing)
-    → n < length known → length stand ≡ length known → SeenTo n known stand nows
-    → get_or nows n other ≡ get_or known n Sound
-get_next zero (was ∷ known) (one ∷ stand) nows other within many so_far = rw so_far refl
-get_next (suc n) (was ∷ known) (one ∷ stand) (now ∷ nows) other within many so_far =
-    get_next n known stand nows other (omega arith) (omega arith) so_far.1
-get_next (suc n) (was ∷ known) (one ∷ stand) [] other within many so_far = absurd so_far
-get_next n known stand nows other within many so_far = absurd (omega arith)
+seen_next : (n : ℕ) (known stand : List Standing) {nows : List Standing} {now : Standing} → n < length known
+    → length stand ≡ length known → SeenTo n known stand nows → now ≡ get_or stand n Sound
+    → SeenTo (n + 1) known stand (set nows n now)
+seen_next n known stand within many so_far sees =
+    rw (so_far, sees, (let next : n + 1 ≡ suc n = omega arith in next)) (set_next n known stand within many)
 
-pub seen_all : (known : List Standing) (stand : List Standing) (nows : List Standing) → length stand ≡ length known
+get_next : (n : ℕ) (known stand : List Standing) {nows : List Standing} (other : Standing) → n < length known
+    → length stand ≡ length known → SeenTo n known stand nows → get_or nows n other ≡ get_or known n Sound
+get_next n known stand other within many so_far = grind (arith, common_steps, so_far)
+
+pub seen_all : (known stand : List Standing) {nows : List Standing} → length stand ≡ length known
     → SeenTo (length known) known stand nows → nows ≡ stand
-seen_all [] [] nows many so_far = so_far
-seen_all (was ∷ known) (one ∷ stand) (now ∷ nows) many so_far = cc (seen_all known stand nows (omega arith) so_far.1)
-seen_all (was ∷ known) (one ∷ stand) [] many so_far = absurd so_far
-seen_all known stand nows many so_far = absurd (omega arith)
+seen_all known stand many so_far = grind (arith, common_steps, so_far)
 
-said_next : (on_broken : OnBroken) (fault : Fault) (names : List (List ℕ)) (known stand : List Standing)
-    (nows : List Standing) (n : ℕ) (now : Standing) → n < length names → length known ≡ length names
-    → length stand ≡ length names → SeenTo n known stand nows
-    → said_since on_broken fault names known (set nows n now)
-    ≡ said_since on_broken fault names known nows
+said_next : (on_broken : OnBroken) (fault : Fault) (names : List (List ℕ)) (known stand : List Standing) (n : ℕ)
+    (now : Standing) → n < length names → length known ≡ length names → length stand ≡ length names
+    → said_since on_broken fault names known (set (take n stand ++ drop n known) n now)
+    ≡ said_since on_broken fault names known (take n stand ++ drop n known)
     ++ said_one on_broken fault (get_or names n []) (get_or known n Sound) now
-said_next on_broken fault (name ∷ names) (was ∷ known) (one ∷ stand) nows zero now within known_many many so_far =
+said_next on_broken fault (name ∷ names) (was ∷ known) (one ∷ stand) zero now within known_many many =
     grind (arith, common_steps, tells_same, was, none_said)
-said_next on_broken fault (name ∷ names) (was ∷ known) (one ∷ stand) (first ∷ nows) (suc n) now within known_many many so_far =
-    grind (arith, common_steps, said_next on_broken fault names known stand nows n now (omega arith) (omega arith))
-said_next on_broken fault (name ∷ names) (was ∷ known) (one ∷ stand) [] (suc n) now within known_many many so_far = absurd so_far
-said_next on_broken fault names known stand nows n now within known_many many so_far = absurd (omega arith)
+said_next on_broken fault (name ∷ names) (was ∷ known) (one ∷ stand) (suc n) now within known_many many =
+    grind (arith, common_steps, said_next on_broken fault names known stand n now (omega arith) (omega arith))
+said_next on_broken fault names known stand n now within known_many many = absurd (omega arith)
 
 -- where outputs stand
 
@@ -168,12 +160,12 @@ pub tells_next : (told : Bool) {calling : Calling} {on_broken : OnBroken} {fault
     → (tells on_broken (get_or known n other) standing ≡ false → new ≡ now)
     → Telling told calling on_broken fault names before (n + 1) old new (set known n standing)
 tells_next told {calling} {on_broken} {fault} {names} {before} {known} other {n} {count} {old} {now} {new} {name} {standing} has names_many many within so_far named sees says quiet =
-    rw (← (let e : suc n ≡ n + 1 = omega arith in e)) (record {
+    record {
       said = rw step (cond_both (tells on_broken (get_or known n other) standing) (message_of fault name ∷ []) [] (λ more. SaysTo told calling (messages ++ more) old new)
           (λ is. let (why, said) = says is in says_too told calling messages (message_of fault name) now new has so_far.said said)
           (λ is. rw (append-nil messages, quiet is) so_far.said));
-      seen = seen_next n before (standings_of old) known within (standings_are ∙ sym many) so_far.seen (sees ∙ here);
-    }) where
+      seen = seen_next n before (standings_of old) within (standings_are ∙ sym many) so_far.seen (sees ∙ here);
+    } where
       messages : List Message
       messages = said_since on_broken fault names before known
 
@@ -186,22 +178,21 @@ tells_next told {calling} {on_broken} {fault} {names} {before} {known} other {n}
           ∙ ap (λ those. get_or (standings_of those) n Sound) (sym has.are)
 
       was : get_or known n other ≡ get_or before n Sound
-      was = get_next n before (standings_of old) known other within (standings_are ∙ sym many) so_far.seen
+      was = get_next n before (standings_of old) other within (standings_are ∙ sym many) so_far.seen
 
       step : said_since on_broken fault names before (set known n standing)
           ≡ messages ++ (if tells on_broken (get_or known n other) standing then message_of fault name ∷ [] else [])
       step =
-          let next = said_next on_broken fault names before (standings_of old) known n standing
-          (omega arith) (many ∙ sym names_many) (standings_are ∙ sym names_many)
-          so_far.seen in
-          cc (next, named, was)
+          let next = said_next on_broken fault names before (standings_of old) n standing
+          (omega arith) (many ∙ sym names_many) (standings_are ∙ sym names_many) in
+          cc (next, named, was, so_far.seen)
 
 pub told_all : (told : Bool) {calling : Calling} {on_broken : OnBroken} {fault : Fault} {names : List (List ℕ)}
     {before known : List Standing} {n count : ℕ} {old now : List Slot} → HasStreams old count
     → length before ≡ count + 1 → n ≡ length before → Telling told calling on_broken fault names before n old now known
     → known ≡ standings_of old
 told_all told {before} {known} {old = old} has many all so_far =
-    seen_all before (standings_of old) known (count_standings has ∙ sym many) (rw all at so_far.seen)
+    seen_all before (standings_of old) (count_standings has ∙ sym many) (rw all at so_far.seen)
 
 pub count_names : (names : List (Bor (List ℕ)))
     → length (output_names (map (λ name. name.now) names)) ≡ length names + 1
