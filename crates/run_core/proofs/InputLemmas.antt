@@ -660,26 +660,32 @@ walk_begins {told} {sources = sources} {slots} fresh are alone =
       count = rw one refl;
     }
 
--- where names are left, no file was removed
-pub slots_at : {told_in told : Bool} {task : Task} {world : World} {names left : List (List ℕ)} {progress : RunProgress}
-    {laid : ℕ → List ℕ → Option Content}
-    {sources : List Source} {slots : List Slot} → 1 ≤ length left
-    → (walked : Walked told_in told task world names left progress laid sources slots)
-    → OutputsAt told (streams_with walked.error) walked.made.part slots
-slots_at some walked = grind (arith, common_steps)
-
-pub walked_error : {told_in : Bool} (told : Bool) {task : Task} {world : World} {names left : List (List ℕ)}
-    {progress : RunProgress}
+module _ {told_in told : Bool} {task : Task} {world : World} {names left : List (List ℕ)} {progress : RunProgress}
     {laid : ℕ → List ℕ → Option Content} {sources : List Source} {slots : List Slot}
-    → (walked : Walked told_in told task world names left progress laid sources slots)
-    → is_open walked.error.state ≡ true
-walked_error told {task} walked = rw (all_said_state told task.speaker _ _ _ walked.says) refl
+    (walked : Walked told_in told task world names left progress laid sources slots) where
+  -- where names are left, no file was removed
+  pub slots_at : 1 ≤ length left → OutputsAt told (streams_with walked.error) walked.made.part slots
+  slots_at some = grind (arith, common_steps, walked)
 
-pub walk_streams : {told_in told : Bool} {task : Task} {world : World} {names left : List (List ℕ)}
-    {progress : RunProgress} {laid : ℕ → List ℕ → Option Content} {sources : List Source} {slots : List Slot}
-    → 1 ≤ length left
-    → Walked told_in told task world names left progress laid sources slots → HasStreams told slots
-walk_streams {told} some walked = record { part = walked.made.part; error = walked.error; at = slots_at some walked; opened = walked_error told walked }
+  pub walked_error : is_open walked.error.state ≡ true
+  walked_error = rw (all_said_state told task.speaker _ _ _ walked.says) refl
+
+  pub walk_streams : 1 ≤ length left → HasStreams told slots
+  walk_streams some = record { part = walked.made.part; error = walked.error; at = slots_at some; opened = walked_error }
+
+  -- all names were taken
+  pub walk_ends : left ≡ []
+      → RunsOver told_in world names (λ found. TookAll told_in told task found sources slots (Ok progress.failed))
+  walk_ends none =
+      let made : made_by task (walked.done ++ []) ≡ walked.made = walked.rest_made [] ∙ joined_nothing in (
+        walked.done ++ [],
+        record {
+          are = walked.rest_are [] (rw none refl);
+          there = λ t. rw none at (walked.rest_there t);
+        },
+        all progress.failed walked.error walked.reached (rw made walked.failed) (rw made walked.says) (rw made walked.at)
+            (rw made walked.swept) (rw (append-nil walked.done) (all_done _ _ _ _ _ _ walked.known)),
+      )
 
 -- while standard input was not read, what it holds is known
 same_input : {world : World} (was_read : Bool) (slot : ℕ) (name : List ℕ) (d : Bool)
@@ -706,112 +712,91 @@ Takes told_in told task most progress laid sources new_sources name so_far error
     (λ input. TookInput told_in told task most input (of_input task progress.is_first input) progress.is_first progress.failed
     (progress.was_read || is_dash name) so_far error (length slots) new_sources new result)
 
--- one more name was taken
-pub walk_goes_on : {told_in told : Bool} {task : Task} {world : World} {names : List (List ℕ)} {name : List ℕ}
-    {left : List (List ℕ)} {progress next : RunProgress}
-    {laid new_laid : ℕ → List ℕ → Option Content} {sources new_sources : List Source} {slots new : List Slot}
-    → (walked : Walked told_in told task world names (name ∷ left) progress laid sources slots)
-    → TakesOne largest_piece progress.was_read name sources new_sources
-    → length new_sources ≡ next_slot (length sources) name → new_laid ≡ laid
-    → Takes told_in told task largest_piece progress laid sources new_sources name walked.made.part walked.error slots
-    new (Ok next)
-    → Walked told_in told task world names left next new_laid new_sources new
-walk_goes_on {told_in} {told} {task} {world} {name = name} {left} {progress} {next} {sources = sources} {new_sources}
-    {slots} {new} walked leaves opened_it same (input, is_for, there, took _ after reached is is_done says at swept) =
-    let one = of_input task progress.is_first input in
-    let was : next.was_read ≡ (progress.was_read || is_dash name) = ap (λ (p : RunProgress). p.was_read) is in
-    let unswept : walked.made.sweeps ≡ false = walked.unswept (omega arith) in
-    let sweeps_one : (walked.made.sweeps || one.sweeps) ≡ one.sweeps = ap (λ (b : Bool). b || one.sweeps) unswept in
-    let only : one.sweeps ≡ true → (left ≡ []) × (length slots ≡ 2) = λ sweeps. taken_alone slots
-    (walked.alone input.shown) (sweeps_clears task (task.work input.shown) progress.is_first input.name input.content sweeps) in
-    record {
-      done = walked.done ++ input ∷ [];
-      made = joined walked.made one;
-      error = after;
-      reached = reached;
-      at = at;
-      swept = rw sweeps_one (swept_from one.sweeps reached new (λ sweeps. (only sweeps).1) swept);
-      says = says_after told task.speaker walked.made.messages one.messages standard_error walked.error after walked.says says;
-      failed = rw (is, walked.failed);
-      alone = λ shown clears. inl (taken_alone slots (walked.alone shown) clears).0;
-      unswept = λ some. sweeps_one ∙ false_from_ne_true one.sweeps (λ sweeps. omega (arith, ap length (only sweeps).0));
-      first = rw (is, walked.first, and_push are_missing (λ (one : Input). is_missing one.content) refl (λ one inputs. refl) walked.done input);
-      rest_made = λ rest. ap (of_inputs task true) (append_assoc walked.done (input ∷ []) rest) ∙ walked.rest_made (input ∷ rest)
-          ∙ (simp (append_assoc, or_assoc))
-          ∙ ap (λ (b : Bool). joined (joined walked.made one) (of_inputs task b rest)) (sym (ap (λ (p : RunProgress). p.is_first) is));
-      rest_are = λ rest are_rest. rw (append_assoc walked.done (input ∷ []) rest)
-          (walked.rest_are (input ∷ rest) (is_for, rw was at (rw opened_it at are_rest)));
-      rest_there = λ t. append_assoc walked.done (input ∷ []) (inputs_from world next.was_read (length new_sources) left)
-          ∙ ap (λ (first : Input). walked.done ++ first ∷ inputs_from world next.was_read (length new_sources) left)
-          (there t ∙ same_input progress.was_read (length sources) name (is_dash name) sources walked.laid_same walked.standard)
-          ∙ ap (λ n. walked.done ++ input_of world progress.was_read (length sources) name
-          (is_dash name) ∷ inputs_from world next.was_read n left) opened_it
-          ∙ ap (λ (b : Bool). walked.done ++ input_of world progress.was_read (length sources) name
-          (is_dash name) ∷ inputs_from world b (next_slot (length sources) name) left) was
-          ∙ walked.rest_there t;
-      laid_same = same ∙ walked.laid_same;
-      standard = λ unread. let both = or_parts progress.was_read (is_dash name) (sym was ∙ unread) in leaves.unasked both.1 ∙ walked.standard both.0;
-      some = omega arith;
-      known = rw was (done_more told_in task.work largest_piece (progress.was_read || is_dash name) walked.done input new_sources
-          (still_done told_in task.work largest_piece walked.done (λ had. ap (λ (b : Bool). b || is_dash name) had) leaves walked.known)
-          (done_with told_in (task.work input.shown) largest_piece progress.was_read name new_sources is_for walked.some is_done));
-      asked = leaves.asked walked.asked;
-      count = rw (opened_it, walked.count);
-    }
+module _ {told_in told : Bool} {task : Task} {world : World} {names : List (List ℕ)} {name : List ℕ}
+    {left : List (List ℕ)} {progress : RunProgress} {laid : ℕ → List ℕ → Option Content}
+    {sources new_sources : List Source} {slots : List Slot}
+    (walked : Walked told_in told task world names (name ∷ left) progress laid sources slots)
+    (leaves : TakesOne largest_piece progress.was_read name sources new_sources) where
+  unread_on : (progress.was_read || is_dash name) ≡ false → source_at new_sources 0 ≡ source_of world.standard
+  unread_on unread = let both = or_parts progress.was_read (is_dash name) unread in leaves.unasked both.1 ∙ walked.standard both.0
 
--- a fault stopped the run at a name
-pub walk_stops : {told_in : Bool} (told : Bool) {task : Task} {world : World} {names : List (List ℕ)} {name : List ℕ}
-    {left : List (List ℕ)}
-    {progress : RunProgress} {laid : ℕ → List ℕ → Option Content} {sources new_sources : List Source}
-    {slots new : List Slot} (fault : Fault)
-    → (walked : Walked told_in told task world names (name ∷ left) progress laid sources slots)
-    → TakesOne largest_piece progress.was_read name sources new_sources
-    → Takes told_in told task largest_piece progress laid sources new_sources name walked.made.part walked.error slots
-    new (Err fault)
-    → RunsOver told_in world names (λ found. TookAll told_in told task found new_sources new (Err fault))
-walk_stops {told_in} told {task} {world} {names} {name} {left} {progress} {laid} {sources} {new_sources} {slots}
-    {new} fault walked leaves (input, is_for, there, cut_off _ step reached is_step stops stop swept) =
-    let rest = inputs_from world (progress.was_read || is_dash name) (next_slot (length sources) name) left in
-    let before : made_by task walked.done ≡ walked.made
-    = ap (of_inputs task true) (sym (append-nil walked.done)) ∙ walked.rest_made [] ∙ joined_nothing in (
-      walked.done ++ input ∷ rest,
-      record {
-        are = walked.rest_are (input ∷ rest) (is_for, are_from world (progress.was_read || is_dash name) (next_slot (length sources) name) left);
-        there = λ t. rw (
-          there t,
-          same_input progress.was_read _ name (is_dash name)
-              sources walked.laid_same walked.standard,
-        ) (walked.rest_there t);
-      },
-      stopped_at fault walked.done input rest walked.error step reached refl
-          (all_done _ _ _ (progress.was_read || is_dash name) _ _
-          (still_done told_in task.work largest_piece walked.done (λ had. rw had refl) leaves walked.known))
-          (rest_untouched world (progress.was_read || is_dash name) (next_slot (length sources) name) left new_sources
-          (λ unread. let both = or_parts progress.was_read (is_dash name) unread in leaves.unasked both.1 ∙ walked.standard both.0) leaves.within)
-          (rw before (rw walked.first at is_step))
-          stops (rw before walked.says) stop
-          (swept_from (task.work input.shown).clears reached new (λ clears. (taken_alone slots (walked.alone input.shown) clears).1) swept),
-    )
+  done_on : StayDone told_in task.work largest_piece (progress.was_read || is_dash name) walked.done new_sources
+  done_on = still_done told_in task.work largest_piece walked.done (λ had. rw had refl) leaves walked.known
 
--- all names were taken
-pub walk_ends : {told_in told : Bool} {task : Task} {world : World} {names left : List (List ℕ)}
-    {progress : RunProgress}
-    {laid : ℕ → List ℕ → Option Content} {sources : List Source} {slots : List Slot} → left ≡ []
-    → Walked told_in told task world names left progress laid sources slots
-    → RunsOver told_in world names (λ found. TookAll told_in told task found sources slots (Ok progress.failed))
-walk_ends {task = task} {progress = progress} none walked =
-    let made : made_by task (walked.done ++ []) ≡ walked.made = walked.rest_made [] ∙ joined_nothing in (
-      walked.done ++ [],
+  -- one more name was taken
+  pub walk_goes_on : {next : RunProgress} {new_laid : ℕ → List ℕ → Option Content} {new : List Slot}
+      → length new_sources ≡ next_slot (length sources) name → new_laid ≡ laid
+      → Takes told_in told task largest_piece progress laid sources new_sources name walked.made.part walked.error
+      slots new (Ok next)
+      → Walked told_in told task world names left next new_laid new_sources new
+  walk_goes_on {next = next} {new = new} opened_it same (input, is_for, there, took _ after reached is is_done says at swept) =
+      let one = of_input task progress.is_first input in
+      let was : next.was_read ≡ (progress.was_read || is_dash name) = ap (λ (p : RunProgress). p.was_read) is in
+      let unswept : walked.made.sweeps ≡ false = walked.unswept (omega arith) in
+      let sweeps_one : (walked.made.sweeps || one.sweeps) ≡ one.sweeps = ap (λ (b : Bool). b || one.sweeps) unswept in
+      let only : one.sweeps ≡ true → (left ≡ []) × (length slots ≡ 2) = λ sweeps. taken_alone slots
+      (walked.alone input.shown) (sweeps_clears task (task.work input.shown) progress.is_first input.name input.content sweeps) in
       record {
-        are = walked.rest_are [] (rw none refl);
-        there = λ t. rw none at (walked.rest_there t);
-      },
-      all progress.failed walked.error walked.reached (rw made walked.failed)
-          (rw made walked.says)
-          (rw made walked.at)
-          (rw made walked.swept)
-          (rw (append-nil walked.done) (all_done _ _ _ _ _ _ walked.known)),
-    )
+        done = walked.done ++ input ∷ [];
+        made = joined walked.made one;
+        error = after;
+        reached = reached;
+        at = at;
+        swept = rw sweeps_one (swept_from one.sweeps reached new (λ sweeps. (only sweeps).1) swept);
+        says = says_after told task.speaker walked.made.messages one.messages standard_error walked.error after walked.says says;
+        failed = rw (is, walked.failed);
+        alone = λ shown clears. inl (taken_alone slots (walked.alone shown) clears).0;
+        unswept = λ some. sweeps_one ∙ false_from_ne_true one.sweeps (λ sweeps. omega (arith, ap length (only sweeps).0));
+        first = rw (is, walked.first, and_push are_missing (λ (one : Input). is_missing one.content) refl (λ one inputs. refl) walked.done input);
+        rest_made = λ rest. ap (of_inputs task true) (append_assoc walked.done (input ∷ []) rest) ∙ walked.rest_made (input ∷ rest)
+            ∙ (simp (append_assoc, or_assoc))
+            ∙ ap (λ (b : Bool). joined (joined walked.made one) (of_inputs task b rest)) (sym (ap (λ (p : RunProgress). p.is_first) is));
+        rest_are = λ rest are_rest. rw (append_assoc walked.done (input ∷ []) rest)
+            (walked.rest_are (input ∷ rest) (is_for, rw was at (rw opened_it at are_rest)));
+        rest_there = λ t. append_assoc walked.done (input ∷ []) (inputs_from world next.was_read (length new_sources) left)
+            ∙ ap (λ (first : Input). walked.done ++ first ∷ inputs_from world next.was_read (length new_sources) left)
+            (there t ∙ same_input progress.was_read (length sources) name (is_dash name) sources walked.laid_same walked.standard)
+            ∙ ap (λ n. walked.done ++ input_of world progress.was_read (length sources) name
+            (is_dash name) ∷ inputs_from world next.was_read n left) opened_it
+            ∙ ap (λ (b : Bool). walked.done ++ input_of world progress.was_read (length sources) name
+            (is_dash name) ∷ inputs_from world b (next_slot (length sources) name) left) was
+            ∙ walked.rest_there t;
+        laid_same = same ∙ walked.laid_same;
+        standard = λ unread. unread_on (sym was ∙ unread);
+        some = omega arith;
+        known = rw was (done_more told_in task.work largest_piece (progress.was_read || is_dash name) walked.done input new_sources
+            done_on
+            (done_with told_in (task.work input.shown) largest_piece progress.was_read name new_sources is_for walked.some is_done));
+        asked = leaves.asked walked.asked;
+        count = rw (opened_it, walked.count);
+      }
+
+  -- a fault stopped the run at a name
+  pub walk_stops : {new : List Slot} (fault : Fault)
+      → Takes told_in told task largest_piece progress laid sources new_sources name walked.made.part walked.error
+      slots new (Err fault)
+      → RunsOver told_in world names (λ found. TookAll told_in told task found new_sources new (Err fault))
+  walk_stops {new} fault (input, is_for, there, cut_off _ step reached is_step stops stop swept) =
+      let rest = inputs_from world (progress.was_read || is_dash name) (next_slot (length sources) name) left in
+      let before : made_by task walked.done ≡ walked.made
+      = ap (of_inputs task true) (sym (append-nil walked.done)) ∙ walked.rest_made [] ∙ joined_nothing in (
+        walked.done ++ input ∷ rest,
+        record {
+          are = walked.rest_are (input ∷ rest) (is_for, are_from world (progress.was_read || is_dash name) (next_slot (length sources) name) left);
+          there = λ t. rw (
+            there t,
+            same_input progress.was_read _ name (is_dash name)
+                sources walked.laid_same walked.standard,
+          ) (walked.rest_there t);
+        },
+        stopped_at fault walked.done input rest walked.error step reached refl
+            (all_done _ _ _ (progress.was_read || is_dash name) _ _ done_on)
+            (rest_untouched world (progress.was_read || is_dash name) (next_slot (length sources) name) left new_sources
+            unread_on leaves.within)
+            (rw before (rw walked.first at is_step))
+            stops (rw before walked.says) stop
+            (swept_from (task.work input.shown).clears reached new (λ clears. (taken_alone slots (walked.alone input.shown) clears).1) swept),
+      )
 
 -- the words that a loop has left are the first of them and the rest
 pub walked_at : {told_in : Bool} (told : Bool) {task : Task} {world : World} {names : List (List ℕ)}

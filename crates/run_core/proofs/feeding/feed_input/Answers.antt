@@ -91,6 +91,9 @@ returns-then-n-eq0 g c =
     let so_far = c.pieces.invariant in
     let going : (g.S.Stage.terms.work c.pieces.engine.stage).is_complete so_far.fed ≡ false = sym
     (c.done.ensures.complete so_far.fed so_far.feeds.holds) ∙ c.pieces-test.true in
+    let can = still_readable _ _ _ _ c.in-Ok.n c.in-Ok.ensures.rest so_far.readable in
+    let left = λ (told : g.I.Inputs.told ≡ true).
+    read_none_more _ _ _ _ _ _ c.in-Ok.n (so_far.read told) so_far.readable c.if-n-eq0.true c.in-Ok.ensures.rest in
     let nothing : take c.in-Ok.n c.read_part.new.buffer ≡ [] = ap (λ k. take k c.read_part.new.buffer) c.if-n-eq0.true in
     let at_end = ended_now _ _ c.in-Ok.n _ _ so_far.readable c.in-Ok.ensures.rest c.if-n-eq0.true c.piece_size-size.ensures.some in
     let far : g.I.Inputs.told ≡ true → IsUnread (source_at (g.I.Inputs.sources c.args.inputs.now) c.args.slot) →
@@ -101,16 +104,16 @@ returns-then-n-eq0 g c =
           of_read g.I.Inputs.told _ so_far.fed false _ _
           (λ told. let at_end = (c.in-Ok.ensures.bytes told).ended c.if-n-eq0.true (omega arith) in let all =
           read_to_end _ _ _ _ (so_far.read told) at_end.0 at_end.1 in (all.1, all.0))
-          (λ content. came_sound g.I.Inputs.told _ c.args.slot (still_readable _ _ _ _ c.in-Ok.n c.in-Ok.ensures.rest so_far.readable))
+          (λ content. came_sound g.I.Inputs.told _ c.args.slot can)
           (λ content is bytes sound came. (
             ended _ g.met.S.Stage.lawful _ _ so_far.feeds own at (sound, going, bytes) (to_end sound bytes) (alike_itself)
                 (rw so_far.feeds.same so_far.needed) (
                   record {
                     came = came;
                     sound = sound_at (g.I.Inputs.sources c.read_part.new.inputs) c.args.slot
-                        (still_readable _ _ _ _ c.in-Ok.n c.in-Ok.ensures.rest so_far.readable);
+                        can;
                     ended = λ _. at_end;
-                    joined = λ told. is told ∙ read_none_more _ _ _ _ _ _ c.in-Ok.n (so_far.read told) so_far.readable c.if-n-eq0.true c.in-Ok.ensures.rest;
+                    joined = λ told. is told ∙ left told;
                   },
                   λ told unread standard. rw going (omega (arith, far told unread)),
                 )
@@ -118,17 +121,12 @@ returns-then-n-eq0 g c =
             λ ends sound going. at_end,
           ));
       others = keeps_again _ _ _ _ so_far.others (keeps_others _ _ _ _ c.in-Ok.ensures.rest);
-      reads = λ told. (
-        so_far.fed,
-        so_far.needed,
-        read_none_more _ _ _ _ _ _ c.in-Ok.n
-            (so_far.read told) so_far.readable c.if-n-eq0.true c.in-Ok.ensures.rest,
-      );
+      reads = λ told. (so_far.fed, so_far.needed, left told);
       used = λ told ends unread.
           let gave = c.in-Ok.ensures.bytes told in
           let none = (gave.ended c.if-n-eq0.true (omega arith)).0 in
           let after = changed_source _ _ _ _ so_far.readable c.in-Ok.ensures.rest in
-          uses_all (read_none_more _ _ _ _ _ _ c.in-Ok.n (so_far.read told) so_far.readable c.if-n-eq0.true c.in-Ok.ensures.rest)
+          uses_all (left told)
           (ap (λ (source : Source). source.left.bytes) after ∙ ap (drop c.in-Ok.n) none ∙ ap (λ k. drop k []) c.if-n-eq0.true)
           so_far.needed (ap (λ (work : Work). work.is_complete so_far.fed) (sym so_far.feeds.same) ∙ going)
           (far told unread);
@@ -141,7 +139,10 @@ returns-then-n-eq0 g c =
 
 pub pieces-preserved : goal.pieces-preserved
 pieces-preserved g c =
-    let so_far = c.pieces.invariant in record {
+    let so_far = c.pieces.invariant in
+    let going : (g.S.Stage.terms.work c.pieces.engine.stage).is_complete so_far.fed ≡ false = sym
+    (c.done.ensures.complete so_far.fed so_far.feeds.holds) ∙ c.pieces-test.true in
+    let from_start = ap (λ (work : Work). work.is_complete so_far.fed) (sym so_far.feeds.same) ∙ going in record {
       fed = so_far.fed ++ take c.in-Ok.n c.read_part.new.buffer;
       feeds = goes_on _ _ (take c.in-Ok.n c.read_part.new.buffer) so_far.feeds c.in-Ok-feed.ensures.passes c.in-Ok-feed.ensures.holds c.in-Ok-feed.ensures.bound;
       readable = still_readable _ _ _ _ c.in-Ok.n c.in-Ok.ensures.rest so_far.readable;
@@ -149,19 +150,17 @@ pieces-preserved g c =
       read = λ told. read_more _ _ _ _ _ _ _ _ _ (so_far.read told) so_far.readable (c.in-Ok.ensures.bytes told) c.in-Ok.ensures.rest;
       took = λ told. takes_more _ (so_far.took told) so_far.readable (c.in-Ok.ensures.bytes told) c.in-Ok.ensures.rest;
       last = λ told. needed_more so_far.fed c.read_part.new.buffer
-          (ap (λ (work : Work). work.is_complete so_far.fed) (sym so_far.feeds.same)
-          ∙ sym (c.done.ensures.complete so_far.fed so_far.feeds.holds) ∙ c.pieces-test.true)
+          from_start
           (omega (arith, ap (λ (source : Source). source.last) (changed_source _ _ _ _ so_far.readable c.in-Ok.ensures.rest), length-take-le c.in-Ok.n _ (c.in-Ok.ensures.bytes told).within));
       few = λ standard n spare. rw (← so_far.feeds.same)
           (c.wanted.ensures.few so_far.fed (take c.in-Ok.n c.read_part.new.buffer) c.feed.new.self.stage n so_far.feeds.holds.within
-          (sym (c.done.ensures.complete so_far.fed so_far.feeds.holds) ∙ c.pieces-test.true)
+          going
           (omega (arith, piece_within c.read_part.new.buffer c.in-Ok.ensures.bound, c.piece_size-size.ensures.few standard))
           c.in-Ok-feed.ensures.passes.same (c.in-Ok-feed.ensures.holds so_far.fed so_far.feeds.holds).within
           (rw so_far.feeds.same spare));
       room = c.read_part.ensures.room ∙ so_far.room;
       needed = needed_more so_far.fed c.read_part.new.buffer
-          (ap (λ (work : Work). work.is_complete so_far.fed) (sym so_far.feeds.same)
-          ∙ sym (c.done.ensures.complete so_far.fed so_far.feeds.holds) ∙ c.pieces-test.true)
+          from_start
           (omega (arith, c.in-Ok.ensures.bound, c.piece_size-size.ensures.within, c.pieces.invariant.room));
       asked = λ within. asked_again _ _ _ _ _ _ so_far.readable c.in-Ok.ensures.rest (omega arith) (so_far.asked within);
       laid = c.read_part.ensures.kept ∙ so_far.laid;
@@ -175,6 +174,13 @@ returns-in-Err-feed g c =
     let so_far = c.pieces.invariant in
     let going : (g.S.Stage.terms.work c.pieces.engine.stage).is_complete so_far.fed ≡ false = sym
     (c.done.ensures.complete so_far.fed so_far.feeds.holds) ∙ c.pieces-test.true in
+    let needed = needed_more so_far.fed c.read_part.new.buffer going
+    (omega (arith, c.in-Ok.ensures.bound, c.piece_size-size.ensures.within, so_far.room)) in
+    let can = still_readable _ _ _ _ c.in-Ok.n c.in-Ok.ensures.rest so_far.readable in
+    let more = λ (told : g.I.Inputs.told ≡ true).
+    (read_more _ _ _ _ _ _ _ _ _ (so_far.read told) so_far.readable (c.in-Ok.ensures.bytes told) c.in-Ok.ensures.rest).bytes in
+    let far = λ (told : g.I.Inputs.told ≡ true).
+    (takes_more _ (so_far.took told) so_far.readable (c.in-Ok.ensures.bytes told) c.in-Ok.ensures.rest).far in
     let settles : is_stop (Err c.given_up.result) ≡ false → OfVerdict c.in-Err-feed.fault
     (IsSettled (g.S.Stage.terms.work c.pieces.engine.stage) (so_far.fed ++ take c.in-Ok.n c.read_part.new.buffer))
     = λ ends. let (verdict, is, settled) = judges (g.S.Stage.terms.work c.pieces.engine.stage).means _
@@ -184,24 +190,19 @@ returns-in-Err-feed g c =
       ends = λ before opening own at.
           let within : length (take c.in-Ok.n c.read_part.new.buffer) ≤ length c.args.buffer.now = piece_within c.read_part.new.buffer
           (omega (arith, c.in-Ok.ensures.bound, c.piece_size-size.ensures.within, so_far.room)) in
-          let more = λ (told : g.I.Inputs.told ≡ true).
-          (read_more _ _ _ _ _ _ _ _ _ (so_far.read told) so_far.readable (c.in-Ok.ensures.bytes told) c.in-Ok.ensures.rest).bytes in
           of_more g.I.Inputs.told _ (so_far.fed ++ take c.in-Ok.n c.read_part.new.buffer) _ _ _ more
-          (λ content. came_sound g.I.Inputs.told _ c.args.slot (still_readable _ _ _ _ c.in-Ok.n c.in-Ok.ensures.rest so_far.readable))
+          (λ content. came_sound g.I.Inputs.told _ c.args.slot can)
           (λ content is rest bytes came. (
             rw c.given_up.ensures.same (stopped_feeding _ g.met.S.Stage.lawful _ c.feed.new.self _
                 (take c.in-Ok.n c.read_part.new.buffer) rest so_far.feeds own at bytes within going (
                   record {
                     came = came;
                     sound = sound_at (g.I.Inputs.sources c.read_part.new.inputs) c.args.slot
-                        (still_readable _ _ _ _ c.in-Ok.n c.in-Ok.ensures.rest so_far.readable);
+                        can;
                     ended = λ ends. absurd (cc);
                     joined = λ told. is told ∙ more told;
                   },
-                  λ told unread standard. omega (
-                    arith,
-                    (takes_more _ (so_far.took told) so_far.readable (c.in-Ok.ensures.bytes told) c.in-Ok.ensures.rest).far unread,
-                  ),
+                  λ told unread standard. omega (arith, far told unread),
                 )
                 c.in-Err-feed.ensures.passes c.given_up.ensures.judged c.given_up.ensures.swept),
             λ ends. rw (← so_far.feeds.same) (told_by_complete content (source_at (g.I.Inputs.sources c.read_part.new.inputs) c.args.slot) rest
@@ -210,17 +211,15 @@ returns-in-Err-feed g c =
       others = keeps_again _ _ _ _ so_far.others (keeps_others _ _ _ _ c.in-Ok.ensures.rest);
       reads = λ told. (
         so_far.fed ++ take c.in-Ok.n c.read_part.new.buffer,
-        needed_more so_far.fed c.read_part.new.buffer (ap (λ (work : Work). work.is_complete so_far.fed) (sym so_far.feeds.same) ∙ going)
-            (omega (arith, c.in-Ok.ensures.bound, c.piece_size-size.ensures.within, so_far.room)),
-        (read_more _ _ _ _ _ _ _ _ _ (so_far.read told) so_far.readable (c.in-Ok.ensures.bytes told) c.in-Ok.ensures.rest).bytes,
+        rw (← so_far.feeds.same) needed,
+        more told,
       );
       used = λ told ends unread.
-          let gave = c.in-Ok.ensures.bytes told in
           rw (← so_far.feeds.same)
           (uses_judged
-          (read_more _ _ _ _ _ _ _ _ _ (so_far.read told) so_far.readable gave c.in-Ok.ensures.rest).bytes
-          (needed_more so_far.fed c.read_part.new.buffer going (omega (arith, c.in-Ok.ensures.bound, c.piece_size-size.ensures.within, so_far.room)))
-          (settles ends).2 ((takes_more _ (so_far.took told) so_far.readable gave c.in-Ok.ensures.rest).far unread));
+          (more told)
+          needed
+          (settles ends).2 (far told unread));
       asked = λ within. asked_again _ _ _ _ _ _ so_far.readable c.in-Ok.ensures.rest (omega arith) (so_far.asked within);
       broke = tt;
       laid = c.read_part.ensures.kept ∙ so_far.laid;
