@@ -414,148 +414,6 @@ pub error_no_output : {names : List (List ℕ)} {tee : TeeState} → IsTeeOf nam
 error_no_output is (inl here) = omega arith
 error_no_output is (inr file) = let there = file_place 1 is file in omega arith
 
-module _ (told : Bool) (calling : Calling) (mode : Mode) (on_broken : OnBroken) (names : List (List ℕ)) where
-  pub copies_ready : {pieces : List (List ℕ)} {messages : List Message} {slots : List Slot} {known : List Standing}
-      {tee : TeeState} → IsTeeOf names tee → Copies told calling mode on_broken names pieces messages slots known
-      → IsReady tee slots
-  copies_ready {tee} is copies place output = rw copies.are (by output) where
-    by : IsOutput tee place → IsUsable (slot_at (copies.output ∷ copies.error ∷ copies.files) place)
-    by (inl here) = rw here (output_usable told copies.output_has)
-    by (inr file) = grind (arith, common_steps, file_place, files_usable, length-files)
-
-  -- the outputs after a call, before anything is said of it, where they stand so now
-  pub record After (OutputIs : Option Break → Slot → Type 0) (FileIs : List ℕ → Option Break → Slot → Type 0)
-      (call : ℕ) {pieces : List (List ℕ)} {messages : List Message} {old : List Slot} {known : List Standing}
-      (copies : Copies told calling mode on_broken names pieces messages old known) (mid : List Slot)
-      (nows : List Standing) : Type 0 where
-    pub output : Slot
-    pub files : List Slot
-    pub first : Option Break
-    pub broke : List (Option Break)
-    pub are : mid ≡ output ∷ copies.error ∷ files
-    pub output_is : OutputIs first output
-    pub files_are : EachFile FileIs names broke files
-    pub marked : AllMark call (copies.first ∷ copies.broke) (first ∷ broke) nows
-
-  pub called : {OutputIs : Option Break → Slot → Type 0} {FileIs : List ℕ → Option Break → Slot → Type 0}
-      {Change : Slot → Slot → Type 0} {pieces : List (List ℕ)} {messages : List Message} {old mid : List Slot}
-      {known nows : List Standing} {tee : TeeState}
-      → IsTeeOf names tee → (copies : Copies told calling mode on_broken names pieces messages old known) → (call : ℕ)
-      → length mid ≡ length old → slot_at mid 1 ≡ slot_at old 1
-      → ((output : Slot) → slot_at mid 0 ≡ output → Marked OutputIs call copies.first output)
-      → ((place : ℕ) → IsFile tee place → Change (slot_at old place) (slot_at mid place))
-      → ((name : List ℕ) (first : Option Break) (old new : Slot)
-      → FileHas told mode pieces name first old → Change old new → Marked (FileIs name) call first new)
-      → nows ≡ standings_of mid → After OutputIs FileIs call copies mid nows
-  called {OutputIs} {FileIs} {Change} {mid = mid} is copies call count error one changes go sees = rw sees (by mid refl) where
-    by : (those : List Slot) → mid ≡ those → After OutputIs FileIs call copies mid (standings_of those)
-    by (output ∷ other ∷ files) are =
-        let same : other ≡ copies.error = cc in
-        let here = one output (cc) in let many = length-files copies.files_have in
-        let rest = files_go go files (omega (arith, ap length are, ap length copies.are))
-        (λ n within. rw (ap (λ those. slot_at those (suc (suc n))) are) at (rw (ap (λ those. slot_at those (suc (suc n))) copies.are) at
-        (changes (suc (suc n)) (place_file n is (omega arith))))) copies.files_have in
-        record {
-          output = output;
-          files = files;
-          first = here.0;
-          broke = rest.0;
-          are = cc;
-          output_is = here.1;
-          files_are = rest.1;
-          marked = all_marked copies.first here.0 (stands_as output) copies.broke rest.0 (map stands_as files) here.2 rest.2;
-        }
-    by those short = absurd (cc)
-
-  -- what is on standard error once it was told
-  pub said_after : {OutputIs : Option Break → Slot → Type 0} {FileIs : List ℕ → Option Break → Slot → Type 0}
-      {pieces : List (List ℕ)} {messages : List Message} {old mid new : List Slot} {known nows : List Standing}
-      (copies : Copies told calling mode on_broken names pieces messages old known)
-      → (next : After OutputIs FileIs (suc (length pieces)) copies mid nows)
-      → (says : SaysTo told calling
-      (said_since on_broken (fault_in (suc (length pieces))) (output_names names) known nows) mid new)
-      → SaysAll told (tee_called calling)
-      ((said_before on_broken (suc (length pieces)) (output_names names) (next.first ∷ next.broke) ++ messages)
-      ++ said_in on_broken (suc (length pieces)) (output_names names) (next.first ∷ next.broke)) standard_error
-      says.0
-  said_after {pieces} {messages} copies next says =
-      rw (said_marked on_broken (output_names names) next.marked, all_older on_broken (suc (length pieces)) (output_names names) (omega arith) next.marked, ← copies.known_are)
-      (says_after told (tee_called calling) (said_before on_broken (suc (length pieces)) (output_names names) (copies.first ∷ copies.broke) ++ messages) _ standard_error copies.error says.0 copies.said
-      (rw (ap (λ those. slot_at those 1) next.are) at says.1))
-
-  -- a piece was fed
-
-  pub fed_next : {pieces : List (List ℕ)} {piece : List ℕ} {messages : List Message} {old mid : List Slot}
-      {known nows : List Standing} {tee : TeeState} → IsTeeOf names tee
-      → (copies : Copies told calling mode on_broken names pieces messages old known)
-      → ChangesEach (Gets told piece) (IsOutput tee) old mid → nows ≡ standings_of mid
-      → After (OutputLeft told (pieces ++ piece ∷ [])) (FileHas told mode (pieces ++ piece ∷ []))
-      (suc (length pieces)) copies mid nows
-  fed_next {pieces} is copies gets sees =
-      called is copies (suc (length pieces)) gets.count (gets.others 1 (error_no_output is))
-      (λ output here. output_more told copies.output_has (rw here at (rw (ap (λ those. slot_at those 0) copies.are) at (gets.each 0 (inl refl)))))
-      (λ place file. gets.each place (inr file)) (λ name first old new has got. file_more told has got) sees
-
-  -- the message for it was said
-  pub piece_said : {pieces : List (List ℕ)} (piece : List ℕ) {old mid new : List Slot} {known nows : List Standing}
-      → is_done on_broken known ≡ false → (copies : Copies told calling mode on_broken names pieces [] old known)
-      → After (OutputLeft told (pieces ++ piece ∷ [])) (FileHas told mode (pieces ++ piece ∷ []))
-      (suc (length pieces)) copies mid nows
-      → SaysTo told calling
-      (said_since on_broken (fault_in (suc (length pieces))) (output_names names) known nows) mid new
-      → Copies told calling mode on_broken names (pieces ++ piece ∷ []) [] new nows
-  piece_said {pieces} piece {mid = mid} {new} {known} some copies next says = record {
-    output = next.output;
-    error = says.0;
-    files = next.files;
-    first = next.first;
-    broke = next.broke;
-    are = rw (says.2, next.are) refl;
-    output_has = next.output_is;
-    files_have = next.files_are;
-    said = rw (ap (λ texts. texts ++ said_in on_broken (suc (length pieces)) (output_names names) (next.first ∷ next.broke)) (append-nil _)
-        ∙ sym (append-nil _) ∙ ap (λ call. said_before on_broken (suc call) (output_names names) (next.first ∷ next.broke) ++ []) one_more_call) at
-        (said_after copies next says);
-    known_are = (stood next.marked).3;
-    goes_on = ap (λ call. is_done on_broken (standings_before call (next.first ∷ next.broke))) (sym one_more_call) ∙ ap (is_done on_broken) ((stood next.marked).1 ∙ sym copies.known_are) ∙ some;
-    are_known = ap (λ call. standings_before (suc call) (next.first ∷ next.broke)) (sym one_more_call) ∙ (stood next.marked).2;
-  } where
-    one_more_call : suc (length pieces) ≡ length (pieces ++ piece ∷ [])
-    one_more_call = omega (arith, length-append pieces (piece ∷ []))
-
-  -- both streams are there, whatever became of the other outputs
-  pub streams_after : {pieces : List (List ℕ)} {messages : List Message} {old mid : List Slot} {known : List Standing}
-      {output : Slot} {files : List Slot}
-      → (copies : Copies told calling mode on_broken names pieces messages old known)
-      → mid ≡ output ∷ copies.error ∷ files → length files ≡ length names
-      → HasStreams mid (length names)
-  streams_after {output = output} {files = files} copies are many = record {
-    output = output;
-    error = copies.error;
-    files = files;
-    are = are;
-    opened = rw (all_said_state told (tee_called calling) _ standard_error copies.error copies.said) refl;
-    files_are = many;
-  }
-
-  pub copies_streams : {pieces : List (List ℕ)} {messages : List Message} {slots : List Slot} {known : List Standing}
-      → Copies told calling mode on_broken names pieces messages slots known → HasStreams slots (length names)
-  copies_streams copies = streams_after copies copies.are (length-files copies.files_have)
-
-  -- so it is after a call that left standard error
-  pub mid_streams : {pieces : List (List ℕ)} {messages : List Message} {old mid : List Slot} {known : List Standing}
-      → Copies told calling mode on_broken names pieces messages old known → length mid ≡ length old
-      → slot_at mid 1 ≡ slot_at old 1 → HasStreams mid (length names)
-  mid_streams {mid = output ∷ other ∷ files} copies count error =
-      streams_after copies (ap (λ slot. output ∷ slot ∷ files) (error ∙ ap (λ those. slot_at those 1) copies.are))
-      (omega (arith, ap length copies.are, length-files copies.files_have))
-  mid_streams copies count error = absurd (cc)
-
-  pub known_many : {pieces : List (List ℕ)} {messages : List Message} {slots : List Slot} {known : List Standing}
-      → Copies told calling mode on_broken names pieces messages slots known → length known ≡ length names + 1
-  known_many copies = let count = ap length copies.known_are ∙ length-map (copies.first ∷ copies.broke) standing_of in
-      omega (arith, length-broke copies.files_have)
-
 -- an output that isn't closed
 output_kept : (told : Bool) {pieces : List (List ℕ)} {first : Option Break} {output : Slot}
     → OutputLeft told pieces first output → Marks (suc (length pieces)) first first (stands_as output)
@@ -576,61 +434,182 @@ file_ends told has_all (was_broken broken) = absurd (cc)
 file_ends told has (is_closed sound) = absurd (cc)
 file_ends told has (fails_to_close sound _) = absurd (cc)
 
-module _ (told : Bool) (calling : Calling) (mode : Mode) (on_broken : OnBroken) (names : List (List ℕ)) where
-  -- a message more on standard error, while the files are open
-  pub copies_said : {pieces : List (List ℕ)} {messages : List Message} {old new : List Slot} {known : List Standing}
-      → Copies told calling mode on_broken names pieces [] old known → SaysTo told calling messages old new
-      → Copies told calling mode on_broken names pieces messages new known
-  copies_said {pieces} {messages} copies says = record {
-    output = copies.output;
-    error = says.0;
-    files = copies.files;
-    first = copies.first;
-    broke = copies.broke;
-    are = rw (says.2, copies.are) refl;
-    output_has = copies.output_has;
-    files_have = copies.files_have;
-    said = rw (append-nil _) at
-        (says_after told (tee_called calling) (said_before on_broken (suc (length pieces)) (output_names names) (copies.first ∷ copies.broke) ++ []) messages standard_error copies.error says.0 copies.said (rw (ap (λ those. slot_at those 1) copies.are) at says.1));
-    known_are = copies.known_are;
-    goes_on = copies.goes_on;
-    are_known = copies.are_known;
-  }
+module _ {told : Bool} {calling : Calling} {mode : Mode} {on_broken : OnBroken} {names pieces : List (List ℕ)}
+    {messages : List Message} {old : List Slot} {known : List Standing}
+    (copies : Copies told calling mode on_broken names pieces messages old known) where
+  pub copies_ready : {tee : TeeState} → IsTeeOf names tee → IsReady tee old
+  copies_ready {tee} is place output = rw copies.are (by output) where
+    by : IsOutput tee place → IsUsable (slot_at (copies.output ∷ copies.error ∷ copies.files) place)
+    by (inl here) = rw here (output_usable told copies.output_has)
+    by (inr file) = grind (arith, common_steps, copies, file_place, files_usable, length-files)
+
+  -- the outputs after a call, before anything is said of it, where they stand so now
+  pub record After (OutputIs : Option Break → Slot → Type 0) (FileIs : List ℕ → Option Break → Slot → Type 0)
+      (call : ℕ) (mid : List Slot) (nows : List Standing) : Type 0 where
+    pub output : Slot
+    pub files : List Slot
+    pub first : Option Break
+    pub broke : List (Option Break)
+    pub are : mid ≡ output ∷ copies.error ∷ files
+    pub output_is : OutputIs first output
+    pub files_are : EachFile FileIs names broke files
+    pub marked : AllMark call (copies.first ∷ copies.broke) (first ∷ broke) nows
+
+  pub called : {OutputIs : Option Break → Slot → Type 0} {FileIs : List ℕ → Option Break → Slot → Type 0}
+      {Change : Slot → Slot → Type 0} {mid : List Slot} {nows : List Standing} {tee : TeeState}
+      → IsTeeOf names tee → (call : ℕ) → length mid ≡ length old → slot_at mid 1 ≡ slot_at old 1
+      → ((output : Slot) → slot_at mid 0 ≡ output → Marked OutputIs call copies.first output)
+      → ((place : ℕ) → IsFile tee place → Change (slot_at old place) (slot_at mid place))
+      → ((name : List ℕ) (first : Option Break) (old new : Slot)
+      → FileHas told mode pieces name first old → Change old new → Marked (FileIs name) call first new)
+      → nows ≡ standings_of mid → After OutputIs FileIs call mid nows
+  called {OutputIs} {FileIs} {mid = mid} is call count error one changes go sees = rw sees (by mid refl) where
+    by : (those : List Slot) → mid ≡ those → After OutputIs FileIs call mid (standings_of those)
+    by (output ∷ other ∷ files) are =
+        let same : other ≡ copies.error = cc in
+        let here = one output (cc) in let many = length-files copies.files_have in
+        let rest = files_go go files (omega (arith, ap length are, ap length copies.are))
+        (λ n within. rw (ap (λ those. slot_at those (suc (suc n))) are) at (rw (ap (λ those. slot_at those (suc (suc n))) copies.are) at
+        (changes (suc (suc n)) (place_file n is (omega arith))))) copies.files_have in
+        record {
+          output = output;
+          files = files;
+          first = here.0;
+          broke = rest.0;
+          are = cc;
+          output_is = here.1;
+          files_are = rest.1;
+          marked = all_marked copies.first here.0 (stands_as output) copies.broke rest.0 (map stands_as files) here.2 rest.2;
+        }
+    by those short = absurd (cc)
+
+  -- what is on standard error once it was told
+  pub said_after : {OutputIs : Option Break → Slot → Type 0} {FileIs : List ℕ → Option Break → Slot → Type 0}
+      {mid new : List Slot} {nows : List Standing} (next : After OutputIs FileIs (suc (length pieces)) mid nows)
+      → (says : SaysTo told calling
+      (said_since on_broken (fault_in (suc (length pieces))) (output_names names) known nows) mid new)
+      → SaysAll told (tee_called calling)
+      ((said_before on_broken (suc (length pieces)) (output_names names) (next.first ∷ next.broke) ++ messages)
+      ++ said_in on_broken (suc (length pieces)) (output_names names) (next.first ∷ next.broke)) standard_error
+      says.0
+  said_after next says =
+      rw (said_marked on_broken (output_names names) next.marked, all_older on_broken (suc (length pieces)) (output_names names) (omega arith) next.marked, ← copies.known_are)
+      (says_after told (tee_called calling) (said_before on_broken (suc (length pieces)) (output_names names) (copies.first ∷ copies.broke) ++ messages) _ standard_error copies.error says.0 copies.said
+      (rw (ap (λ those. slot_at those 1) next.are) at says.1))
+
+  -- a piece was fed
+  pub fed_next : {piece : List ℕ} {mid : List Slot} {nows : List Standing} {tee : TeeState} → IsTeeOf names tee
+      → ChangesEach (Gets told piece) (IsOutput tee) old mid → nows ≡ standings_of mid
+      → After (OutputLeft told (pieces ++ piece ∷ [])) (FileHas told mode (pieces ++ piece ∷ []))
+      (suc (length pieces)) mid nows
+  fed_next is gets sees =
+      called is (suc (length pieces)) gets.count (gets.others 1 (error_no_output is))
+      (λ output here. output_more told copies.output_has (rw here at (rw (ap (λ those. slot_at those 0) copies.are) at (gets.each 0 (inl refl)))))
+      (λ place file. gets.each place (inr file)) (λ name first old new has got. file_more told has got) sees
 
   -- the files were closed
-
-  pub closed_next : {pieces : List (List ℕ)} {messages : List Message} {old mid : List Slot}
-      {known nows : List Standing} {tee : TeeState} → IsTeeOf names tee
-      → (copies : Copies told calling mode on_broken names pieces messages old known)
+  pub closed_next : {mid : List Slot} {nows : List Standing} {tee : TeeState} → IsTeeOf names tee
       → ChangesEach Closes (IsFile tee) old mid → nows ≡ standings_of mid
-      → After told calling mode on_broken names (OutputLeft told pieces) (FileLeft told mode pieces)
-      (suc (length pieces)) copies mid nows
-  closed_next {pieces} is copies closes sees =
-      called told calling mode on_broken names is copies (suc (length pieces)) closes.count (closes.others 1 (λ file. error_no_output is (inr file)))
+      → After (OutputLeft told pieces) (FileLeft told mode pieces) (suc (length pieces)) mid nows
+  closed_next is closes sees =
+      called is (suc (length pieces)) closes.count (closes.others 1 (λ file. error_no_output is (inr file)))
       (λ output here. let same = sym here ∙ closes.others 0 (λ file. omega (arith, (file_place 0 is file).1))
       ∙ ap (λ those. slot_at those 0) copies.are in
       let left : OutputLeft told pieces copies.first output = rw same copies.output_has in (copies.first, left, output_kept told left))
       closes.each (λ name first old new has ends. file_ends told has ends) sees
 
-  pub closing_said : {pieces : List (List ℕ)} {fault : Option Fault} {old mid new : List Slot}
-      {known nows : List Standing}
-      (copies : Copies told calling mode on_broken names pieces (said_of_input fault) old known)
-      → After told calling mode on_broken names (OutputLeft told pieces) (FileLeft told mode pieces)
-      (suc (length pieces)) copies mid nows
-      → SaysTo told calling
-      (said_since on_broken (fault_in (suc (length pieces))) (output_names names) known nows) mid new
-      → HasCopied told calling mode on_broken names pieces fault known new nows
-  closing_said {pieces} copies next says = record {
-    output = next.output;
-    error = says.0;
-    files = next.files;
-    first = next.first;
-    broke = next.broke;
-    are = rw (says.2, next.are) refl;
-    output_left = next.output_is;
-    files_left = next.files_are;
-    said = said_after told calling mode on_broken names copies next says;
-    known_are = (stood next.marked).3;
-    goes_on = cc ((stood next.marked).0 (length pieces) (omega arith));
-    before_are = cc ((stood next.marked).0 (suc (length pieces)) (omega arith));
+  -- both streams are there, whatever became of the other outputs
+  pub streams_after : {mid : List Slot} {output : Slot} {files : List Slot} → mid ≡ output ∷ copies.error ∷ files
+      → length files ≡ length names → HasStreams mid (length names)
+  streams_after {output = output} {files = files} are many = record {
+    output = output;
+    error = copies.error;
+    files = files;
+    are = are;
+    opened = rw (all_said_state told (tee_called calling) _ standard_error copies.error copies.said) refl;
+    files_are = many;
   }
+
+  pub copies_streams : HasStreams old (length names)
+  copies_streams = streams_after copies.are (length-files copies.files_have)
+
+  -- so it is after a call that left standard error
+  pub mid_streams : {mid : List Slot} → length mid ≡ length old → slot_at mid 1 ≡ slot_at old 1
+      → HasStreams mid (length names)
+  mid_streams {mid = output ∷ other ∷ files} count error =
+      streams_after (ap (λ slot. output ∷ slot ∷ files) (error ∙ ap (λ those. slot_at those 1) copies.are))
+      (omega (arith, ap length copies.are, length-files copies.files_have))
+  mid_streams count error = absurd (cc)
+
+  pub known_many : length known ≡ length names + 1
+  known_many = let count = ap length copies.known_are ∙ length-map (copies.first ∷ copies.broke) standing_of in
+      omega (arith, length-broke copies.files_have)
+
+-- the message for a piece was said
+pub piece_said : {told : Bool} {calling : Calling} {mode : Mode} {on_broken : OnBroken} {names pieces : List (List ℕ)}
+    (piece : List ℕ) {old mid new : List Slot} {known nows : List Standing} → is_done on_broken known ≡ false
+    → (copies : Copies told calling mode on_broken names pieces [] old known)
+    → After copies (OutputLeft told (pieces ++ piece ∷ [])) (FileHas told mode (pieces ++ piece ∷ []))
+    (suc (length pieces)) mid nows
+    → SaysTo told calling (said_since on_broken (fault_in (suc (length pieces))) (output_names names) known nows) mid new
+    → Copies told calling mode on_broken names (pieces ++ piece ∷ []) [] new nows
+piece_said {on_broken = on_broken} {names} {pieces} piece some copies next says = record {
+  output = next.output;
+  error = says.0;
+  files = next.files;
+  first = next.first;
+  broke = next.broke;
+  are = rw (says.2, next.are) refl;
+  output_has = next.output_is;
+  files_have = next.files_are;
+  said = rw (ap (λ texts. texts ++ said_in on_broken (suc (length pieces)) (output_names names) (next.first ∷ next.broke)) (append-nil _)
+      ∙ sym (append-nil _) ∙ ap (λ call. said_before on_broken (suc call) (output_names names) (next.first ∷ next.broke) ++ []) one_more_call) at
+      (said_after copies next says);
+  known_are = (stood next.marked).3;
+  goes_on = ap (λ call. is_done on_broken (standings_before call (next.first ∷ next.broke))) (sym one_more_call) ∙ ap (is_done on_broken) ((stood next.marked).1 ∙ sym copies.known_are) ∙ some;
+  are_known = ap (λ call. standings_before (suc call) (next.first ∷ next.broke)) (sym one_more_call) ∙ (stood next.marked).2;
+} where
+  one_more_call : suc (length pieces) ≡ length (pieces ++ piece ∷ [])
+  one_more_call = omega (arith, length-append pieces (piece ∷ []))
+
+-- a message more on standard error, while the files are open
+pub copies_said : {told : Bool} {calling : Calling} {mode : Mode} {on_broken : OnBroken} {names pieces : List (List ℕ)}
+    {messages : List Message} {old new : List Slot} {known : List Standing}
+    → Copies told calling mode on_broken names pieces [] old known → SaysTo told calling messages old new
+    → Copies told calling mode on_broken names pieces messages new known
+copies_said {told} {calling} {on_broken = on_broken} {names} {pieces} {messages} copies says = record {
+  output = copies.output;
+  error = says.0;
+  files = copies.files;
+  first = copies.first;
+  broke = copies.broke;
+  are = rw (says.2, copies.are) refl;
+  output_has = copies.output_has;
+  files_have = copies.files_have;
+  said = rw (append-nil _) at
+      (says_after told (tee_called calling) (said_before on_broken (suc (length pieces)) (output_names names) (copies.first ∷ copies.broke) ++ []) messages standard_error copies.error says.0 copies.said (rw (ap (λ those. slot_at those 1) copies.are) at says.1));
+  known_are = copies.known_are;
+  goes_on = copies.goes_on;
+  are_known = copies.are_known;
+}
+
+pub closing_said : {told : Bool} {calling : Calling} {mode : Mode} {on_broken : OnBroken} {names pieces : List (List ℕ)}
+    {fault : Option Fault} {old mid new : List Slot} {known nows : List Standing}
+    (copies : Copies told calling mode on_broken names pieces (said_of_input fault) old known)
+    → After copies (OutputLeft told pieces) (FileLeft told mode pieces) (suc (length pieces)) mid nows
+    → SaysTo told calling (said_since on_broken (fault_in (suc (length pieces))) (output_names names) known nows) mid new
+    → HasCopied told calling mode on_broken names pieces fault known new nows
+closing_said {pieces = pieces} copies next says = record {
+  output = next.output;
+  error = says.0;
+  files = next.files;
+  first = next.first;
+  broke = next.broke;
+  are = rw (says.2, next.are) refl;
+  output_left = next.output_is;
+  files_left = next.files_are;
+  said = said_after copies next says;
+  known_are = (stood next.marked).3;
+  goes_on = cc ((stood next.marked).0 (length pieces) (omega arith));
+  before_are = cc ((stood next.marked).0 (suc (length pieces)) (omega arith));
+}
