@@ -141,58 +141,52 @@ tells_none told calling on_broken fault names known has = record {
   seen = refl;
 }
 
-pub error_open : (told : Bool) {calling : Calling} {on_broken : OnBroken} {fault : Fault} {names : List (List ℕ)}
-    {before known : List Standing} {n count : ℕ} {old now : List Slot} → HasStreams old count
-    → Telling told calling on_broken fault names before n old now known → is_open (slot_at now 1).state ≡ true
-error_open told {calling} {on_broken} {fault} {names} {before} {known} {now = now} has so_far =
-    let messages = said_since on_broken fault names before known in
-    let said : SaysTo told calling messages (has.output ∷ has.error ∷ has.files) now = rw has.are at so_far.said in
-    cc (all_said_state told (tee_called calling) messages has.error said.0 said.1)
+module _ {told : Bool} {calling : Calling} {on_broken : OnBroken} {fault : Fault} {names : List (List ℕ)}
+    {before known : List Standing} {n count : ℕ} {old now : List Slot} (has : HasStreams old count)
+    (so_far : Telling told calling on_broken fault names before n old now known) where
+  pub error_open : is_open (slot_at now 1).state ≡ true
+  error_open =
+      let messages = said_since on_broken fault names before known in
+      let said : SaysTo told calling messages (has.output ∷ has.error ∷ has.files) now = rw has.are at so_far.said in
+      cc (all_said_state told (tee_called calling) messages has.error said.0 said.1)
 
-pub tells_next : (told : Bool) {calling : Calling} {on_broken : OnBroken} {fault : Fault} {names : List (List ℕ)}
-    {before known : List Standing} (other : Standing) {n count : ℕ} {old now new : List Slot} {name : List ℕ}
-    {standing : Standing} → HasStreams old count → length names ≡ count + 1 → length before ≡ count + 1
-    → n < length before
-    → Telling told calling on_broken fault names before n old now known → name ≡ get_or names n []
-    → standing ≡ stands_as (slot_at now (output_slot n))
-    → (tells on_broken (get_or known n other) standing ≡ true
-    → (why : Reason) × SaysOn told (tee_called calling) why (message_of fault name) now new)
-    → (tells on_broken (get_or known n other) standing ≡ false → new ≡ now)
-    → Telling told calling on_broken fault names before (n + 1) old new (set known n standing)
-tells_next told {calling} {on_broken} {fault} {names} {before} {known} other {n} {count} {old} {now} {new} {name} {standing} has names_many many within so_far named sees says quiet =
-    record {
-      said = rw step (cond_both (tells on_broken (get_or known n other) standing) (message_of fault name ∷ []) [] (λ more. SaysTo told calling (messages ++ more) old new)
-          (λ is. let (why, said) = says is in says_too told calling messages (message_of fault name) now new has so_far.said said)
-          (λ is. rw (append-nil messages, quiet is) so_far.said));
-      seen = seen_next n before (standings_of old) within (standings_are ∙ sym many) so_far.seen (sees ∙ here);
-    } where
-      messages : List Message
-      messages = said_since on_broken fault names before known
+  pub tells_next : (other : Standing) {new : List Slot} {name : List ℕ} {standing : Standing}
+      → length names ≡ count + 1 → length before ≡ count + 1 → n < length before → name ≡ get_or names n []
+      → standing ≡ stands_as (slot_at now (output_slot n))
+      → (tells on_broken (get_or known n other) standing ≡ true
+      → (why : Reason) × SaysOn told (tee_called calling) why (message_of fault name) now new)
+      → (tells on_broken (get_or known n other) standing ≡ false → new ≡ now)
+      → Telling told calling on_broken fault names before (n + 1) old new (set known n standing)
+  tells_next other {new} {name} {standing} names_many many within named sees says quiet =
+      record {
+        said = rw step (cond_both (tells on_broken (get_or known n other) standing) (message_of fault name ∷ []) [] (λ more. SaysTo told calling (messages ++ more) old new)
+            (λ is. let (why, said) = says is in says_too told calling messages (message_of fault name) now new has so_far.said said)
+            (λ is. rw (append-nil messages, quiet is) so_far.said));
+        seen = seen_next n before (standings_of old) within (standings_are ∙ sym many) so_far.seen (sees ∙ here);
+      } where
+        messages : List Message
+        messages = said_since on_broken fault names before known
 
-      standings_are : length (standings_of old) ≡ count + 1
-      standings_are = count_standings has
+        standings_are : length (standings_of old) ≡ count + 1
+        standings_are = count_standings has
 
-      here : stands_as (slot_at now (output_slot n)) ≡ get_or (standings_of old) n Sound
-      here =
-          stands_still told calling messages has.output has.error has.files now n (rw has.are at so_far.said)
-          ∙ ap (λ those. get_or (standings_of those) n Sound) (sym has.are)
+        here : stands_as (slot_at now (output_slot n)) ≡ get_or (standings_of old) n Sound
+        here =
+            stands_still told calling messages has.output has.error has.files now n (rw has.are at so_far.said)
+            ∙ ap (λ those. get_or (standings_of those) n Sound) (sym has.are)
 
-      was : get_or known n other ≡ get_or before n Sound
-      was = get_next n before (standings_of old) other within (standings_are ∙ sym many) so_far.seen
+        was : get_or known n other ≡ get_or before n Sound
+        was = get_next n before (standings_of old) other within (standings_are ∙ sym many) so_far.seen
 
-      step : said_since on_broken fault names before (set known n standing)
-          ≡ messages ++ (if tells on_broken (get_or known n other) standing then message_of fault name ∷ [] else [])
-      step =
-          let next = said_next on_broken fault names before (standings_of old) n standing
-          (omega arith) (many ∙ sym names_many) (standings_are ∙ sym names_many) in
-          cc (next, named, was, so_far.seen)
+        step : said_since on_broken fault names before (set known n standing)
+            ≡ messages ++ (if tells on_broken (get_or known n other) standing then message_of fault name ∷ [] else [])
+        step =
+            let next = said_next on_broken fault names before (standings_of old) n standing
+            (omega arith) (many ∙ sym names_many) (standings_are ∙ sym names_many) in
+            cc (next, named, was, so_far.seen)
 
-pub told_all : (told : Bool) {calling : Calling} {on_broken : OnBroken} {fault : Fault} {names : List (List ℕ)}
-    {before known : List Standing} {n count : ℕ} {old now : List Slot} → HasStreams old count
-    → length before ≡ count + 1 → n ≡ length before → Telling told calling on_broken fault names before n old now known
-    → known ≡ standings_of old
-told_all told {before} {known} {old = old} has many all so_far =
-    seen_all before (standings_of old) (count_standings has ∙ sym many) (rw all at so_far.seen)
+  pub told_all : length before ≡ count + 1 → n ≡ length before → known ≡ standings_of old
+  told_all many all = seen_all before (standings_of old) (count_standings has ∙ sym many) (rw all at so_far.seen)
 
 pub count_names : (names : List (Bor (List ℕ)))
     → length (output_names (map (λ name. name.now) names)) ≡ length names + 1
