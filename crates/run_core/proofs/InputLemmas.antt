@@ -472,6 +472,14 @@ none_left (word ∷ words) none = absurd (omega arith)
 
 -- which input a name stands for
 
+-- this was taken for a name, whichever input it stands for
+abbrev pub Takes : Bool → Bool → Task → ℕ → Bool → Bool → Bool → (ℕ → List ℕ → Option Content) → List Source
+    → List Source → List ℕ → Part → Slot → ℕ → List Slot → Result RunProgress Fault → Type 0
+Takes told_in told task most is_first failed was_read laid old sources name so_far error first new result =
+    OfName told_in (world_of laid old) was_read (length old) name
+    (λ input. TookInput told_in told task most input (of_input task is_first input) is_first failed
+    (was_read || is_dash name) so_far error first sources new result)
+
 of_file : {told : Bool} (world : World) (was_read : Bool) {slot : ℕ} {name : List ℕ} {content : Option Content}
     (shown : Option (List ℕ)) (P : Input → Type 0) → is_dash name ≡ false
     → (told ≡ true → world.laid slot name ≡ content) → (told ≡ true → shown ≡ shown_of content)
@@ -512,9 +520,7 @@ pub took_opened : {told_in told : Bool} {task : Task} {most : ℕ} {is_first fai
     (λ content. TookInput told_in told task most (input_from name (Some slot) shown content)
     (of_content task (task.work shown) is_first name (Some content)) is_first failed was_read so_far error first
     sources new result)
-    → OfName told_in (world_of laid old) was_read (length old) name
-    (λ input. TookInput told_in told task most input (of_input task is_first input) is_first failed
-    (was_read || is_dash name) so_far error first sources new result)
+    → Takes told_in told task most is_first failed was_read laid old sources name so_far error first new result
 took_opened {was_read} {laid} {name} {old} {slot} differs opened_it (shown, says, (content, there, one)) =
     of_file (world_of laid old) was_read shown _ differs (λ t. ap (λ n. laid n name) (sym opened_it.number) ∙ opened_it.lies t
     ∙ ap Some (sym (there t ∙ ap (λ (source : Source). source.left)
@@ -533,9 +539,7 @@ pub took_standard : {told_in told : Bool} {task : Task} {most : ℕ} {is_first f
     (λ content. TookInput told_in told task most (input_from (codes "standard input") source shown content)
     (of_content task (task.work shown) is_first (codes "standard input") (Some content)) is_first failed true so_far
     error first sources new result)
-    → OfName told_in (world_of laid old) was_read (length old) name
-    (λ input. TookInput told_in told task most input (of_input task is_first input) is_first failed
-    (was_read || is_dash name) so_far error first sources new result)
+    → Takes told_in told task most is_first failed was_read laid old sources name so_far error first new result
 took_standard {told_in} {told} {task} {most} {is_first} {failed} was_read laid name old {sources} {so_far}
     {error} {first} {new} {result} is dash (shown, says, holds) =
     let P = λ (read : Bool) (input : Input). TookInput told_in told task most input
@@ -551,10 +555,8 @@ pub of_missing : {told_in told : Bool} {why : Reason} {task : Task} {most : ℕ}
     → OpensNothing told_in laid sources after name fault → fault ≡ Open slot
     → OutputsAt told (streams_with error) so_far old
     → SaysOn told task.speaker why (message_of (Open slot) name) old new
-    → OfName told_in (world_of laid sources) was_read (length sources) name
-    (λ input. TookInput told_in told task most input (of_input task is_first input) is_first failed
-    (was_read || is_dash name) so_far error (length old) after new
-    (Ok (record { was_read = was_read; is_first = is_first; failed = true })))
+    → Takes told_in told task most is_first failed was_read laid sources after name so_far error (length old) new
+    (Ok (record { was_read = was_read; is_first = is_first; failed = true }))
 of_missing {told_in} {told} {why} {task} {most} {is_first} {was_read} {laid} {name} {sources} {new} differs
     (from.broke _ reason number lies are) cannot at says =
     of_file (world_of laid sources) was_read None _ differs (λ t. ap (λ n. laid n name) (sym number) ∙ lies t) (λ t. refl)
@@ -569,9 +571,8 @@ pub of_no_room : {told_in told : Bool} {task : Task} {most : ℕ} {is_first fail
     {laid : ℕ → List ℕ → Option Content} {name : List ℕ} {sources after : List Source} {fault : Fault} {so_far : Part}
     {error : Slot} {old : List Slot} → is_dash name ≡ false → OpensNothing told_in laid sources after name fault
     → ((slot : ℕ) → fault ≡ Open slot → ⊥) → OutputsAt told (streams_with error) so_far old
-    → OfName told_in (world_of laid sources) was_read (length sources) name
-    (λ input. TookInput told_in told task most input (of_input task is_first input) is_first failed
-    (was_read || is_dash name) so_far error (length old) after old (Err fault))
+    → Takes told_in told task most is_first failed was_read laid sources after name so_far error (length old) old
+    (Err fault)
 of_no_room was_read differs (from.broke slot why number lies are) other at = absurd (other slot refl)
 of_no_room {told} was_read {laid} {name} {sources} {so_far} {error} {old} differs (from.no_room are) other at =
     of_file (world_of laid sources) was_read (shown_of (laid (length sources) name)) _ differs (λ t. refl) (λ t. refl)
@@ -705,13 +706,6 @@ taken_alone {left} slots alone is = elim (alone is) [
   | inr few ↦ (nil_from_length left (omega arith), few.1)
 ]
 
-abbrev pub Takes : Bool → Bool → Task → ℕ → RunProgress → (ℕ → List ℕ → Option Content) → List Source → List Source
-    → List ℕ → Part → Slot → List Slot → List Slot → Result RunProgress Fault → Type 0
-Takes told_in told task most progress laid sources new_sources name so_far error slots new result =
-    OfName told_in (world_of laid sources) progress.was_read (length sources) name
-    (λ input. TookInput told_in told task most input (of_input task progress.is_first input) progress.is_first progress.failed
-    (progress.was_read || is_dash name) so_far error (length slots) new_sources new result)
-
 module _ {told_in told : Bool} {task : Task} {world : World} {names : List (List ℕ)} {name : List ℕ}
     {left : List (List ℕ)} {progress : RunProgress} {laid : ℕ → List ℕ → Option Content}
     {sources new_sources : List Source} {slots : List Slot}
@@ -726,8 +720,8 @@ module _ {told_in told : Bool} {task : Task} {world : World} {names : List (List
   -- one more name was taken
   pub walk_goes_on : {next : RunProgress} {new_laid : ℕ → List ℕ → Option Content} {new : List Slot}
       → length new_sources ≡ next_slot (length sources) name → new_laid ≡ laid
-      → Takes told_in told task largest_piece progress laid sources new_sources name walked.made.part walked.error
-      slots new (Ok next)
+      → Takes told_in told task largest_piece progress.is_first progress.failed progress.was_read laid sources
+      new_sources name walked.made.part walked.error (length slots) new (Ok next)
       → Walked told_in told task world names left next new_laid new_sources new
   walk_goes_on {next = next} {new = new} opened_it same (input, is_for, there, took _ after reached is is_done says at swept) =
       let one = of_input task progress.is_first input in
@@ -773,8 +767,8 @@ module _ {told_in told : Bool} {task : Task} {world : World} {names : List (List
 
   -- a fault stopped the run at a name
   pub walk_stops : {new : List Slot} (fault : Fault)
-      → Takes told_in told task largest_piece progress laid sources new_sources name walked.made.part walked.error
-      slots new (Err fault)
+      → Takes told_in told task largest_piece progress.is_first progress.failed progress.was_read laid sources
+      new_sources name walked.made.part walked.error (length slots) new (Err fault)
       → RunsOver told_in world names (λ found. TookAll told_in told task found new_sources new (Err fault))
   walk_stops {new} fault (input, is_for, there, cut_off _ step reached is_step stops stop swept) =
       let rest = inputs_from world (progress.was_read || is_dash name) (next_slot (length sources) name) left in

@@ -106,7 +106,7 @@ returns-then-n-eq0 g c =
           read_to_end _ _ _ _ (so_far.read told) at_end.0 at_end.1 in (all.1, all.0))
           (λ content. came_sound g.I.Inputs.told _ c.args.slot can)
           (λ content is bytes sound came. (
-            ended _ g.met.S.Stage.lawful _ _ so_far.feeds own at (sound, going, bytes) (to_end sound bytes) (alike_itself)
+            ended so_far.feeds g.met.S.Stage.lawful _ own at (sound, going, bytes) (to_end sound bytes) (alike_itself)
                 (rw so_far.feeds.same so_far.needed) (
                   record {
                     came = came;
@@ -144,7 +144,7 @@ pieces-preserved g c =
     (c.done.ensures.complete so_far.fed so_far.feeds.holds) ∙ c.pieces-test.true in
     let from_start = ap (λ (work : Work). work.is_complete so_far.fed) (sym so_far.feeds.same) ∙ going in record {
       fed = so_far.fed ++ take c.in-Ok.n c.read_part.new.buffer;
-      feeds = goes_on _ _ (take c.in-Ok.n c.read_part.new.buffer) so_far.feeds c.in-Ok-feed.ensures.passes c.in-Ok-feed.ensures.holds c.in-Ok-feed.ensures.bound;
+      feeds = goes_on so_far.feeds (take c.in-Ok.n c.read_part.new.buffer) c.in-Ok-feed.ensures.passes c.in-Ok-feed.ensures.holds c.in-Ok-feed.ensures.bound;
       readable = still_readable _ _ _ _ c.in-Ok.n c.in-Ok.ensures.rest so_far.readable;
       others = keeps_again _ _ _ _ so_far.others (keeps_others _ _ _ _ c.in-Ok.ensures.rest);
       read = λ told. read_more _ _ _ _ _ _ _ _ _ (so_far.read told) so_far.readable (c.in-Ok.ensures.bytes told) c.in-Ok.ensures.rest;
@@ -193,8 +193,8 @@ returns-in-Err-feed g c =
           of_more g.I.Inputs.told _ (so_far.fed ++ take c.in-Ok.n c.read_part.new.buffer) _ _ _ more
           (λ content. came_sound g.I.Inputs.told _ c.args.slot can)
           (λ content is rest bytes came. (
-            rw c.given_up.ensures.same (stopped_feeding _ g.met.S.Stage.lawful _ c.feed.new.self _
-                (take c.in-Ok.n c.read_part.new.buffer) rest so_far.feeds own at bytes within going (
+            rw c.given_up.ensures.same (stopped_feeding so_far.feeds g.met.S.Stage.lawful c.feed.new.self _
+                (take c.in-Ok.n c.read_part.new.buffer) rest own at bytes within going (
                   record {
                     came = came;
                     sound = sound_at (g.I.Inputs.sources c.read_part.new.inputs) c.args.slot
@@ -250,7 +250,7 @@ returns g c =
           of_more g.I.Inputs.told _ so_far.fed _ _ _ (λ told. (so_far.read told).bytes)
           (λ content. came_sound g.I.Inputs.told (g.I.Inputs.sources c.give_back.new.self) c.args.slot readable)
           (λ content is rest bytes came. (
-            ended _ g.met.S.Stage.lawful _ _ so_far.feeds own at (done, (rest, bytes))
+            ended so_far.feeds g.met.S.Stage.lawful _ own at (done, (rest, bytes))
                 (enough (spare.rest ++ rest) (bytes ∙ ap (λ those. those ++ rest) spare.joined ∙ append_assoc spare.used spare.rest rest) used)
                 (alike_after spare.rest (g.met.S.Stage.lawful _ _ so_far.feeds.holds.within) used spare.joined)
                 (needed_within c.requires.room spare.needed) (
