@@ -326,88 +326,94 @@ module _ (told_in told : Bool) (task : Task) (most : ℕ) (is_first failed was_r
     (mid : List Slot) (counted : length mid ≡ count) (streams_there : 2 ≤ count)
     (at : OutputsAt told (streams_with error)
     (after_part so_far (only_out (header_text task.with_header is_first name))) mid) where
+  abbrev work : Work
+  work = task.work shown
+
+  abbrev header : Part
+  header = only_out (header_text task.with_header is_first name)
+
+  abbrev WasDone : Content → Type 0
+  WasDone content = IsDone told_in work most source (Some content) sources
+
+  abbrev WasFed : Content → List Slot → Result Fed Fault → Type 0
+  WasFed content = FedAs told mid work (task.opening shown) most content (Leaves told_in content source sources)
+
   abbrev pub TookSo : Content → List Slot → Result RunProgress Fault → Type 0
   TookSo content new result = TookInput told_in told task most (input_from name source shown content)
-      (of_content task (task.work shown) is_first name (Some content)) is_first failed was_read so_far error count sources new result
+      (of_content task work is_first name (Some content)) is_first failed was_read so_far error count sources new result
 
   part_after : (error_now : Slot) (part : Part) {reached : List Slot}
       → OutputsAt told (streams_with error_now)
-      (after_part (after_part so_far (only_out (header_text task.with_header is_first name))) part) reached
+      (after_part (after_part so_far header) part) reached
       → OutputsAt told (streams_with error_now)
-      (after_part so_far (after_part (only_out (header_text task.with_header is_first name)) part)) reached
-  part_after error_now part there = rw (after_assoc so_far (only_out (header_text task.with_header is_first name)) part) at there
+      (after_part so_far (after_part header part)) reached
+  part_after error_now part there = rw (after_assoc so_far header part) at there
 
   -- it went well
   went_well : (content : Content) (new : List Slot)
-      → IsDone told_in (task.work shown) most source (Some content) sources → is_enough (task.work shown) content ≡ true
-      → (task.work shown).verdict content.bytes ≡ None → OutputsAt told mid ((task.work shown).whole content.bytes) new
+      → WasDone content → is_enough work content ≡ true
+      → work.verdict content.bytes ≡ None → OutputsAt told mid (work.whole content.bytes) new
       → TookSo content new (Ok (record { was_read = was_read; is_first = false; failed = failed }))
   went_well content new done enough well there =
-      rw (made_well task (task.work shown) is_first name content enough well)
+      rw (made_well task work is_first name content enough well)
       (took (record { was_read = was_read; is_first = false; failed = failed }) error new
       (simp (and-false, or-false)) done refl (part_after error _ (at_after at there)) refl)
 
   -- a message is due
   went_badly : {why : Reason} (content : Content) (part : Part) (message : Message) (reached old new : List Slot)
-      → IsDone told_in (task.work shown) most source (Some content) sources
-      → of_content task (task.work shown) is_first name (Some content)
+      → WasDone content
+      → of_content task work is_first name (Some content)
       ≡ record {
-        part = after_part
-            (only_out (header_text task.with_header is_first name)) part;
+        part = after_part header part;
         messages = message ∷ [];
         failed = true;
-        sweeps =
-            (task.work shown).clears;
+        sweeps = work.clears;
       }
-      → OutputsAt told mid part reached → Swept (task.work shown).clears (length mid) reached old
+      → OutputsAt told mid part reached → Swept work.clears (length mid) reached old
       → SaysOn told task.speaker why message old new
       → TookSo content new (Ok (record { was_read = was_read; is_first = false; failed = true }))
   went_badly {why} content part message reached old new done made there swept says =
-      let top = adds (told_of told (after_part so_far (after_part (only_out (header_text task.with_header is_first name)) part)).out) standard_output in
+      let top = adds (told_of told (after_part so_far (after_part header part)).out) standard_output in
       let all = part_after error part (at_after at there) in
-      let said = said_swept told (SaysFor told task.speaker why message) (task.work shown).clears old new count
+      let said = said_swept told (SaysFor told task.speaker why message) work.clears old new count
       streams_there (rw all.slots at (rw counted at swept)) says in
       rw made (took (record { was_read = was_read; is_first = false; failed = true }) said.after (top ∷ said.after ∷ all.since)
       (simp (and-false, or-true)) done (said.after, (why, said.says), refl)
       (record { standard = lit< tt; since = all.since; slots = refl; files = all.files }) said.swept)
 
   pub took_well : {content : Content} {new : List Slot} {fed : Fed}
-      → IsDone told_in (task.work shown) most source (Some content) sources → (fed ≡ Whole) ⊎ (fed ≡ Enough)
-      → FedAs told mid (task.work shown) (task.opening shown) most content (Leaves told_in content source sources) new
-      (Ok fed) → TookSo content new (Ok (record { was_read = was_read; is_first = false; failed = failed }))
+      → WasDone content → (fed ≡ Whole) ⊎ (fed ≡ Enough)
+      → WasFed content new (Ok fed) → TookSo content new (Ok (record { was_read = was_read; is_first = false; failed = failed }))
   took_well {content} {new} done good (whole sound _ well there) = went_well content new done (or_left _ _ (ap not sound)) well there
   took_well {content} {new} done good (had_enough complete well there) = went_well content new done (or_right _ _ complete) well there
   took_well done good (broke_off breaks going reached there swept) = absurd (elim good [ inl is ↦ cc | inr is ↦ cc ])
 
   pub took_broken : {why : Reason} {content : Content} {old new : List Slot} {fed : Fed}
-      → IsDone told_in (task.work shown) most source (Some content) sources → fed ≡ Broken
-      → FedAs told mid (task.work shown) (task.opening shown) most content (Leaves told_in content source sources) old
-      (Ok fed) → SaysOn told task.speaker why (message_of (Read 0) name) old new
+      → WasDone content → fed ≡ Broken
+      → WasFed content old (Ok fed) → SaysOn told task.speaker why (message_of (Read 0) name) old new
       → TookSo content new (Ok (record { was_read = was_read; is_first = false; failed = true }))
   took_broken {content} {old} {new} done is (broke_off breaks going reached there swept) says =
-      went_badly content ((task.work shown).settled content.bytes) (message_of (Read 0) name) reached old new done
-      (let short : is_enough (task.work shown) content ≡ false = rw breaks going in simp (short, and-true))
+      went_badly content (work.settled content.bytes) (message_of (Read 0) name) reached old new done
+      (let short : is_enough work content ≡ false = rw breaks going in simp (short, and-true))
       there swept says
   took_broken done is ends says = absurd (cc)
 
   pub took_verdict : {why : Reason} {content : Content} {old new : List Slot} {verdict : Verdict}
-      → IsDone told_in (task.work shown) most source (Some content) sources
-      → FedAs told mid (task.work shown) (task.opening shown) most content (Leaves told_in content source sources) old
-      (Err (fault_is.Verdict verdict))
+      → WasDone content
+      → WasFed content old (Err (fault_is.Verdict verdict))
       → SaysOn told task.speaker why (message_of (fault_is.Verdict verdict) (task.subject verdict name)) old new
       → TookSo content new (Ok (record { was_read = was_read; is_first = false; failed = true }))
   took_verdict {content} {old} {new} {verdict} done (judged _ enough judges reached there swept) says =
-      went_badly content ((task.work shown).whole content.bytes)
+      went_badly content (work.whole content.bytes)
       (message_of (fault_is.Verdict verdict) (task.subject verdict name)) reached old new done (simp (enough, judges, and-true)) there swept says
   took_verdict done (stopped _ unjudged call _ _ _ _ stop _) says = absurd (cc)
 
   pub took_stopped : {content : Content} {new : List Slot} {fault : Fault}
       → ((verdict : Verdict) → fault ≡ fault_is.Verdict verdict → ⊥)
-      → FedAs told mid (task.work shown) (task.opening shown) most content (Leaves told_in content source sources) new
-      (Err fault) → TookSo content new (Err fault)
+      → WasFed content new (Err fault) → TookSo content new (Err fault)
   took_stopped other (judged verdict enough judges reached there swept) = absurd (other verdict refl)
   took_stopped {content} {fault} other (stopped _ is call is_call read reached why stop swept) =
-      cut_off fault (step_after (after_part so_far (only_out (header_text task.with_header is_first name))) call) reached (calling content call is_call read)
+      cut_off fault (step_after (after_part so_far header) call) reached (calling content call is_call read)
       why (stop_after at stop) (rw counted at swept)
 
 -- standard error is open after an input was fed

@@ -59,14 +59,15 @@ pieces-init g c =
 pub returns-in-Err : goal.returns-in-Err
 returns-in-Err g c =
     let so_far = c.pieces.invariant in
-    let going : (g.S.Stage.terms.work c.pieces.engine.stage).is_complete so_far.fed ≡ false = sym
+    let work = g.S.Stage.terms.work c.pieces.engine.stage in
+    let going : work.is_complete so_far.fed ≡ false = sym
     (c.done.ensures.complete so_far.fed so_far.feeds.holds) ∙ c.pieces-test.true in record {
       ends = λ before opening own at.
           of_read g.I.Inputs.told _ so_far.fed true _ _ (λ told. read_broken _ _ _ _ (so_far.read told) (c.in-Err.ensures.break_off told))
           (λ content. came_broken g.I.Inputs.told _ _ _ _ so_far.readable c.in-Err.ensures.err)
           (λ content is bytes breaks came. (
             rw (← so_far.feeds.same)
-                (broke_off breaks (ap (g.S.Stage.terms.work c.pieces.engine.stage).is_complete bytes ∙ going)
+                (broke_off breaks (ap work.is_complete bytes ∙ going)
                 (g.O.Outs.slots c.pieces.outs) (rw bytes (so_far.feeds.outputs before own at))
                 (c.abandon.ensures.sweeps.swept (length before) (so_far.feeds.owns (length before) own))),
             λ ends sound going. absurd (false≢true (sym sound ∙ breaks)),
@@ -77,7 +78,7 @@ returns-in-Err g c =
           let failed = c.in-Err.ensures.err in
           uses_all (read_failed _ _ _ _ _ _ (so_far.read told) so_far.readable failed)
           (ap (λ (source : Source). source.left.bytes) (changed_source _ _ _ _ so_far.readable failed.1) ∙ (c.in-Err.ensures.break_off told).no_more)
-          so_far.needed (ap (λ (work : Work). work.is_complete so_far.fed) (sym so_far.feeds.same) ∙ going)
+          so_far.needed (ap (λ (those : Work). those.is_complete so_far.fed) (sym so_far.feeds.same) ∙ going)
           (rw (ap (λ (source : Source). source.reached) (changed_source _ _ _ _ so_far.readable failed.1)) ((so_far.took told).far unread));
       asked = λ within. asked_at_end _ _ _ _ _ so_far.readable c.in-Err.ensures.err (omega arith) (so_far.asked within);
       broke = λ is. broken_now _ _ _ _ so_far.readable c.in-Err.ensures.err;
@@ -172,7 +173,8 @@ pieces-preserved g c =
 pub returns-in-Err-feed : goal.returns-in-Err-feed
 returns-in-Err-feed g c =
     let so_far = c.pieces.invariant in
-    let going : (g.S.Stage.terms.work c.pieces.engine.stage).is_complete so_far.fed ≡ false = sym
+    let work = g.S.Stage.terms.work c.pieces.engine.stage in
+    let going : work.is_complete so_far.fed ≡ false = sym
     (c.done.ensures.complete so_far.fed so_far.feeds.holds) ∙ c.pieces-test.true in
     let needed = needed_more so_far.fed c.read_part.new.buffer going
     (omega (arith, c.in-Ok.ensures.bound, c.piece_size-size.ensures.within, so_far.room)) in
@@ -182,8 +184,8 @@ returns-in-Err-feed g c =
     let far = λ (told : g.I.Inputs.told ≡ true).
     (takes_more _ (so_far.took told) so_far.readable (c.in-Ok.ensures.bytes told) c.in-Ok.ensures.rest).far in
     let settles : is_stop (Err c.given_up.result) ≡ false → OfVerdict c.in-Err-feed.fault
-    (IsSettled (g.S.Stage.terms.work c.pieces.engine.stage) (so_far.fed ++ take c.in-Ok.n c.read_part.new.buffer))
-    = λ ends. let (verdict, is, settled) = judges (g.S.Stage.terms.work c.pieces.engine.stage).means _
+    (IsSettled work (so_far.fed ++ take c.in-Ok.n c.read_part.new.buffer))
+    = λ ends. let (verdict, is, settled) = judges work.means _
     (EndsWith g.S.Stage.terms (take c.in-Ok.n c.read_part.new.buffer) c.pieces.engine.stage)
     (ap is_verdict (sym c.given_up.ensures.same) ∙ not-false (is_verdict c.given_up.result) ends) c.in-Err-feed.ensures.passes.met in
     (verdict, is, settled so_far.fed so_far.feeds.holds.within) in record {
@@ -236,10 +238,11 @@ give_back-requires-clause-within g c told =
 pub returns : goal.returns
 returns g c =
     let so_far = c.pieces.invariant in
-    let done : (g.S.Stage.terms.work c.pieces.engine.stage).is_complete so_far.fed ≡ true = sym
+    let work = g.S.Stage.terms.work c.pieces.engine.stage in
+    let done : work.is_complete so_far.fed ≡ true = sym
     (c.done.ensures.complete so_far.fed so_far.feeds.holds) ∙ c.pieces-test.false in
     let spare = c.unused-unused.ensures so_far.fed so_far.feeds.holds in
-    let few : c.args.slot ≡ 0 → c.unused-unused.result ≤ (g.S.Stage.terms.work c.pieces.engine.stage).ahead = λ standard. rw so_far.feeds.same
+    let few : c.args.slot ≡ 0 → c.unused-unused.result ≤ work.ahead = λ standard. rw so_far.feeds.same
     (so_far.few standard _ (rw so_far.feeds.same at spare)) in
     let back = c.give_back.ensures.rest in record {
       broke = ends_sound _ _ _ (inr refl) c.end-2.ensures;
