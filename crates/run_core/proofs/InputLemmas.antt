@@ -322,15 +322,20 @@ stopped_in_header {told} {task} is_first name {shown} {content} {so_far} {error}
 
 -- the engine's part of an input, after the header
 module _ (told_in told : Bool) (task : Task) (most : ℕ) (is_first failed was_read : Bool) (name : List ℕ)
-    (so_far : Part) (error : Slot) (count : ℕ) (source : Option ℕ) (shown : Option (List ℕ)) (sources : List Source)
-    (mid : List Slot) (counted : length mid ≡ count) (streams_there : 2 ≤ count)
-    (at : OutputsAt told (streams_with error)
-    (after_part so_far (only_out (header_text task.with_header is_first name))) mid) where
+    (so_far : Part) (error : Slot) (source : Option ℕ) (shown : Option (List ℕ)) (sources : List Source)
+    (start mid : List Slot) (before : OutputsAt told (streams_with error) so_far start)
+    (wrote : mid ≡ with_written 0 (told_of told (header_text task.with_header is_first name)) start) where
   abbrev work : Work
   work = task.work shown
 
   abbrev header : Part
   header = only_out (header_text task.with_header is_first name)
+
+  at : OutputsAt told (streams_with error) (after_part so_far header) mid
+  at = headed _ before wrote
+
+  counted : length mid ≡ length start
+  counted = headed_count told _ start wrote
 
   abbrev WasDone : Content → Type 0
   WasDone content = IsDone told_in work most source (Some content) sources
@@ -340,7 +345,7 @@ module _ (told_in told : Bool) (task : Task) (most : ℕ) (is_first failed was_r
 
   abbrev pub TookSo : Content → List Slot → Result RunProgress Fault → Type 0
   TookSo content new result = TookInput told_in told task most (input_from name source shown content)
-      (of_content task work is_first name (Some content)) is_first failed was_read so_far error count sources new result
+      (of_content task work is_first name (Some content)) is_first failed was_read so_far error (length start) sources new result
 
   part_after : (error_now : Slot) (part : Part) {reached : List Slot}
       → OutputsAt told (streams_with error_now)
@@ -375,8 +380,8 @@ module _ (told_in told : Bool) (task : Task) (most : ℕ) (is_first failed was_r
   went_badly {why} content part message reached old new done made there swept says =
       let top = adds (told_of told (after_part so_far (after_part header part)).out) standard_output in
       let all = part_after error part (at_after at there) in
-      let said = said_swept told (SaysFor told task.speaker why message) work.clears old new count
-      streams_there (rw all.slots at (rw counted at swept)) says in
+      let said = said_swept told (SaysFor told task.speaker why message) work.clears old new (length start)
+      (part_two before) (rw all.slots at (rw counted at swept)) says in
       rw made (took (record { was_read = was_read; is_first = false; failed = true }) said.after (top ∷ said.after ∷ all.since)
       (simp (and-false, or-true)) done (said.after, (why, said.says), refl)
       (record { standard = lit< tt; since = all.since; slots = refl; files = all.files }) said.swept)

@@ -31,7 +31,7 @@ pieces-init g c =
         same = took.same;
         holds = record { live = c.load.ensures.live; count = c.load.ensures.fed ∙ loads.long; within = took.holds };
         owns = λ first own. took.owns first _ own;
-        outputs = λ before own at. rw took.same (rw took.idle at);
+        outputs = λ before begun. rw took.same (rw took.idle begun.1);
         bound = omega arith;
       };
       readable = rw (passed, c.requires.input);
@@ -68,7 +68,7 @@ returns-in-Err g c =
           (λ content is bytes breaks came. (
             rw (← so_far.feeds.same)
                 (broke_off breaks (ap work.is_complete bytes ∙ going)
-                (g.O.Outs.slots c.pieces.outs) (rw bytes (so_far.feeds.outputs before own at))
+                (g.O.Outs.slots c.pieces.outs) (rw bytes (so_far.feeds.outputs before (own, at)))
                 (c.abandon.ensures.sweeps.swept (length before) (so_far.feeds.owns (length before) own))),
             λ ends sound going. absurd (false≢true (sym sound ∙ breaks)),
           ));
@@ -107,7 +107,7 @@ returns-then-n-eq0 g c =
           read_to_end _ _ _ _ (so_far.read told) at_end.0 at_end.1 in (all.1, all.0))
           (λ content. came_sound g.I.Inputs.told _ c.args.slot can)
           (λ content is bytes sound came. (
-            ended so_far.feeds g.met.S.Stage.lawful _ own at (sound, going, bytes) (to_end sound bytes) (alike_itself)
+            ended so_far.feeds g.met.S.Stage.lawful _ (own, at) (sound, going, bytes) (to_end sound bytes) (alike_itself)
                 (rw so_far.feeds.same so_far.needed) (
                   record {
                     came = came;
@@ -196,7 +196,7 @@ returns-in-Err-feed g c =
           (λ content. came_sound g.I.Inputs.told _ c.args.slot can)
           (λ content is rest bytes came. (
             rw c.given_up.ensures.same (stopped_feeding so_far.feeds g.met.S.Stage.lawful c.feed.new.self _
-                (take c.in-Ok.n c.read_part.new.buffer) rest own at bytes within going (
+                (take c.in-Ok.n c.read_part.new.buffer) rest (own, at) bytes within going (
                   record {
                     came = came;
                     sound = sound_at (g.I.Inputs.sources c.read_part.new.inputs) c.args.slot
@@ -253,7 +253,7 @@ returns g c =
           of_more g.I.Inputs.told _ so_far.fed _ _ _ (λ told. (so_far.read told).bytes)
           (λ content. came_sound g.I.Inputs.told (g.I.Inputs.sources c.give_back.new.self) c.args.slot readable)
           (λ content is rest bytes came. (
-            ended so_far.feeds g.met.S.Stage.lawful _ own at (done, (rest, bytes))
+            ended so_far.feeds g.met.S.Stage.lawful _ (own, at) (done, (rest, bytes))
                 (enough (spare.rest ++ rest) (bytes ∙ ap (λ those. those ++ rest) spare.joined ∙ append_assoc spare.used spare.rest rest) used)
                 (alike_after spare.rest (g.met.S.Stage.lawful _ _ so_far.feeds.holds.within) used spare.joined)
                 (needed_within c.requires.room spare.needed) (
