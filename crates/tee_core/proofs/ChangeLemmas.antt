@@ -204,36 +204,34 @@ pub left_out : (told : Bool) {piece : List ℕ} {place : ℕ} {slots : List Slot
     → ChangesSome (Gets told piece) (λ other. other ≡ place) slots slots 0
 left_out told {place} broken = turned_same place (gets_none broken)
 
-pub written_whole : (told : Bool) {piece : List ℕ} {place : ℕ} {old new : List Slot} → IsUsable (slot_at old place)
-    → (slot_at old place).is_broken ≡ false → new ≡ with_written place (told_of told piece) old
-    → ChangesSome (Gets told piece) (λ other. other ≡ place) old new 0
-written_whole told {piece} {place} {old} usable sound is =
-    turned_one place (adds (told_of told piece)) (open_within old place (usable sound)) sound sound (gets_all sound) is
-
-pub written_short : (told : Bool) {piece : List ℕ} {place n : ℕ} {old new : List Slot} → IsUsable (slot_at old place)
-    → (slot_at old place).is_broken ≡ false → BrokeAfter told old new place piece n
-    → ChangesSome (Gets told piece) (λ other. other ≡ place) old new 1
-written_short told {piece} {place} {n} {old} usable sound broke =
-    let (why, slots) = broke.slots in
-    let takes = adds (told_of told (take n piece)) in
-    turned_one place (λ slot. breaks why (takes slot)) (open_within old place (usable sound)) sound refl
-    (breaks_off sound n why broke.within) (slots ∙ changed_at-again place takes (breaks why) old)
-
 pub not_closed : {place : ℕ} {slots : List Slot} → (slot_at slots place).is_broken ≡ true
     → ChangesSome Closes (λ other. other ≡ place) slots slots 0
 not_closed {place} broken = turned_same place (was_broken broken)
 
-pub closed_whole : {place : ℕ} {old new : List Slot} → IsUsable (slot_at old place)
-    → (slot_at old place).is_broken ≡ false → new ≡ changed_at place closes old
-    → ChangesSome Closes (λ other. other ≡ place) old new 0
-closed_whole {place} {old} usable sound is = turned_one place closes (open_within old place (usable sound)) sound sound (is_closed sound) is
+module _ {place : ℕ} {old : List Slot} (usable : IsUsable (slot_at old place))
+    (sound : (slot_at old place).is_broken ≡ false) where
+  pub written_whole : (told : Bool) {piece : List ℕ} {new : List Slot} → new ≡ with_written place (told_of told piece) old
+      → ChangesSome (Gets told piece) (λ other. other ≡ place) old new 0
+  written_whole told {piece} is =
+      turned_one place (adds (told_of told piece)) (open_within old place (usable sound)) sound sound (gets_all sound) is
 
-pub closed_short : {place : ℕ} {old new : List Slot} → IsUsable (slot_at old place)
-    → (slot_at old place).is_broken ≡ false → SlotBreaks place (changed_at place closes old) new
-    → ChangesSome Closes (λ other. other ≡ place) old new 1
-closed_short {place} {old} usable sound (why, is) =
-    turned_one place (λ slot. breaks why (closes slot)) (open_within old place (usable sound)) sound refl
-    (fails_to_close sound why) (is ∙ changed_at-again place closes (breaks why) old)
+  pub written_short : (told : Bool) {piece : List ℕ} {n : ℕ} {new : List Slot} → BrokeAfter told old new place piece n
+      → ChangesSome (Gets told piece) (λ other. other ≡ place) old new 1
+  written_short told {piece} {n} broke =
+      let (why, slots) = broke.slots in
+      let takes = adds (told_of told (take n piece)) in
+      turned_one place (λ slot. breaks why (takes slot)) (open_within old place (usable sound)) sound refl
+      (breaks_off sound n why broke.within) (slots ∙ changed_at-again place takes (breaks why) old)
+
+  pub closed_whole : {new : List Slot} → new ≡ changed_at place closes old
+      → ChangesSome Closes (λ other. other ≡ place) old new 0
+  closed_whole is = turned_one place closes (open_within old place (usable sound)) sound sound (is_closed sound) is
+
+  pub closed_short : {new : List Slot} → SlotBreaks place (changed_at place closes old) new
+      → ChangesSome Closes (λ other. other ≡ place) old new 1
+  closed_short (why, is) =
+      turned_one place (λ slot. breaks why (closes slot)) (open_within old place (usable sound)) sound refl
+      (fails_to_close sound why) (is ∙ changed_at-again place closes (breaks why) old)
 
 -- standard output, and then the files
 pub fed : (told : Bool) {piece : List ℕ} (tee : TeeState) (broke more : ℕ) {old mid new : List Slot}

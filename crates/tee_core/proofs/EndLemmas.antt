@@ -154,62 +154,59 @@ pub reads_more : {x : List ℕ} (pieces : List (List ℕ)) (piece : List ℕ) {w
 reads_more pieces piece joined sized few so_far is =
     omega (arith, reads_once pieces joined sized few so_far is, length-append pieces (piece ∷ []))
 
-pub reads_copied : {told_in : Bool} (told : Bool) {calling : Calling} {mode : Mode} {on_broken : OnBroken}
-    {names : List (List ℕ)} {content : Content} {source : Source} {slots : List Slot} {known : List Standing}
-    {fault : Option Fault} {came : List ℕ} {pieces : List (List ℕ)} {is_vain : Bool} → came ≡ concat pieces
-    → is_done on_broken known ≡ is_vain → AreSized pieces → length came < 2 ^ 63
-    → (fault ≡ Some (Read 0)) ⊎ (source.is_broken ≡ false) → (fault ≡ None → is_vain ≡ false → source.ended ≡ true)
-    → (told_in ≡ true → is_vain ≡ true → GaveLast pieces source)
-    → source.reads ≡ length pieces + (if is_vain then 0 else 1)
-    → IsRead content (LeavesOf told_in source) is_vain came fault
-    → Copies told calling mode on_broken names pieces [] slots known
-    → CopiesRead told_in told calling mode on_broken names content source slots known fault
-reads_copied told joined vain sized few met ended last reads read copies = grind (arith, common_steps)
-
--- the end
-
-pub ends_copied : {told_in : Bool} (told : Bool) {calling : Calling} {mode : Mode}
-    {on_broken : OnBroken} {names : List (List ℕ)} {content : Content} {source : Source} {pieces : List (List ℕ)}
-    {fault : Option Fault} {status : ℕ} {slots : List Slot} {before known : List Standing}
-    → status ≡ status_for on_broken known fault → ComesIn told_in content source (is_done on_broken before) pieces fault
-    → HasCopied told calling mode on_broken names pieces fault before slots known
-    → EndsAs told_in told calling mode on_broken names content source slots status
-ends_copied told {on_broken = on_broken} {pieces = pieces} {fault} is read left =
-    copied pieces fault left.first left.broke left.output left.error left.files (rw (← left.before_are) at read)
-    left.goes_on left.output_left left.files_left left.said left.are
-    (cc)
-
--- there was no memory
-
 -- the fault was told, and the run has this status
 abbrev pub ToldSo : Bool → Calling → Fault → List Slot → List Slot → ℕ → Type 0
 ToldSo told calling fault mid new status = TellsOn told (tee_called calling) fault mid new
     × (status ≡ status_after fault calling (output_reason mid fault))
 
-ends_nowhere : {told_in : Bool} (told : Bool) {calling : Calling} {mode : Mode}
-    {on_broken : OnBroken} {names : List (List ℕ)} {content : Content} {source : Source} {mid new : List Slot}
-    {fault : Fault} {status : ℕ} → fault ≡ Memory → mid ≡ streams → IsAsFound told_in content source
-    → ToldSo told calling fault mid new status
-    → EndsAs told_in told calling mode on_broken names content source new status
-ends_nowhere told {calling} {mid = mid} {new} {status = status} is at unread says =
-    let (tells, one) = subst (λ (those : Fault). ToldSo told calling those mid new status) is says in
-    let said = tells standard_output standard_error [] at in
-    no_room said.0 (said.0, (Other, said.1), refl) unread said.2 one
+module _ {told_in told : Bool} {calling : Calling} {mode : Mode} {on_broken : OnBroken} {names : List (List ℕ)} where
+  pub reads_copied : {content : Content} {source : Source} {slots : List Slot} {known : List Standing}
+      {fault : Option Fault} {came : List ℕ} {pieces : List (List ℕ)} {is_vain : Bool} → came ≡ concat pieces
+      → is_done on_broken known ≡ is_vain → AreSized pieces → length came < 2 ^ 63
+      → (fault ≡ Some (Read 0)) ⊎ (source.is_broken ≡ false) → (fault ≡ None → is_vain ≡ false → source.ended ≡ true)
+      → (told_in ≡ true → is_vain ≡ true → GaveLast pieces source)
+      → source.reads ≡ length pieces + (if is_vain then 0 else 1)
+      → IsRead content (LeavesOf told_in source) is_vain came fault
+      → Copies told calling mode on_broken names pieces [] slots known
+      → CopiesRead told_in told calling mode on_broken names content source slots known fault
+  reads_copied joined vain sized few met ended last reads read copies = grind (arith, common_steps)
 
-pub ends_at_once : {told_in : Bool} (told : Bool) {calling : Calling} {mode : Mode}
-    {on_broken : OnBroken} {names : List (List ℕ)} {old new_sources : List Source} {first mid new : List Slot}
-    {fault : Fault} {status : ℕ} → fault ≡ Memory → IsFresh old → first ≡ streams → mid ≡ first → new_sources ≡ old
-    → ToldSo told calling fault mid new status
-    → OfContent told_in (source_at old 0).left
-    (λ content. EndsAs told_in told calling mode on_broken names content (source_at new_sources 0) new status
-    × CameFrom told_in content (source_at new_sources 0))
-ends_at_once {told_in} told {calling} {mode} {on_broken} {names} {old} {new_sources} {new = new} {status = status} is fresh at same sources says =
-    let unread = ap (λ those. source_at those 0) (sources ∙ fresh.only) in
-    of_content told_in (source_at old 0).left empty (source_at new_sources 0)
-    (λ content. EndsAs told_in told calling mode on_broken names content (source_at new_sources 0) new status)
-    (λ _. ends_nowhere told is (same ∙ at) (fresh.standard, unread, λ _. cc) says)
-    (λ untold. ends_nowhere told is (same ∙ at) (fresh.standard, unread, λ tells. absurd (cc)) says)
-    (cc) (cc)
+  -- the end
+
+  pub ends_copied : {content : Content} {source : Source} {pieces : List (List ℕ)}
+      {fault : Option Fault} {status : ℕ} {slots : List Slot} {before known : List Standing}
+      → status ≡ status_for on_broken known fault → ComesIn told_in content source (is_done on_broken before) pieces fault
+      → HasCopied told calling mode on_broken names pieces fault before slots known
+      → EndsAs told_in told calling mode on_broken names content source slots status
+  ends_copied {pieces = pieces} {fault} is read left =
+      copied pieces fault left.first left.broke left.output left.error left.files (rw (← left.before_are) at read)
+      left.goes_on left.output_left left.files_left left.said left.are
+      (cc)
+
+  -- there was no memory
+
+  ends_nowhere : {content : Content} {source : Source} {mid new : List Slot}
+      {fault : Fault} {status : ℕ} → fault ≡ Memory → mid ≡ streams → IsAsFound told_in content source
+      → ToldSo told calling fault mid new status
+      → EndsAs told_in told calling mode on_broken names content source new status
+  ends_nowhere {mid = mid} {new} {status = status} is at unread says =
+      let (tells, one) = subst (λ (those : Fault). ToldSo told calling those mid new status) is says in
+      let said = tells standard_output standard_error [] at in
+      no_room said.0 (said.0, (Other, said.1), refl) unread said.2 one
+
+  pub ends_at_once : {old new_sources : List Source} {first mid new : List Slot}
+      {fault : Fault} {status : ℕ} → fault ≡ Memory → IsFresh old → first ≡ streams → mid ≡ first → new_sources ≡ old
+      → ToldSo told calling fault mid new status
+      → OfContent told_in (source_at old 0).left
+      (λ content. EndsAs told_in told calling mode on_broken names content (source_at new_sources 0) new status
+      × CameFrom told_in content (source_at new_sources 0))
+  ends_at_once {old} {new_sources} {new = new} {status = status} is fresh at same sources says =
+      let unread = ap (λ those. source_at those 0) (sources ∙ fresh.only) in
+      of_content told_in (source_at old 0).left empty (source_at new_sources 0)
+      (λ content. EndsAs told_in told calling mode on_broken names content (source_at new_sources 0) new status)
+      (λ _. ends_nowhere is (same ∙ at) (fresh.standard, unread, λ _. cc) says)
+      (λ untold. ends_nowhere is (same ∙ at) (fresh.standard, unread, λ tells. absurd (cc)) says)
+      (cc) (cc)
 
 -- nothing broke
 
@@ -348,38 +345,37 @@ well_of on_broken fault {first} {broke} left rest at sound zero_is = elim (cases
   | inr strict ↦ status_zero on_broken (first ∷ broke) fault strict zero_is
 ]
 
-pub whole_if : {told_in : Bool} (told : Bool) {calling : Calling} {mode : Mode}
-    {on_broken : OnBroken} {names : List (List ℕ)} {content : Content} {source : Source} {new : List Slot} {status : ℕ}
-    → status ≡ 0 → (forgives on_broken ≡ true → AreSound new)
-    → EndsAs told_in told calling mode on_broken names content source new status
-    → new ≡ all_copied told mode names content.bytes
-whole_if told zero_is sound (no_room _ said left at one) = absurd (omega arith)
-whole_if told {mode = mode} {on_broken} {names} zero_is sound (copied pieces fault first broke output error files read some output_left files_left said at is) =
-    let good = well_of on_broken fault output_left files_left at sound (sym is ∙ zero_is) in let sounds = sound_first first (are_sound broke) good.1 in
-    let silent = quiet fault (length pieces) (first ∷ broke) good.0 good.1 in
-    let made : error ≡ standard_error = rw silent at said in
-    rw (
-      at,
-      whole_output told pieces first output sounds.0 output_left,
-      made,
-      whole_files told mode pieces names broke files
-          sounds.1 files_left,
-      read_whole _ (sound_goes_on on_broken _ first broke good.1) good.0 read.read,
-    ) refl where
-      quiet : (fault : Option Fault) (pieces : ℕ) (broke : List (Option Break)) → is_none fault ≡ true
-          → are_sound broke ≡ true → messages_of on_broken names broke pieces fault ≡ []
-      quiet None pieces broke ended sound =
-          cc (
-            nothing_before on_broken (suc pieces) (output_names names) broke sound,
-            nothing_in on_broken (suc pieces)
-                (output_names names) broke sound,
-          )
-      quiet (Some _) pieces broke ended sound = absurd (cc)
+module _ {told_in told : Bool} {calling : Calling} {mode : Mode} {on_broken : OnBroken} {names : List (List ℕ)} where
+  pub whole_if : {content : Content} {source : Source} {new : List Slot} {status : ℕ}
+      → status ≡ 0 → (forgives on_broken ≡ true → AreSound new)
+      → EndsAs told_in told calling mode on_broken names content source new status
+      → new ≡ all_copied told mode names content.bytes
+  whole_if zero_is sound (no_room _ said left at one) = absurd (omega arith)
+  whole_if zero_is sound (copied pieces fault first broke output error files read some output_left files_left said at is) =
+      let good = well_of on_broken fault output_left files_left at sound (sym is ∙ zero_is) in let sounds = sound_first first (are_sound broke) good.1 in
+      let silent = quiet fault (length pieces) (first ∷ broke) good.0 good.1 in
+      let made : error ≡ standard_error = rw silent at said in
+      rw (
+        at,
+        whole_output told pieces first output sounds.0 output_left,
+        made,
+        whole_files told mode pieces names broke files
+            sounds.1 files_left,
+        read_whole _ (sound_goes_on on_broken _ first broke good.1) good.0 read.read,
+      ) refl where
+        quiet : (fault : Option Fault) (pieces : ℕ) (broke : List (Option Break)) → is_none fault ≡ true
+            → are_sound broke ≡ true → messages_of on_broken names broke pieces fault ≡ []
+        quiet None pieces broke ended sound =
+            cc (
+              nothing_before on_broken (suc pieces) (output_names names) broke sound,
+              nothing_in on_broken (suc pieces)
+                  (output_names names) broke sound,
+            )
+        quiet (Some _) pieces broke ended sound = absurd (cc)
 
-pub whole_of : {told_in : Bool} (told : Bool) {calling : Calling} {mode : Mode}
-    {on_broken : OnBroken} {names : List (List ℕ)} (there : Content) {source : Source} {new : List Slot} {status : ℕ}
-    → told_in ≡ true → status ≡ 0 → (forgives on_broken ≡ true → AreSound new)
-    → OfContent told_in there
-    (λ content. EndsAs told_in told calling mode on_broken names content source new status
-    × CameFrom told_in content source) → new ≡ all_copied told mode names there.bytes
-whole_of told there tells zero_is sound (content, is, holds) = cc (whole_if told zero_is sound holds.0, is tells)
+  pub whole_of : (there : Content) {source : Source} {new : List Slot} {status : ℕ}
+      → told_in ≡ true → status ≡ 0 → (forgives on_broken ≡ true → AreSound new)
+      → OfContent told_in there
+      (λ content. EndsAs told_in told calling mode on_broken names content source new status
+      × CameFrom told_in content source) → new ≡ all_copied told mode names there.bytes
+  whole_of there tells zero_is sound (content, is, holds) = cc (whole_if zero_is sound holds.0, is tells)

@@ -35,7 +35,7 @@ returns-clause-copied g c mode opens =
     (starts _ _ opens (length-names _ c.requires.unknown) c.tell_broken.ensures.said c.tell_broken.ensures.seen) in
     let said = copies_said read.copies c.tell_input.ensures.told in
     let closed = c.close_all.ensures.closed mode read.pieces c.copy_pieces-fault.result said in
-    (content, is, (ends_copied _ c.status_for.ensures read.read closed, breaks))
+    (content, is, (ends_copied c.status_for.ensures read.read closed, breaks))
 
 pub tell_broken-requires-clause-known : goal.tell_broken-requires-clause-known
 tell_broken-requires-clause-known g c = grind (arith, common_steps)
