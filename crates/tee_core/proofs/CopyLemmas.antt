@@ -308,44 +308,44 @@ call_before before after piece is = grind (arith, common_steps)
 abbrev pub Marked : (Option Break → Slot → Type 0) → ℕ → Option Break → Slot → Type 0
 Marked Is call first new = (after : Option Break) × Is after new × Marks call first after (stands_as new)
 
-output_more : (told : Bool) {pieces : List (List ℕ)} {piece : List ℕ} {first : Option Break} {old new : Slot}
-    → OutputLeft told pieces first old → Gets told piece old new
-    → Marked (OutputLeft told (pieces ++ piece ∷ [])) (suc (length pieces)) first new
-output_more told {pieces} {piece} output_whole (gets_all _) =
-    (None, rw (whole_now told pieces piece standard_output) output_whole, marked_none)
-output_more told {pieces} {piece} output_whole (breaks_off _ n why within) = (
-  Some (break_now (suc (length pieces)) why),
-  rw (begun_now told why pieces piece n standard_output) (output_cut pieces piece [] n refl within),
-  marked_now why,
-)
-output_more told {piece} (output_cut {why} before that after n is within) (gets_none _) = (
-  Some (break_now (suc (length before)) why),
-  output_cut before that (after ++ piece ∷ []) n (still_there before after that piece is) within,
-  marked_before _ (call_before before after that is),
-)
-output_more told output_whole (gets_none broken) = absurd (cc)
-output_more told so_far (gets_all again) = absurd (cc)
-output_more told so_far (breaks_off again m _ _) = absurd (cc)
+module _ {told : Bool} {pieces : List (List ℕ)} {piece : List ℕ} where
+  output_more : {first : Option Break} {old new : Slot}
+      → OutputLeft told pieces first old → Gets told piece old new
+      → Marked (OutputLeft told (pieces ++ piece ∷ [])) (suc (length pieces)) first new
+  output_more output_whole (gets_all _) =
+      (None, rw (whole_now told pieces piece standard_output) output_whole, marked_none)
+  output_more output_whole (breaks_off _ n why within) = (
+    Some (break_now (suc (length pieces)) why),
+    rw (begun_now told why pieces piece n standard_output) (output_cut pieces piece [] n refl within),
+    marked_now why,
+  )
+  output_more (output_cut {why} before that after n is within) (gets_none _) = (
+    Some (break_now (suc (length before)) why),
+    output_cut before that (after ++ piece ∷ []) n (still_there before after that piece is) within,
+    marked_before _ (call_before before after that is),
+  )
+  output_more output_whole (gets_none broken) = absurd (cc)
+  output_more so_far (gets_all again) = absurd (cc)
+  output_more so_far (breaks_off again m _ _) = absurd (cc)
 
-file_more : (told : Bool) {mode : Mode} {pieces : List (List ℕ)} {piece : List ℕ} {name : List ℕ} {first : Option Break}
-    {old new : Slot} → FileHas told mode pieces name first old → Gets told piece old new
-    → Marked (FileHas told mode (pieces ++ piece ∷ []) name) (suc (length pieces)) first new
-file_more told {mode} {pieces} {piece} {name} has_all (gets_all _) =
-    (None, rw (whole_now told pieces piece (opened name mode)) has_all, marked_none)
-file_more told {mode} {pieces} {piece} {name} has_all (breaks_off _ n why within) = (
-  Some (break_now (suc (length pieces)) why),
-  rw (begun_now told why pieces piece n (opened name mode)) (has_begun pieces piece [] n refl within),
-  marked_now why,
-)
-file_more told (has_none {why} kept named) (gets_none broken) = (Some (break_now 0 why), has_none kept named, marked_before _ (omega arith))
-file_more told {piece} (has_begun {why} before that after n is within) (gets_none _) = (
-  Some (break_now (suc (length before)) why),
-  has_begun before that (after ++ piece ∷ []) n (still_there before after that piece is) within,
-  marked_before _ (call_before before after that is),
-)
-file_more told has_all (gets_none broken) = absurd (cc)
-file_more told so_far (gets_all again) = absurd (cc)
-file_more told so_far (breaks_off again m _ _) = absurd (cc)
+  file_more : {mode : Mode} {name : List ℕ} {first : Option Break} {old new : Slot} → FileHas told mode pieces name first old → Gets told piece old new
+      → Marked (FileHas told mode (pieces ++ piece ∷ []) name) (suc (length pieces)) first new
+  file_more {mode} {name} has_all (gets_all _) =
+      (None, rw (whole_now told pieces piece (opened name mode)) has_all, marked_none)
+  file_more {mode} {name} has_all (breaks_off _ n why within) = (
+    Some (break_now (suc (length pieces)) why),
+    rw (begun_now told why pieces piece n (opened name mode)) (has_begun pieces piece [] n refl within),
+    marked_now why,
+  )
+  file_more (has_none {why} kept named) (gets_none broken) = (Some (break_now 0 why), has_none kept named, marked_before _ (omega arith))
+  file_more (has_begun {why} before that after n is within) (gets_none _) = (
+    Some (break_now (suc (length before)) why),
+    has_begun before that (after ++ piece ∷ []) n (still_there before after that piece is) within,
+    marked_before _ (call_before before after that is),
+  )
+  file_more has_all (gets_none broken) = absurd (cc)
+  file_more so_far (gets_all again) = absurd (cc)
+  file_more so_far (breaks_off again m _ _) = absurd (cc)
 
 -- each of the files is changed by the call
 pub files_go : {Is Then : List ℕ → Option Break → Slot → Type 0} {Change : Slot → Slot → Type 0} {call : ℕ}
@@ -374,23 +374,24 @@ length-broke : {Is : List ℕ → Option Break → Slot → Type 0} {names : Lis
 length-broke no_file = refl
 length-broke (one_file name names first broke file files one rest) = ap suc (length-broke rest)
 
-output_usable : (told : Bool) {pieces : List (List ℕ)} {first : Option Break} {output : Slot}
-    → OutputLeft told pieces first output → IsUsable output
-output_usable told output_whole = λ sound. refl
-output_usable told (output_cut _ _ _ n is _) = λ sound. refl
+module _ {told : Bool} {pieces : List (List ℕ)} where
+  output_usable : {first : Option Break} {output : Slot}
+      → OutputLeft told pieces first output → IsUsable output
+  output_usable output_whole = λ sound. refl
+  output_usable (output_cut _ _ _ n is _) = λ sound. refl
 
-file_usable : (told : Bool) {mode : Mode} {pieces : List (List ℕ)} {name : List ℕ} {first : Option Break} {file : Slot}
-    → FileHas told mode pieces name first file → IsUsable file
-file_usable told has_all = λ sound. refl
-file_usable told (has_none _ _) = λ sound. absurd (cc)
-file_usable told (has_begun _ _ _ n is _) = λ sound. refl
+  file_usable : {mode : Mode} {name : List ℕ} {first : Option Break} {file : Slot}
+      → FileHas told mode pieces name first file → IsUsable file
+  file_usable has_all = λ sound. refl
+  file_usable (has_none _ _) = λ sound. absurd (cc)
+  file_usable (has_begun _ _ _ n is _) = λ sound. refl
 
-files_usable : (told : Bool) {mode : Mode} {pieces : List (List ℕ)} {names : List (List ℕ)}
-    {broke : List (Option Break)} {files : List Slot} (n : ℕ) → n < length files
-    → EachFile (FileHas told mode pieces) names broke files → IsUsable (slot_at files n)
-files_usable told n within no_file = absurd (omega arith)
-files_usable told zero within (one_file name _ _ _ file _ one _) = file_usable told one
-files_usable told (suc n) within (one_file name _ _ _ file _ one rest) = files_usable told n (omega arith) rest
+  files_usable : {mode : Mode} {names : List (List ℕ)}
+      {broke : List (Option Break)} {files : List Slot} (n : ℕ) → n < length files
+      → EachFile (FileHas told mode pieces) names broke files → IsUsable (slot_at files n)
+  files_usable n within no_file = absurd (omega arith)
+  files_usable zero within (one_file name _ _ _ file _ one _) = file_usable one
+  files_usable (suc n) within (one_file name _ _ _ file _ one rest) = files_usable n (omega arith) rest
 
 -- a file's place, counted from the first file
 pub file_place : {names : List (List ℕ)} {tee : TeeState} (place : ℕ) → IsTeeOf names tee → IsFile tee place
@@ -409,24 +410,25 @@ error_no_output is (inl here) = omega arith
 error_no_output is (inr file) = let there = file_place 1 is file in omega arith
 
 -- an output that isn't closed
-output_kept : (told : Bool) {pieces : List (List ℕ)} {first : Option Break} {output : Slot}
-    → OutputLeft told pieces first output → Marks (suc (length pieces)) first first (stands_as output)
-output_kept told output_whole = marked_none
-output_kept told (output_cut before that after n is _) = marked_before _ (call_before before after that is)
+module _ {told : Bool} {pieces : List (List ℕ)} where
+  output_kept : {first : Option Break} {output : Slot}
+      → OutputLeft told pieces first output → Marks (suc (length pieces)) first first (stands_as output)
+  output_kept output_whole = marked_none
+  output_kept (output_cut before that after n is _) = marked_before _ (call_before before after that is)
 
--- a file that is
-file_ends : (told : Bool) {mode : Mode} {pieces : List (List ℕ)} {name : List ℕ} {first : Option Break} {old new : Slot}
-    → FileHas told mode pieces name first old → Closes old new
-    → Marked (FileLeft told mode pieces name) (suc (length pieces)) first new
-file_ends told has_all (is_closed _) = (None, file_whole, marked_none)
-file_ends told {pieces = pieces} has_all (fails_to_close _ why) =
-    (Some (break_now (suc (length pieces)) why), file_unclosed, marked_now why)
-file_ends told (has_none {why} kept named) (was_broken broken) = (Some (break_now 0 why), file_unopened kept named, marked_before _ (omega arith))
-file_ends told (has_begun {why} before that after n is within) (was_broken broken) =
-    (Some (break_now (suc (length before)) why), file_cut before that after n is within, marked_before _ (call_before before after that is))
-file_ends told has_all (was_broken broken) = absurd (cc)
-file_ends told has (is_closed sound) = absurd (cc)
-file_ends told has (fails_to_close sound _) = absurd (cc)
+  -- a file that is
+  file_ends : {mode : Mode} {name : List ℕ} {first : Option Break} {old new : Slot}
+      → FileHas told mode pieces name first old → Closes old new
+      → Marked (FileLeft told mode pieces name) (suc (length pieces)) first new
+  file_ends has_all (is_closed _) = (None, file_whole, marked_none)
+  file_ends has_all (fails_to_close _ why) =
+      (Some (break_now (suc (length pieces)) why), file_unclosed, marked_now why)
+  file_ends (has_none {why} kept named) (was_broken broken) = (Some (break_now 0 why), file_unopened kept named, marked_before _ (omega arith))
+  file_ends (has_begun {why} before that after n is within) (was_broken broken) =
+      (Some (break_now (suc (length before)) why), file_cut before that after n is within, marked_before _ (call_before before after that is))
+  file_ends has_all (was_broken broken) = absurd (cc)
+  file_ends has (is_closed sound) = absurd (cc)
+  file_ends has (fails_to_close sound _) = absurd (cc)
 
 module _ {told : Bool} {calling : Calling} {mode : Mode} {on_broken : OnBroken} {names pieces : List (List ℕ)}
     {messages : List Message} {old : List Slot} {known : List Standing}
@@ -434,7 +436,7 @@ module _ {told : Bool} {calling : Calling} {mode : Mode} {on_broken : OnBroken} 
   pub copies_ready : {tee : TeeState} → IsTeeOf names tee → IsReady tee old
   copies_ready {tee} is place output = rw copies.are (by output) where
     by : IsOutput tee place → IsUsable (slot_at (copies.output ∷ copies.error ∷ copies.files) place)
-    by (inl here) = rw here (output_usable told copies.output_has)
+    by (inl here) = rw here (output_usable copies.output_has)
     by (inr file) = grind (arith, common_steps, copies, file_place, files_usable, length-files)
 
   -- the outputs after a call, before anything is said of it, where they stand so now
@@ -498,8 +500,8 @@ module _ {told : Bool} {calling : Calling} {mode : Mode} {on_broken : OnBroken} 
       (suc (length pieces)) mid nows
   fed_next is gets sees =
       called is (suc (length pieces)) gets.count (gets.others 1 (error_no_output is))
-      (λ output here. output_more told copies.output_has (rw here at (rw (ap (λ those. slot_at those 0) copies.are) at (gets.each 0 (inl refl)))))
-      (λ place file. gets.each place (inr file)) (λ name first old new has got. file_more told has got) sees
+      (λ output here. output_more copies.output_has (rw here at (rw (ap (λ those. slot_at those 0) copies.are) at (gets.each 0 (inl refl)))))
+      (λ place file. gets.each place (inr file)) (λ name first old new has got. file_more has got) sees
 
   -- the files were closed
   pub closed_next : {mid : List Slot} {nows : List Standing} {tee : TeeState} → IsTeeOf names tee
@@ -509,8 +511,8 @@ module _ {told : Bool} {calling : Calling} {mode : Mode} {on_broken : OnBroken} 
       called is (suc (length pieces)) closes.count (closes.others 1 (λ file. error_no_output is (inr file)))
       (λ output here. let same = sym here ∙ closes.others 0 (λ file. omega (arith, (file_place 0 is file).1))
       ∙ ap (λ those. slot_at those 0) copies.are in
-      let left : OutputLeft told pieces copies.first output = rw same copies.output_has in (copies.first, left, output_kept told left))
-      closes.each (λ name first old new has ends. file_ends told has ends) sees
+      let left : OutputLeft told pieces copies.first output = rw same copies.output_has in (copies.first, left, output_kept left))
+      closes.each (λ name first old new has ends. file_ends has ends) sees
 
   -- both streams are there, whatever became of the other outputs
   pub streams_after : {mid : List Slot} {output : Slot} {files : List Slot} → mid ≡ output ∷ copies.error ∷ files

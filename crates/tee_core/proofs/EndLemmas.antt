@@ -228,46 +228,46 @@ nothing_before on_broken zero names broke sound = refl
 nothing_before on_broken (suc call) names broke sound =
     cc (nothing_before on_broken call names broke sound, nothing_in on_broken call names broke sound)
 
-pub whole_output : (told : Bool) (pieces : List (List ℕ)) (first : Option Break) (output : Slot) → first ≡ None
-    → OutputLeft told pieces first output → output ≡ adds (told_of told (concat pieces)) standard_output
-whole_output told pieces _ _ is output_whole = refl
-whole_output told pieces _ _ is (output_cut _ _ _ n is_there within) = absurd (cc)
+module _ {told : Bool} {pieces : List (List ℕ)} where
+  pub whole_output : {first : Option Break} {output : Slot} → first ≡ None
+      → OutputLeft told pieces first output → output ≡ adds (told_of told (concat pieces)) standard_output
+  whole_output is output_whole = refl
+  whole_output is (output_cut _ _ _ n is_there within) = absurd (cc)
 
-pub whole_files : (told : Bool) (mode : Mode) (pieces : List (List ℕ)) (names : List (List ℕ))
-    (broke : List (Option Break)) (files : List Slot) → are_sound broke ≡ true
-    → FilesLeft told mode pieces names broke files
-    → files ≡ map (λ name. closes (adds (told_of told (concat pieces)) (opened name mode))) names
-whole_files told mode pieces _ _ _ sound no_file = refl
-whole_files told mode pieces _ _ _ sound (one_file name names _ broke _ files file_whole rest) =
-    cc (whole_files told mode pieces names broke files sound rest)
-whole_files told mode pieces names broke files sound left = absurd (cc)
+  pub whole_files : {mode : Mode} {names : List (List ℕ)} {broke : List (Option Break)} {files : List Slot} → are_sound broke ≡ true
+      → FilesLeft told mode pieces names broke files
+      → files ≡ map (λ name. closes (adds (told_of told (concat pieces)) (opened name mode))) names
+  whole_files sound no_file = refl
+  whole_files sound (one_file name names _ broke _ files file_whole rest) =
+      cc (whole_files sound rest)
+  whole_files sound left = absurd (cc)
 
--- outputs of which none is broken never broke
+  -- outputs of which none is broken never broke
 
-output_sound : {told : Bool} {pieces : List (List ℕ)} {first : Option Break} {output : Slot} → output.is_broken ≡ false
-    → OutputLeft told pieces first output → first ≡ None
-output_sound whole output_whole = refl
-output_sound whole (output_cut _ _ _ n is _) = absurd (cc)
+  output_sound : {first : Option Break} {output : Slot} → output.is_broken ≡ false
+      → OutputLeft told pieces first output → first ≡ None
+  output_sound whole output_whole = refl
+  output_sound whole (output_cut _ _ _ n is _) = absurd (cc)
 
-file_sound : {told : Bool} {mode : Mode} {pieces : List (List ℕ)} {name : List ℕ} {first : Option Break} {file : Slot}
-    → file.is_broken ≡ false → FileLeft told mode pieces name first file → first ≡ None
-file_sound whole file_whole = refl
-file_sound whole left = absurd (cc)
+  file_sound : {mode : Mode} {name : List ℕ} {first : Option Break} {file : Slot}
+      → file.is_broken ≡ false → FileLeft told mode pieces name first file → first ≡ None
+  file_sound whole file_whole = refl
+  file_sound whole left = absurd (cc)
 
-files_sound : {told : Bool} {mode : Mode} {pieces names : List (List ℕ)} {broke : List (Option Break)}
-    {files : List Slot} → ((place : ℕ) → (slot_at files place).is_broken ≡ false)
-    → FilesLeft told mode pieces names broke files → are_sound broke ≡ true
-files_sound whole no_file = refl
-files_sound whole (one_file name _ _ _ file _ left rest) =
-    rw (file_sound (whole 0) left) (files_sound (λ place. whole (suc place)) rest)
+  files_sound : {mode : Mode} {names : List (List ℕ)} {broke : List (Option Break)}
+      {files : List Slot} → ((place : ℕ) → (slot_at files place).is_broken ≡ false)
+      → FilesLeft told mode pieces names broke files → are_sound broke ≡ true
+  files_sound whole no_file = refl
+  files_sound whole (one_file name _ _ _ file _ left rest) =
+      rw (file_sound (whole 0) left) (files_sound (λ place. whole (suc place)) rest)
 
-pub all_sound_if : {told : Bool} {mode : Mode} {pieces names : List (List ℕ)} {first : Option Break}
-    {broke : List (Option Break)} {output error : Slot} {files new : List Slot} → OutputLeft told pieces first output
-    → FilesLeft told mode pieces names broke files → new ≡ output ∷ error ∷ files → AreSound new
-    → are_sound (first ∷ broke) ≡ true
-all_sound_if left rest is whole =
-    let those = rw is at whole in rw (output_sound (those 0 (λ same. omega arith)) left)
-    (files_sound (λ place. those (suc (suc place)) (λ same. omega arith)) rest)
+  pub all_sound_if : {mode : Mode} {names : List (List ℕ)} {first : Option Break}
+      {broke : List (Option Break)} {output error : Slot} {files new : List Slot} → OutputLeft told pieces first output
+      → FilesLeft told mode pieces names broke files → new ≡ output ∷ error ∷ files → AreSound new
+      → are_sound (first ∷ broke) ≡ true
+  all_sound_if left rest is whole =
+      let those = rw is at whole in rw (output_sound (those 0 (λ same. omega arith)) left)
+      (files_sound (λ place. those (suc (suc place)) (λ same. omega arith)) rest)
 
 -- where it is no fault that one is gone, and none failed, nothing broke
 pub sound_if : (broke : List (Option Break)) → any_is Broken (map standing_of broke) ≡ false
@@ -357,10 +357,9 @@ module _ {told_in told : Bool} {calling : Calling} {mode : Mode} {on_broken : On
       let made : error ≡ standard_error = rw silent at said in
       rw (
         at,
-        whole_output told pieces first output sounds.0 output_left,
+        whole_output sounds.0 output_left,
         made,
-        whole_files told mode pieces names broke files
-            sounds.1 files_left,
+        whole_files sounds.1 files_left,
         read_whole _ (sound_goes_on on_broken _ first broke good.1) good.0 read.read,
       ) refl where
         quiet : (fault : Option Fault) (pieces : ℕ) (broke : List (Option Break)) → is_none fault ≡ true
