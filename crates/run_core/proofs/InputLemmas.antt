@@ -337,6 +337,9 @@ module _ (told_in told : Bool) (task : Task) (most : ℕ) (is_first failed was_r
   counted : length mid ≡ length start
   counted = headed_count told _ start wrote
 
+  abbrev taken : Bool → RunProgress
+  taken fails = record { was_read = was_read; is_first = false; failed = fails }
+
   abbrev WasDone : Content → Type 0
   WasDone content = IsDone told_in work most source (Some content) sources
 
@@ -358,10 +361,10 @@ module _ (told_in told : Bool) (task : Task) (most : ℕ) (is_first failed was_r
   went_well : (content : Content) (new : List Slot)
       → WasDone content → is_enough work content ≡ true
       → work.verdict content.bytes ≡ None → OutputsAt told mid (work.whole content.bytes) new
-      → TookSo content new (Ok (record { was_read = was_read; is_first = false; failed = failed }))
+      → TookSo content new (Ok (taken failed))
   went_well content new done enough well there =
       rw (made_well task work is_first name content enough well)
-      (took (record { was_read = was_read; is_first = false; failed = failed }) error new
+      (took (taken failed) error new
       (simp (and-false, or-false)) done refl (part_after error _ (at_after at there)) refl)
 
   -- a message is due
@@ -376,19 +379,19 @@ module _ (told_in told : Bool) (task : Task) (most : ℕ) (is_first failed was_r
       }
       → OutputsAt told mid part reached → Swept work.clears (length mid) reached old
       → SaysOn told task.speaker why message old new
-      → TookSo content new (Ok (record { was_read = was_read; is_first = false; failed = true }))
+      → TookSo content new (Ok (taken true))
   went_badly {why} content part message reached old new done made there swept says =
       let top = adds (told_of told (after_part so_far (after_part header part)).out) standard_output in
       let all = part_after error part (at_after at there) in
       let said = said_swept told (SaysFor told task.speaker why message) work.clears old new (length start)
       (part_two before) (rw all.slots at (rw counted at swept)) says in
-      rw made (took (record { was_read = was_read; is_first = false; failed = true }) said.after (top ∷ said.after ∷ all.since)
+      rw made (took (taken true) said.after (top ∷ said.after ∷ all.since)
       (simp (and-false, or-true)) done (said.after, (why, said.says), refl)
       (record { standard = lit< tt; since = all.since; slots = refl; files = all.files }) said.swept)
 
   pub took_well : {content : Content} {new : List Slot} {fed : Fed}
       → WasDone content → (fed ≡ Whole) ⊎ (fed ≡ Enough)
-      → WasFed content new (Ok fed) → TookSo content new (Ok (record { was_read = was_read; is_first = false; failed = failed }))
+      → WasFed content new (Ok fed) → TookSo content new (Ok (taken failed))
   took_well {content} {new} done good (whole sound _ well there) = went_well content new done (or_left _ _ (ap not sound)) well there
   took_well {content} {new} done good (had_enough complete well there) = went_well content new done (or_right _ _ complete) well there
   took_well done good (broke_off breaks going reached there swept) = absurd (elim good [ inl is ↦ cc | inr is ↦ cc ])
@@ -396,7 +399,7 @@ module _ (told_in told : Bool) (task : Task) (most : ℕ) (is_first failed was_r
   pub took_broken : {why : Reason} {content : Content} {old new : List Slot} {fed : Fed}
       → WasDone content → fed ≡ Broken
       → WasFed content old (Ok fed) → SaysOn told task.speaker why (message_of (Read 0) name) old new
-      → TookSo content new (Ok (record { was_read = was_read; is_first = false; failed = true }))
+      → TookSo content new (Ok (taken true))
   took_broken {content} {old} {new} done is (broke_off breaks going reached there swept) says =
       went_badly content (work.settled content.bytes) (message_of (Read 0) name) reached old new done
       (let short : is_enough work content ≡ false = rw breaks going in simp (short, and-true))
@@ -407,7 +410,7 @@ module _ (told_in told : Bool) (task : Task) (most : ℕ) (is_first failed was_r
       → WasDone content
       → WasFed content old (Err (fault_is.Verdict verdict))
       → SaysOn told task.speaker why (message_of (fault_is.Verdict verdict) (task.subject verdict name)) old new
-      → TookSo content new (Ok (record { was_read = was_read; is_first = false; failed = true }))
+      → TookSo content new (Ok (taken true))
   took_verdict {content} {old} {new} {verdict} done (judged _ enough judges reached there swept) says =
       went_badly content (work.whole content.bytes)
       (message_of (fault_is.Verdict verdict) (task.subject verdict name)) reached old new done (simp (enough, judges, and-true)) there swept says

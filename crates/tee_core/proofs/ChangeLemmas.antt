@@ -210,7 +210,8 @@ not_closed {place} broken = turned_same place (was_broken broken)
 
 module _ {place : ℕ} {old : List Slot} (usable : IsUsable (slot_at old place))
     (sound : (slot_at old place).is_broken ≡ false) where
-  pub written_whole : (told : Bool) {piece : List ℕ} {new : List Slot} → new ≡ with_written place (told_of told piece) old
+  pub written_whole : (told : Bool) {piece : List ℕ} {new : List Slot}
+      → new ≡ with_written place (told_of told piece) old
       → ChangesSome (Gets told piece) (λ other. other ≡ place) old new 0
   written_whole told {piece} is =
       turned_one place (adds (told_of told piece)) (open_within old place (usable sound)) sound sound (gets_all sound) is

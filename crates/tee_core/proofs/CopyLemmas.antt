@@ -328,7 +328,8 @@ module _ {told : Bool} {pieces : List (List ℕ)} {piece : List ℕ} where
   output_more so_far (gets_all again) = absurd (cc)
   output_more so_far (breaks_off again m _ _) = absurd (cc)
 
-  file_more : {mode : Mode} {name : List ℕ} {first : Option Break} {old new : Slot} → FileHas told mode pieces name first old → Gets told piece old new
+  file_more : {mode : Mode} {name : List ℕ} {first : Option Break} {old new : Slot}
+      → FileHas told mode pieces name first old → Gets told piece old new
       → Marked (FileHas told mode (pieces ++ piece ∷ []) name) (suc (length pieces)) first new
   file_more {mode} {name} has_all (gets_all _) =
       (None, rw (whole_now told pieces piece (opened name mode)) has_all, marked_none)
@@ -547,7 +548,8 @@ pub piece_said : {told : Bool} {calling : Calling} {mode : Mode} {on_broken : On
     → (copies : Copies told calling mode on_broken names pieces [] old known)
     → After copies (OutputLeft told (pieces ++ piece ∷ [])) (FileHas told mode (pieces ++ piece ∷ []))
     (suc (length pieces)) mid nows
-    → SaysTo told calling (said_since on_broken (fault_in (suc (length pieces))) (output_names names) known nows) mid new
+    → SaysTo told calling
+    (said_since on_broken (fault_in (suc (length pieces))) (output_names names) known nows) mid new
     → Copies told calling mode on_broken names (pieces ++ piece ∷ []) [] new nows
 piece_said {on_broken = on_broken} {names} {pieces} piece some copies next says = record {
   output = next.output;
@@ -593,7 +595,8 @@ pub closing_said : {told : Bool} {calling : Calling} {mode : Mode} {on_broken : 
     {fault : Option Fault} {old mid new : List Slot} {known nows : List Standing}
     (copies : Copies told calling mode on_broken names pieces (said_of_input fault) old known)
     → After copies (OutputLeft told pieces) (FileLeft told mode pieces) (suc (length pieces)) mid nows
-    → SaysTo told calling (said_since on_broken (fault_in (suc (length pieces))) (output_names names) known nows) mid new
+    → SaysTo told calling
+    (said_since on_broken (fault_in (suc (length pieces))) (output_names names) known nows) mid new
     → HasCopied told calling mode on_broken names pieces fault known new nows
 closing_said {pieces = pieces} copies next says = record {
   output = next.output;

@@ -175,7 +175,8 @@ module _ {told_in told : Bool} {calling : Calling} {mode : Mode} {on_broken : On
 
   pub ends_copied : {content : Content} {source : Source} {pieces : List (List ℕ)}
       {fault : Option Fault} {status : ℕ} {slots : List Slot} {before known : List Standing}
-      → status ≡ status_for on_broken known fault → ComesIn told_in content source (is_done on_broken before) pieces fault
+      → status ≡ status_for on_broken known fault
+      → ComesIn told_in content source (is_done on_broken before) pieces fault
       → HasCopied told calling mode on_broken names pieces fault before slots known
       → EndsAs told_in told calling mode on_broken names content source slots status
   ends_copied {pieces = pieces} {fault} is read left =
@@ -234,7 +235,8 @@ module _ {told : Bool} {pieces : List (List ℕ)} where
   whole_output is output_whole = refl
   whole_output is (output_cut _ _ _ n is_there within) = absurd (cc)
 
-  pub whole_files : {mode : Mode} {names : List (List ℕ)} {broke : List (Option Break)} {files : List Slot} → are_sound broke ≡ true
+  pub whole_files : {mode : Mode} {names : List (List ℕ)} {broke : List (Option Break)} {files : List Slot}
+      → are_sound broke ≡ true
       → FilesLeft told mode pieces names broke files
       → files ≡ map (λ name. closes (adds (told_of told (concat pieces)) (opened name mode))) names
   whole_files sound no_file = refl

@@ -152,7 +152,8 @@ module _ (rows : List OptionRow) (place : ℕ) where
     said-gives option (Ok choice) is = (λ _. (is, tt), inl refl, tt)
     said-gives option (Err fault) is = omega arith
 
-    valued-gives : (kind : Kind) (option : ℕ) (text : List ℕ) → GivesItself rows place word (valued kind option place text)
+    valued-gives : (kind : Kind) (option : ℕ) (text : List ℕ)
+        → GivesItself rows place word (valued kind option place text)
     valued-gives kind option text = said-gives option (choice_in kind text) (choice-sound kind text)
 
     bare-gives : (choice : Choice) (meant : Result Meaning Fault) → (AreSafe rows → IsSound (seen choice))

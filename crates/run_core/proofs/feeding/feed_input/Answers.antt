@@ -60,8 +60,7 @@ pub returns-in-Err : goal.returns-in-Err
 returns-in-Err g c =
     let so_far = c.pieces.invariant in
     let work = g.S.Stage.terms.work c.pieces.engine.stage in
-    let going : work.is_complete so_far.fed ≡ false = sym
-    (c.done.ensures.complete so_far.fed so_far.feeds.holds) ∙ c.pieces-test.true in record {
+    let going = sym (c.done.ensures.complete so_far.fed so_far.feeds.holds) ∙ c.pieces-test.true in record {
       ends = λ before opening own at.
           of_read g.I.Inputs.told _ so_far.fed true _ _ (λ told. read_broken _ _ _ _ (so_far.read told) (c.in-Err.ensures.break_off told))
           (λ content. came_broken g.I.Inputs.told _ _ _ _ so_far.readable c.in-Err.ensures.err)
@@ -95,7 +94,7 @@ returns-then-n-eq0 g c =
     let can = still_readable _ _ _ _ c.in-Ok.n c.in-Ok.ensures.rest so_far.readable in
     let left = λ (told : g.I.Inputs.told ≡ true).
     read_none_more _ _ _ _ _ _ c.in-Ok.n (so_far.read told) so_far.readable c.if-n-eq0.true c.in-Ok.ensures.rest in
-    let nothing : take c.in-Ok.n c.read_part.new.buffer ≡ [] = ap (λ k. take k c.read_part.new.buffer) c.if-n-eq0.true in
+    let nothing = ap (λ k. take k c.read_part.new.buffer) c.if-n-eq0.true in
     let at_end = ended_now _ _ c.in-Ok.n _ _ so_far.readable c.in-Ok.ensures.rest c.if-n-eq0.true c.piece_size-size.ensures.some in
     let far : g.I.Inputs.told ≡ true → IsUnread (source_at (g.I.Inputs.sources c.args.inputs.now) c.args.slot) →
     (source_at (g.I.Inputs.sources c.read_part.new.inputs) c.args.slot).reached ≤ length so_far.fed
@@ -174,8 +173,7 @@ pub returns-in-Err-feed : goal.returns-in-Err-feed
 returns-in-Err-feed g c =
     let so_far = c.pieces.invariant in
     let work = g.S.Stage.terms.work c.pieces.engine.stage in
-    let going : work.is_complete so_far.fed ≡ false = sym
-    (c.done.ensures.complete so_far.fed so_far.feeds.holds) ∙ c.pieces-test.true in
+    let going = sym (c.done.ensures.complete so_far.fed so_far.feeds.holds) ∙ c.pieces-test.true in
     let needed = needed_more so_far.fed c.read_part.new.buffer going
     (omega (arith, c.in-Ok.ensures.bound, c.piece_size-size.ensures.within, so_far.room)) in
     let can = still_readable _ _ _ _ c.in-Ok.n c.in-Ok.ensures.rest so_far.readable in
@@ -239,8 +237,7 @@ pub returns : goal.returns
 returns g c =
     let so_far = c.pieces.invariant in
     let work = g.S.Stage.terms.work c.pieces.engine.stage in
-    let done : work.is_complete so_far.fed ≡ true = sym
-    (c.done.ensures.complete so_far.fed so_far.feeds.holds) ∙ c.pieces-test.false in
+    let done = sym (c.done.ensures.complete so_far.fed so_far.feeds.holds) ∙ c.pieces-test.false in
     let spare = c.unused-unused.ensures so_far.fed so_far.feeds.holds in
     let few : c.args.slot ≡ 0 → c.unused-unused.result ≤ work.ahead = λ standard. rw so_far.feeds.same
     (so_far.few standard _ (rw so_far.feeds.same at spare)) in
