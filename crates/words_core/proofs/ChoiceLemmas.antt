@@ -40,7 +40,7 @@ module _ {A C : Type 0} (by : A → Choice → A) (part : A → C) (test : Choic
       → part (asked_by by asked options) ≡ part asked
   kept asked [] none = refl
   kept asked (option ∷ options) none =
-      let both = or_parts (test option.choice) (has test options) none in
+      let both = or_parts (test option.choice) _ none in
       let next : A = by asked option.choice in
       kept next options both.1 ∙ sets asked asked option.choice ∙ ap (λ test. if test then part next else part asked) both.0
 
@@ -50,9 +50,9 @@ module _ {A C : Type 0} (by : A → Choice → A) (part : A → C) (test : Choic
   decided asked other [] after option is none = rw (kept (by asked option.choice) after none, sets asked other option.choice, is)
   decided asked other (first ∷ before) after option is none = decided (by asked first.choice) other before after option is none
 
-pub last_decides : {A C : Type 0} (by : A → Choice → A) (part : A → C) (test : Choice → Bool) → Sets by part test
+pub last_decides : {A C : Type 0} (by : A → Choice → A) (part : A → C) {test : Choice → Bool} → Sets by part test
     → (asked : A) → LastDecides test (λ options. part (asked_by by asked options)) (part asked)
-last_decides by part test sets asked = record { last = decided by part test sets asked asked; none = kept by part test sets asked }
+last_decides by part {test} sets asked = record { last = decided by part test sets asked asked; none = kept by part test sets asked }
 
 -- What the options of each tool set. One without a value sets the same wherever it stands.
 

@@ -1,5 +1,5 @@
 -- Whatever words spell, sizes, counts of files and widths are within their limits, and files that lines are dealt to have names.
-use Rattle.std.{proofs.lemmas.{Grind.common_steps, Bool.cond_both}, proofs.Common.{◌≡◌, ℕ, zero, suc, ◌+◌, ◌-◌, ◌^◌, ◌≤◌, false, arith, List, [], ◌∷◌, Option, Some, None}, proofs.Common.{Result, Ok, Err, IfOk, inl, inr, ◌⊎◌, rules}, specs.Prelude.{⊤, IfSome, filter, ◌==◌}}
+use Rattle.std.{proofs.lemmas.{Grind.common_steps, Bool.{cond_both, Decides.nat_tests}}, proofs.Common.{◌≡◌, ℕ, ◌+◌, ◌-◌, ◌^◌, ◌≤◌, false, arith, List, [], ◌∷◌, Option, Some, None}, proofs.Common.{Result, Ok, Err, IfOk, inl, inr, ◌⊎◌, rules}, specs.Prelude.{⊤, IfSome, filter, ◌==◌}}
 use Rattle.ports_core.{
   specs.{
     declared.{
@@ -117,8 +117,7 @@ least-can alphabet {count} few =
     (least_writes alphabet count 21 2 (all_writes alphabet few), (omega arith, omega arith))
 
 some_if : (width : ℕ) → (width == 0) ≡ false → 1 ≤ width
-some_if zero given = absurd (cc)
-some_if (suc width) given = omega arith
+some_if width given = grind (arith, nat_tests)
 
 some_names : (alphabet : Alphabet) (width : ℕ) → 1 ≤ name_count alphabet width
 some_names alphabet width = power_positive alphabet width

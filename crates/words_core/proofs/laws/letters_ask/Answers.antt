@@ -3,7 +3,7 @@ use Rattle.seg_core.specs.{
   Count.{after_digits, is_number, leading_digits},
   declared.unit.Unit.{Unit as Measured, TheVariants.Lines},
 }
-use Rattle.words_core.{specs.declared.{settings.Headers.TheVariants.{Always, Never}, table.{Letters.TheVariants.{OfHead, OfTail}}, choice.Choice.Choice, value.Followed.TheVariants.Descriptor}, specs.Laws.{AreSwitches, HasLetters, IsNumberWithLetters, of_lines, of_unit}, specs.Lettered.{are_known, are_of_tail, is_known, is_lettered, is_switch, is_unit, letter_named, unit_of}, specs.Lettered.without_digits, specs.Table.{OptionRow, alone, head_table, is_among, tail_table}, proofs.LetteredLemmas.{AreOthers, IsOther, begins_with_unit, letters_ask, parted}}
+use Rattle.words_core.{specs.declared.{settings.Headers.TheVariants.{Always, Never}, table.{Letters.TheVariants.{OfHead, OfTail}}, choice.Choice.Choice, value.Followed.TheVariants.Descriptor}, specs.Laws.{AreSwitches, HasLetters, IsNumberWithLetters, of_lines, of_unit}, specs.Lettered.{are_known, are_of_tail, is_known, is_lettered, is_switch, is_unit, letter_named, unit_of}, specs.Table.{OptionRow, alone, head_table, is_among, tail_table}, proofs.LetteredLemmas.{AreOthers, IsOther, begins_with_unit, letters_ask, parted}}
 use Rattle.words_core.specs.declared.choice.Choice.TheVariants as choice
 use Rattle.words_core.specs.declared.table.Takes.TheVariants as takes
 use Rattle.words_core.specs.declared.choice.Kind.TheVariants as kind
@@ -136,7 +136,7 @@ without_f letter says = of_first tail_table letter [] says tt
 
 tail_shape : (text : List ℕ) → is_lettered tail_table OfTail text ≡ true → IsNumberWithLetters tail_table text
 tail_shape text is =
-    let among = (and_parts (are_of_tail (after_digits text)) (nat_lt 0 (length (leading_digits text)) || is_among without_digits text) is).0 in
+    let among = (and_parts (are_of_tail (after_digits text)) _ is).0 in
     is_number_with tail_table text (begins_with_unit (HasShape tail_table)
     (codes "f" ∷ codes "b" ∷ codes "bf" ∷ codes "c" ∷ codes "cf" ∷ codes "l" ∷ codes "lf" ∷ []) (after_digits text) among
     (of_others tail_table (102 ∷ []) (f_switch, tt), (without_f 98 refl, (with_f 98 refl, (without_f 99 refl, (with_f 99 refl, (without_f 108 refl, (with_f 108 refl, tt))))))))
@@ -145,7 +145,7 @@ start_shape : (text : List ℕ) (number lettered : Bool) → is_number text ≡ 
     → is_lettered tail_table OfTail text ≡ lettered
     → (number || (lettered || is_among (codes "c" ∷ codes "cf" ∷ []) text)) ≡ true → IsNumberWithLetters tail_table text
 start_shape text true lettered number of_tail is =
-    (text, [], (Lines, 1), of_lines (sym (append-nil text)) (and_parts (nat_lt 0 (length text)) (list_all is_ascii_digit text) number).1 (All-from_recursion (IsOther tail_table) [] tt))
+    (text, [], (Lines, 1), of_lines (sym (append-nil text)) (and_parts (nat_lt 0 (length text)) _ number).1 (All-from_recursion (IsOther tail_table) [] tt))
 start_shape text false true number of_tail is = tail_shape text of_tail
 start_shape text false false number of_tail is =
     begins_with_unit (IsNumberWithLetters tail_table) (codes "c" ∷ codes "cf" ∷ []) text is
@@ -157,8 +157,8 @@ returns-clause-asks c = letters_ask
 head_shape : (text : List ℕ) → is_lettered head_table OfHead text ≡ true
     → (digits options : List ℕ) × (unit : Measured × ℕ) × (digits ≢ []) × HasLetters head_table text digits options unit
 head_shape text is =
-    let counted = and_parts (nat_lt 0 (length (leading_digits text)) && nat_lt (length (filter is_unit (after_digits text))) 2) (are_known head_table (after_digits text)) is in
-    let both = and_parts (nat_lt 0 (length (leading_digits text))) (nat_lt (length (filter is_unit (after_digits text))) 2) counted.0 in
+    let counted = and_parts (nat_lt 0 (length (leading_digits text)) && nat_lt (length (filter is_unit (after_digits text))) 2) _ is in
+    let both = and_parts (nat_lt 0 (length (leading_digits text))) _ counted.0 in
     let few : length (filter is_unit (after_digits text)) < 2 = grind (arith, nat_tests) in
     let found = whole head_table text (shape head_table head_switch (after_digits text) counted.1 few) in
     (leading_digits text, found.0, found.1, no_nil (leading_digits text) both.0, found.2)
