@@ -29,8 +29,6 @@ use Rattle.ports_core.specs.Engine as engine
 
 -- Lemmas on the loop that feeds an engine.
 
--- a change of one input
-
 -- why an engine that is live is stopped
 stops : (work : Work) (read : List ℕ) (low high : Part) {needs : Needs} (ended : Bool) (ahead : ℕ) (Lacks : Type 0)
     (Ends : Verdict → Type 0) {fault : Fault} {taken size : ℕ} {old new : List Slot} → is_verdict fault ≡ false

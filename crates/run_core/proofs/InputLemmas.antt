@@ -62,8 +62,6 @@ pub last_source : (sources : List Source) {source : Source}
     → source_at (sources ++ source ∷ []) (length sources) ≡ source
 last_source sources = grind (arith, common_steps)
 
--- what is left of the input of a source
-
 -- an input of which nothing was read, before a step that needs none of it
 
 left_unread : (told : Bool) {content : Content} (slot : ℕ) (sources : List Source) → IsTrue (is_readable sources slot)
@@ -236,7 +234,7 @@ rest_untouched world was_read slot [] sources unread few = tt
 rest_untouched world was_read slot (name ∷ names) sources unread few = (
   by_name was_read (is_dash name) unread,
   rest_untouched world (was_read || is_dash name)
-      (next_slot slot name) names sources (λ none. unread (or_parts was_read (is_dash name) none).0)
+      (next_slot slot name) names sources (λ none. unread (or_parts was_read _ none).0)
       (let more : slot ≤ next_slot slot name = count_more slot (name ∷ []) in omega arith),
 ) where
   by_name : (was dash : Bool) → (was ≡ false → source_at sources 0 ≡ source_of world.standard)
@@ -482,8 +480,6 @@ pub none_left : (left : List (Bor (List ℕ))) → length left < 1 → map (λ w
 none_left [] none = refl
 none_left (word ∷ words) none = absurd (omega arith)
 
--- the inputs that were opened
-
 -- which input a name stands for
 
 -- this was taken for a name, whichever input it stands for
@@ -726,7 +722,7 @@ module _ {told_in told : Bool} {task : Task} {world : World} {names : List (List
     (walked : Walked told_in told task world names (name ∷ left) progress laid sources slots)
     (leaves : TakesOne largest_piece progress.was_read name sources new_sources) where
   unread_on : (progress.was_read || is_dash name) ≡ false → source_at new_sources 0 ≡ source_of world.standard
-  unread_on unread = let both = or_parts progress.was_read (is_dash name) unread in leaves.unasked both.1 ∙ walked.standard both.0
+  unread_on unread = let both = or_parts progress.was_read _ unread in leaves.unasked both.1 ∙ walked.standard both.0
 
   done_on : StayDone told_in task.work largest_piece (progress.was_read || is_dash name) walked.done new_sources
   done_on = still_done told_in task.work largest_piece walked.done (λ had. rw had refl) leaves walked.known

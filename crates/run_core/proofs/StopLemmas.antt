@@ -5,7 +5,14 @@ use Rattle.std.proofs.{
   Common.{inr, refl, sym, ◌∙◌, ap, arith, append_assoc, length-append, zero, lit<, subst},
   Math.Seq.{take-append-add, drop-append-add},
 }
-use Rattle.ports_core.specs.{Slot.{Slot, with_written, told_of, is_open, slot_at, adds, breaks, unopened, with_broken}, Part.{nothing, Part, File, only_out, OutputsAt, IsBeginning, Begins, IsNext, IsAt, StoppedBetween, file_of}, Part.{told_file, Marks, Output, gets_lines, gets_openings, lines_for, openings_for}, Part.LinesInOrder, Swept.{Swept, SweptFrom, Cleared}, declared.fault.Fault.{Fault, TheVariants.{Write, Open}}, Message.{OnError, output_named, output_reason}}
+use Rattle.ports_core.specs.{
+  Slot.{Slot, with_written, told_of, is_open, slot_at, adds, breaks, unopened, with_broken},
+  Part.{nothing, Part, File, only_out, OutputsAt, IsBeginning, Begins, IsNext, IsAt, StoppedBetween, file_of},
+  Part.{told_file, Marks, Output, gets_lines, gets_openings, lines_for, openings_for, LinesInOrder},
+  Swept.{Swept, SweptFrom, Cleared},
+  declared.fault.Fault.{Fault, TheVariants.{Write, Open}},
+  Message.{OnError, output_named, output_reason},
+}
 use Rattle.ports_core.proofs.{
   PartLemmas.{due_by, marks_by, outputs_count},
   SlotSteps.{none_past, swept_none},

@@ -25,8 +25,6 @@ open_within [] place opened = absurd (cc)
 open_within (slot ∷ slots) zero opened = omega arith
 open_within (slot ∷ slots) (suc place) opened = omega (arith, open_within slots place opened)
 
--- one output was changed
-
 -- how many broke
 
 -- what is broken stays so

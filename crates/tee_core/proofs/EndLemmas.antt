@@ -23,7 +23,14 @@ use Rattle.ports_core.proofs.{
   InputsLemmas.{HasRead, changed_source, came_broken, came_sound, still_readable, read_broken, read_failed},
   InputsLemmas.{read_more, read_none_more, read_to_end, of_content},
 }
-use Rattle.tee_core.specs.{Run.{AreSound, lost_for, GaveLast, IsRead, LeavesOf, to_end, EndsAs, copied}, Run.{no_room, FileLeft, file_whole, FilesLeft, no_file, one_file, ComesIn}, Run.{IsAsFound, OutputLeft, output_whole, output_cut, Break, all_copied, any_is, are_sound, ends_run, forgives}, Run.{gone_status, is_done, is_same, messages_of, output_names, said_before, said_in, standing_of, standings_before}, Run.{status_for, status_of, tee_called}, declared.standing.Standing.{Standing, TheVariants.{Sound, Broken, Gone}}, inner.Steps.{Copies, CopiesRead, HasCopied}}
+use Rattle.tee_core.specs.{
+  Run.{AreSound, lost_for, GaveLast, IsRead, LeavesOf, to_end, EndsAs, copied, no_room, FileLeft, file_whole},
+  Run.{FilesLeft, no_file, one_file, ComesIn, IsAsFound, OutputLeft, output_whole, output_cut, Break, all_copied},
+  Run.{any_is, are_sound, ends_run, forgives, gone_status, is_done, is_same, messages_of, output_names, said_before},
+  Run.{said_in, standing_of, standings_before, status_for, status_of, tee_called},
+  declared.standing.Standing.{Standing, TheVariants.{Sound, Broken, Gone}},
+  inner.Steps.{Copies, CopiesRead, HasCopied},
+}
 use Rattle.ports_core.specs.declared.reason.Reason.TheVariants as reason
 
 nothing_more : {x : List ℕ} (rest : List ℕ) → x ≡ x ++ rest → rest ≡ []

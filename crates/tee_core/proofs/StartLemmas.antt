@@ -12,7 +12,18 @@ use Rattle.ports_core.{
   specs.Streams.{standard_output, standard_error},
   proofs.Runs.adds-nil,
 }
-use Rattle.tee_core.specs.{Opening.{OpensAs, is_opened, is_unopened, OpensEach, no_more, one_more, Opens, OpensSome}, inner.{Opening.OpensOne, Steps.{Copies, FileHas, has_all, has_none, HasStreams, IsTeeOf, SaysTo, standings_of, said_since}}, Outputs.{IsOutput, IsReady, IsUsable}, TeeState.TeeState, Run.{Break, EachFile, no_file, one_file, output_whole, ends_run, fault_in, output_names, standing_of}, Run.{standings_before, stands_as}, declared.standing.Standing.{Standing, TheVariants.Sound}}
+use Rattle.tee_core.specs.{
+  Opening.{OpensAs, is_opened, is_unopened, OpensEach, no_more, one_more, Opens, OpensSome},
+  inner.{
+    Opening.OpensOne,
+    Steps.{Copies, FileHas, has_all, has_none, HasStreams, IsTeeOf, SaysTo, standings_of, said_since},
+  },
+  Outputs.{IsOutput, IsReady, IsUsable},
+  TeeState.TeeState,
+  Run.{Break, EachFile, no_file, one_file, output_whole, ends_run, fault_in, output_names, standing_of},
+  Run.{standings_before, stands_as},
+  declared.standing.Standing.{Standing, TheVariants.Sound},
+}
 use Rattle.tee_core.proofs.{
   CopyLemmas.{AllMark, Marked, all_marked, break_now, marked_none, marked_now, none_marked, said_marked, stood},
 }

@@ -19,7 +19,11 @@ use Rattle.std.specs.{
 }
 use Rattle.ports_core.specs.declared.form.{Base.Base, Form.Form}
 use Rattle.seg_core.specs.Count.{after_digits}
-use Rattle.words_core.specs.{Format.{before_it, conversion_in, format_in, after_precision, after_text, form_of}, Format.{with_letter, base_of, with_rest, go_with, plain_text}, inner.Format.{AfterLetter, without_percent}}
+use Rattle.words_core.specs.{
+  Format.{before_it, conversion_in, format_in, after_precision, after_text, form_of, with_letter, base_of, with_rest},
+  Format.{go_with, plain_text},
+  inner.Format.{AfterLetter, without_percent},
+}
 
 -- numbers above the limit are all alike
 

@@ -2,10 +2,14 @@
 use Rattle.std.proofs.{
   lemmas.{Grind.common_steps, Bool.{and_parts, lt-ltb, Decides.nat_tests}, List.Elements.recursion_from_All},
   Math.Seq.{drop-append_seam, take-append_seam},
-  Common.{◌≡◌, ◌⊎◌, inl, inr, refl, ℕ, ◌≤◌, ◌<◌, ◌==◌, Bool, true, false, if◌then◌else◌, arith, List, [], ◌∷◌},
-  Common.{◌++◌, ◌*◌, length, Some, None, Result, Ok, Err, sym, ap, ◌∙◌, rules},
+  Common.{◌≡◌, ◌⊎◌, inl, inr, refl, ℕ, ◌≤◌, ◌<◌, ◌==◌, Bool, true, false, if◌then◌else◌, arith, List, []},
+  Common.{◌∷◌, ◌++◌, ◌*◌, length, Some, None, Result, Ok, Err, sym, ap, ◌∙◌, rules},
 }
-use Rattle.std.specs.{Char.is_ascii_digit, List.{AllByRecursion, list_all, prefix_len}, Prelude.{nat_lt, bytes_eq, filter, ⊤}}
+use Rattle.std.specs.{
+  Char.is_ascii_digit,
+  List.{AllByRecursion, list_all, prefix_len},
+  Prelude.{nat_lt, bytes_eq, filter, ⊤},
+}
 use Rattle.seg_core.specs.{
   declared.{count.{Count.Count, Sign.Sign}, unit.Unit.{Unit as Measured, TheVariants.Lines}},
   Count.{after_digits, is_number, leading_digits, sized},
@@ -22,7 +26,8 @@ use Rattle.words_core.specs.{
   },
   Laws.{HasLetters, IsSwitch, how_many, of_lines, of_unit},
   Given.{Given, joined, nothing, one_option},
-  Lettered.{are_known, counted_with, is_lettered, is_unit, unit_of, switched, switches, without_digits, times, unit_in, with_letters},
+  Lettered.{are_known, counted_with, is_lettered, is_unit, unit_of, switched, switches, without_digits, times},
+  Lettered.{unit_in, with_letters},
   Spelling.{Meaning, cluster, given_at, lettered, mixed, option_lettered, reading},
   Table.{OptionRow, alone, head_table, is_among, tail_table},
   Value.{counted, then_check},

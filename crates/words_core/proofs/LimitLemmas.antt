@@ -1,5 +1,10 @@
 -- Whatever words spell, sizes, counts of files and widths are within their limits, and files that lines are dealt to have names.
-use Rattle.std.{proofs.lemmas.{Grind.common_steps, Bool.{cond_both, Decides.nat_tests}}, proofs.Common.{◌≡◌, ℕ, ◌+◌, ◌-◌, ◌^◌, ◌≤◌, false, arith, List, [], ◌∷◌, Option, Some, None}, proofs.Common.{Result, Ok, Err, IfOk, inl, inr, ◌⊎◌, rules}, specs.Prelude.{⊤, IfSome, filter, ◌==◌}}
+use Rattle.std.{
+  proofs.lemmas.{Grind.common_steps, Bool.{cond_both, Decides.nat_tests}},
+  proofs.Common.{◌≡◌, ℕ, ◌+◌, ◌-◌, ◌^◌, ◌≤◌, false, arith, List, [], ◌∷◌, Option, Some, None, Result, Ok, Err, IfOk},
+  proofs.Common.{inl, inr, ◌⊎◌, rules},
+  specs.Prelude.{⊤, IfSome, filter, ◌==◌},
+}
 use Rattle.ports_core.{
   specs.{
     declared.{
@@ -13,7 +18,23 @@ use Rattle.ports_core.{
   proofs.CounterLemmas.power_positive,
 }
 use Rattle.seg_core.specs.declared.cut.Way.{Way}
-use Rattle.words_core.specs.{declared.{choice.Choice.Choice, spelling.State.{State, TheVariants.Awaiting}, settings.{Settings.Settings, Topic.Topic}, spelled.Chosen.Chosen, split_words.Suffix.Suffix}, Table.{OptionRow, ToolRow, row_named, tools}, Value.then_check, Given.{asked_by, Given}, Spelling.{Meaning, meaning_of, given_before, onward, spelled, start_of, given_by}, SplitWords.{SplitAsked, AreNamed, CanSplit, IsInLimits, IsWidth, is_way, only_way, way_of, split_by, no_options}, SplitWords.{suffix_for, files_in, split_asked, separator_in, for_all, first_number, free, least_width, wide_enough}, Laws.{AreAmong, none, passed, taken}, Words.{CanRun, about_or, settings_for, topic_in, work_for}}
+use Rattle.words_core.specs.{
+  declared.{
+    choice.Choice.Choice,
+    spelling.State.{State, TheVariants.Awaiting},
+    settings.{Settings.Settings, Topic.Topic},
+    spelled.Chosen.Chosen,
+    split_words.Suffix.Suffix,
+  },
+  Table.{OptionRow, ToolRow, row_named, tools},
+  Value.then_check,
+  Given.{asked_by, Given},
+  Spelling.{Meaning, meaning_of, given_before, onward, spelled, start_of, given_by},
+  SplitWords.{SplitAsked, AreNamed, CanSplit, IsInLimits, IsWidth, is_way, only_way, way_of, split_by, no_options},
+  SplitWords.{suffix_for, files_in, split_asked, separator_in, for_all, first_number, free, least_width, wide_enough},
+  Laws.{AreAmong, none, passed, taken},
+  Words.{CanRun, about_or, settings_for, topic_in, work_for},
+}
 use Rattle.words_core.proofs.{
   MeaningLemmas.{AreSafe, AreSound, GivesItself, IsSound, anything, meaning-gives, sound-append},
   SpellingLemmas.either,

@@ -12,7 +12,24 @@ use Rattle.seg_core.specs.{
   declared.{count.{Count.Count, Sign.{Sign, TheVariants.{Plain, Plus}}}, unit.Unit.Unit as Measured},
 }
 use Rattle.ports_core.specs.declared.fault.{Fault.{Fault, TheVariants.Usage}, UsageKind.UsageKind}
-use Rattle.words_core.specs.{declared.{choice.{Choice.Choice, Kind.Kind}, spelled.Chosen.Chosen, table.Takes.Takes, spelling.State.{State, TheVariants.{First, Reading, Awaiting, OnlyOperands, Ended}}, division.Dealing.Dealing}, Choice.{asking, choice_in, seen}, Table.{OptionRow, begins_one, beginning, full_or, is_among, only_one, option_called, option_named}, Division.{all_in, division_in, numbers_in}, SplitWords.AreFew, Given.{Given, bare, joined}, Lettered.{counted_with, is_lettered, is_start, is_unit, letter_named, switched, switches, times, unit_in}, Lettered.with_letters, Spelling.{Meaning, before, said, valued, lettered, option_lettered, cluster, after_equals, named, dashed, foremost}, Spelling.{given_at, mixed, meaning_of}}
+use Rattle.words_core.specs.{
+  declared.{
+    choice.{Choice.Choice, Kind.Kind},
+    spelled.Chosen.Chosen,
+    table.Takes.Takes,
+    spelling.State.{State, TheVariants.{First, Reading, Awaiting, OnlyOperands, Ended}},
+    division.Dealing.Dealing,
+  },
+  Choice.{asking, choice_in, seen},
+  Table.{OptionRow, begins_one, beginning, full_or, is_among, only_one, option_called, option_named},
+  Division.{all_in, division_in, numbers_in},
+  SplitWords.AreFew,
+  Given.{Given, bare, joined},
+  Lettered.{counted_with, is_lettered, is_start, is_unit, letter_named, switched, switches, times, unit_in},
+  Lettered.with_letters,
+  Spelling.{Meaning, before, said, valued, lettered, option_lettered, cluster, after_equals, named, dashed, foremost},
+  Spelling.{given_at, mixed, meaning_of},
+}
 use Rattle.words_core.proofs.SpellingLemmas.{either}
 use Rattle.words_core.specs.declared.choice.Choice.TheVariants as choice
 use Rattle.words_core.specs.declared.choice.Kind.TheVariants as kind

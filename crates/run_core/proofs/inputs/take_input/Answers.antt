@@ -1,6 +1,10 @@
 use Rattle.std.proofs.Common.{ap, Err, inl, inr, refl, rules}
 use Rattle.ports_core.proofs.HandedOn.{handed_on}
-use Rattle.run_core.{specs.Feeding.is_stop, proofs.InputLemmas.{of_source_too, shows_something, from_source, headed, stopped_in_header}, proofs.InputLemmas.{took_well, took_broken, took_verdict, took_stopped, fed_open, unread_source}}
+use Rattle.run_core.{
+  specs.Feeding.is_stop,
+  proofs.InputLemmas.{of_source_too, shows_something, from_source, headed, stopped_in_header, took_well, took_broken},
+  proofs.InputLemmas.{took_verdict, took_stopped, fed_open, unread_source},
+}
 use Rattle.run_core.proofs.inputs.take_input.Goals as goal
 
 pub returns-in_err-put_header-clause-took : goal.returns-in_err-put_header-clause-took

@@ -1,5 +1,8 @@
 use Rattle.std.proofs.Common.{append-nil, refl}
-use Rattle.words_core.{specs.{CsplitWords.{chosen_by, csplit_by, plain}}, proofs.ChoiceLemmas.{csplit-sets, last_decides}}
+use Rattle.words_core.{
+  specs.{CsplitWords.{chosen_by, csplit_by, plain}},
+  proofs.ChoiceLemmas.{csplit-sets, last_decides},
+}
 use Rattle.words_core.proofs.laws.last_of_csplit_decides.Goals as goal
 
 pub returns : goal.returns

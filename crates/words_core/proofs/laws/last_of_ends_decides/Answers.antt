@@ -1,4 +1,7 @@
-use Rattle.words_core.{specs.{EndsWords.{ends_by, ten_lines}, Laws.{amount_of}, TailWords.unfollowed}, proofs.ChoiceLemmas.{ends-sets, last_decides, tail_ends}}
+use Rattle.words_core.{
+  specs.{EndsWords.{ends_by, ten_lines}, Laws.amount_of, TailWords.unfollowed},
+  proofs.ChoiceLemmas.{ends-sets, last_decides, tail_ends},
+}
 use Rattle.words_core.proofs.laws.last_of_ends_decides.Goals as goal
 
 pub returns : goal.returns

@@ -1,4 +1,7 @@
-use Rattle.words_core.{specs.{SplitWords.{delim_by, no_options, split_by}}, proofs.ChoiceLemmas.{delim-sets, last_decides, split-sets}}
+use Rattle.words_core.{
+  specs.{SplitWords.{delim_by, no_options, split_by}},
+  proofs.ChoiceLemmas.{delim-sets, last_decides, split-sets},
+}
 use Rattle.words_core.proofs.laws.last_of_split_decides.Goals as goal
 
 pub returns : goal.returns

@@ -1,5 +1,8 @@
 use Rattle.std.proofs.Common.{false, refl}
-use Rattle.words_core.{specs.{EndsWords.ten_lines, TailWords.{retry_by, tail_by, unfollowed}, Laws.{retries}}, proofs.ChoiceLemmas.{last_decides, retry-sets, so_where_given, tail-sets}}
+use Rattle.words_core.{
+  specs.{EndsWords.ten_lines, TailWords.{retry_by, tail_by, unfollowed}, Laws.retries},
+  proofs.ChoiceLemmas.{last_decides, retry-sets, so_where_given, tail-sets},
+}
 use Rattle.words_core.proofs.laws.last_of_tail_decides.Goals as goal
 
 pub returns : goal.returns

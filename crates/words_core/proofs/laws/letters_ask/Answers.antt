@@ -1,9 +1,28 @@
-use Rattle.std.{proofs.lemmas.{Bool.{and_parts, lt-ltb, Decides.nat_tests}, List.{append-nil, take-append-drop, Elements.{All-from_recursion, recursion_from_All}, Sums.take_while-cons}}, proofs.Common.{◌≡◌, ◌≢◌, ◌<◌, ◌⊎◌, suc, ◌&&◌, ◌||◌, inl, inr, refl, sym, ap, arith, rules, ℕ, Bool, true, false}, proofs.Common.{if◌then◌else◌, List, [], ◌∷◌, length, codes, Option, Some, None}, specs.{Prelude.{IfSome, filter, nat_lt}, Char.is_ascii_digit, List.{list_all, prefix_len}}}
+use Rattle.std.{
+  proofs.lemmas.{
+    Bool.{and_parts, lt-ltb, Decides.nat_tests},
+    List.{append-nil, take-append-drop, Elements.{All-from_recursion, recursion_from_All}, Sums.take_while-cons},
+  },
+  proofs.Common.{◌≡◌, ◌≢◌, ◌<◌, ◌⊎◌, suc, ◌&&◌, ◌||◌, inl, inr, refl, sym, ap, arith, rules, ℕ, Bool, true, false},
+  proofs.Common.{if◌then◌else◌, List, [], ◌∷◌, length, codes, Option, Some, None},
+  specs.{Prelude.{IfSome, filter, nat_lt}, Char.is_ascii_digit, List.{list_all, prefix_len}},
+}
 use Rattle.seg_core.specs.{
   Count.{after_digits, is_number, leading_digits},
   declared.unit.Unit.{Unit as Measured, TheVariants.Lines},
 }
-use Rattle.words_core.{specs.declared.{settings.Headers.TheVariants.{Always, Never}, table.{Letters.TheVariants.{OfHead, OfTail}}, choice.Choice.Choice, value.Followed.TheVariants.Descriptor}, specs.Laws.{AreSwitches, HasLetters, IsNumberWithLetters, of_lines, of_unit}, specs.Lettered.{are_known, are_of_tail, is_known, is_lettered, is_switch, is_unit, letter_named, unit_of}, specs.Table.{OptionRow, alone, head_table, is_among, tail_table}, proofs.LetteredLemmas.{AreOthers, IsOther, begins_with_unit, letters_ask, parted}}
+use Rattle.words_core.{
+  specs.declared.{
+    settings.Headers.TheVariants.{Always, Never},
+    table.{Letters.TheVariants.{OfHead, OfTail}},
+    choice.Choice.Choice,
+    value.Followed.TheVariants.Descriptor,
+  },
+  specs.Laws.{AreSwitches, HasLetters, IsNumberWithLetters, of_lines, of_unit},
+  specs.Lettered.{are_known, are_of_tail, is_known, is_lettered, is_switch, is_unit, letter_named, unit_of},
+  specs.Table.{OptionRow, alone, head_table, is_among, tail_table},
+  proofs.LetteredLemmas.{AreOthers, IsOther, begins_with_unit, letters_ask, parted},
+}
 use Rattle.words_core.specs.declared.choice.Choice.TheVariants as choice
 use Rattle.words_core.specs.declared.table.Takes.TheVariants as takes
 use Rattle.words_core.specs.declared.choice.Kind.TheVariants as kind
@@ -28,9 +47,12 @@ module _ (rows : List OptionRow) where
   of_more : (letter : ℕ) (letters : List ℕ) → IsOther rows letter → HasShape letters → HasShape (letter ∷ letters)
   of_more letter letters is (options, unit, of_lines same all are) =
       (letter ∷ options, unit, of_lines (ap (λ rest. letter ∷ rest) same) refl (are_switches (letter ∷ options) (is, recursion_from_All (IsOther rows) options are)))
-  of_more letter letters is (options, unit, of_unit before one after says same options_are all are) =
-      (letter ∷ options, unit, of_unit (letter ∷ before) one after says (ap (λ rest. letter ∷ rest) same) (ap (λ rest. letter ∷ rest) options_are) refl
-      (are_switches (letter ∷ options) (is, recursion_from_All (IsOther rows) options are)))
+  of_more letter letters is (options, unit, of_unit before one after says same options_are all are) = (
+    letter ∷ options,
+    unit,
+    of_unit (letter ∷ before) one after says (ap (λ rest. letter ∷ rest) same) (ap (λ rest. letter ∷ rest) options_are) refl
+        (are_switches (letter ∷ options) (is, recursion_from_All (IsOther rows) options are)),
+  )
 
   leading_with : (byte : ℕ) (text : List ℕ) (test : Bool) → is_ascii_digit byte ≡ test
       → list_all is_ascii_digit (leading_digits text) ≡ true

@@ -1,4 +1,6 @@
-use Rattle.std.proofs.Common.{◌≡◌, ◌≤◌, ◌-◌, ◌^◌, ℕ, List, Some, false, true, append_assoc, refl, arith, ◌*◌, [], ◌∷◌, ◌++◌}
+use Rattle.std.proofs.{
+  Common.{◌≡◌, ◌≤◌, ◌-◌, ◌^◌, ℕ, List, Some, false, true, append_assoc, refl, arith, ◌*◌, [], ◌∷◌, ◌++◌},
+}
 use Rattle.std.specs.{Char.is_ascii_digit, List.prefix_len}
 use Rattle.seg_core.specs.{
   declared.{count.Sign.TheVariants.{Plain, Plus}, unit.Unit.Unit as Measured},
