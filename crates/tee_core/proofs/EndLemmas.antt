@@ -236,21 +236,21 @@ nothing_before on_broken zero names broke sound = refl
 nothing_before on_broken (suc call) names broke sound =
     cc (nothing_before on_broken call names broke sound, nothing_in on_broken call names broke sound)
 
+pub whole_output : (told : Bool) (pieces : List (List ℕ)) (first : Option Break) (output : Slot) → first ≡ None
+    → OutputLeft told pieces first output → output ≡ adds (told_of told (concat pieces)) standard_output
+whole_output told pieces _ _ is output_whole = refl
+whole_output told pieces _ _ is (output_cut _ _ _ n is_there within) = absurd (cc)
+
+pub whole_files : (told : Bool) (mode : Mode) (pieces : List (List ℕ)) (names : List (List ℕ))
+    (broke : List (Option Break)) (files : List Slot) → are_sound broke ≡ true
+    → FilesLeft told mode pieces names broke files
+    → files ≡ map (λ name. closes (adds (told_of told (concat pieces)) (opened name mode))) names
+whole_files told mode pieces _ _ _ sound no_file = refl
+whole_files told mode pieces _ _ _ sound (one_file name names _ broke _ files file_whole rest) =
+    cc (whole_files told mode pieces names broke files sound rest)
+whole_files told mode pieces names broke files sound left = absurd (cc)
+
 module _ {told : Bool} {pieces : List (List ℕ)} where
-  pub whole_output : {first : Option Break} {output : Slot} → first ≡ None
-      → OutputLeft told pieces first output → output ≡ adds (told_of told (concat pieces)) standard_output
-  whole_output is output_whole = refl
-  whole_output is (output_cut _ _ _ n is_there within) = absurd (cc)
-
-  pub whole_files : {mode : Mode} {names : List (List ℕ)} {broke : List (Option Break)} {files : List Slot}
-      → are_sound broke ≡ true
-      → FilesLeft told mode pieces names broke files
-      → files ≡ map (λ name. closes (adds (told_of told (concat pieces)) (opened name mode))) names
-  whole_files sound no_file = refl
-  whole_files sound (one_file name names _ broke _ files file_whole rest) =
-      cc (whole_files sound rest)
-  whole_files sound left = absurd (cc)
-
   -- outputs of which none is broken never broke
 
   output_sound : {first : Option Break} {output : Slot} → output.is_broken ≡ false
@@ -366,9 +366,9 @@ module _ {told_in told : Bool} {calling : Calling} {mode : Mode} {on_broken : On
       let made : error ≡ standard_error = rw silent at said in
       rw (
         at,
-        whole_output sounds.0 output_left,
+        whole_output told pieces first output sounds.0 output_left,
         made,
-        whole_files sounds.1 files_left,
+        whole_files told mode pieces names broke files sounds.1 files_left,
         read_whole _ (sound_goes_on on_broken _ first broke good.1) good.0 read.read,
       ) refl where
         quiet : (fault : Option Fault) (pieces : ℕ) (broke : List (Option Break)) → is_none fault ≡ true
