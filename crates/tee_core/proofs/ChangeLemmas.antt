@@ -31,9 +31,16 @@ open_within (slot ∷ slots) (suc place) opened = omega (arith, open_within slot
 abbrev pub StayBroken : List Slot → List Slot → Type 0
 StayBroken old new = (place : ℕ) → (slot_at old place).is_broken ≡ true → (slot_at new place).is_broken ≡ true
 
+-- one change alone leaves it so
+abbrev pub KeepsBroken : (Slot → Slot → Type 0) → Type 0
+KeepsBroken Change = (before after : Slot) → Change before after → before.is_broken ≡ true → after.is_broken ≡ true
+
+-- whether a place is one of these can be told
+abbrev pub IsDecided : (ℕ → Type 0) → Type 0
+IsDecided IsOne = (place : ℕ) → IsOne place ⊎ (IsOne place → ⊥)
+
 pub stay_broken : {Change : Slot → Slot → Type 0} {IsOne : ℕ → Type 0} {old new : List Slot}
-    → ((before after : Slot) → Change before after → before.is_broken ≡ true → after.is_broken ≡ true)
-    → ((place : ℕ) → IsOne place ⊎ (IsOne place → ⊥)) → ChangesEach Change IsOne old new → StayBroken old new
+    → KeepsBroken Change → IsDecided IsOne → ChangesEach Change IsOne old new → StayBroken old new
 stay_broken {Change} {IsOne} {old} {new} stays decides changes = λ place broken. by place (decides place) broken where
   by : (place : ℕ) → IsOne place ⊎ (IsOne place → ⊥) → (slot_at old place).is_broken ≡ true
       → (slot_at new place).is_broken ≡ true
@@ -96,8 +103,8 @@ turned_one place change within sound breaks changes is =
     grind (arith, common_steps, length-changed_at, slot_at-changed, slot_at-elsewhere, newly_one)
 
 pub turned_both : {Change : Slot → Slot → Type 0} {IsOne IsOther IsEither : ℕ → Type 0} {old mid new : List Slot}
-    (broke more : ℕ) → ((before after : Slot) → Change before after → before.is_broken ≡ true → after.is_broken ≡ true)
-    → ((place : ℕ) → IsOne place ⊎ (IsOne place → ⊥)) → ((place : ℕ) → IsOther place ⊎ (IsOther place → ⊥))
+    (broke more : ℕ) → KeepsBroken Change
+    → IsDecided IsOne → IsDecided IsOther
     → ((place : ℕ) → IsOne place → IsOther place → ⊥) → ((place : ℕ) → IsOne place ⊎ IsOther place → IsEither place)
     → ((place : ℕ) → IsEither place → IsOne place ⊎ IsOther place)
     → ChangesSome Change IsOne old mid broke → ChangesSome Change IsOther mid new more
@@ -126,7 +133,7 @@ pub none_in_turn : {Change : Slot → Slot → Type 0} {first : ℕ} {slots : Li
 none_in_turn = record { turned = turned_none (λ place is. omega arith); few = omega arith }
 
 pub next_in_turn : {Change : Slot → Slot → Type 0} (first n broke more : ℕ) (old now new : List Slot)
-    → ((before after : Slot) → Change before after → before.is_broken ≡ true → after.is_broken ≡ true)
+    → KeepsBroken Change
     → InTurn Change first n old now broke → ChangesSome Change (λ place. place ≡ first + n) now new more → more ≤ 1
     → InTurn Change first (n + 1) old new (broke + more)
 next_in_turn first n broke more old now new stays so_far turned one = record {

@@ -82,7 +82,7 @@ after_letter_of_precision (byte ∷ text) {rest} is = by (byte == 46) is where
 letter_ends : {text rest : List ℕ} → IsUtf8 text → AfterLetter text rest
     → (length rest ≤ length text) × IsCharBoundary text (length text - length rest)
 letter_ends {text} {rest} utf8 (front, letter, ascii, is) =
-    let size : length text ≡ length front + suc (length rest) = ap length is ∙ length-append front (letter ∷ rest) in
+    let size = ap length is ∙ length-append front (letter ∷ rest) in
     let at : get_or text (length front) 0 ≡ letter = ap (λ text. get_or text (length front) 0) is ∙ get_or-append_seam front letter rest 0 in
     let place : length text - length rest ≡ length front + 1 = omega arith in
     (omega arith, rw place (IsCharBoundary-after_ascii text (length front) utf8 (omega arith) (omega arith)))
@@ -136,7 +136,7 @@ boundary_at text front [] is begins =
     let size : length text ≡ length front = ap length is ∙ length-append front [] ∙ omega arith in
     rw (← size) (IsCharBoundary-end text)
 boundary_at text front (byte ∷ rest) is begins =
-    let size : length text ≡ length front + suc (length rest) = ap length is ∙ length-append front (byte ∷ rest) in
+    let size = ap length is ∙ length-append front (byte ∷ rest) in
     let at : get_or text (length front) 0 ≡ byte = ap (λ text. get_or text (length front) 0) is ∙ get_or-append_seam front byte rest 0 in
     IsCharBoundary-before_ascii text (length front) (omega arith) (omega arith)
 
@@ -152,7 +152,7 @@ conversion_begins text =
 
 letter_rest : {text rest : List ℕ} → AfterLetter text rest → drop (length text - length rest) text ≡ rest
 letter_rest {text} {rest} (front, letter, ascii, is) =
-    let size : length text ≡ length front + suc (length rest) = ap length is ∙ length-append front (letter ∷ rest) in
+    let size = ap length is ∙ length-append front (letter ∷ rest) in
     let place : length text - length rest ≡ length front + 1 = omega arith in
     ap (λ n. drop n text) place ∙ ap (drop (length front + 1)) is ∙ drop-append-add front (letter ∷ rest) 1
 

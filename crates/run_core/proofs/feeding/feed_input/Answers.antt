@@ -89,8 +89,7 @@ returns-in-Err g c =
 pub returns-then-n-eq0 : goal.returns-then-n-eq0
 returns-then-n-eq0 g c =
     let so_far = c.pieces.invariant in
-    let going : (g.S.Stage.terms.work c.pieces.engine.stage).is_complete so_far.fed ≡ false = sym
-    (c.done.ensures.complete so_far.fed so_far.feeds.holds) ∙ c.pieces-test.true in
+    let going = sym (c.done.ensures.complete so_far.fed so_far.feeds.holds) ∙ c.pieces-test.true in
     let can = still_readable _ _ _ _ c.in-Ok.n c.in-Ok.ensures.rest so_far.readable in
     let left = λ (told : g.I.Inputs.told ≡ true).
     read_none_more _ _ _ _ _ _ c.in-Ok.n (so_far.read told) so_far.readable c.if-n-eq0.true c.in-Ok.ensures.rest in
@@ -140,8 +139,7 @@ returns-then-n-eq0 g c =
 pub pieces-preserved : goal.pieces-preserved
 pieces-preserved g c =
     let so_far = c.pieces.invariant in
-    let going : (g.S.Stage.terms.work c.pieces.engine.stage).is_complete so_far.fed ≡ false = sym
-    (c.done.ensures.complete so_far.fed so_far.feeds.holds) ∙ c.pieces-test.true in
+    let going = sym (c.done.ensures.complete so_far.fed so_far.feeds.holds) ∙ c.pieces-test.true in
     let from_start = ap (λ (work : Work). work.is_complete so_far.fed) (sym so_far.feeds.same) ∙ going in record {
       fed = so_far.fed ++ take c.in-Ok.n c.read_part.new.buffer;
       feeds = goes_on so_far.feeds (take c.in-Ok.n c.read_part.new.buffer) c.in-Ok-feed.ensures.passes c.in-Ok-feed.ensures.holds c.in-Ok-feed.ensures.bound;
