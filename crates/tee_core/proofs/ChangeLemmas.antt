@@ -103,8 +103,7 @@ turned_one place change within sound breaks changes is =
     grind (arith, common_steps, length-changed_at, slot_at-changed, slot_at-elsewhere, newly_one)
 
 pub turned_both : {Change : Slot → Slot → Type 0} {IsOne IsOther IsEither : ℕ → Type 0} {old mid new : List Slot}
-    (broke more : ℕ) → KeepsBroken Change
-    → IsDecided IsOne → IsDecided IsOther
+    (broke more : ℕ) → KeepsBroken Change → IsDecided IsOne → IsDecided IsOther
     → ((place : ℕ) → IsOne place → IsOther place → ⊥) → ((place : ℕ) → IsOne place ⊎ IsOther place → IsEither place)
     → ((place : ℕ) → IsEither place → IsOne place ⊎ IsOther place)
     → ChangesSome Change IsOne old mid broke → ChangesSome Change IsOther mid new more
@@ -133,8 +132,8 @@ pub none_in_turn : {Change : Slot → Slot → Type 0} {first : ℕ} {slots : Li
 none_in_turn = record { turned = turned_none (λ place is. omega arith); few = omega arith }
 
 pub next_in_turn : {Change : Slot → Slot → Type 0} (first n broke more : ℕ) (old now new : List Slot)
-    → KeepsBroken Change
-    → InTurn Change first n old now broke → ChangesSome Change (λ place. place ≡ first + n) now new more → more ≤ 1
+    → KeepsBroken Change → InTurn Change first n old now broke
+    → ChangesSome Change (λ place. place ≡ first + n) now new more → more ≤ 1
     → InTurn Change first (n + 1) old new (broke + more)
 next_in_turn first n broke more old now new stays so_far turned one = record {
   turned = turned_both broke more stays (is_between first (first + n)) (λ place. cases_eq place (first + n))
