@@ -25,17 +25,22 @@ open_within [] place opened = absurd (cc)
 open_within (slot ∷ slots) zero opened = omega arith
 open_within (slot ∷ slots) (suc place) opened = omega (arith, open_within slots place opened)
 
--- one output was changed
-
 -- how many broke
 
 -- what is broken stays so
 abbrev pub StayBroken : List Slot → List Slot → Type 0
 StayBroken old new = (place : ℕ) → (slot_at old place).is_broken ≡ true → (slot_at new place).is_broken ≡ true
 
+-- one change alone leaves it so
+abbrev pub KeepsBroken : (Slot → Slot → Type 0) → Type 0
+KeepsBroken Change = (before after : Slot) → Change before after → before.is_broken ≡ true → after.is_broken ≡ true
+
+-- whether a place is one of these can be told
+abbrev pub IsDecided : (ℕ → Type 0) → Type 0
+IsDecided IsOne = (place : ℕ) → IsOne place ⊎ (IsOne place → ⊥)
+
 pub stay_broken : {Change : Slot → Slot → Type 0} {IsOne : ℕ → Type 0} {old new : List Slot}
-    → ((before after : Slot) → Change before after → before.is_broken ≡ true → after.is_broken ≡ true)
-    → ((place : ℕ) → IsOne place ⊎ (IsOne place → ⊥)) → ChangesEach Change IsOne old new → StayBroken old new
+    → KeepsBroken Change → IsDecided IsOne → ChangesEach Change IsOne old new → StayBroken old new
 stay_broken {Change} {IsOne} {old} {new} stays decides changes = λ place broken. by place (decides place) broken where
   by : (place : ℕ) → IsOne place ⊎ (IsOne place → ⊥) → (slot_at old place).is_broken ≡ true
       → (slot_at new place).is_broken ≡ true
@@ -98,8 +103,7 @@ turned_one place change within sound breaks changes is =
     grind (arith, common_steps, length-changed_at, slot_at-changed, slot_at-elsewhere, newly_one)
 
 pub turned_both : {Change : Slot → Slot → Type 0} {IsOne IsOther IsEither : ℕ → Type 0} {old mid new : List Slot}
-    (broke more : ℕ) → ((before after : Slot) → Change before after → before.is_broken ≡ true → after.is_broken ≡ true)
-    → ((place : ℕ) → IsOne place ⊎ (IsOne place → ⊥)) → ((place : ℕ) → IsOther place ⊎ (IsOther place → ⊥))
+    (broke more : ℕ) → KeepsBroken Change → IsDecided IsOne → IsDecided IsOther
     → ((place : ℕ) → IsOne place → IsOther place → ⊥) → ((place : ℕ) → IsOne place ⊎ IsOther place → IsEither place)
     → ((place : ℕ) → IsEither place → IsOne place ⊎ IsOther place)
     → ChangesSome Change IsOne old mid broke → ChangesSome Change IsOther mid new more
@@ -128,8 +132,8 @@ pub none_in_turn : {Change : Slot → Slot → Type 0} {first : ℕ} {slots : Li
 none_in_turn = record { turned = turned_none (λ place is. omega arith); few = omega arith }
 
 pub next_in_turn : {Change : Slot → Slot → Type 0} (first n broke more : ℕ) (old now new : List Slot)
-    → ((before after : Slot) → Change before after → before.is_broken ≡ true → after.is_broken ≡ true)
-    → InTurn Change first n old now broke → ChangesSome Change (λ place. place ≡ first + n) now new more → more ≤ 1
+    → KeepsBroken Change → InTurn Change first n old now broke
+    → ChangesSome Change (λ place. place ≡ first + n) now new more → more ≤ 1
     → InTurn Change first (n + 1) old new (broke + more)
 next_in_turn first n broke more old now new stays so_far turned one = record {
   turned = turned_both broke more stays (is_between first (first + n)) (λ place. cases_eq place (first + n))
@@ -204,36 +208,35 @@ pub left_out : (told : Bool) {piece : List ℕ} {place : ℕ} {slots : List Slot
     → ChangesSome (Gets told piece) (λ other. other ≡ place) slots slots 0
 left_out told {place} broken = turned_same place (gets_none broken)
 
-pub written_whole : (told : Bool) {piece : List ℕ} {place : ℕ} {old new : List Slot} → IsUsable (slot_at old place)
-    → (slot_at old place).is_broken ≡ false → new ≡ with_written place (told_of told piece) old
-    → ChangesSome (Gets told piece) (λ other. other ≡ place) old new 0
-written_whole told {piece} {place} {old} usable sound is =
-    turned_one place (adds (told_of told piece)) (open_within old place (usable sound)) sound sound (gets_all sound) is
-
-pub written_short : (told : Bool) {piece : List ℕ} {place n : ℕ} {old new : List Slot} → IsUsable (slot_at old place)
-    → (slot_at old place).is_broken ≡ false → BrokeAfter told old new place piece n
-    → ChangesSome (Gets told piece) (λ other. other ≡ place) old new 1
-written_short told {piece} {place} {n} {old} usable sound broke =
-    let (why, slots) = broke.slots in
-    let takes = adds (told_of told (take n piece)) in
-    turned_one place (λ slot. breaks why (takes slot)) (open_within old place (usable sound)) sound refl
-    (breaks_off sound n why broke.within) (slots ∙ changed_at-again place takes (breaks why) old)
-
 pub not_closed : {place : ℕ} {slots : List Slot} → (slot_at slots place).is_broken ≡ true
     → ChangesSome Closes (λ other. other ≡ place) slots slots 0
 not_closed {place} broken = turned_same place (was_broken broken)
 
-pub closed_whole : {place : ℕ} {old new : List Slot} → IsUsable (slot_at old place)
-    → (slot_at old place).is_broken ≡ false → new ≡ changed_at place closes old
-    → ChangesSome Closes (λ other. other ≡ place) old new 0
-closed_whole {place} {old} usable sound is = turned_one place closes (open_within old place (usable sound)) sound sound (is_closed sound) is
+module _ {place : ℕ} {old : List Slot} (usable : IsUsable (slot_at old place))
+    (sound : (slot_at old place).is_broken ≡ false) where
+  pub written_whole : (told : Bool) {piece : List ℕ} {new : List Slot}
+      → new ≡ with_written place (told_of told piece) old
+      → ChangesSome (Gets told piece) (λ other. other ≡ place) old new 0
+  written_whole told {piece} is =
+      turned_one place (adds (told_of told piece)) (open_within old place (usable sound)) sound sound (gets_all sound) is
 
-pub closed_short : {place : ℕ} {old new : List Slot} → IsUsable (slot_at old place)
-    → (slot_at old place).is_broken ≡ false → SlotBreaks place (changed_at place closes old) new
-    → ChangesSome Closes (λ other. other ≡ place) old new 1
-closed_short {place} {old} usable sound (why, is) =
-    turned_one place (λ slot. breaks why (closes slot)) (open_within old place (usable sound)) sound refl
-    (fails_to_close sound why) (is ∙ changed_at-again place closes (breaks why) old)
+  pub written_short : (told : Bool) {piece : List ℕ} {n : ℕ} {new : List Slot} → BrokeAfter told old new place piece n
+      → ChangesSome (Gets told piece) (λ other. other ≡ place) old new 1
+  written_short told {piece} {n} broke =
+      let (why, slots) = broke.slots in
+      let takes = adds (told_of told (take n piece)) in
+      turned_one place (λ slot. breaks why (takes slot)) (open_within old place (usable sound)) sound refl
+      (breaks_off sound n why broke.within) (slots ∙ changed_at-again place takes (breaks why) old)
+
+  pub closed_whole : {new : List Slot} → new ≡ changed_at place closes old
+      → ChangesSome Closes (λ other. other ≡ place) old new 0
+  closed_whole is = turned_one place closes (open_within old place (usable sound)) sound sound (is_closed sound) is
+
+  pub closed_short : {new : List Slot} → SlotBreaks place (changed_at place closes old) new
+      → ChangesSome Closes (λ other. other ≡ place) old new 1
+  closed_short (why, is) =
+      turned_one place (λ slot. breaks why (closes slot)) (open_within old place (usable sound)) sound refl
+      (fails_to_close sound why) (is ∙ changed_at-again place closes (breaks why) old)
 
 -- standard output, and then the files
 pub fed : (told : Bool) {piece : List ℕ} (tee : TeeState) (broke more : ℕ) {old mid new : List Slot}
