@@ -50,9 +50,10 @@ if_so (Some (Broke why)) so = so
 if_so (Some (Over why)) so = tt
 
 module _ {told_in told opened : Bool} {Is : List Event → Type 0} {printer after : PrinterState} {name : List ℕ}
-    {due before : List Event} {old new : List Slot} where  -- what is due may be said in another way
-  pub due_by : {other more : List Event} {stop : Option Stop} →
-      (told_in ≡ true → (due ≡ other) × IfBroke stop (before ≡ more))
+    {due before : List Event} {old new : List Slot} where
+  -- what is due may be said in another way
+  pub due_by : {other more : List Event} {stop : Option Stop}
+      → (told_in ≡ true → (due ≡ other) × IfBroke stop (before ≡ more))
       → GivesDue told_in Is told opened printer name due before old after new stop
       → GivesDue told_in Is told opened printer name other more old after new stop
   due_by {more} {stop} same ends = record {
