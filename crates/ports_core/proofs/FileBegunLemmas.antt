@@ -36,7 +36,7 @@ use Rattle.ports_core.proofs.{
   FileWriterLemmas.{tells_line, reaches_by, reaches_as, made_count, where_well, in_any, leaves_again, leaves_still},
   FileWriterLemmas.{at_file, last_file, can_tell, there_same, owned_same, owned_opened, owned_unopened, make_breaks},
   FileWriterLemmas.{line_breaks, now_is, file_named, goes_still, never_short, wrote_leaves, appends_leaves, counted_on},
-  FileWriterLemmas.none_counted,
+  FileWriterLemmas.{none_counted, writes_on},
 }
 use Rattle.ports_core.specs.inner.Write as short
 use Rattle.ports_core.specs.declared.fault.Fault.TheVariants as fault
@@ -66,53 +66,55 @@ pub record Unwritten (draft next : Draft) : Type 0 where
 unmade_shares : (draft : Draft) → made_of draft.opening draft.bytes ≡ [] → length (shares_of draft) ≡ length draft.ended
 unmade_shares draft none = search (rules, length-map)
 
-unmade_count : {manner : Manner} {writer : WriterState} {draft : Draft} → made_of draft.opening draft.bytes ≡ []
-    → Writes manner writer draft → writer.names.drawn ≡ length draft.ended
-unmade_count {draft = draft} none writes = writes.made ∙ unmade_shares draft none
+module _ {manner : Manner} {writer : WriterState} {draft : Draft} (none : made_of draft.opening draft.bytes ≡ [])
+    (writes : Writes manner writer draft) where
+  unmade_count : writer.names.drawn ≡ length draft.ended
+  unmade_count = writes.made ∙ unmade_shares _ none
 
--- its name
-due_name : {manner : Manner} {writer : WriterState} {draft : Draft} → made_of draft.opening draft.bytes ≡ []
-    → Writes manner writer draft → next_name writer.names ≡ name_after manner draft
-due_name none writes = grind (arith, common_steps, unmade_count)
+  -- its name
+  due_name : next_name writer.names ≡ name_after manner draft
+  due_name = grind (arith, common_steps, unmade_count)
 
--- whether it has one
-due_has : {manner : Manner} {writer : WriterState} {draft : Draft} → writer.names.drawn < 2 ^ 64
-    → made_of draft.opening draft.bytes ≡ [] → Writes manner writer draft
-    → has_next writer.names ≡ manner.has_name (length draft.ended)
-due_has few none writes = grind (arith, common_steps, unmade_count)
+  -- whether it has one
+  due_has : writer.names.drawn < 2 ^ 64 → has_next writer.names ≡ manner.has_name (length draft.ended)
+  due_has few = grind (arith, common_steps, unmade_count)
 
--- all files up to it have names then
-due_named : {manner : Manner} {writer : WriterState} {draft : Draft} (next : Draft) → writer.names.drawn < 2 ^ 64
-    → Unwritten draft next → Writes manner writer draft → IsTrue (has_next writer.names)
-    → AreNamed manner (suc (length next.ended))
-due_named next few so writes has =
-    grind (arith, common_steps, cases_lt, unmade_shares, due_has)
+  -- what standard output is told of it first
+  line_told : line_next writer.tells writer.names ≡ told_before manner.output (name_after manner draft)
+  line_told = grind (arith, common_steps, due_name)
 
-made_size : {writer next : WriterState} {slot : ℕ} {old new : List Slot} → Made writer old new next slot
-    → length new ≡ length old + 1
-made_size made = grind (arith, common_steps, length-append)
+  -- all files up to it have names then
+  due_named : (next : Draft) → writer.names.drawn < 2 ^ 64 → Unwritten draft next → IsTrue (has_next writer.names)
+      → AreNamed manner (suc (length next.ended))
+  due_named next few so has = grind (arith, common_steps, cases_lt, unmade_shares, due_has)
 
-made_ready : {writer next : WriterState} {slot : ℕ} {old new : List Slot} → IsReady writer old
-    → Made writer old new next slot → IsReady next new
-made_ready ready made = record {
-  streams = grind (arith, common_steps, made_size);
-  output = grind (arith, common_steps, can_tell, writable_before);
-  files = (owned_opened ready.streams made).there ready.files;
-  current = grind (arith, common_steps, opened_writable);
-}
+  -- the part with it
+  due_part : (next : Draft) → writer.names.drawn < 2 ^ 64 → Unwritten draft next → IsTrue (has_next writer.names)
+      → draft_part manner next ≡ with_last (begun_out manner.output (ended_files manner draft) (name_after manner draft))
+      (ended_files manner draft) (file_of (name_after manner draft) next.bytes state.Open)
+  due_part next few so has = rw (← so.same) (open_part manner next (due_named next few so has) so.makes)
 
-made_leaves : {writer next : WriterState} {slot : ℕ} {old new : List Slot} → IsReady writer old
-    → Made writer old new next slot → Leaves writer next old new None
-made_leaves {old = old} {new = new} ready made = record {
-  naming = grind (arith, common_steps);
-  tells = ap (λ (w : WriterState). w.tells) made.same;
-  keeps = ap (λ (w : WriterState). w.keeps) made.same;
-  open_alone = grind (arith, common_steps, files_with);
-  owns = owned_opened ready.streams made;
-  slots = keeps_open _ old new made.added;
-  output = grind (arith, common_steps, writable_before);
-  ready = made_ready ready made;
-}
+module _ {writer next : WriterState} {slot : ℕ} {old new : List Slot} (ready : IsReady writer old)
+    (made : Made writer old new next slot) where
+  made_ready : IsReady next new
+  made_ready = record {
+    streams = grind (arith, common_steps, length-append);
+    output = grind (arith, common_steps, can_tell, writable_before);
+    files = (owned_opened ready.streams made).there ready.files;
+    current = grind (arith, common_steps, opened_writable);
+  }
+
+  made_leaves : Leaves writer next old new None
+  made_leaves = record {
+    naming = grind (arith, common_steps);
+    tells = ap (λ (w : WriterState). w.tells) made.same;
+    keeps = ap (λ (w : WriterState). w.keeps) made.same;
+    open_alone = grind (arith, common_steps, files_with);
+    owns = owned_opened ready.streams made;
+    slots = keeps_open _ _ _ made.added;
+    output = grind (arith, common_steps, writable_before);
+    ready = made_ready;
+  }
 
 unmade_leaves : {told : Bool} {writer next : WriterState} {old new : List Slot} {f : Fault} → CanTell writer.tells old
     → MakesNone told writer old new next f → Leaves writer next old new (Some f)
@@ -122,7 +124,7 @@ unmade_leaves {told} {writer} {next} {old} {new} {f} can makes = rw makes.same (
   keeps = refl;
   open_alone = λ alone. refl;
   owns = owned_unopened makes.none;
-  slots = make_breaks told writer.tells can makes.none;
+  slots = make_breaks _ _ can makes.none;
   output = tt;
   ready = tt;
 })
@@ -132,34 +134,18 @@ unmade_leaves {told} {writer} {next} {old} {new} {f} can makes = rw makes.same (
 last_same : (current : Current) (first : ℕ) (old new : List Slot) → length new ≡ length old → IsLast current first old
     → IsLast current first new
 last_same (File slot size) first old new same last = (last.0, last.1 ∙ sym same)
-last_same Skipped first old new same last = tt
-last_same Due first old new same last = tt
-last_same Unopened first old new same last = tt
+last_same current first old new same last = tt
 
 open_same : (current : Current) (bytes : List ℕ) (slots : List Slot) → IsOpenAt current slots
     → IsOpenAt current (with_written 0 bytes slots)
 open_same (File slot size) bytes slots at = (at.0, written_writable slots _ slot 0 bytes at.1 refl)
-open_same Skipped bytes slots at = tt
-open_same Due bytes slots at = tt
 open_same Unopened bytes slots at = at
+open_same current bytes slots at = tt
 
 line_leaves : (told : Bool) {writer : WriterState} {old : List Slot} → IsReady writer old
     → Leaves writer writer old (told_next told writer.tells writer.names old) None
 line_leaves told {writer} {old} ready = wrote_leaves told 0 (line_next writer.tells writer.names) None refl
-    (λ first last. last_same writer.current first old _ (length-changed_at 0 _ old) last) (keeps_write 0 _ old _ refl) (open_same writer.current _ old ready.current) ready refl
-
-line_told : {manner : Manner} {writer : WriterState} {draft : Draft} → made_of draft.opening draft.bytes ≡ []
-    → Writes manner writer draft
-    → line_next writer.tells writer.names ≡ told_before manner.output (name_after manner draft)
-line_told {manner} {writer} none writes = grind (arith, common_steps, due_name)
-
--- the part with the file that is due
-due_part : {manner : Manner} {writer : WriterState} {draft : Draft} (next : Draft) → writer.names.drawn < 2 ^ 64
-    → Unwritten draft next → Writes manner writer draft → IsTrue (has_next writer.names)
-    → draft_part manner next ≡ with_last (begun_out manner.output (ended_files manner draft) (name_after manner draft))
-    (ended_files manner draft) (file_of (name_after manner draft) next.bytes state.Open)
-due_part {manner} {writer} {draft} next few so writes has = open_part manner next (due_named next few so writes has) so.makes
-    ∙ ap (λ ended. with_last (begun_out manner.output (files_from manner 0 (map (share state.Closed) ended)) (manner.name (length ended))) (files_from manner 0 (map (share state.Closed) ended)) (file_of (manner.name (length ended)) next.bytes state.Open)) so.same
+    (λ first last. last_same _ _ _ _ (length-changed_at 0 _ _) last) (keeps_write 0 _ _ _ refl) (open_same _ _ _ ready.current) ready refl
 
 -- it was made
 made_becomes : {told : Bool} (manner : Manner) {writer made : WriterState} (draft : Draft) {slot : ℕ}
@@ -169,8 +155,8 @@ made_becomes : {told : Bool} (manner : Manner) {writer made : WriterState} (draf
     → Becomes manner.output told (part_with manner.output (ended_files manner draft))
     (with_last (begun_out manner.output (ended_files manner draft) (name_after manner draft)) (ended_files manner draft)
     (file_of (name_after manner draft) [] state.Open)) old new None
-made_becomes {told} manner draft {old = old} {mid} {new} name line made = becomes_again (line_begins (told_before manner.output (name_after manner draft))) (out_added told (told_before manner.output (name_after manner draft)) old line)
-    (opens manner.output told (begun_out manner.output (ended_files manner draft) (name_after manner draft)) (ended_files manner draft) (name_after manner draft) (made.added ∙ ap (λ those. mid ++ opened those Fresh ∷ []) name))
+made_becomes {told} manner draft {old = old} {mid} {new} name line made = becomes_again (line_begins _) (out_added _ _ _ line)
+    (opens _ _ _ _ _ (made.added ∙ ap (λ those. mid ++ opened those Fresh ∷ []) name))
 
 -- it could not be made
 module _ {told : Bool} {writer next : WriterState} {change : Draft → Draft} {old new : List Slot} {f : Fault}
@@ -188,7 +174,7 @@ module _ {told : Bool} {writer next : WriterState} {change : Draft → Draft} {o
       × (draft_part manner (change draft) ≡ with_last
       (begun_out manner.output (ended_files manner draft) (next_name writer.names)) (ended_files manner draft)
       (file_of (next_name writer.names) bytes state.Open))
-  unmade_due manner draft so writes (few, has, same) = ((change draft).bytes, rw (due_name so.none writes) (due_part (change draft) few so writes has))
+  unmade_due manner draft so writes (few, has, same) = ((change draft).bytes, rw (due_name so.none writes) (due_part so.none writes (change draft) few so has))
 
   -- names ran out: the part after the change has no file more
   unmade_short : f ≡ Verdict Suffixes → (manner : Manner) (draft : Draft) → Writes manner writer draft
@@ -229,7 +215,7 @@ goes_made {told} {writer} {made} {next} {change} {slot} bytes {old} {mid} {new} 
   leaves = leaves;
   reaches = λ manner draft writes. let (so, are) = of draft writes.current in
       reaches_as (none_part manner draft so.none)
-      (due_part (change draft) makes.few so writes makes.named ∙ ap (λ those. with_last (begun_out manner.output (ended_files manner draft) (name_after manner draft)) (ended_files manner draft) (file_of (name_after manner draft) those state.Open)) are)
+      (due_part so.none writes (change draft) makes.few so makes.named ∙ ap (λ those. with_last (begun_out manner.output (ended_files manner draft) (name_after manner draft)) (ended_files manner draft) (file_of (name_after manner draft) those state.Open)) are)
       (reaches_by leaves.owns (λ first last. becomes_again (part_trans _ _ _ (line_begins (told_before manner.output (name_after manner draft))) (file_begins (ended_files manner draft) (file_of (name_after manner draft) [] state.Open)))
       (made_becomes manner draft (due_name so.none writes) (ap (λ line. with_written 0 (told_of told line) old) (line_told so.none writes)) makes)
       (writes_to manner.output told (ended_files manner draft) (name_after manner draft) [] bytes mid fault (closed_files manner 0 draft.ended) (opened_last _ mid slot (next_name writer.names) Fresh makes.place makes.added) appends.wrote)));
@@ -251,7 +237,7 @@ goes_made {told} {writer} {made} {next} {change} {slot} bytes {old} {mid} {new} 
   is_file = ap (λ (w : WriterState). w.current) makes.same
 
   leaves : Leaves writer next old new fault
-  leaves = leaves_again (line_leaves told ready) (leaves_again (made_leaves line_ready makes) (appends_leaves is_file (made_ready line_ready makes) appends))
+  leaves = leaves_again (line_leaves told ready) (leaves_again (made_leaves line_ready makes) (appends_leaves bytes is_file (made_ready line_ready makes) appends))
 
 -- The first bytes of what gets its file with them
 pub first_bytes : (tells : Tells) {current : Current} (bytes : List ℕ) → current ≡ Due → false ≡ eqb (length bytes) 0
@@ -289,7 +275,7 @@ begin_none current none is_current at last ready = grind (arith, common_steps, b
 pub at_once : {opening : Opening} → opening ≡ AtOnce → (draft : Draft) → draft.opening ≡ Never
     → Unwritten draft (with_next opening draft)
 at_once is draft never = record {
-  same = ended_none draft (never_made draft never);
+  same = ended_none _ (never_made draft never);
   none = never_made draft never;
   makes = ap (λ those. made_of those []) is;
 }
@@ -301,9 +287,8 @@ pub begin_unmade : {told : Bool} {writer next : WriterState} {opening : Opening}
 begin_unmade is ready makes = goes_unmade (paused_ready ready) (at_once is) (record { same = makes.same; naming = makes.naming; none = makes.none })
 
 counts_none : (tells : Tells) → CountsOn tells 0 [] 0
-counts_none Nothing = omega arith
 counts_none Sizes = refl
-counts_none Openings = omega arith
+counts_none tells = omega arith
 
 pub begin_made : {told : Bool} {writer next : WriterState} {opening : Opening} {slot : ℕ} {old new : List Slot}
     → opening ≡ AtOnce → IsReady writer old → Made writer (told_next told writer.tells writer.names old) new next slot
@@ -325,16 +310,10 @@ end_none is none ready = grind (arith, common_steps, begins_none)
 
 file_ends : {manner : Manner} {writer : WriterState} {draft : Draft} (slot size : ℕ) → writer.current ≡ File slot size
     → Writes manner writer draft → Writes manner (paused writer) (with_next Never draft)
-file_ends {manner} {draft = draft} slot size is writes =
+file_ends {draft = draft} slot size is writes =
     let makes = (now_is is writes).0 in
     let count : length (shares_of draft) ≡ length (shares_of (with_next Never draft)) =
-    grind (arith, common_steps, made_count, makes, length-append, length-map) in record {
-      same = writes.same;
-      made = writes.made ∙ count;
-      kept = λ all. writes.kept all ∙ count;
-      named = subst (AreNamed manner) count writes.named;
-      current = refl;
-    }
+    grind (arith, common_steps, made_count, makes, length-append, length-map) in writes_on refl count refl writes
 
 file_closed : {writer : WriterState} {old new : List Slot} → KeepsMade old new
     → KeepsFiles writer (paused writer) old new
@@ -342,20 +321,20 @@ file_closed keeps = owned_same refl refl (λ first last. tt) keeps
 
 closed_can : (slot : ℕ) (old new : List Slot) → 2 ≤ slot → new ≡ changed_at slot closes old → IsTrue (is_writable old 0)
     → IsTrue (is_writable new 0)
-closed_can slot old new two closed can = writable_elsewhere old new 0 slot closes (λ same. omega arith) closed can
+closed_can slot old new two closed can = writable_elsewhere _ _ 0 _ _ (λ same. omega arith) closed can
 
 closed_leaves : {writer : WriterState} (slot size : ℕ) {old new : List Slot} → writer.current ≡ File slot size
     → IsReady writer old → new ≡ changed_at slot closes old → Leaves writer (paused writer) old new None
 closed_leaves slot size {old} {new} is ready closed =
     let at = at_file is ready in
-    let made = made_close slot old new at.1 closed in record {
+    let made = made_close _ _ _ at.1 closed in record {
       naming = refl;
       tells = refl;
       keeps = refl;
       open_alone = λ alone. refl;
       owns = file_closed made;
-      slots = keeps_close slot old new closed;
-      output = closed_can slot old new at.0 closed;
+      slots = keeps_close _ _ _ closed;
+      output = closed_can _ _ _ at.0 closed;
       ready = grind (arith, common_steps, can_tell, closed_can, there_same);
     }
 
@@ -363,10 +342,9 @@ closed_leaves slot size {old} {new} is ready closed =
 -- what standard output is told as a file is opened begins what it is told of it in all
 closed_told : (output : Output) (name bytes : List ℕ)
     → IsBeginning (told_before output name) (told_of_files output (file_of name bytes state.Closed ∷ []))
-closed_told gets_none name bytes = begins_itself []
-closed_told gets_bytes name bytes = begins_itself []
 closed_told (gets_lines line) name bytes = nothing_begins _
 closed_told (gets_openings line) name bytes = ([], refl)
+closed_told output name bytes = begins_itself []
 
 closed_begins : (output : Output) (front : List PartFile) (name bytes : List ℕ)
     → Begins (with_last (begun_out output front name) front (file_of name bytes state.Closed))
@@ -409,28 +387,26 @@ close_not {told} {writer} slot size {old} {new} is ready which broken = subst (�
 -- it is told of, or standard output breaks
 tells_file : (tells : Tells) (output : Output) (told : Bool) (size : ℕ) (front : List PartFile) (file : PartFile)
     (old : List Slot) {new : List Slot} (fault : Option Fault) → output_of tells ≡ output → file.state ≡ state.Closed
-    → size ≡ length file.bytes
-    → AllClosed front → 0 < length old → TellsSize told tells size old new fault
+    → IsCounted tells file.bytes size → AllClosed front → 0 < length old → TellsSize told tells size old new fault
     → Becomes output told (with_last (begun_out output front file.name) front file)
     (with_last (told_of_files output front ++ told_of_files output (file ∷ [])) front file) old new fault
 tells_file Nothing output told size front file old fault is shut size_is closed some (well, same) = rw (well, same, ← is) (record { gets = λ before at. at })
 tells_file Openings output told size front file old fault is shut size_is closed some (well, same) = rw (well, same, ← is, append-nil (opening_line file.name)) (record { gets = λ before at. at })
-tells_file Sizes output told size front file old {new} fault is shut size_is closed some wrote = rw (← is) (rw (append-nil (lines_for size_of_file front), line_told) (tells_line size_of_file told front file shut old fault closed some (subst (λ n. Wrote told 0 (decimal n ++ 10 ∷ []) old new fault) size_is wrote))) where
+tells_file Sizes output told size front file old {new} fault is shut size_is closed some wrote = rw (← is) (rw (append-nil (lines_for size_of_file front), line_told) (tells_line _ _ _ _ shut _ _ closed some (subst (λ n. Wrote told 0 (decimal n ++ 10 ∷ []) old new fault) size_is wrote))) where
   line_told : lines_for size_of_file (file ∷ []) ≡ size_of_file file
   line_told = grind (arith, common_steps)
 
 told_leaves : (told : Bool) (writer : WriterState) (size : ℕ) {old new : List Slot} (fault : Option Fault)
     (tells : Tells) → writer.tells ≡ tells → IsReady (paused writer) old → TellsSize told tells size old new fault
     → Leaves (paused writer) (paused writer) old new fault
-told_leaves told writer size fault Nothing is ready (well, same) = rw (well, same) (leaves_still ready)
-told_leaves told writer size fault Openings is ready (well, same) = rw (well, same) (leaves_still ready)
 told_leaves told writer size {old} {new} fault Sizes is ready wrote =
     let can : IsTrue (is_writable old 0) = grind (arith, common_steps, is) in
-    wrote_leaves told 0 (decimal size ++ 10 ∷ []) fault refl (λ first last. tt) (rw is (slots fault can wrote)) (in_any fault tt) ready wrote where
+    wrote_leaves told 0 (decimal size ++ 10 ∷ []) fault refl (λ first last. tt) (rw is (slots fault can wrote)) (in_any _ tt) ready wrote where
       slots : (fault : Option Fault) → IsTrue (is_writable old 0) → Wrote told 0 (decimal size ++ 10 ∷ []) old new fault
           → KeepsOrBreaks (manner_by writer.names.naming (output_of Sizes)) old new fault
-      slots None can wrote = keeps_write 0 _ old new wrote
+      slots None can wrote = keeps_write 0 _ _ _ wrote
       slots (Some f) can wrote = grind (arith, common_steps, line_breaks)
+told_leaves told writer size fault tells is ready (well, same) = rw (well, same) (leaves_still ready)
 
 -- what can go wrong there is a write
 pub tells_write : (told : Bool) (tells : Tells) (size : ℕ) (old new : List Slot) (result : Result (Unit {0}) Fault)
@@ -440,20 +416,11 @@ tells_write told Nothing size old new (Err f) (well, same) = absurd (cc)
 tells_write told Sizes size old new (Err _) (short.broke n cut) = (0, refl)
 tells_write told Openings size old new (Err f) (well, same) = absurd (cc)
 
--- where sizes are told, what is told is that of the file
-is_size : (tells : Tells) (bytes : List ℕ) (size : ℕ) → IsCounted tells bytes size
-    → (told : Bool) (old new : List Slot) (fault : Option Fault) → TellsSize told tells size old new fault
-    → TellsSize told tells (length bytes) old new fault
-is_size Nothing bytes size is told old new fault tells = tells
-is_size Openings bytes size is told old new fault tells = tells
-is_size Sizes bytes size is told old new fault tells = grind (arith, common_steps)
-
 -- telling a size wants no names
 told_short : (P : Type 0) (told : Bool) (tells : Tells) (size : ℕ) (old new : List Slot) (fault : Option Fault)
     → TellsSize told tells size old new fault → IfSome fault (λ fault. fault ≡ Verdict Suffixes → P)
-told_short P told Nothing size old new fault (well, same) = rw well tt
-told_short P told Openings size old new fault (well, same) = rw well tt
-told_short P told Sizes size old new fault wrote = never_short P told 0 (decimal size ++ 10 ∷ []) old new fault wrote
+told_short P told Sizes size old new fault wrote = never_short P told 0 (decimal size ++ 10 ∷ []) _ _ _ wrote
+told_short P told tells size old new fault (well, same) = rw well tt
 
 pub end_told : {told : Bool} {writer : WriterState} (slot size : ℕ) {old mid new : List Slot} {fault : Option Fault}
     → writer.current ≡ File slot size → IsReady writer old → mid ≡ changed_at slot closes old
@@ -465,8 +432,8 @@ end_told {told} {writer} slot size {old} {mid} {new} {fault} is ready closed tel
       reaches_as (open_part manner draft named now.0) (closed_part manner draft named now.0) (reaches_by leaves.owns (λ first last. becomes_again
       (close_begins _ (ended_files manner draft) (name_after manner draft) draft.bytes)
       (closes_last manner.output told _ (ended_files manner draft) (name_after manner draft) draft.bytes old (last_file writer old is last).1 closed)
-      (tells_file writer.tells manner.output told (length draft.bytes) (ended_files manner draft) (file_of (name_after manner draft) draft.bytes state.Closed) mid fault writes.same.output refl refl (closed_files manner 0 draft.ended)
-      (let two = paused_now.streams in omega arith) (is_size writer.tells draft.bytes size now.1 told mid new fault tells))));
+      (tells_file writer.tells manner.output told size (ended_files manner draft) (file_of (name_after manner draft) draft.bytes state.Closed) mid fault writes.same.output refl now.1 (closed_files manner 0 draft.ended)
+      (let two = paused_now.streams in omega arith) tells)));
   short = told_short _ told writer.tells size mid new fault tells;
   writes = grind (arith, common_steps, in_any, file_ends, is);
 } where

@@ -65,13 +65,13 @@ module _ (line : PartFile → List ℕ) (told : Bool) (front : List PartFile) (f
       → Wrote told 0 (line file) old new fault
       → Becomes (gets_lines line) told (with_last (lines_for line front) front file)
       (with_last (lines_for line front ++ line file) front file) old new fault
-  tells_line old None closed some wrote = out_added told (line file) old wrote
+  tells_line old None closed some wrote = out_added _ _ _ wrote
   tells_line old (Some _) closed some (short.broke n cut) =
-      becomes_again (line_begins (take n (line file))) (out_added told (take n (line file)) old refl) (halts_here (record { out = take_begins_after n (lines_for line front) (line file); files = files_begin_themselves (front ++ file ∷ []) })
-      (turn_last front file (length front) refl closed)
+      becomes_again (line_begins _) (out_added _ _ _ refl) (halts_here (record { out = take_begins_after n _ _; files = files_begin_themselves _ })
+      (turn_last _ _ _ refl closed)
       (cut_short n (with_last (lines_for line front ++ line file) front file)) (
         let size : length (with_written 0 (told_of told (take n (line file))) old) ≡ length old =
-            length-changed_at 0 _ old in omega arith,
+            length-changed_at 0 _ _ in omega arith,
         cut.slots,
       ) (λ before at. inl refl))
 
@@ -93,7 +93,7 @@ pub stops_wider : {output : Output} {told : Bool} {low middle high : Part} {old 
     {writer next : WriterState} → Reaches output told writer next low middle old new (Some fault) → Begins middle high
     → Reaches output told writer next low high old new (Some fault)
 stops_wider {output} {told} {low} {middle} {high} {new = new} {fault = fault} stops begins =
-    record { there = λ before at. turn_between output told before low low middle high fault new (part_begins_itself low) (stops.there before at) begins }
+    record { there = λ before at. turn_between _ _ _ _ _ _ _ _ _ (part_begins_itself _) (stops.there before at) begins }
 
 -- a step that is known of the outputs alone, as long as the open file is the last
 pub reaches_by : {output : Output} {told : Bool} {low high : Part} {old new : List Slot} {fault : Option Fault}
@@ -182,7 +182,7 @@ breaks_later old mid new fault same keeps breaks = grind (arith, common_steps)
 slots_again : {manner other : Manner} (old mid new : List Slot) (fault : Option Fault) → other ≡ manner
     → KeepsBroken old mid → KeepsOrBreaks other mid new fault → KeepsOrBreaks manner old new fault
 slots_again old mid new None same first second = keeps_again old mid new first second
-slots_again old mid new (Some fault) same first second = breaks_later old mid new fault same first second
+slots_again old mid new (Some fault) same first second = breaks_later _ _ _ _ same first second
 
 -- how files are made stays
 pub same_manner : {writer next : WriterState} {old new : List Slot} {fault : Option Fault}
@@ -219,19 +219,18 @@ last_file writer {first = first} slots is last = subst (λ current. IsLast curre
 pub can_tell : (tells : Tells) (old new : List Slot) → (IsTrue (is_writable old 0) → IsTrue (is_writable new 0))
     → CanTell tells old → CanTell tells new
 can_tell Nothing old new stays can = tt
-can_tell Sizes old new stays can = stays can
-can_tell Openings old new stays can = stays can
+can_tell tells old new stays can = stays can
 
 -- The files are there, and stay the writer's own.
 
 there_still : (files : List ℕ) (old new : List Slot)
-    → ((place : ℕ) → has_file (slot_at new place).state ≡ has_file (slot_at old place).state) → AreThere files old
-    → AreThere files new
+    → ((place : ℕ) → has_file (slot_at old place).state ≡ true → has_file (slot_at new place).state ≡ true)
+    → AreThere files old → AreThere files new
 there_still [] old new keeps are = tt
-there_still (place ∷ files) old new keeps are = grind (arith, common_steps, there_still files old new keeps are.2)
+there_still (place ∷ files) old new keeps are = grind (arith, common_steps, there_still files _ _ keeps are.2)
 
 pub there_same : (files : List ℕ) {old new : List Slot} → KeepsMade old new → AreThere files old → AreThere files new
-there_same files {old} {new} keeps are = there_still files old new keeps.same are
+there_same files keeps are = there_still files _ _ (λ place has. keeps.same place ∙ has) are
 
 pub owned_same : {writer next : WriterState} {old new : List Slot} → next.files ≡ writer.files
     → next.keeps ≡ writer.keeps → ((first : ℕ) → IsLast writer.current first old → IsLast next.current first new)
@@ -256,7 +255,7 @@ there_before : (files : List ℕ) (old : List Slot) (one : Slot) {new : List Slo
     → AreThere files old → AreThere files new
 there_before [] old one added are = tt
 there_before (place ∷ files) old one added are =
-    grind (arith, common_steps, file_before, there_before files old one added are.2)
+    grind (arith, common_steps, file_before, there_before files _ _ added are.2)
 
 opened_by : (keeps : Keeps) {writer : WriterState} {slot : ℕ} {old new : List Slot} (name : List ℕ) {names : Names}
     → 2 ≤ length old → writer.keeps ≡ keeps → slot ≡ length old → new ≡ old ++ opened name Fresh ∷ []
@@ -274,7 +273,7 @@ owned_opened two made = grind (arith, common_steps, opened_by)
 unmade_keeps : {told : Bool} {tells : Tells} {names next : Names} {old new : List Slot} {f : Fault}
     → OpensNone told tells names next old new f → KeepsFiled old new
 unmade_keeps (no_memory same) = rw same (record { same = λ place. refl; within = omega arith })
-unmade_keeps {told} {old = old} (no_line n few has cut) = filed_same (made_short told 0 _ old _ _ (short.broke n cut))
+unmade_keeps {told} {old = old} (no_line n few has cut) = filed_same (made_short _ 0 _ _ _ _ (short.broke n cut))
 unmade_keeps (no_file slot kept why number few has drew is added) =
     grind (arith, common_steps, filed_more, made_write)
 unmade_keeps (no_number few has same) =
@@ -301,19 +300,17 @@ breaks_as old new fault same breaks = breaks
 -- standard output breaks where it is told anything alone
 line_rose : (told : Bool) (tells : Tells) (names : Names) (n : ℕ) {old new : List Slot} → CanTell tells old
     → BrokeAfter told old new 0 (line_next tells names) n → (writes (output_of tells) ≡ true) × Rose 0 old new
-line_rose told Nothing names n can cut = absurd (omega arith)
-line_rose told Sizes names n can cut = absurd (omega arith)
 line_rose told Openings names n can cut = grind (arith, common_steps, write_rose)
+line_rose told tells names n can cut = absurd (omega arith)
 
 pub make_breaks : (told : Bool) (tells : Tells) {names next : Names} {old new : List Slot} {f : Fault}
     → CanTell tells old → OpensNone told tells names next old new f
     → Breaks (manner_by names.naming (output_of tells)) old new f
-make_breaks told tells can (no_memory same) = tt
 make_breaks told tells can (no_line n few has cut) = grind (arith, common_steps, line_rose)
 make_breaks told tells can (no_file slot kept why number few has drew is added) =
     grind (arith, common_steps, length-changed_at, rose_later, keeps_write, open_rose)
-make_breaks told tells can (no_number few has same) = tt
 make_breaks told tells {names} can (no_name few none same) = (names.drawn, few, none)
+make_breaks told tells can other = tt
 
 pub line_breaks : (told : Bool) (naming : Naming) (line : List ℕ) {old new : List Slot} {f : Fault}
     → IsTrue (is_writable old 0) → WritesShort told 0 line old new f
@@ -324,7 +321,7 @@ line_breaks told naming line can (short.broke n cut) = grind (arith, common_step
 
 one_left : (n all : ℕ) → n < all → take {A = ℕ} 1 (drop n (replicate all 10)) ≡ 10 ∷ []
 one_left zero (suc all) less = refl
-one_left (suc n) (suc all) less = one_left n all (omega arith)
+one_left (suc n) (suc all) less = one_left n _ (omega arith)
 one_left n all less = absurd (omega arith)
 
 -- of a row of newlines the front was replaced by the digits, and one more is taken
@@ -343,7 +340,20 @@ now_is is writes = grind (arith, common_steps)
 pub file_named : {manner : Manner} {writer : WriterState} {draft : Draft}
     → made_of draft.opening draft.bytes ≡ draft.bytes ∷ [] → Writes manner writer draft
     → AreNamed manner (suc (length draft.ended))
-file_named {manner} {draft = draft} makes writes = named_last manner draft writes.named makes
+file_named {manner} {draft = draft} makes writes = named_last manner _ writes.named makes
+
+-- it writes more, where no file was made
+pub writes_on : {manner : Manner} {writer next : WriterState} {draft after : Draft}
+    → next ≡ record writer { current = next.current } → length (shares_of draft) ≡ length (shares_of after)
+    → IsCurrent writer.tells after.opening after.bytes next.current → Writes manner writer draft
+    → Writes manner next after
+writes_on {manner} same count current writes = rw same (record {
+  same = writes.same;
+  made = writes.made ∙ count;
+  kept = λ all. writes.kept all ∙ count;
+  named = subst (AreNamed manner) count writes.named;
+  current = current;
+})
 
 -- Nothing is written: what is begun had no file, and has none
 
@@ -378,8 +388,8 @@ file_now {size = size} (Some why) is appends = (size, appends.still ∙ is)
 wrote_slots : (told : Bool) (manner : Manner) (slot : ℕ) (bytes : List ℕ) (old new : List Slot) (fault : Option Fault)
     → (2 ≤ slot) × IsTrue (is_writable old slot) → Wrote told slot bytes old new fault
     → KeepsOrBreaks manner old new fault
-wrote_slots told manner slot bytes old new None at wrote = keeps_write slot _ old new wrote
-wrote_slots told manner slot bytes old new (Some _) at (short.broke n cut) = (λ none. absurd (omega arith), write_rose told slot bytes n old new at.1 cut)
+wrote_slots told manner slot bytes old new None at wrote = keeps_write _ _ _ _ wrote
+wrote_slots told manner slot bytes old new (Some _) at (short.broke n cut) = (λ none. absurd (omega arith), write_rose _ _ _ n _ _ at.1 cut)
 
 -- a write never wants for names
 pub never_short : (P : Type 0) (told : Bool) (slot : ℕ) (bytes : List ℕ) (old new : List Slot) (fault : Option Fault)
@@ -389,14 +399,14 @@ never_short P told slot bytes old new (Some _) (short.broke n cut) = λ is. absu
 
 wrote_made : (told : Bool) (slot : ℕ) (bytes : List ℕ) (old new : List Slot) (fault : Option Fault)
     → Wrote told slot bytes old new fault → KeepsMade old new
-wrote_made told slot bytes old new None wrote = made_write slot _ old new wrote
-wrote_made told slot bytes old new (Some f) wrote = made_short told slot bytes old new f wrote
+wrote_made told slot bytes old new None wrote = made_write _ _ _ _ wrote
+wrote_made told slot bytes old new (Some f) wrote = made_short _ _ _ _ _ f wrote
 
 -- what can be written still can, where a write went well
 wrote_can : (told : Bool) (slot : ℕ) (bytes : List ℕ) (place : ℕ) (old new : List Slot) (fault : Option Fault)
     → Wrote told slot bytes old new fault
     → IfNone fault (IsTrue (is_writable old place) → IsTrue (is_writable new place))
-wrote_can told slot bytes place old new None wrote = λ can. written_writable old new place slot _ can wrote
+wrote_can told slot bytes place old new None wrote = λ can. written_writable _ _ _ _ _ can wrote
 wrote_can told slot bytes place old new (Some f) wrote = tt
 
 -- a write to one of the outputs
@@ -412,8 +422,8 @@ wrote_leaves told {writer} {next} slot bytes {old} {new} fault same last slots s
   open_alone = λ alone. ap (λ (w : WriterState). w.files) same;
   owns = owns;
   slots = slots;
-  output = wrote_can told slot bytes 0 old new fault wrote;
-  ready = where_both fault (wrote_can told slot bytes 0 old new fault wrote) still (λ can at. record {
+  output = wrote_can told _ _ 0 _ _ _ wrote;
+  ready = where_both fault (wrote_can _ _ bytes 0 _ _ _ wrote) still (λ can at. record {
     streams = (let two = ready.streams in omega (arith, two, made.size));
     output = subst (λ tells. CanTell tells new) (sym (ap (λ (w : WriterState). w.tells) same)) (can_tell writer.tells old new can ready.output);
     files = owns.there ready.files;
@@ -421,60 +431,51 @@ wrote_leaves told {writer} {next} slot bytes {old} {new} fault same last slots s
   });
 } where
   made : KeepsMade old new
-  made = wrote_made told slot bytes old new fault wrote
+  made = wrote_made told _ _ _ _ _ wrote
 
   owns : KeepsFiles writer next old new
   owns = grind (arith, common_steps, owned_same, made)
 
-pub appends_leaves : {told : Bool} {writer next : WriterState} {slot size : ℕ} {bytes : List ℕ} {old new : List Slot}
-    {fault : Option Fault} → writer.current ≡ File slot size → IsReady writer old
-    → Appends told writer slot size bytes old new next fault
-    → Leaves writer next old new fault
-appends_leaves {told} {writer} {next} {slot} {bytes = bytes} {old} {new} {fault} is ready appends =
-    let at = at_file is ready in
-    let now = file_now fault is appends in
-    wrote_leaves told slot bytes fault appends.same
-    (λ first last. let was = last_file writer old is last in subst (λ current. IsLast current first new) (sym now.1) (was.0, was.1 ∙ sym (wrote_made told slot bytes old new fault appends.wrote).size))
-    (wrote_slots told (manner_in writer) slot bytes old new fault at appends.wrote)
-    (where_well fault (wrote_can told slot bytes slot old new fault appends.wrote) (λ can. subst (λ current. IsOpenAt current new) (sym now.1) (at.0, can at.1)))
-    ready appends.wrote
-
 -- bytes can be counted where 64 bits count them
 pub can_count : (tells : Tells) (size : ℕ) (bytes : List ℕ) → size + length bytes < 2 ^ 64 → CanCount tells size bytes
-can_count Nothing size bytes few = tt
 can_count Sizes size bytes few = few
-can_count Openings size bytes few = tt
+can_count tells size bytes few = tt
 
 -- the bytes that are counted
 pub counted_on : (tells : Tells) (had bytes : List ℕ) (size more : ℕ) → IsCounted tells had size
     → CountsOn tells size bytes more → IsCounted tells (had ++ bytes) more
-counted_on Nothing had bytes size more is on = tt
-counted_on Openings had bytes size more is on = tt
 counted_on Sizes had bytes size more is on = grind (arith, common_steps, length-append)
+counted_on tells had bytes size more is on = tt
 
 pub none_counted : (tells : Tells) → IsCounted tells [] 0
-none_counted Nothing = tt
 none_counted Sizes = refl
-none_counted Openings = tt
+none_counted tells = tt
 
-pub put_file : {told : Bool} {writer next : WriterState} {slot size : ℕ} (bytes : List ℕ) {old new : List Slot}
-    {fault : Option Fault} → writer.current ≡ File slot size → IsReady writer old
-    → Appends told writer slot size bytes old new next fault
-    → Goes told writer (with_bytes bytes) old new next fault
-put_file {told} {writer} {next} {slot} {size} bytes {old} {new} {fault} is ready appends = record {
-  leaves = appends_leaves is ready appends;
-  reaches = λ manner draft writes. let now = now_is is writes in let named = file_named now.0 writes in
-      reaches_as (open_part manner draft named now.0) (open_part manner (with_bytes bytes draft) named (still_made draft.opening draft.bytes bytes now.0))
-      (reaches_by (appends_leaves is ready appends).owns (λ first last. writes_to manner.output told (ended_files manner draft) (name_after manner draft)
-      draft.bytes bytes old fault (closed_files manner 0 draft.ended) (last_file writer old is last).1 appends.wrote));
-  short = never_short _ told slot bytes old new fault appends.wrote;
-  writes = where_well fault appends.current (λ current manner draft writes. let now = now_is is writes in let grown = still_made draft.opening draft.bytes bytes now.0 in
-      let count : length (shares_of draft) ≡ length (shares_of (with_bytes bytes draft)) =
-      grind (arith, common_steps, made_count) in record {
-        same = subst (IsManner manner) (sym (ap manner_in appends.same)) writes.same;
-        made = ap (λ (w : WriterState). w.names.drawn) appends.same ∙ writes.made ∙ count;
-        kept = λ all. ap (λ (w : WriterState). length w.files) appends.same ∙ writes.kept (sym (ap (λ (w : WriterState). w.keeps) appends.same) ∙ all) ∙ count;
-        named = subst (AreNamed manner) count writes.named;
-        current = rw current.1 (grown, subst (λ tells. IsCounted tells (draft.bytes ++ bytes) current.0) (sym (ap (λ (w : WriterState). w.tells) appends.same)) (counted_on writer.tells draft.bytes bytes size current.0 now.1 current.2));
-      });
-}
+module _ {told : Bool} {writer next : WriterState} {slot size : ℕ} (bytes : List ℕ) {old new : List Slot}
+    {fault : Option Fault} (is : writer.current ≡ File slot size) (ready : IsReady writer old)
+    (appends : Appends told writer slot size bytes old new next fault) where
+  pub appends_leaves : Leaves writer next old new fault
+  appends_leaves =
+      let at = at_file is ready in
+      let now = file_now _ is appends in
+      wrote_leaves told slot bytes fault appends.same
+      (λ first last. let was = last_file writer _ is last in rw now.1 (was.0, was.1 ∙ sym (wrote_made told _ bytes _ _ _ appends.wrote).size))
+      (wrote_slots told (manner_in writer) _ bytes _ _ _ at appends.wrote)
+      (where_well _ (wrote_can told _ bytes _ _ _ _ appends.wrote) (λ can. subst (λ current. IsOpenAt current new) (sym now.1) (at.0, can at.1)))
+      ready appends.wrote
+
+  pub put_file : Goes told writer (with_bytes bytes) old new next fault
+  put_file = record {
+    leaves = appends_leaves;
+    reaches = λ manner draft writes. let now = now_is is writes in let named = file_named now.0 writes in
+        reaches_as (open_part manner draft named now.0) (open_part manner (with_bytes bytes draft) named (still_made _ _ bytes now.0))
+        (reaches_by appends_leaves.owns (λ first last. writes_to _ told (ended_files manner draft) _ _ bytes _ fault
+        (closed_files manner 0 draft.ended) (last_file writer _ is last).1 appends.wrote));
+    short = never_short _ told slot bytes _ _ fault appends.wrote;
+    writes = where_well fault appends.current (λ current manner draft writes. let now = now_is is writes in
+        let grown = still_made _ _ bytes now.0 in
+        let count : length (shares_of draft) ≡ length (shares_of (with_bytes bytes draft)) =
+        grind (arith, common_steps, made_count) in
+        writes_on appends.same count
+        (rw current.1 (grown, counted_on writer.tells draft.bytes bytes size current.0 now.1 current.2)) writes);
+  }

@@ -28,7 +28,7 @@ enough_up_to : (alphabet : Alphabet) (number bound : ℕ) → number < radix alp
 enough_up_to alphabet number zero small = small
 enough_up_to alphabet number (suc bound) small =
     cond_both (nat_lt number (radix alphabet ^ bound)) (digits_up_to alphabet number bound) (suc bound) (λ count. number < radix alphabet ^ count)
-    (λ less. enough_up_to alphabet number bound (ltb-true _ _ less)) (λ more. small)
+    (λ less. enough_up_to _ _ bound (ltb-true _ _ less)) (λ more. small)
 
 -- and none of them can be left out
 least_up_to : (alphabet : Alphabet) (number bound count : ℕ) → number < radix alphabet ^ count
@@ -36,7 +36,7 @@ least_up_to : (alphabet : Alphabet) (number bound count : ℕ) → number < radi
 least_up_to alphabet number zero count small = omega arith
 least_up_to alphabet number (suc bound) count small =
     cond_both (nat_lt number (radix alphabet ^ bound)) (digits_up_to alphabet number bound) (suc bound) (λ digits. digits ≤ count)
-    (λ less. least_up_to alphabet number bound count small)
+    (λ less. least_up_to _ _ bound _ small)
     (λ more. elim (cases_lt bound count) [
       | inl less ↦ less
       | inr reached ↦
@@ -46,10 +46,10 @@ least_up_to alphabet number (suc bound) count small =
 
 -- a number is below the power of its own
 below_power : (alphabet : Alphabet) (number : ℕ) → number < radix alphabet ^ number
-below_power alphabet zero = power_positive alphabet 0
+below_power alphabet zero = power_positive _ 0
 below_power alphabet (suc number) =
     let half : suc number * 2 ≤ radix alphabet ^ number * radix alphabet = mul-le-mul
-    (below_power alphabet number) (omega (arith, many_characters alphabet)) in
+    (below_power _ number) (omega (arith, many_characters alphabet)) in
     rw pow-suc (omega arith)
 
 pub digits_enough : (alphabet : Alphabet) (number : ℕ) → number < radix alphabet ^ digit_count alphabet number
@@ -63,7 +63,7 @@ pub counted : (alphabet : Alphabet) {number log count : ℕ} → radix alphabet 
     → number < radix alphabet * radix alphabet ^ log → count ≡ suc log → count ≡ digit_count alphabet number
 counted alphabet {number} {log} least most is =
     let some : 0 < radix alphabet = omega (arith, many_characters) in
-    let few : digit_count alphabet number ≤ suc log = digits_needed alphabet number (suc log) (rw (pow-succ' (radix alphabet) log) most) in
+    let few : digit_count alphabet number ≤ suc log = digits_needed _ number (suc log) (rw (pow-succ' (radix alphabet) log) most) in
     elim (cases_lt log (digit_count alphabet number)) [
       | inl less ↦ omega arith
       | inr reached ↦ absurd (omega (arith, digits_enough alphabet number, pow-le-pow_right some reached))
@@ -72,17 +72,17 @@ counted alphabet {number} {log} least most is =
 -- more digits are enough too
 pub below_more : (alphabet : Alphabet) {number few count : ℕ} → number < radix alphabet ^ few → few ≤ count
     → number < radix alphabet ^ count
-below_more alphabet small more = grind (arith, common_steps, many_characters, pow-le-pow_right)
+below_more alphabet small more = grind (arith, many_characters, pow-le-pow_right)
 
 -- what is written of a number
 
 pub length_written : (alphabet : Alphabet) (width number : ℕ) → length (written alphabet width number) ≡ width
 length_written alphabet zero number = refl
-length_written alphabet (suc width) number = ap suc (length_written alphabet width (number % radix alphabet ^ width))
+length_written alphabet (suc width) number = ap suc (length_written _ _ _)
 
 length_marked : (form : Form) (number : ℕ)
     → length (marked form number) ≡ length (mark_of form number) + digits_written form number
-length_marked form number = grind (arith, common_steps, length-append, length_written)
+length_marked form number = grind (arith, length-append, length_written)
 
 -- what blanks make of a text
 before : {filling : Filling} (width : ℕ) (text : List ℕ) {blanks : ℕ} → filling ≡ BlanksBefore
@@ -122,10 +122,9 @@ IsDigit alphabet =
     (digit : ℕ) → digit < radix alphabet → (is_shown (character alphabet digit) ≡ true) × (digit_value (character alphabet digit) ≡ digit)
 
 are_digits : (base : Base) → IsDigit (alphabet_of base)
-are_digits base.Decimal digit small = (grind (arith, nat_tests), grind (arith, nat_tests))
-are_digits base.Octal digit small = (grind (arith, nat_tests), grind (arith, nat_tests))
-are_digits base.Hex digit small = (grind (arith, nat_tests), grind (arith, nat_tests))
-are_digits base.Capitals digit small = (grind (arith, nat_tests), grind (arith, nat_tests))
+are_digits base.Hex digit small = grind arith
+are_digits base.Capitals digit small = grind arith
+are_digits base digit small = grind arith
 
 -- so the digits are shown, and have the value of the number that they write after others
 written_value : (alphabet : Alphabet) → IsDigit alphabet → (width number front : ℕ) → number < radix alphabet ^ width
@@ -134,9 +133,9 @@ written_value : (alphabet : Alphabet) → IsDigit alphabet → (width number fro
 written_value alphabet digits zero number front small = grind (arith, common_steps, pow-zero)
 written_value alphabet digits (suc width) number front small =
     let r : ℕ = radix alphabet in let p : ℕ = r ^ width in let top : ℕ = number / p in
-    let digit = digits top (first_digit_small alphabet width number small) in
-    let rest = written_value alphabet digits width (number % p) (front * r + digit_value (character alphabet top))
-    (mod-lt number (power_positive alphabet width)) in
+    let digit = digits top (first_digit_small _ _ _ small) in
+    let rest = written_value _ digits width _ _
+    (mod-lt number (power_positive _ _)) in
     ap (λ shown. digits_value_after r front (cond shown (character alphabet top ∷ filter is_shown (written alphabet width (number % p)))
     (filter is_shown (written alphabet width (number % p))))) digit.0
     ∙ rest ∙ ap (λ value. (front * r + value) * p + number % p) digit.1
@@ -145,10 +144,9 @@ written_value alphabet digits (suc width) number front small =
 mark_value : (base : Base) (is_marked : Bool) (text : List ℕ)
     → value_in base (cond is_marked (hex_mark base) [] ++ text) ≡ value_in base text
 mark_value base false text = refl
-mark_value base.Decimal true text = refl
-mark_value base.Octal true text = refl
 mark_value base.Hex true text = refl
 mark_value base.Capitals true text = refl
+mark_value base true text = refl
 
 blanks_hidden : (count : ℕ) → filter is_shown (replicate count 32) ≡ []
 blanks_hidden zero = refl
@@ -163,10 +161,10 @@ filled_value base BlanksAfter width text = grind (arith, common_steps, filter-ap
 pub formatted_value : (form : Form) (number : ℕ) → value_in form.base (formatted form number) ≡ number
 formatted_value form number =
     let alphabet = alphabet_of form.base in
-    let enough : number < radix alphabet ^ digits_written form number = below_more alphabet (digits_enough alphabet number) (omega arith) in
+    let enough : number < radix alphabet ^ digits_written form number = below_more _ (digits_enough _ _) (omega arith) in
     filled_value form.base form.filling form.width (marked form number)
     ∙ mark_value form.base (form.is_marked && nat_lt 0 number) (written alphabet (digits_written form number) number)
-    ∙ written_value alphabet (are_digits form.base) (digits_written form number) number 0 enough ∙ omega arith
+    ∙ written_value _ (are_digits _) _ _ 0 enough ∙ omega arith
 
 -- so no two numbers are written alike
 pub no_two_alike : (form : Form) {one other : ℕ} → formatted form one ≡ formatted form other → one ≡ other

@@ -20,17 +20,37 @@ module _ {S : Type 0} (terms : Terms S) (told : Bool) (stage : S) (slots : List 
   refused : {fault : Fault} (due : List ℕ → Part) → (fault ≡ TooLong) ⊎ (fault ≡ Failed)
       → ((x : List ℕ) → terms.Holds stage x → Begins ((terms.work stage).settled x)
       (due x)) → CutsOff terms stage due told slots slots fault
-  refused due (inl is) grows before x at = rw is (cut refl (stopped_here _ told before _ _ TooLong slots slots at.outputs (grows x at.holds) refl tt tt))
-  refused due (inr is) grows before x at = rw is (cut refl (stopped_here _ told before _ _ Failed slots slots at.outputs (grows x at.holds) refl tt tt))
+  refused due (inl is) grows before x at = rw is (cut refl (stopped_here _ _ _ _ _ _ _ _ at.outputs (grows x at.holds) refl tt tt))
+  refused due (inr is) grows before x at = rw is (cut refl (stopped_here _ _ _ _ _ _ _ _ at.outputs (grows x at.holds) refl tt tt))
 
   pub pass_refused : {Met : List Slot → List Slot → Fault → Type 0} {fault : Fault} (piece : List ℕ)
       → (fault ≡ TooLong) ⊎ (fault ≡ Failed) → Met slots slots fault
       → Passes terms told piece stage stage slots slots Met (Err fault)
-  pass_refused piece is why = record { same = refl; size = omega arith; holds = tt; outputs = tt; ready = tt; owns = λ first own. own; there = λ are. are; cut = refused (λ x. (terms.work stage).settled (x ++ piece)) is (λ x holds. (lawful x holds).grows x piece); met = why }
+  pass_refused piece is why = record {
+    same = refl;
+    size = omega arith;
+    holds = tt;
+    outputs = tt;
+    ready = tt;
+    owns = λ first own. own;
+    there = λ are. are;
+    cut = refused (λ x. (terms.work stage).settled (x ++ piece)) is (λ x holds. (lawful x holds).grows x piece);
+    met = why;
+  }
 
   pub finish_refused : {Met : List Slot → List Slot → Fault → Type 0} → Met slots slots Failed
       → Finishes terms told stage stage slots slots Met (Err Failed)
-  finish_refused why = record { same = refl; size = omega arith; well = tt; outputs = tt; writable = tt; owns = λ first own. own; there = λ are. are; cut = refused (terms.work stage).whole (inr refl) (λ x holds. (lawful x holds).ends x); met = why }
+  finish_refused why = record {
+    same = refl;
+    size = omega arith;
+    well = tt;
+    outputs = tt;
+    writable = tt;
+    owns = λ first own. own;
+    there = λ are. are;
+    cut = refused (terms.work stage).whole (inr refl) (λ x holds. (lawful x holds).ends x);
+    met = why;
+  }
 
 -- why its stage stopped is why an engine did
 caused : (Met : Fault → Type 0) {is_over : Bool} (fed size : ℕ) (old new : List Slot) (result : Result (Unit {0}) Fault)

@@ -15,7 +15,7 @@ all_used work x going = grind (arith, common_steps)
 
 pub none_spare : (work : Work) (x : List ℕ) (n : ℕ) → IsLawful work → work.is_complete x ≡ false → IsSpare work x n
     → n ≡ 0
-none_spare work x n lawful going spare = grind (arith, common_steps)
+none_spare work x n lawful going spare = grind arith
 
 -- with what is used the output is complete, where it is with all
 pub complete_used : (work : Work) (x : List ℕ) (n : ℕ) (spare : IsSpare work x n) → work.is_complete x ≡ true

@@ -35,7 +35,7 @@ pub goes_again : {told : Bool} {one two three : WriterState} {first second : Dra
 goes_again {told} {three = three} {first} both {new = new} {fault} is begins before after = record {
   leaves = leaves_again before.leaves after.leaves;
   reaches = λ manner draft writes. reaches_again (begins manner draft) (before.reaches manner draft writes) (reaches_as refl (ap (draft_part manner) (sym (is draft))) (after.reaches manner (first draft) (before.writes manner draft writes)));
-  short = where_short fault after.short (λ short manner draft writes. let ran = short manner (first draft) (before.writes manner draft writes) in record {
+  short = where_short _ after.short (λ short manner draft writes. let ran = short manner (first draft) (before.writes manner draft writes) in record {
     none = subst (λ draft. manner.has_name (length draft.ended) ≡ false) (is draft) ran.none;
     begun = subst (λ draft. made_of draft.opening draft.bytes ≡ draft.bytes ∷ []) (is draft) ran.begun;
     all = λ old at. subst (λ draft. OutputsAt told old (draft_part manner draft) new) (is draft) (ran.all old ((before.reaches manner draft writes).there old at));

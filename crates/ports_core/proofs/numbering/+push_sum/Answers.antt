@@ -3,7 +3,7 @@ use Rattle.ports_core.proofs.CounterLemmas.{front_small, pushed}
 use Rattle.ports_core.proofs.numbering.+push_sum.Goals as goal
 
 pub push_sum-requires : goal.push_sum-requires
-push_sum-requires t c = grind (arith, common_steps, front_small)
+push_sum-requires t c = grind (arith, front_small)
 
 pub returns : goal.returns
 returns t c = grind (arith, common_steps, IfOk-weaker, pushed)
