@@ -1,10 +1,10 @@
 -- Lemmas on what all continuations agree on.
 use Rattle.std.proofs.{
   lemmas.{
-    Grind.common_steps,
-    List.{append-nil, get_or_append_left, get_or-replicate, length-map, length-replicate},
-    Bool.cases_lt,
-  },
+  Grind.common_steps,
+  List.{append-nil, get_or_append_left, get_or-replicate, length-map, length-replicate},
+  Bool.cases_lt,
+},
   Common.{◌≡◌, ◌≢◌, ℕ, ◌+◌, ◌-◌, ◌<◌, ◌≤◌, zero, suc, List, [], ◌∷◌, ◌++◌, length, get_or, replicate, inl},
   Common.{inr, sym},
   Common.{◌∙◌, ap, arith, length-append, lit<, map, take, drop, refl, rules, subst},
@@ -12,10 +12,10 @@ use Rattle.std.proofs.{
 }
 use Rattle.ports_core.{
   specs.{
-    Part.{IsBeginning, Begins, File, Part, FilesBegin},
-    Work.{Work, IsLawful},
-    Agreed.{AgreeOn, CanCome, DifferOn, outputs_of, output_at, IsAgreed, Spot, spot, spots_from, GoesTo, ArePlaced},
-  },
+  Part.{IsBeginning, Begins, File, Part, FilesBegin},
+  Work.{Work, IsLawful},
+  Agreed.{AgreeOn, CanCome, DifferOn, outputs_of, output_at, IsAgreed, Spot, spot, spots_from, GoesTo, ArePlaced},
+},
   proofs.PartLemmas.{part_trans, no_fewer},
 }
 
@@ -258,9 +258,6 @@ files_at (file ∷ low) [] place begins less = absurd begins
 files_at (file ∷ low) (whole ∷ high) zero begins less = begins.4
 files_at (file ∷ low) (whole ∷ high) (suc place) begins less = files_at low _ _ begins.5 (omega arith)
 
-outputs_fewer : {low high : Part} → Begins low high → length (outputs_of low) ≤ length (outputs_of high)
-outputs_fewer begins = grind (arith, no_fewer, length-map)
-
 begins_at : {low high : Part} (place : ℕ) → Begins low high → place < length (outputs_of low)
     → IsBeginning (output_at low place) (output_at high place)
 begins_at zero begins less = begins.out
@@ -269,7 +266,7 @@ begins_at {low} {high} (suc place) begins less = files_at _ _ _ begins.files (om
 -- as many outputs
 no_more : (work : Work) {x : List ℕ} (one other : Part) → IsAgreed work x one → IsAgreed work x other
     → length (outputs_of one) ≤ length (outputs_of other)
-no_more work one other agreed also = grind (arith, common_steps, outputs_fewer, common)
+no_more work one other agreed also = grind (arith, common_steps, no_fewer, length-map, common)
 
 -- and in each as many bytes
 no_longer : (work : Work) {x : List ℕ} (one other : Part) (place : ℕ) → IsAgreed work x one → IsAgreed work x other

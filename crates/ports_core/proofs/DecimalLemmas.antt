@@ -1,29 +1,27 @@
 -- Numbers in decimal, as the library prints them, filled with zeros.
 use Rattle.std.proofs.{
   lemmas.{
-    Grind.common_steps,
-    List.length-append,
-    Fmt.{decimal_by_steps, decimal_is_IsNumeral, decimal_nonempty, length-decimal-le},
-    Int.Digits.digits_value-lt,
-  },
+  Grind.common_steps,
+  List.length-append,
+  Fmt.{decimal_by_steps, decimal_is_IsNumeral, decimal_nonempty, length-decimal-le},
+  Int.Digits.digits_value-lt,
+},
   Common.{◌≡◌, ℕ, ◌+◌, ◌-◌, ◌/◌, ◌%◌, ◌^◌, ◌<◌, ◌≤◌, zero, suc, max, List, [], ◌∷◌, ◌++◌, length},
   Common.{replicate, decimal},
   Common.{refl, sym, ◌∙◌, ap, subst, arith, append_assoc, rules},
 }
 use Rattle.ports_core.{
   specs.{
-    declared.{alphabet.Alphabet.TheVariants.Digits, form.Form.Form},
-    Name.{decimal_form, digit_count, digits_written, formatted, marked, written, zero_filled},
-  },
+  declared.{alphabet.Alphabet.TheVariants.Digits, form.Form.Form},
+  Name.{decimal_form, digit_count, digits_written, formatted, marked, written, zero_filled},
+},
   proofs.{CounterLemmas.more_digits, FormLemmas.{below_more, digits_enough, digits_needed}},
 }
+use Rattle.ports_core.proofs.FormLemmas.{least_up_to}
 
 zeros : (width : ℕ) → written Digits width 0 ≡ replicate width 48
 zeros zero = refl
 zeros (suc width) = grind (arith, common_steps, zeros width)
-
-front_digits : (width : ℕ) {n : ℕ} → n < 10 ^ suc width → n / 10 < 10 ^ width
-front_digits width small = search rules
 
 last_digit : (width : ℕ) {n : ℕ} → n < 10 ^ suc width
     → written Digits (suc width) n ≡ written Digits width (n / 10) ++ (48 + n % 10) ∷ []
@@ -46,7 +44,7 @@ fills_more n digits ten fills (suc width) small =
     let count : suc (suc width) - length (digits ++ (48 + n % 10) ∷ []) ≡ suc width - length digits = omega
     (arith, length-append digits ((48 + n % 10) ∷ [])) in
     ap (λ zeros. replicate zeros 48 ++ (digits ++ (48 + n % 10) ∷ [])) count ∙ sym (append_assoc (replicate (suc width - length digits) 48) digits _)
-    ∙ ap (λ front. front ++ (48 + n % 10) ∷ []) (fills _ (front_digits _ small)) ∙ sym (last_digit _ small)
+    ∙ ap (λ front. front ++ (48 + n % 10) ∷ []) (fills _ (search rules)) ∙ sym (last_digit _ small)
 
 pub fills : (width n : ℕ) → 0 < width → n < 10 ^ width → n < 2 ^ 64
     → zero_filled width (decimal n) ≡ written Digits width n

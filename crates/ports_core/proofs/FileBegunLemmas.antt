@@ -28,32 +28,31 @@ use Rattle.ports_core.proofs.{
   PartSteps.{Becomes, becomes_again, with_last, begun_out, file_begins, file_of, line_begins, out_added, writes_to},
   PartSteps.{opens, falls_wider, close_begins, closes_last, closes_not},
   OpenLemmas.{IsNextName, opens_not, stops_opening},
-  ShareLemmas.{stopped_part, part_grows, closed_files, ended_files, name_after, open_part, closed_part, none_part},
+  ShareLemmas.{stopped_part, part_grows, closed_files, ended_files, name_after, open_part, none_part},
   SlotLemmas.length-changed_at,
-  SlotSteps.{KeepsMade, opened_last, writable_within, close_rose, keeps_write, written_writable, keeps_open},
+  SlotSteps.{KeepsMade, writable_within, close_rose, keeps_write, written_writable, keeps_open},
   SlotSteps.{writable_before, made_again, opened_writable, made_close, made_break, keeps_close, writable_elsewhere},
   WriteLemmas.none_written,
   FileWriterLemmas.{tells_line, reaches_by, reaches_as, made_count, where_well, in_any, leaves_again, leaves_still},
-  FileWriterLemmas.{at_file, last_file, can_tell, there_same, owned_same, owned_opened, owned_unopened, make_breaks},
+  FileWriterLemmas.{at_file, last_file, can_tell, there_same, owned_opened, owned_unopened, make_breaks},
   FileWriterLemmas.{line_breaks, now_is, file_named, goes_still, never_short, wrote_leaves, appends_leaves, counted_on},
   FileWriterLemmas.{none_counted, writes_on},
 }
 use Rattle.ports_core.specs.inner.Write as short
 use Rattle.ports_core.specs.declared.fault.Fault.TheVariants as fault
 use Rattle.ports_core.specs.declared.slot.State.TheVariants as state
+use Rattle.ports_core.proofs.ShareLemmas.{next_shares}
+use Rattle.ports_core.proofs.ShareLemmas.{part_last}
+use Rattle.ports_core.proofs.ShareLemmas.{files_stop}
+use Rattle.ports_core.proofs.FileWriterLemmas.{opened_by}
+use Rattle.ports_core.proofs.ShareLemmas.{told-append}
+use Rattle.ports_core.proofs.PartSteps.{front_begins}
+use Rattle.ports_core.proofs.PartSteps.{more_files}
 
 -- What makes no file
 
 pub never_made : (draft : Draft) → draft.opening ≡ Never → made_of draft.opening draft.bytes ≡ []
 never_made draft is = search rules
-
-pub skipped_made : (tells : Tells) {current : Current} → current ≡ Skipped → (draft : Draft)
-    → IsCurrent tells draft.opening draft.bytes current → made_of draft.opening draft.bytes ≡ []
-skipped_made tells is draft now = search rules
-
-pub due_made : (tells : Tells) {current : Current} → current ≡ Due → (draft : Draft)
-    → IsCurrent tells draft.opening draft.bytes current → made_of draft.opening draft.bytes ≡ []
-due_made tells is draft now = search rules
 
 -- A file is made for what is begun.
 
@@ -75,10 +74,6 @@ module _ {manner : Manner} {writer : WriterState} {draft : Draft} (none : made_o
   due_name : next_name writer.names ≡ name_after manner draft
   due_name = grind (arith, common_steps, unmade_count)
 
-  -- whether it has one
-  due_has : writer.names.drawn < 2 ^ 64 → has_next writer.names ≡ manner.has_name (length draft.ended)
-  due_has few = grind (arith, common_steps, unmade_count)
-
   -- what standard output is told of it first
   line_told : line_next writer.tells writer.names ≡ told_before manner.output (name_after manner draft)
   line_told = grind (arith, common_steps, due_name)
@@ -86,7 +81,7 @@ module _ {manner : Manner} {writer : WriterState} {draft : Draft} (none : made_o
   -- all files up to it have names then
   due_named : (next : Draft) → writer.names.drawn < 2 ^ 64 → Unwritten draft next → IsTrue (has_next writer.names)
       → AreNamed manner (suc (length next.ended))
-  due_named next few so has = grind (arith, common_steps, cases_lt, unmade_shares, due_has)
+  due_named next few so has = grind (arith, common_steps, cases_lt, unmade_shares, unmade_count)
 
   -- the part with it
   due_part : (next : Draft) → writer.names.drawn < 2 ^ 64 → Unwritten draft next → IsTrue (has_next writer.names)
@@ -187,7 +182,7 @@ module _ {told : Bool} {writer next : WriterState} {change : Draft → Draft} {o
         → RunsShort told writer change manner draft old new
     ran (no_name few none same) =
         let lacks : manner.has_name (length (change draft).ended) ≡ false =
-        grind (arith, common_steps, due_has, none) in record {
+        grind (arith, common_steps, unmade_count, none) in record {
           none = lacks;
           begun = so.makes;
           all = grind (arith, common_steps, same, stopped_part, append-nil);
@@ -218,7 +213,7 @@ goes_made {told} {writer} {made} {next} {change} {slot} bytes {old} {mid} {new} 
       (due_part so.none writes (change draft) makes.few so makes.named ∙ ap (λ those. with_last (begun_out manner.output (ended_files manner draft) (name_after manner draft)) (ended_files manner draft) (file_of (name_after manner draft) those state.Open)) are)
       (reaches_by leaves.owns (λ first last. becomes_again (part_trans _ _ _ (line_begins (told_before manner.output (name_after manner draft))) (file_begins (ended_files manner draft) (file_of (name_after manner draft) [] state.Open)))
       (made_becomes manner draft (due_name so.none writes) (ap (λ line. with_written 0 (told_of told line) old) (line_told so.none writes)) makes)
-      (writes_to manner.output told (ended_files manner draft) (name_after manner draft) [] bytes mid fault (closed_files manner 0 draft.ended) (opened_last _ mid slot (next_name writer.names) Fresh makes.place makes.added) appends.wrote)));
+      (writes_to manner.output told (ended_files manner draft) (name_after manner draft) [] bytes mid fault (closed_files manner 0 draft.ended) (grind (arith, common_steps)) appends.wrote)));
   short = grind (arith, common_steps, never_short);
   writes = where_well fault appends.current (λ current manner draft writes. let (so, are) = of draft writes.current in
       let count : length (shares_of (change draft)) ≡ length draft.ended + 1 =
@@ -247,29 +242,13 @@ first_bytes tells bytes is some draft now = search rules
 
 -- What is begun where nothing is
 
-paused_ready : {writer : WriterState} {slots : List Slot} → IsReady writer slots → IsReady (paused writer) slots
+pub paused_ready : {writer : WriterState} {slots : List Slot} → IsReady writer slots → IsReady (paused writer) slots
 paused_ready ready = grind (arith, common_steps)
 
 -- what was begun had no file
-ended_none : (draft : Draft) → made_of draft.opening draft.bytes ≡ []
+pub ended_none : (draft : Draft) → made_of draft.opening draft.bytes ≡ []
     → draft.ended ++ made_of draft.opening draft.bytes ≡ draft.ended
 ended_none draft none = search rules
-
--- what has no file is begun, after what has none
-pub begins_none : {told : Bool} {writer : WriterState} {opening : Opening} (current : Current) {slots : List Slot}
-    → ((draft : Draft) → IsCurrent writer.tells draft.opening draft.bytes writer.current
-    → made_of draft.opening draft.bytes ≡ [])
-    → made_of opening [] ≡ [] → IsCurrent writer.tells opening [] current → IsOpenAt current slots
-    → ((first : ℕ) → IsLast current first slots) → IsReady writer slots
-    → Goes told writer (with_next opening) slots slots (record writer { current = current }) None
-begins_none current before none is_current at last ready =
-    grind (arith, common_steps, goes_still, ended_none)
-
-pub begin_none : {told : Bool} {writer : WriterState} {opening : Opening} (current : Current) {slots : List Slot}
-    → made_of opening [] ≡ [] → IsCurrent writer.tells opening [] current → IsOpenAt current slots
-    → ((first : ℕ) → IsLast current first slots) → IsReady writer slots
-    → Goes told (paused writer) (with_next opening) slots slots (record writer { current = current }) None
-begin_none current none is_current at last ready = grind (arith, common_steps, begins_none, never_made, paused_ready)
 
 -- what has one at once is begun
 pub at_once : {opening : Opening} → opening ≡ AtOnce → (draft : Draft) → draft.opening ≡ Never
@@ -299,13 +278,6 @@ begin_made {told} {next = next} {slot = slot} is ready made =
 
 -- What is begun ends, and what is next begins.
 
--- it has no file
-pub end_none : {told : Bool} {writer : WriterState} {current : Current} {slots : List Slot} → current ≡ Skipped
-    → ((draft : Draft) → IsCurrent writer.tells draft.opening draft.bytes writer.current
-    → made_of draft.opening draft.bytes ≡ []) → IsReady writer slots
-    → Goes told writer (with_next Never) slots slots (record writer { current = current }) None
-end_none is none ready = grind (arith, common_steps, begins_none)
-
 -- it has one
 
 file_ends : {manner : Manner} {writer : WriterState} {draft : Draft} (slot size : ℕ) → writer.current ≡ File slot size
@@ -317,7 +289,7 @@ file_ends {draft = draft} slot size is writes =
 
 file_closed : {writer : WriterState} {old new : List Slot} → KeepsMade old new
     → KeepsFiles writer (paused writer) old new
-file_closed keeps = owned_same refl refl (λ first last. tt) keeps
+file_closed keeps = search (rules, there_same)
 
 closed_can : (slot : ℕ) (old new : List Slot) → 2 ≤ slot → new ≡ changed_at slot closes old → IsTrue (is_writable old 0)
     → IsTrue (is_writable new 0)
@@ -375,7 +347,7 @@ close_not {told} {writer} slot size {old} {new} is ready which broken = subst (�
     ready = tt;
   };
   reaches = λ manner draft writes. let now = now_is is writes in let named = file_named now.0 writes in
-      reaches_as (open_part manner draft named now.0) (closed_part manner draft named now.0)
+      reaches_as (open_part manner draft named now.0) (grind (arith, common_steps, next_shares, part_last))
       (reaches_by owns (λ first last. falls_wider (closes_not manner.output told (ended_files manner draft) (name_after manner draft) draft.bytes old
       (closed_files manner 0 draft.ended) (last_file writer old is last).1 broken) (closed_begins manner.output (ended_files manner draft) (name_after manner draft) draft.bytes)));
   short = λ short_is. absurd (cc);
@@ -429,7 +401,7 @@ pub end_told : {told : Bool} {writer : WriterState} (slot size : ℕ) {old mid n
 end_told {told} {writer} slot size {old} {mid} {new} {fault} is ready closed tells = record {
   leaves = leaves;
   reaches = λ manner draft writes. let now = now_is is writes in let named = file_named now.0 writes in
-      reaches_as (open_part manner draft named now.0) (closed_part manner draft named now.0) (reaches_by leaves.owns (λ first last. becomes_again
+      reaches_as (open_part manner draft named now.0) (grind (arith, common_steps, next_shares, part_last)) (reaches_by leaves.owns (λ first last. becomes_again
       (close_begins _ (ended_files manner draft) (name_after manner draft) draft.bytes)
       (closes_last manner.output told _ (ended_files manner draft) (name_after manner draft) draft.bytes old (last_file writer old is last).1 closed)
       (tells_file writer.tells manner.output told size (ended_files manner draft) (file_of (name_after manner draft) draft.bytes state.Closed) mid fault writes.same.output refl now.1 (closed_files manner 0 draft.ended)

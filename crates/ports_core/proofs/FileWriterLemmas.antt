@@ -33,7 +33,7 @@ use Rattle.ports_core.proofs.{
   PartSteps.{out_added, writes_to},
   ShareLemmas.{closed_files, ended_files, name_after, open_part, none_part, still_made, made_or},
   SlotLemmas.length-changed_at,
-  SlotSteps.{KeepsFiled, KeepsMade, filed_more, filed_same, none_past, file_before, at_end, write_rose, keeps_write},
+  SlotSteps.{KeepsFiled, KeepsMade, filed_more, filed_same, none_past, write_rose, keeps_write},
   SlotSteps.{made_write, written_writable, made_short, open_rose, rose_later, keeps_again},
   SweepLemmas.by_place,
 }
@@ -171,10 +171,6 @@ where_three fault one two three follows = grind (arith, common_steps)
 pub well_in : {T : Type 0} (A : Type 0) (result : Result T Fault) → OnOk result A → IfNone (fault_in result) A
 well_in A result holds = grind (arith, common_steps)
 
-owns_again : {one two three : WriterState} {old mid new : List Slot} → KeepsFiles one two old mid
-    → KeepsFiles two three mid new → KeepsFiles one three old new
-owns_again before after = grind (arith, common_steps)
-
 pub breaks_later : {manner other : Manner} (old mid new : List Slot) (fault : Fault) → other ≡ manner
     → KeepsBroken old mid → Breaks other mid new fault → Breaks manner old new fault
 breaks_later old mid new fault same keeps breaks = grind (arith, common_steps)
@@ -192,7 +188,7 @@ same_manner leaves = cc (leaves.naming, leaves.tells)
 pub leaves_again : {one two three : WriterState} {old mid new : List Slot} {fault : Option Fault}
     → Leaves one two old mid None → Leaves two three mid new fault → Leaves one three old new fault
 leaves_again first second =
-    grind (arith, common_steps, owns_again, slots_again, same_manner, where_well)
+    grind (arith, common_steps, slots_again, same_manner, where_well)
 
 pub keeps_files : {writer : WriterState} {slots : List Slot} → KeepsFiles writer writer slots slots
 keeps_files = record { owns = λ first owns. owns; there = λ are. are }
@@ -232,11 +228,6 @@ there_still (place ∷ files) old new keeps are = grind (arith, common_steps, th
 pub there_same : (files : List ℕ) {old new : List Slot} → KeepsMade old new → AreThere files old → AreThere files new
 there_same files keeps are = there_still files _ _ (λ place has. keeps.same place ∙ has) are
 
-pub owned_same : {writer next : WriterState} {old new : List Slot} → next.files ≡ writer.files
-    → next.keeps ≡ writer.keeps → ((first : ℕ) → IsLast writer.current first old → IsLast next.current first new)
-    → KeepsMade old new → KeepsFiles writer next old new
-owned_same same keeps_as last keeps = search (rules, there_same)
-
 -- one file more
 
 among_more : (place slot : ℕ) (files : List ℕ)
@@ -249,22 +240,22 @@ there_more : (files : List ℕ) (slots : List Slot) (name : List ℕ) {slot : �
     → AreThere files slots → AreThere (files ++ slot ∷ []) (slots ++ opened name Fresh ∷ [])
 there_more [] slots name at two are = grind (arith, common_steps)
 there_more (place ∷ files) slots name at two are =
-    grind (arith, common_steps, file_before, among_more, ne_eqb, there_more files slots name)
+    grind (arith, common_steps, among_more, ne_eqb, there_more files slots name)
 
 there_before : (files : List ℕ) (old : List Slot) (one : Slot) {new : List Slot} → new ≡ old ++ one ∷ []
     → AreThere files old → AreThere files new
 there_before [] old one added are = tt
 there_before (place ∷ files) old one added are =
-    grind (arith, common_steps, file_before, there_before files _ _ added are.2)
+    grind (arith, common_steps, there_before files _ _ added are.2)
 
-opened_by : (keeps : Keeps) {writer : WriterState} {slot : ℕ} {old new : List Slot} (name : List ℕ) {names : Names}
+pub opened_by : (keeps : Keeps) {writer : WriterState} {slot : ℕ} {old new : List Slot} (name : List ℕ) {names : Names}
     → 2 ≤ length old → writer.keeps ≡ keeps → slot ≡ length old → new ≡ old ++ opened name Fresh ∷ []
     → KeepsFiles writer
     (record writer { names = names; files = files_with keeps writer.files slot; current = File slot 0 }) old new
 opened_by OpenOne name two is at added =
     grind (arith, common_steps, length-append, there_before)
 opened_by All name two is at added =
-    grind (arith, common_steps, by_place, or-false, among_more, there_more, cases_lt, none_past, file_before, at_end, eq-eqb, false≢true)
+    grind (arith, common_steps, by_place, or-false, among_more, there_more, cases_lt, none_past, eq-eqb, false≢true)
 
 pub owned_opened : {writer next : WriterState} {slot : ℕ} {old new : List Slot} → 2 ≤ length old
     → Made writer old new next slot → KeepsFiles writer next old new
@@ -319,7 +310,7 @@ line_breaks told naming line can (short.broke n cut) = grind (arith, common_step
 
 -- The line with a file's size.
 
-one_left : (n all : ℕ) → n < all → take {A = ℕ} 1 (drop n (replicate all 10)) ≡ 10 ∷ []
+pub one_left : (n all : ℕ) → n < all → take {A = ℕ} 1 (drop n (replicate all 10)) ≡ 10 ∷ []
 one_left zero (suc all) less = refl
 one_left (suc n) (suc all) less = one_left n _ (omega arith)
 one_left n all less = absurd (omega arith)
@@ -367,10 +358,6 @@ pub goes_still : {told : Bool} {writer : WriterState} {change : Draft → Draft}
 goes_still {writer = writer} current {slots} ready at last stays = grind (arith, common_steps, reaches_still) where
   keeps : KeepsFiles writer (record writer { current = current }) slots slots
   keeps = grind (arith, common_steps)
-
-pub put_skipped : {told : Bool} {writer : WriterState} (bytes : List ℕ) {slots : List Slot} → writer.current ≡ Skipped
-    → IsReady writer slots → Goes told writer (with_bytes bytes) slots slots writer None
-put_skipped bytes is ready = grind (arith, common_steps, goes_still)
 
 -- nothing more is written
 pub put_nothing : {told : Bool} {writer : WriterState} {bytes : List ℕ} {slots : List Slot} → bytes ≡ []
@@ -434,7 +421,7 @@ wrote_leaves told {writer} {next} slot bytes {old} {new} fault same last slots s
   made = wrote_made told _ _ _ _ _ wrote
 
   owns : KeepsFiles writer next old new
-  owns = grind (arith, common_steps, owned_same, made)
+  owns = grind (arith, common_steps, there_same, made)
 
 -- bytes can be counted where 64 bits count them
 pub can_count : (tells : Tells) (size : ℕ) (bytes : List ℕ) → size + length bytes < 2 ^ 64 → CanCount tells size bytes

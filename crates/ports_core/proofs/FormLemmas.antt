@@ -11,14 +11,15 @@ use Rattle.std.proofs.{
 use Rattle.std.specs.{Str.Parse.{digits_value, digits_value_after}, Char.digit_value}
 use Rattle.ports_core.{
   specs.declared.{
-    alphabet.Alphabet.Alphabet,
-    form.{Base.Base, Filling.{Filling, TheVariants.{Zeros, BlanksBefore, BlanksAfter}}, Form.Form},
-  },
+  alphabet.Alphabet.Alphabet,
+  form.{Base.Base, Filling.{Filling, TheVariants.{Zeros, BlanksBefore, BlanksAfter}}, Form.Form},
+},
   specs.Name.{radix, character, written, alphabet_of, digits_up_to, digit_count, digits_written, filled, formatted},
   specs.Name.{hex_mark, mark_of, marked},
-  proofs.CounterLemmas.{first_digit_small, many_characters, power_positive},
+  proofs.CounterLemmas.{many_characters, power_positive},
 }
 use Rattle.ports_core.specs.declared.form.Base.TheVariants as base
+use Rattle.std.proofs.Common.{div-lt_iff_lt-mul}
 
 -- how many digits a number has
 
@@ -31,7 +32,7 @@ enough_up_to alphabet number (suc bound) small =
     (λ less. enough_up_to _ _ bound (ltb-true _ _ less)) (λ more. small)
 
 -- and none of them can be left out
-least_up_to : (alphabet : Alphabet) (number bound count : ℕ) → number < radix alphabet ^ count
+pub least_up_to : (alphabet : Alphabet) (number bound count : ℕ) → number < radix alphabet ^ count
     → digits_up_to alphabet number bound ≤ count
 least_up_to alphabet number zero count small = omega arith
 least_up_to alphabet number (suc bound) count small =
@@ -80,32 +81,14 @@ pub length_written : (alphabet : Alphabet) (width number : ℕ) → length (writ
 length_written alphabet zero number = refl
 length_written alphabet (suc width) number = ap suc (length_written _ _ _)
 
-length_marked : (form : Form) (number : ℕ)
-    → length (marked form number) ≡ length (mark_of form number) + digits_written form number
-length_marked form number = grind (arith, length-append, length_written)
-
 -- what blanks make of a text
-before : {filling : Filling} (width : ℕ) (text : List ℕ) {blanks : ℕ} → filling ≡ BlanksBefore
+pub before : {filling : Filling} (width : ℕ) (text : List ℕ) {blanks : ℕ} → filling ≡ BlanksBefore
     → blanks ≡ width - length text → filled filling width text ≡ replicate blanks 32 ++ text
 before width text filling blanks = rw (filling, blanks) refl
 
-after : {filling : Filling} (width : ℕ) (text : List ℕ) {blanks : ℕ} → filling ≡ BlanksAfter
+pub after : {filling : Filling} (width : ℕ) (text : List ℕ) {blanks : ℕ} → filling ≡ BlanksAfter
     → blanks ≡ width - length text → filled filling width text ≡ text ++ replicate blanks 32
 after width text filling blanks = rw (filling, blanks) refl
-
-pub blanks_before : (form : Form) (number : ℕ) {size blanks : ℕ} (old : List ℕ) {middle new : List ℕ}
-    → form.filling ≡ BlanksBefore → size ≡ length (mark_of form number) + digits_written form number
-    → blanks ≡ form.width - size → middle ≡ old ++ replicate blanks 32 → new ≡ middle ++ marked form number
-    → new ≡ old ++ formatted form number
-blanks_before form number old filling size blanks front all =
-    grind (arith, common_steps, append_assoc, before, length_marked)
-
-pub blanks_after : (form : Form) (number : ℕ) {size blank : ℕ} (old : List ℕ) {middle new : List ℕ}
-    → form.filling ≡ BlanksAfter → size ≡ length (mark_of form number) + digits_written form number
-    → blank ≡ form.width - size → middle ≡ old ++ marked form number → new ≡ middle ++ replicate blank 32
-    → new ≡ old ++ formatted form number
-blanks_after form number {blank} old filling size blanks front all =
-    grind (arith, common_steps, length_marked, append_assoc, after)
 
 -- what is read of it
 
@@ -133,7 +116,7 @@ written_value : (alphabet : Alphabet) → IsDigit alphabet → (width number fro
 written_value alphabet digits zero number front small = grind (arith, common_steps, pow-zero)
 written_value alphabet digits (suc width) number front small =
     let r : ℕ = radix alphabet in let p : ℕ = r ^ width in let top : ℕ = number / p in
-    let digit = digits top (first_digit_small _ _ _ small) in
+    let digit = digits top (grind (arith, common_steps, pow-suc, div-lt_iff_lt-mul, power_positive)) in
     let rest = written_value _ digits width _ _
     (mod-lt number (power_positive _ _)) in
     ap (λ shown. digits_value_after r front (cond shown (character alphabet top ∷ filter is_shown (written alphabet width (number % p)))

@@ -5,12 +5,12 @@ use Rattle.std.proofs.{
 }
 use Rattle.ports_core.{
   specs.{
-    Slot.Slot,
-    Part.{Part, Begins},
-    Work.IsLawful,
-    Engine.{CutsOff, Terms, Finishes, IsCaused, Passes, cut, met},
-    declared.fault.Fault.{Fault, TheVariants.{Failed, TooLong}},
-  },
+  Slot.Slot,
+  Part.{Part, Begins},
+  Work.IsLawful,
+  Engine.{CutsOff, Terms, Finishes, IsCaused, Passes, cut, met},
+  declared.fault.Fault.{Fault, TheVariants.{Failed, TooLong}},
+},
   proofs.PartLemmas.stopped_here,
 }
 
@@ -53,7 +53,7 @@ module _ {S : Type 0} (terms : Terms S) (told : Bool) (stage : S) (slots : List 
   }
 
 -- why its stage stopped is why an engine did
-caused : (Met : Fault → Type 0) {is_over : Bool} (fed size : ℕ) (old new : List Slot) (result : Result (Unit {0}) Fault)
+pub caused : (Met : Fault → Type 0) {is_over : Bool} (fed size : ℕ) (old new : List Slot) (result : Result (Unit {0}) Fault)
     → is_over ≡ false → IfErr result Met → IfErr result (IsCaused Met is_over fed size old new)
 caused Met fed size old new (Ok u) going why = tt
 caused Met fed size old new (Err fault) going why = met fault going why
@@ -64,14 +64,3 @@ pub passes_caused : {S : Type 0} {terms : Terms S} {told is_over : Bool} {fed si
     → Passes terms told piece stage next old new Met result
     → Passes terms told piece stage next old new (λ old new. IsCaused (Met old new) is_over fed size old new) result
 passes_caused going passes = search (rules, caused)
-
-pub finishes_caused : {S : Type 0} {terms : Terms S} {told is_over : Bool} {fed size : ℕ} {stage next : S}
-    {old new : List Slot} {Met : List Slot → List Slot → Fault → Type 0} {result : Result (Unit {0}) Fault}
-    → is_over ≡ false
-    → Finishes terms told stage next old new Met result
-    → Finishes terms told stage next old new (λ old new. IsCaused (Met old new) is_over fed size old new) result
-finishes_caused going finishes = search (rules, caused)
-
--- a piece is too long for what came in
-pub is_long : (fed size : ℕ) {most : ℕ} → (fed + size < most → ⊥) → most ≤ fed + size
-is_long fed size many = grind (arith, common_steps)

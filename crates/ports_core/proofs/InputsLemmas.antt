@@ -6,10 +6,10 @@ use Rattle.std.proofs.{
 }
 use Rattle.ports_core.{
   specs.{
-    Inputs.{AsksAtMost, CameFrom, KeepsOthers, OfContent},
-    Slot.changed_at,
-    Source.{Content, ReadFails, Source, source_at, is_readable, gives, Gave, BrokeOff, IsFresh},
-  },
+  Inputs.{AsksAtMost, CameFrom, KeepsOthers, OfContent},
+  Slot.changed_at,
+  Source.{Content, ReadFails, Source, source_at, is_readable, gives, Gave, BrokeOff, IsFresh},
+},
   proofs.{SlotLemmas.{changed_there, elsewhere, length-changed_at}, SourceLemmas.readable_within},
 }
 
@@ -69,11 +69,6 @@ pub read_broken : (content : Content) (x : List ℕ) (slot : ℕ) (sources : Lis
     → BrokeOff (source_at sources slot).left → (content.bytes ≡ x) × (content.breaks_off ≡ true)
 read_broken content x slot sources read broke = grind (arith, append-nil)
 
--- an input that can be read is open
-pub open_at : (sources : List Source) (slot : ℕ) → IsTrue (is_readable sources slot)
-    → (source_at sources slot).is_open ≡ true
-open_at sources slot can = grind arith
-
 -- an input that can be read came from its source, where it doesn't break off
 pub came_sound : (told : Bool) {content : Content} (sources : List Source) (slot : ℕ)
     → IsTrue (is_readable sources slot) → (told ≡ false → content.breaks_off ≡ false)
@@ -84,7 +79,7 @@ came_sound told sources slot can sound = grind arith
 pub came_broken : (told : Bool) {content : Content} (slot size : ℕ) (sources new : List Source)
     → IsTrue (is_readable sources slot) → ReadFails slot size sources new
     → (told ≡ false → content.breaks_off ≡ true) → CameFrom told content (source_at new slot)
-came_broken told slot size sources new can (why, is) broken = grind (arith, changed_source, open_at)
+came_broken told slot size sources new can (why, is) broken = grind (arith, changed_source)
 
 pub of_content : (told : Bool) (there seen : Content) (source : Source) (P : Content → Type 0) → (told ≡ true → P there)
     → (told ≡ false → P seen) → source.is_open ≡ true → seen.breaks_off ≡ source.is_broken

@@ -6,16 +6,16 @@ use Rattle.std.proofs.{
 }
 use Rattle.ports_core.{
   specs.{
-    Slot.changed_at,
-    Source.{Source, source_at, is_readable, looks, skips},
-    Inputs.{HasLooked, PassesOver},
-    Engine.{Terms, Loads, TookIn},
-  },
+  Slot.changed_at,
+  Source.{Source, source_at, is_readable, looks, skips},
+  Inputs.{HasLooked, PassesOver},
+  Engine.{Terms, Loads, TookIn},
+},
   proofs.{
-    InputsLemmas.{changed_source, keeps_again, keeps_itself, keeps_others},
-    SlotLemmas.changed_there,
-    SourceLemmas.readable_within,
-  },
+  InputsLemmas.{changed_source, keeps_again, keeps_itself, keeps_others},
+  SlotLemmas.changed_there,
+  SourceLemmas.readable_within,
+},
 }
 
 -- an input of which nothing is passed over is as it was
@@ -108,13 +108,12 @@ passes_so Keeps passes so = grind arith
 -- a stage that takes in none stays as it was
 
 module _ {S : Type 0} (terms : Terms S) where
-  took_none : {stage : S} → terms.Holds stage [] → terms.size stage ≡ 0 → TookIn terms stage stage []
-  took_none fresh none = grind arith
+
 
   pub loads_none : (told : Bool) {slot : ℕ} {stage : S} {sources : List Source} → terms.Holds stage []
       → terms.size stage ≡ 0
       → Loads terms told slot 0 stage stage sources sources
-  loads_none told fresh none = passes_none _ _ (took_none fresh none)
+  loads_none told fresh none = passes_none _ _ (grind arith)
 
   -- also where more might have been passed over
   pub loads_still : {told : Bool} {slot : ℕ} {Before : List ℕ → Type 0} {stage : S} {old new : List Source}

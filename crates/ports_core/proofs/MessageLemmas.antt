@@ -8,11 +8,11 @@ use Rattle.ports_core.specs.{
   Write.BrokeAfter,
   Text.{Message, is_quiet, line_of, message_of, status_after},
   declared.{
-    calling.Speaker.Speaker,
-    reason.Reason.Reason,
-    whole.WriteCut.WriteCut,
-    fault.Fault.{Fault, TheVariants.Memory},
-  },
+  calling.Speaker.Speaker,
+  reason.Reason.Reason,
+  whole.WriteCut.WriteCut,
+  fault.Fault.{Fault, TheVariants.Memory},
+},
   Message.{Prints, whole, cut, passed, PrintsOn, Says, SaysAll, SaysOn, TellsOn, output_named, output_reason},
 }
 
@@ -54,15 +54,11 @@ printed_open told text old new (whole sound is) = cc
 printed_open told text old new (cut sound n why within is) = cc
 printed_open told text old new (passed broken is) = cc
 
-pub said_state : (told : Bool) (speaker : Speaker) (message : Message) (old new : Slot)
-    → Says told speaker message old new → new.state ≡ old.state
-said_state told speaker message old new (why, says) = grind arith
-
 pub all_said_state : (told : Bool) (speaker : Speaker) (messages : List Message) (old new : Slot)
     → SaysAll told speaker messages old new → new.state ≡ old.state
 all_said_state told speaker [] old new is = cc
 all_said_state told speaker (message ∷ messages) old new says =
-    grind (arith, common_steps, said_state, all_said_state _ _ messages _ _ says.2)
+    grind (arith, common_steps, all_said_state _ _ messages _ _ says.2)
 
 pub says_after : (told : Bool) (speaker : Speaker) (messages more : List Message) (old mid new : Slot)
     → SaysAll told speaker messages old mid → SaysAll told speaker more mid new

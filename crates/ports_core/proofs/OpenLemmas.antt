@@ -24,6 +24,7 @@ use Rattle.ports_core.proofs.{
 }
 use Rattle.ports_core.specs.inner.Write as short
 use Rattle.ports_core.specs.declared.slot.State.TheVariants as state
+use Rattle.ports_core.specs.Part.{nothing}
 
 -- after standard output was told of the file
 pub opens_none : (told : Bool) (tells : Tells) (names : Names) {next : Names} {name : List ℕ} (old : List Slot)

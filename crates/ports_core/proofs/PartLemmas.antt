@@ -1,10 +1,10 @@
 -- Lemmas on what outputs have got.
 use Rattle.std.proofs.{
   lemmas.{
-    Grind.common_steps,
-    List.{append-nil, take-append-drop, drop_all, length-map},
-    Bool.{false≢true, and_parts, not-true},
-  },
+  Grind.common_steps,
+  List.{append-nil, take-append-drop, drop_all, length-map},
+  Bool.{false≢true, and_parts, not-true},
+},
   Common.{◌≡◌, ℕ, ◌+◌, ◌<◌, ◌≤◌, zero, suc, List, [], ◌∷◌, ◌++◌, length, take, drop, Bool, true, false, IsTrue, ◌⊎◌},
   Common.{inl, inr, refl, sym, ◌∙◌, ap, arith, append_assoc, rules},
 }

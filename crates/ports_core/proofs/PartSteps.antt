@@ -78,11 +78,6 @@ pub front_begins : (front low high : List File) → FilesBegin low high → File
 front_begins [] low high begins = begins
 front_begins (file ∷ front) low high begins = (refl, refl, refl, inr refl, begins_itself _, front_begins front _ _ begins)
 
-pub bytes_more : (out : List ℕ) (front : List File) (name bytes more : List ℕ)
-    → Begins (with_last out front (file_of name bytes state.Open))
-    (with_last out front (file_of name (bytes ++ more) state.Open))
-bytes_more out front name bytes more = grind (arith, begins_itself, front_begins, begins_more)
-
 taken_more : (out : List ℕ) (front : List File) (name bytes more : List ℕ) (n : ℕ)
     → Begins (with_last out front (file_of name (bytes ++ take n more) state.Open))
     (with_last out front (file_of name (bytes ++ more) state.Open))
@@ -193,7 +188,7 @@ module _ (output : Output) (told : Bool) (front : List File) (name bytes : List 
       (with_last (begun_out output front name) front (file_of name (bytes ++ more) state.Open)) old new fault
   writes_to more old None closed last wrote = grind (arith, common_steps, bytes_added)
   writes_to more {slot} old (Some _) closed last (short.broke n cut) =
-      becomes_again (bytes_more _ _ _ _ _) (bytes_added _ _ _ _ _ _ _ _ last refl) (halts_here (taken_more _ _ _ _ _ n)
+      becomes_again (grind (arith, begins_itself, front_begins, begins_more)) (bytes_added _ _ _ _ _ _ _ _ last refl) (halts_here (taken_more _ _ _ _ _ n)
       (turn_last _ _ _ refl closed) (lines_of_last _ _ _ _ _ tt)
       (let size : length (with_written slot (told_of told (take n more)) old) ≡ length old = length-changed_at _ _ _ in omega arith, cut.slots)
       (λ before at. inr (last_place output _ _ _ _ (last ∙ sym (length-changed_at _ _ _)) at)))

@@ -12,9 +12,9 @@ use Rattle.ports_core.specs.{
   InTurn.AllClosed,
   inner.{Part.HasLines, Shares.SharesBegin},
   declared.{
-    file_writer.Opening.{Opening, TheVariants.{Never, Late, AtOnce}},
-    slot.State.{State, TheVariants.{Open, Closed}},
-  },
+  file_writer.Opening.{Opening, TheVariants.{Never, Late, AtOnce}},
+  slot.State.{State, TheVariants.{Open, Closed}},
+},
 }
 use Rattle.ports_core.proofs.{
   PartLemmas.{begins_itself, begins_more, openings-append, openings_since},
@@ -134,11 +134,6 @@ pub next_begins : (manner : Manner) (opening : Opening) (draft : Draft)
     → Begins (draft_part manner draft) (draft_part manner (with_next opening draft))
 next_begins manner opening draft = search (rules, next_shares, part_grows, shares_wider, made_begin, begins_itself)
 
--- and what is begun after it comes after what is written
-pub begun_begins : (manner : Manner) (opening : Opening) (draft : Draft)
-    → Begins (draft_part manner (with_next Never draft)) (draft_part manner (with_next opening draft))
-begun_begins manner opening draft = search (rules, part_grows)
-
 -- Files that all have names
 
 -- the place after the next ones is that after the first of them
@@ -191,7 +186,7 @@ files_with : (manner : Manner) (draft : Draft) (state : State) (bytes : List ℕ
     ≡ ended_files manner draft ++ file_of (name_after manner draft) bytes state ∷ []
 files_with manner draft state bytes named = grind (arith, common_steps, length-map, files_on)
 
-part_last : (manner : Manner) (draft : Draft) (state : State) (bytes : List ℕ)
+pub part_last : (manner : Manner) (draft : Draft) (state : State) (bytes : List ℕ)
     → AreNamed manner (suc (length draft.ended))
     → part_of manner (map (share Closed) draft.ended ++ share state bytes ∷ [])
     ≡ with_last
@@ -210,16 +205,6 @@ pub open_part : (manner : Manner) (draft : Draft) → AreNamed manner (suc (leng
     → draft_part manner draft ≡ with_last (begun_out manner.output (ended_files manner draft) (name_after manner draft))
     (ended_files manner draft) (file_of (name_after manner draft) draft.bytes Open)
 open_part manner draft named makes = grind (arith, common_steps, part_last, with_last, file_of, last_told)
-
--- it is closed, and nothing is begun
-pub closed_part : (manner : Manner) (draft : Draft) → AreNamed manner (suc (length draft.ended))
-    → made_of draft.opening draft.bytes ≡ draft.bytes ∷ []
-    → draft_part manner (with_next Never draft)
-    ≡ with_last
-    (ended_out manner draft
-    ++ told_of_files manner.output (file_of (name_after manner draft) draft.bytes Closed ∷ []))
-    (ended_files manner draft) (file_of (name_after manner draft) draft.bytes Closed)
-closed_part manner draft named makes = grind (arith, common_steps, next_shares, part_last)
 
 -- there is none
 pub none_part : (manner : Manner) (draft : Draft) → made_of draft.opening draft.bytes ≡ []

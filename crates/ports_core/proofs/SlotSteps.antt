@@ -8,7 +8,7 @@ use Rattle.std.proofs.{
 use Rattle.ports_core.specs.{
   Slot.{SlotBreaks, Slot, Rose, is_open, has_file, can_write, no_slot, slot_at, changed_at, opened, unopened, adds},
   Slot.{closes, breaks, with_written, with_broken, told_of, is_writable, KeepsBroken},
-  Swept.{Swept, none},
+  Swept.{Swept},
   Write.BrokeAfter,
   inner.Write.{WritesShort, broke},
   declared.{fault.Fault.Fault, reason.Reason.Reason, slot.{Mode.Mode, State.{State, TheVariants.Open}}},
@@ -18,6 +18,7 @@ use Rattle.ports_core.proofs.{
   SlotLemmas.{length-changed_at, slot_at-elsewhere},
   WriteLemmas.writable-written,
 }
+use Rattle.ports_core.specs.Swept.{none}
 
 -- Outputs that were broken stay broken.
 
@@ -32,16 +33,12 @@ flag_stays change same place other slots = refl
 pub keeps_again : (old mid new : List Slot) → KeepsBroken old mid → KeepsBroken mid new → KeepsBroken old new
 keeps_again old mid new first second place sound = search rules
 
-keeps_change : (change : Slot → Slot) → ((slot : Slot) → (change slot).is_broken ≡ slot.is_broken)
-    → (slot : ℕ) (old : List Slot) {new : List Slot} → new ≡ changed_at slot change old → KeepsBroken old new
-keeps_change change same slot old is place sound = grind (arith, flag_stays)
-
 pub keeps_write : (slot : ℕ) (bytes : List ℕ) (old new : List Slot) → new ≡ with_written slot bytes old
     → KeepsBroken old new
-keeps_write slot bytes old new is = keeps_change _ (λ one. refl) _ _ is
+keeps_write slot bytes old new is = grind (arith, flag_stays)
 
 pub keeps_close : (slot : ℕ) (old new : List Slot) → new ≡ changed_at slot closes old → KeepsBroken old new
-keeps_close slot old new is = keeps_change _ (λ one. refl) _ _ is
+keeps_close slot old new is = grind (arith, flag_stays)
 
 pub keeps_open : (one : Slot) (old new : List Slot) → new ≡ old ++ one ∷ [] → KeepsBroken old new
 keeps_open one old new is place sound = grind (arith, common_steps)
@@ -65,9 +62,6 @@ pub close_rose : (slot : ℕ) (old new : List Slot) → IsTrue (is_writable old 
     → SlotBreaks slot (changed_at slot closes old) new → Rose slot old new
 close_rose slot old new can within (why, is) = grind (arith, sound_at, broken_there, length-changed_at)
 
-pub at_end : (slots : List Slot) (one : Slot) → slot_at (slots ++ one ∷ []) (length slots) ≡ one
-at_end slots one = grind (arith, common_steps)
-
 pub open_rose : (slot : ℕ) (why : Reason) (kept : List ℕ) (old new : List Slot) → slot ≡ length old
     → new ≡ old ++ unopened why kept ∷ [] → Rose slot old new
 open_rose slot why kept old new number is = grind (arith, common_steps)
@@ -85,10 +79,6 @@ short_size told slot bytes old new _ (broke n cut) = grind (arith, length-change
 pub broken_size : (slot : ℕ) (old new : List Slot) → SlotBreaks slot (changed_at slot closes old) new
     → length new ≡ length old
 broken_size slot old new (why, is) = grind (arith, length-changed_at)
-
-pub opened_last : (old new : List Slot) (slot : ℕ) (name : List ℕ) (mode : Mode) → slot ≡ length old
-    → new ≡ old ++ opened name mode ∷ [] → suc slot ≡ length new
-opened_last old new slot name mode at is = grind (arith, common_steps)
 
 -- Which can be written
 
@@ -122,10 +112,6 @@ open_has_file state broken can = search rules
 pub none_past : (slots : List Slot) (place : ℕ) → length slots ≤ place → has_file (slot_at slots place).state ≡ false
 none_past slots place past = grind (arith, common_steps)
 
-pub file_before : (slots : List Slot) (one : Slot) (place : ℕ) → place < length slots
-    → has_file (slot_at (slots ++ one ∷ []) place).state ≡ has_file (slot_at slots place).state
-file_before slots one place within = grind (arith, common_steps)
-
 -- where there is no file, none is removed
 pub swept_none : (clears : Bool) (first : ℕ) (slots : List Slot)
     → ((place : ℕ) → first ≤ place → has_file (slot_at slots place).state ≡ false) → Swept clears first slots slots
@@ -148,17 +134,12 @@ file_stays change zero zero (slot ∷ slots) same = same
 file_stays change (suc place) (suc other) (slot ∷ slots) same = file_stays _ _ _ slots same
 file_stays change place other slots same = refl
 
-made_change : (change : Slot → Slot) (slot : ℕ) {old new : List Slot}
-    → has_file (change (slot_at old slot)).state ≡ has_file (slot_at old slot).state → new ≡ changed_at slot change old
-    → KeepsMade old new
-made_change change slot same is = grind (arith, length-changed_at, file_stays)
-
 pub made_write : (slot : ℕ) (bytes : List ℕ) (old new : List Slot) → new ≡ with_written slot bytes old
     → KeepsMade old new
-made_write slot bytes old new is = made_change _ _ refl is
+made_write slot bytes old new is = grind (arith, length-changed_at, file_stays)
 
 pub made_break : (slot : ℕ) (old new : List Slot) → SlotBreaks slot old new → KeepsMade old new
-made_break slot old new (why, is) = made_change _ _ refl is
+made_break slot old new (why, is) = grind (arith, length-changed_at, file_stays)
 
 pub made_short : (told : Bool) (slot : ℕ) (bytes : List ℕ) (old new : List Slot) (f : Fault)
     → WritesShort told slot bytes old new f → KeepsMade old new
@@ -166,7 +147,7 @@ made_short told slot bytes old new _ (broke n cut) = made_again _ _ _ (made_writ
 
 pub made_close : (slot : ℕ) (old new : List Slot) → IsTrue (is_writable old slot) → new ≡ changed_at slot closes old
     → KeepsMade old new
-made_close slot old new can is = made_change _ _ (sym (open_has_file (slot_at old slot).state (slot_at old slot).is_broken can)) is
+made_close slot old new can is = grind (arith, length-changed_at, file_stays)
 
 -- no more files are there, and no fewer outputs
 pub record KeepsFiled (old new : List Slot) : Type 0 where

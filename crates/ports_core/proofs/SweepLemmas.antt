@@ -7,12 +7,13 @@ use Rattle.std.proofs.{
 }
 use Rattle.ports_core.{
   specs.Slot.{Slot, has_file, slot_at, changed_at, SlotBreaks, removes, closes, breaks},
-  specs.Swept.{Cleared, SweptFrom, removed, stuck, none, is_among, AreThere, Tries, Removes, all_tried, tried, goes},
+  specs.Swept.{Cleared, SweptFrom, removed, stuck, is_among, AreThere, Tries, Removes, all_tried, tried, goes},
   specs.Swept.stays,
   specs.declared.fault.Fault.Fault,
   proofs.SlotLemmas.{length-changed_at, changed_at-again, slot_at-elsewhere},
 }
 use Rattle.ports_core.specs.declared.fault.Fault.TheVariants as fault
+use Rattle.ports_core.specs.Swept.{none}
 
 -- Among others
 
@@ -43,11 +44,6 @@ module _ (one : ℕ) (change : Slot → Slot) (old : List Slot) where
       let both = or_parts (eqb one place) (is_among one files) apart in
       let same = slot_at-elsewhere _ _ change old (λ same. differs _ both.0 (sym same)) in
       ((are.0.0, rw same are.0.1), are.1, still_there files both.1 are.2)
-
-  still_has : (place : ℕ) (places : List ℕ) → eqb place one ≡ false
-      → has_file (slot_at old place).state ≡ is_among place (one ∷ places)
-      → has_file (slot_at (changed_at one change old) place).state ≡ is_among place places
-  still_has place places other has = grind (arith, elsewhere)
 
 -- what is left of it
 
@@ -160,7 +156,7 @@ pub each_cleared : {files left : List ℕ} {old new : List Slot} (place : ℕ) �
 each_cleared place (all_tried slots) are has = none has
 each_cleared place (tried one places kept left' change old' new' tries rest) are has = by_place place one
     (λ same. rw (same, first_is _ _ are rest) (cleared_one tries are.0.1)) (λ other. rw (elsewhere one change old' place other) at
-    (each_cleared place rest (still_there _ _ _ _ are.1 are.2) (still_has _ _ _ _ places other has)))
+    (each_cleared place rest (still_there _ _ _ _ are.1 are.2) (grind (arith, elsewhere))))
 
 -- and has a file just where that is left
 pub left_has : (files left : List ℕ) (old new : List Slot) (place : ℕ) → Removes files old left new → AreThere files old
@@ -169,7 +165,7 @@ pub left_has : (files left : List ℕ) (old new : List Slot) (place : ℕ) → R
 left_has files left old new place (all_tried slots) are has = has
 left_has files left old new place (tried one places kept left' change old' new' tries rest) are has = by_place place one
     (λ same. rw (same, first_is _ _ are rest) (kept_has _ _ tries (left_apart _ _ _ _ _ rest are.1)))
-    (λ other. left_has _ left' _ new' place rest (still_there _ _ _ _ are.1 are.2) (still_has _ _ _ _ _ other has) ∙ sym (kept_apart left' place tries other))
+    (λ other. left_has _ left' _ new' place rest (still_there _ _ _ _ are.1 are.2) (grind (arith, elsewhere)) ∙ sym (kept_apart left' place tries other))
 
 pub left_there : (files left : List ℕ) (old new : List Slot) → Removes files old left new → AreThere files old
     → AreThere left new

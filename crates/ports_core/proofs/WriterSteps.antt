@@ -12,18 +12,21 @@ use Rattle.ports_core.specs.{
   Swept.Removes,
   InTurn.fault_in,
   declared.{
-    fault.Fault.{Fault, TheVariants.{Memory, Verdict}},
-    verdict.Verdict.TheVariants.Suffixes,
-    file_writer.{Current.TheVariants.Skipped, Opening.{Opening, TheVariants.Never}},
-  },
+  fault.Fault.{Fault, TheVariants.{Memory, Verdict}},
+  verdict.Verdict.TheVariants.Suffixes,
+  file_writer.{Current.TheVariants.Skipped, Opening.{Opening, TheVariants.Never}},
+},
 }
 use Rattle.ports_core.proofs.{
-  ShareLemmas.{stopped_part, bytes_begin, next_begins, begun_begins, still_made},
+  ShareLemmas.{stopped_part, bytes_begin, next_begins, still_made},
   SweepLemmas.{left_apart, left_has, left_there, same_size},
   FileWriterLemmas.{lacks_memory, leaves_again, leaves_lacking, put_nothing, reaches_again, reaches_as, stops_wider},
   FileWriterLemmas.{where_short, where_well},
 }
 use Rattle.ports_core.specs.declared.fault.Fault.TheVariants as fault
+use Rattle.ports_core.proofs.ShareLemmas.{part_grows}
+use Rattle.std.proofs.lemmas.List.{length-map}
+use Rattle.ports_core.proofs.ShareLemmas.{files_stop}
 
 -- One change after another
 
@@ -74,34 +77,28 @@ goes_wider {told} {writer} {low = low} high {old} {new} {fault} begins same stop
 pub next_not_ended : {told : Bool} {writer next : WriterState} (opening : Opening) {old new : List Slot} {f : Fault}
     → IsWrite f → Goes told writer (with_next Never) old new next (Some f)
     → Goes told writer (with_next opening) old new next (Some f)
-next_not_ended opening broke ended = goes_wider (with_next opening) (λ manner draft. begun_begins manner opening draft) (inl (λ short. absurd (let e : fault.Write broke.0 ≡ Verdict Suffixes = sym broke.1 ∙ short in cc))) ended
-
--- what is next begins where what was begun has ended
-next_after : (opening : Opening) (draft : Draft) → with_next opening (with_next Never draft) ≡ with_next opening draft
-next_after opening draft = search rules
+next_not_ended opening broke ended = goes_wider (with_next opening) (λ manner draft. search (rules, part_grows)) (inl (λ short. absurd (let e : fault.Write broke.0 ≡ Verdict Suffixes = sym broke.1 ∙ short in cc))) ended
 
 pub next_begun : {told : Bool} {writer mid next : WriterState} {opening : Opening} {old between new : List Slot}
     {fault : Option Fault} → Goes told writer (with_next Never) old between mid None → mid.current ≡ Skipped
     → Goes told (paused mid) (with_next opening) between new next fault
     → Goes told writer (with_next opening) old new next fault
-next_begun {told} {mid = mid} {next} {opening} {between = between} {new} {fault} ended none start = goes_again (with_next opening) (next_after opening) (λ manner draft. next_begins manner Never draft) ended
+next_begun {told} {mid = mid} {next} {opening} {between = between} {new} {fault} ended none start = goes_again (with_next opening) (search rules) (λ manner draft. next_begins manner Never draft) ended
     (subst (λ current. Goes told (record mid { current = current }) (with_next opening) between new next fault) (sym none) start)
 
 -- More bytes after others
 
-again : (draft : Draft) (a b : List ℕ) → with_bytes b (with_bytes a draft) ≡ with_bytes (a ++ b) draft
-again draft a b = grind (arith, common_steps)
 
 pub goes_more : {told : Bool} {one two three : WriterState} (a b : List ℕ) {old mid new : List Slot}
     {fault : Option Fault} → Goes told one (with_bytes a) old mid two None
     → Goes told two (with_bytes b) mid new three fault → Goes told one (with_bytes (a ++ b)) old new three fault
-goes_more a b first second = search (rules, goes_again, again, bytes_begin)
+goes_more a b first second = search (rules, goes_again, common_steps, bytes_begin)
 
 -- it was stopped among them
 pub stops_among : {told : Bool} {writer next : WriterState} (a b : List ℕ) {old new : List Slot} {fault : Fault}
     → Goes told writer (with_bytes a) old new next (Some fault)
     → Goes told writer (with_bytes (a ++ b)) old new next (Some fault)
-stops_among a b stopped = goes_wider (with_bytes (a ++ b)) (λ manner draft. subst (λ those. Begins (draft_part manner (with_bytes a draft)) (draft_part manner those)) (again draft a b) (bytes_begin manner b (with_bytes a draft))) (inr (λ draft. (refl, λ makes. subst (λ bytes. made_of draft.opening bytes ≡ bytes ∷ []) (append_assoc draft.bytes a b) (still_made draft.opening (draft.bytes ++ a) b makes)))) stopped
+stops_among a b stopped = goes_wider (with_bytes (a ++ b)) (λ manner draft. subst (λ those. Begins (draft_part manner (with_bytes a draft)) (draft_part manner those)) (grind (arith, common_steps)) (bytes_begin manner b (with_bytes a draft))) (inr (λ draft. (refl, λ makes. subst (λ bytes. made_of draft.opening bytes ≡ bytes ∷ []) (append_assoc draft.bytes a b) (still_made draft.opening (draft.bytes ++ a) b makes)))) stopped
 
 pub goes_as : {told : Bool} {writer next : WriterState} {a b : List ℕ} {old new : List Slot} {fault : Option Fault}
     → a ≡ b → Goes told writer (with_bytes a) old new next fault → Goes told writer (with_bytes b) old new next fault

@@ -1,13 +1,15 @@
 use Rattle.ports_core.proofs.{
   HandedOn.handed_on,
-  FileWriterLemmas.{put_file, put_nothing, put_skipped},
+  FileWriterLemmas.{put_file, put_nothing},
   FileBegunLemmas.{first_bytes, goes_made, goes_unmade},
 }
 use Rattle.std.proofs.{Common.arith, lemmas.Grind.common_steps}
 use Rattle.ports_core.proofs.file_writer.FileWriter.put.Goals as goal
+use Rattle.std.proofs.Common.{rules}
+use Rattle.ports_core.proofs.FileWriterLemmas.{goes_still}
 
 pub returns-in-Skipped-clause-goes : goal.returns-in-Skipped-clause-goes
-returns-in-Skipped-clause-goes g c = put_skipped _ c.in-Skipped.is c.requires.ready
+returns-in-Skipped-clause-goes g c = grind (arith, common_steps, goes_still)
 
 pub returns-in_err-slot-in-Due-clause-goes : goal.returns-in_err-slot-in-Due-clause-goes
 returns-in_err-slot-in-Due-clause-goes g c = rw (handed_on _ _ c.from_residual.ensures.1)

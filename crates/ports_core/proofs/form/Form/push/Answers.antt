@@ -1,9 +1,13 @@
 use Rattle.std.proofs.{Common.arith, lemmas.{Grind.common_steps, Result.IfOk-weaker}}
-use Rattle.ports_core.proofs.FormLemmas.{blanks_after, blanks_before}
 use Rattle.ports_core.proofs.form.Form.push.Goals as goal
+use Rattle.std.proofs.Common.{append_assoc}
+use Rattle.ports_core.proofs.FormLemmas.{after}
+use Rattle.ports_core.proofs.FormLemmas.{before}
+use Rattle.std.proofs.Common.{length-append}
+use Rattle.ports_core.proofs.FormLemmas.{length_written}
 
 pub returns-in_ok-push_copies-in-BlanksBefore : goal.returns-in_ok-push_copies-in-BlanksBefore
-returns-in_ok-push_copies-in-BlanksBefore c = grind (arith, common_steps, IfOk-weaker, blanks_before)
+returns-in_ok-push_copies-in-BlanksBefore c = grind (arith, common_steps, IfOk-weaker, append_assoc, before, length-append, length_written)
 
 pub returns-in_ok-push_marked-in-BlanksAfter : goal.returns-in_ok-push_marked-in-BlanksAfter
-returns-in_ok-push_marked-in-BlanksAfter c = grind (arith, common_steps, IfOk-weaker, blanks_after)
+returns-in_ok-push_marked-in-BlanksAfter c = grind (arith, common_steps, IfOk-weaker, length-append, length_written, append_assoc, after)

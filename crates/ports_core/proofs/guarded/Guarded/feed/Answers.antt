@@ -1,12 +1,14 @@
 use Rattle.std.proofs.{Common.{refl, length, arith, inl, inr}, lemmas.Grind.common_steps}
-use Rattle.ports_core.{specs.Engine.{over, long}, proofs.GuardLemmas.{is_long, pass_refused, passes_caused}}
+use Rattle.ports_core.{specs.Engine.{over, long}, proofs.GuardLemmas.{pass_refused, passes_caused}}
 use Rattle.ports_core.proofs.guarded.Guarded.feed.Goals as goal
+use Rattle.std.proofs.Common.{rules}
+use Rattle.ports_core.proofs.GuardLemmas.{caused}
 
 pub returns-then-self-clause-passes : goal.returns-then-self-clause-passes
 returns-then-self-clause-passes g c = rw (← c.self.view_is) (pass_refused _ _ _ _ (g.met.S.Stage.lawful _) _ (inr refl) (over c.if-self.true refl))
 
 pub returns-in_default-clause-passes : goal.returns-in_default-clause-passes
-returns-in_default-clause-passes g c = rw (← c.self.view_is) (pass_refused _ _ _ _ (g.met.S.Stage.lawful _) _ (inl refl) (long c.if-self.false (is_long _ _ c.in_default.ensures) refl))
+returns-in_default-clause-passes g c = rw (← c.self.view_is) (pass_refused _ _ _ _ (g.met.S.Stage.lawful _) _ (inl refl) (long c.if-self.false (grind (arith, common_steps)) refl))
 
 pub returns-in-Ok-clause-passes : goal.returns-in-Ok-clause-passes
 returns-in-Ok-clause-passes g c = grind arith
