@@ -95,7 +95,7 @@ spot_in place i bytes outputs less = search rules
 
 pub spot_past : (place i : ℕ) (bytes : List ℕ) (outputs : List (List ℕ)) → length bytes ≤ i
     → spots_from place (bytes ∷ outputs) i ≡ spots_from (place + 1) outputs (i - length bytes)
-spot_past place i bytes outputs past = grind (arith, common_steps)
+spot_past place i bytes outputs past = grind arith
 
 pub only_spot : {at one : Spot} → GoesTo at (one ∷ []) → at ≡ one
 only_spot (inl is) = is
@@ -107,7 +107,7 @@ some_spot one spots is = cc
 -- no byte of outputs from a place on goes to an output before it
 pub none_before : (from i place offset : ℕ) (outputs : List (List ℕ)) → place < from
     → spots_from from outputs i ≡ spot place offset ∷ [] → ⊥
-none_before from i place offset [] before is = grind (arith, common_steps)
+none_before from i place offset [] before is = grind arith
 none_before from i place offset (bytes ∷ outputs) before is = elim (cases_lt i (length bytes)) [
   | inl within ↦ (omega (arith, ap (λ those. (get_or those 0 (spot from i)).place) (sym (spot_in _ i _ _ within) ∙ is)))
   | inr past ↦ none_before (from + 1) _ _ offset outputs (omega arith) (sym (spot_past _ i _ _ past) ∙ is)
@@ -140,15 +140,15 @@ byte_at : (outputs : List (List ℕ)) (text : List ℕ) (k offset : ℕ) → Are
 byte_at [] text k offset are less = search rules
 byte_at (bytes ∷ outputs) text zero offset (rest, is, are) less = grind (arith, common_steps)
 byte_at (bytes ∷ outputs) text (suc k) offset (rest, is, are) less =
-    grind (arith, common_steps, get_or-append_right, byte_at outputs _ k _ are less)
+    grind (arith, get_or-append_right, byte_at outputs _ k _ are less)
 
 -- where it stands, there its spot is that
 spot_at : (place : ℕ) (outputs : List (List ℕ)) (k offset : ℕ) → offset < length (get_or outputs k [])
     → spots_from place outputs (bytes_of k outputs + offset) ≡ spot (place + k) offset ∷ []
 spot_at place [] k offset less = search rules
-spot_at place (bytes ∷ outputs) zero offset less = grind (arith, common_steps)
+spot_at place (bytes ∷ outputs) zero offset less = grind arith
 spot_at place (bytes ∷ outputs) (suc k) offset less =
-    grind (arith, common_steps, spot_past, spot_at (place + 1) _ k _ less)
+    grind (arith, spot_past, spot_at (place + 1) _ k _ less)
 
 -- a byte that goes to a spot is one of an output
 record IsIn (place : ℕ) (outputs : List (List ℕ)) (i : ℕ) (at : Spot) : Type 0 where
@@ -191,7 +191,7 @@ module _ (work : Work) {spots_of : List ℕ → ℕ → List Spot} (place : ℕ)
     (stretch : IsStretch work.whole spots_of place outputs) where
   stretched : (x : List ℕ) (i : ℕ) {at : Spot} → GoesTo at (spots_of x i)
       → (length (stretch.before x) ≤ i) × IsIn place (outputs x) (i - length (stretch.before x)) at
-  stretched x i goes = grind (arith, common_steps, cases_lt, goes_in)
+  stretched x i goes = grind (arith, cases_lt, goes_in)
 
   output_is : (x : List ℕ) {n : ℕ} (k : ℕ) → n ≡ place + k → output_at (work.whole x) n ≡ get_or (outputs x) k []
   output_is x k there = grind (arith, past_empty)
@@ -230,7 +230,7 @@ module _ (work : Work) {spots_of : List ℕ → ℕ → List Spot} (place : ℕ)
           ∙ ap (λ n. get_or (stretch.rest x) n 0) one.1.is),
     ));
     filled = filled;
-    apart = grind (arith, common_steps, stretched);
+    apart = grind (arith, stretched);
   }
 
 -- There is one list of outputs that all continuations agree on, and one stretch of bytes that is undecided.

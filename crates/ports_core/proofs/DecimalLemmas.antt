@@ -21,7 +21,7 @@ use Rattle.ports_core.proofs.FormLemmas.{least_up_to}
 
 zeros : (width : ℕ) → written Digits width 0 ≡ replicate width 48
 zeros zero = refl
-zeros (suc width) = grind (arith, common_steps, zeros width)
+zeros (suc width) = grind (arith, zeros width)
 
 last_digit : (width : ℕ) {n : ℕ} → n < 10 ^ suc width
     → written Digits (suc width) n ≡ written Digits width (n / 10) ++ (48 + n % 10) ∷ []

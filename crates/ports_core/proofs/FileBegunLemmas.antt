@@ -72,16 +72,16 @@ module _ {manner : Manner} {writer : WriterState} {draft : Draft} (none : made_o
 
   -- its name
   due_name : next_name writer.names ≡ name_after manner draft
-  due_name = grind (arith, common_steps, unmade_count)
+  due_name = grind (arith, unmade_count)
 
   -- what standard output is told of it first
   line_told : line_next writer.tells writer.names ≡ told_before manner.output (name_after manner draft)
-  line_told = grind (arith, common_steps, due_name)
+  line_told = grind (arith, due_name)
 
   -- all files up to it have names then
   due_named : (next : Draft) → writer.names.drawn < 2 ^ 64 → Unwritten draft next → IsTrue (has_next writer.names)
       → AreNamed manner (suc (length next.ended))
-  due_named next few so has = grind (arith, common_steps, cases_lt, unmade_shares, unmade_count)
+  due_named next few so has = grind (arith, cases_lt, unmade_shares, unmade_count)
 
   -- the part with it
   due_part : (next : Draft) → writer.names.drawn < 2 ^ 64 → Unwritten draft next → IsTrue (has_next writer.names)
@@ -185,7 +185,7 @@ module _ {told : Bool} {writer next : WriterState} {change : Draft → Draft} {o
         grind (arith, common_steps, unmade_count, none) in record {
           none = lacks;
           begun = so.makes;
-          all = grind (arith, common_steps, same, stopped_part, append-nil);
+          all = grind (arith, same, stopped_part, append-nil);
         }
 
   pub goes_unmade : Goes told writer change old new next (Some f)
@@ -243,7 +243,7 @@ first_bytes tells bytes is some draft now = search rules
 -- What is begun where nothing is
 
 pub paused_ready : {writer : WriterState} {slots : List Slot} → IsReady writer slots → IsReady (paused writer) slots
-paused_ready ready = grind (arith, common_steps)
+paused_ready ready = grind arith
 
 -- what was begun had no file
 pub ended_none : (draft : Draft) → made_of draft.opening draft.bytes ≡ []
@@ -285,7 +285,7 @@ file_ends : {manner : Manner} {writer : WriterState} {draft : Draft} (slot size 
 file_ends {draft = draft} slot size is writes =
     let makes = (now_is is writes).0 in
     let count : length (shares_of draft) ≡ length (shares_of (with_next Never draft)) =
-    grind (arith, common_steps, made_count, makes, length-append, length-map) in writes_on refl count refl writes
+    grind (arith, made_count, makes, length-append, length-map) in writes_on refl count refl writes
 
 file_closed : {writer : WriterState} {old new : List Slot} → KeepsMade old new
     → KeepsFiles writer (paused writer) old new
@@ -307,7 +307,7 @@ closed_leaves slot size {old} {new} is ready closed =
       owns = file_closed made;
       slots = keeps_close _ _ _ closed;
       output = closed_can _ _ _ at.0 closed;
-      ready = grind (arith, common_steps, can_tell, closed_can, there_same);
+      ready = grind (arith, can_tell, closed_can, there_same);
     }
 
 -- the file breaks as it is closed
@@ -323,7 +323,7 @@ closed_begins : (output : Output) (front : List PartFile) (name bytes : List ℕ
     (with_last (told_of_files output front ++ told_of_files output (file_of name bytes state.Closed ∷ [])) front
     (file_of name bytes state.Closed))
 closed_begins output front name bytes = let (rest, is) = closed_told output name bytes in record {
-  out = grind (arith, common_steps, is, append_assoc);
+  out = grind (arith, is, append_assoc);
   files = files_begin_themselves _;
 }
 
@@ -372,12 +372,12 @@ told_leaves : (told : Bool) (writer : WriterState) (size : ℕ) {old new : List 
     (tells : Tells) → writer.tells ≡ tells → IsReady (paused writer) old → TellsSize told tells size old new fault
     → Leaves (paused writer) (paused writer) old new fault
 told_leaves told writer size {old} {new} fault Sizes is ready wrote =
-    let can : IsTrue (is_writable old 0) = grind (arith, common_steps, is) in
+    let can : IsTrue (is_writable old 0) = grind (arith, is) in
     wrote_leaves told 0 (decimal size ++ 10 ∷ []) fault refl (λ first last. tt) (rw is (slots fault can wrote)) (in_any _ tt) ready wrote where
       slots : (fault : Option Fault) → IsTrue (is_writable old 0) → Wrote told 0 (decimal size ++ 10 ∷ []) old new fault
           → KeepsOrBreaks (manner_by writer.names.naming (output_of Sizes)) old new fault
       slots None can wrote = keeps_write 0 _ _ _ wrote
-      slots (Some f) can wrote = grind (arith, common_steps, line_breaks)
+      slots (Some f) can wrote = grind (arith, line_breaks)
 told_leaves told writer size fault tells is ready (well, same) = rw (well, same) (leaves_still ready)
 
 -- what can go wrong there is a write

@@ -52,7 +52,7 @@ module _ (line : PartFile → List ℕ) (told : Bool) (front : List PartFile) (f
       (length front) (fault.Write 0)
   cut_short n high = record {
     next = take n (line file);
-    all = grind (arith, common_steps, take-append_seam);
+    all = grind (arith, take-append_seam);
     cut = inr (
       refl,
       subst (IsBeginning (take n (line file))) (sym (ap (λ files. lines_for line (take 1 files)) (drop-append_seam front (file ∷ [])) ∙ told_line)) (drop n (line file), sym (take-append-drop n (line file))),
@@ -78,7 +78,7 @@ module _ (line : PartFile → List ℕ) (told : Bool) (front : List PartFile) (f
 -- a `?` handed a fault on
 pub stop_is : {T : Type 0} (P : Option Fault → Type 0) (result : Result T Fault) (fault : Fault)
     → IsErrAnd result (λ given. given ≡ fault) → P (Some fault) → P (fault_in result)
-stop_is P result fault handed holds = grind (arith, common_steps, handed_on)
+stop_is P result fault handed holds = grind (arith, handed_on)
 
 -- From one state of the outputs to another. The writers follow from the steps.
 
@@ -104,18 +104,18 @@ reaches_by {output} {told} {low} {high} {old} {new} {fault} {writer} {next} keep
   by : (fault : Option Fault) (before : List Slot) → At told writer before low old
       → IsThere output told (OutputsAt told before high new) before low high new fault
       → IsThere output told (At told next before high new) before low high new fault
-  by None before at outputs = grind (arith, common_steps)
+  by None before at outputs = grind arith
   by (Some why) before at stops = stops
 
 -- the same of parts that are written otherwise
 pub reaches_as : {output : Output} {told : Bool} {low low' high high' : Part} {old new : List Slot}
     {fault : Option Fault} {writer next : WriterState} → low ≡ low' → high ≡ high'
     → Reaches output told writer next low' high' old new fault → Reaches output told writer next low high old new fault
-reaches_as is_low is_high reaches = grind (arith, common_steps)
+reaches_as is_low is_high reaches = grind arith
 
 pub reaches_still : {output : Output} {told : Bool} {low high : Part} {slots : List Slot} {writer next : WriterState}
     → KeepsFiles writer next slots slots → low ≡ high → Reaches output told writer next low high slots slots None
-reaches_still keeps is = grind (arith, common_steps)
+reaches_still keeps is = grind arith
 
 -- want of memory leaves the outputs as they are
 
@@ -126,7 +126,7 @@ in_turn place turn lines = search (rules, part_begins_itself)
 
 pub made_count : (draft : Draft) → made_of draft.opening draft.bytes ≡ draft.bytes ∷ []
     → length (shares_of draft) ≡ length draft.ended + 1
-made_count draft makes = grind (arith, common_steps, length-append, length-map)
+made_count draft makes = grind (arith, length-append, length-map)
 
 -- with an open file, those that ended and this one have names
 named_last : (manner : Manner) (draft : Draft) → AreNamed manner (length (shares_of draft))
@@ -156,24 +156,24 @@ where_short (Some why) holds follows = λ is. follows (holds is)
 
 -- what is so of a call that went well
 pub where_well : {A B : Type 0} (fault : Option Fault) → IfNone fault A → (A → B) → IfNone fault B
-where_well fault holds follows = grind (arith, common_steps)
+where_well fault holds follows = grind arith
 
 pub in_any : {A : Type 0} (fault : Option Fault) → A → IfNone fault A
-in_any fault holds = grind (arith, common_steps)
+in_any fault holds = grind arith
 
 where_both : {A B C : Type 0} (fault : Option Fault) → IfNone fault A → IfNone fault B → (A → B → C) → IfNone fault C
-where_both fault one two follows = grind (arith, common_steps)
+where_both fault one two follows = grind arith
 
 pub where_three : {A B C D : Type 0} (fault : Option Fault) → IfNone fault A → IfNone fault B → IfNone fault C
     → (A → B → C → D) → IfNone fault D
-where_three fault one two three follows = grind (arith, common_steps)
+where_three fault one two three follows = grind arith
 
 pub well_in : {T : Type 0} (A : Type 0) (result : Result T Fault) → OnOk result A → IfNone (fault_in result) A
-well_in A result holds = grind (arith, common_steps)
+well_in A result holds = grind arith
 
 pub breaks_later : {manner other : Manner} (old mid new : List Slot) (fault : Fault) → other ≡ manner
     → KeepsBroken old mid → Breaks other mid new fault → Breaks manner old new fault
-breaks_later old mid new fault same keeps breaks = grind (arith, common_steps)
+breaks_later old mid new fault same keeps breaks = grind arith
 
 slots_again : {manner other : Manner} (old mid new : List Slot) (fault : Option Fault) → other ≡ manner
     → KeepsBroken old mid → KeepsOrBreaks other mid new fault → KeepsOrBreaks manner old new fault
@@ -188,18 +188,18 @@ same_manner leaves = cc (leaves.naming, leaves.tells)
 pub leaves_again : {one two three : WriterState} {old mid new : List Slot} {fault : Option Fault}
     → Leaves one two old mid None → Leaves two three mid new fault → Leaves one three old new fault
 leaves_again first second =
-    grind (arith, common_steps, slots_again, same_manner, where_well)
+    grind (arith, slots_again, same_manner, where_well)
 
 pub keeps_files : {writer : WriterState} {slots : List Slot} → KeepsFiles writer writer slots slots
 keeps_files = record { owns = λ first owns. owns; there = λ are. are }
 
 pub leaves_still : {writer : WriterState} {slots : List Slot} → IsReady writer slots
     → Leaves writer writer slots slots None
-leaves_still ready = grind (arith, common_steps, keeps_files)
+leaves_still ready = grind (arith, keeps_files)
 
 -- want of memory leaves them as they are
 pub leaves_lacking : {writer : WriterState} {slots : List Slot} → Leaves writer writer slots slots (Some Memory)
-leaves_lacking = grind (arith, common_steps, keeps_files)
+leaves_lacking = grind (arith, keeps_files)
 
 -- the open file can be written
 pub at_file : {writer : WriterState} {slot size : ℕ} {slots : List Slot} → writer.current ≡ File slot size
@@ -223,7 +223,7 @@ there_still : (files : List ℕ) (old new : List Slot)
     → ((place : ℕ) → has_file (slot_at old place).state ≡ true → has_file (slot_at new place).state ≡ true)
     → AreThere files old → AreThere files new
 there_still [] old new keeps are = tt
-there_still (place ∷ files) old new keeps are = grind (arith, common_steps, there_still files _ _ keeps are.2)
+there_still (place ∷ files) old new keeps are = grind (arith, there_still files _ _ keeps are.2)
 
 pub there_same : (files : List ℕ) {old new : List Slot} → KeepsMade old new → AreThere files old → AreThere files new
 there_same files keeps are = there_still files _ _ (λ place has. keeps.same place ∙ has) are
@@ -284,7 +284,7 @@ owned_unopened {writer = writer} {next = next} {old = old} {new} none = let kept
 -- the manner in which files are made may be said otherwise
 pub breaks_as : {manner own : Manner} (old new : List Slot) (fault : Fault) → IsManner manner own
     → Breaks own old new fault → Breaks manner old new fault
-breaks_as old new (fault.Write slot) same (out, rose) = grind (arith, common_steps)
+breaks_as old new (fault.Write slot) same (out, rose) = grind arith
 breaks_as old new (Verdict Suffixes) same (place, few, none) = (place, few, sym (same.has place few) ∙ none)
 breaks_as old new fault same breaks = breaks
 
@@ -325,7 +325,7 @@ line_is size all copied same is fits = search (rules, take-append-add, one_left)
 
 pub now_is : {manner : Manner} {writer : WriterState} {draft : Draft} {current : Current} → writer.current ≡ current
     → Writes manner writer draft → IsCurrent writer.tells draft.opening draft.bytes current
-now_is is writes = grind (arith, common_steps)
+now_is is writes = grind arith
 
 -- all its files have names, the open one too
 pub file_named : {manner : Manner} {writer : WriterState} {draft : Draft}
@@ -355,14 +355,14 @@ pub goes_still : {told : Bool} {writer : WriterState} {change : Draft → Draft}
     → (shares_of draft ≡ shares_of (change draft))
     × IsCurrent writer.tells (change draft).opening (change draft).bytes current)
     → Goes told writer change slots slots (record writer { current = current }) None
-goes_still {writer = writer} current {slots} ready at last stays = grind (arith, common_steps, reaches_still) where
+goes_still {writer = writer} current {slots} ready at last stays = grind (arith, reaches_still) where
   keeps : KeepsFiles writer (record writer { current = current }) slots slots
-  keeps = grind (arith, common_steps)
+  keeps = grind arith
 
 -- nothing more is written
 pub put_nothing : {told : Bool} {writer : WriterState} {bytes : List ℕ} {slots : List Slot} → bytes ≡ []
     → IsReady writer slots → Goes told writer (with_bytes bytes) slots slots writer None
-put_nothing none ready = grind (arith, common_steps, goes_still, append-nil)
+put_nothing none ready = grind (arith, goes_still, append-nil)
 
 -- The open file gets more bytes, or breaks.
 
@@ -421,7 +421,7 @@ wrote_leaves told {writer} {next} slot bytes {old} {new} fault same last slots s
   made = wrote_made told _ _ _ _ _ wrote
 
   owns : KeepsFiles writer next old new
-  owns = grind (arith, common_steps, there_same, made)
+  owns = grind (arith, there_same, made)
 
 -- bytes can be counted where 64 bits count them
 pub can_count : (tells : Tells) (size : ℕ) (bytes : List ℕ) → size + length bytes < 2 ^ 64 → CanCount tells size bytes
@@ -431,7 +431,7 @@ can_count tells size bytes few = tt
 -- the bytes that are counted
 pub counted_on : (tells : Tells) (had bytes : List ℕ) (size more : ℕ) → IsCounted tells had size
     → CountsOn tells size bytes more → IsCounted tells (had ++ bytes) more
-counted_on Sizes had bytes size more is on = grind (arith, common_steps, length-append)
+counted_on Sizes had bytes size more is on = grind (arith, length-append)
 counted_on tells had bytes size more is on = tt
 
 pub none_counted : (tells : Tells) → IsCounted tells [] 0

@@ -54,11 +54,11 @@ below_power alphabet (suc number) =
     rw pow-suc (omega arith)
 
 pub digits_enough : (alphabet : Alphabet) (number : ℕ) → number < radix alphabet ^ digit_count alphabet number
-digits_enough alphabet number = grind (arith, common_steps, enough_up_to, below_power)
+digits_enough alphabet number = grind (arith, enough_up_to, below_power)
 
 pub digits_needed : (alphabet : Alphabet) (number count : ℕ) → number < radix alphabet ^ count
     → digit_count alphabet number ≤ count
-digits_needed alphabet number count small = grind (arith, common_steps, least_up_to)
+digits_needed alphabet number count small = grind (arith, least_up_to)
 
 pub counted : (alphabet : Alphabet) {number log count : ℕ} → radix alphabet ^ log ≤ number
     → number < radix alphabet * radix alphabet ^ log → count ≡ suc log → count ≡ digit_count alphabet number
@@ -113,7 +113,7 @@ are_digits base digit small = grind arith
 written_value : (alphabet : Alphabet) → IsDigit alphabet → (width number front : ℕ) → number < radix alphabet ^ width
     → digits_value_after (radix alphabet) front (filter is_shown (written alphabet width number))
     ≡ front * radix alphabet ^ width + number
-written_value alphabet digits zero number front small = grind (arith, common_steps, pow-zero)
+written_value alphabet digits zero number front small = grind (arith, pow-zero)
 written_value alphabet digits (suc width) number front small =
     let r : ℕ = radix alphabet in let p : ℕ = r ^ width in let top : ℕ = number / p in
     let digit = digits top (grind (arith, common_steps, pow-suc, div-lt_iff_lt-mul, power_positive)) in
@@ -138,8 +138,8 @@ blanks_hidden (suc count) = blanks_hidden count
 filled_value : (base : Base) (filling : Filling) (width : ℕ) (text : List ℕ)
     → value_in base (filled filling width text) ≡ value_in base text
 filled_value base Zeros width text = refl
-filled_value base BlanksBefore width text = grind (arith, common_steps, filter-append, blanks_hidden)
-filled_value base BlanksAfter width text = grind (arith, common_steps, filter-append, blanks_hidden, append-nil)
+filled_value base BlanksBefore width text = grind (arith, filter-append, blanks_hidden)
+filled_value base BlanksAfter width text = grind (arith, filter-append, blanks_hidden, append-nil)
 
 pub formatted_value : (form : Form) (number : ℕ) → value_in form.base (formatted form number) ≡ number
 formatted_value form number =

@@ -45,8 +45,8 @@ pub looked_again : {least most slot : ℕ} {old mid new : List Source} → HasLo
 looked_again first next few = record {
   size = max first.size next.size;
   within = omega arith;
-  looked = grind (arith, common_steps);
-  others = grind (arith, common_steps, keeps_again);
+  looked = grind arith;
+  others = grind (arith, keeps_again);
 }
 
 -- an input that was looked at can still be read
@@ -57,7 +57,7 @@ looked_readable looked can = grind arith
 -- where none is passed over, what holds of nothing holds
 pub passes_none : (told : Bool) {slot : ℕ} (Keeps : List ℕ → Type 0) {sources : List Source} → Keeps []
     → PassesOver told slot 0 Keeps sources sources
-passes_none told Keeps keeps = grind (arith, common_steps, none_passed)
+passes_none told Keeps keeps = grind (arith, none_passed)
 
 -- a front of the bytes that are left was passed over
 passes_front : (told : Bool) {slot count : ℕ} {old new : List Source} → IsTrue (is_readable old slot)

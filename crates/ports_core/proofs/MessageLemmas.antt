@@ -58,7 +58,7 @@ pub all_said_state : (told : Bool) (speaker : Speaker) (messages : List Message)
     → SaysAll told speaker messages old new → new.state ≡ old.state
 all_said_state told speaker [] old new is = cc
 all_said_state told speaker (message ∷ messages) old new says =
-    grind (arith, common_steps, all_said_state _ _ messages _ _ says.2)
+    grind (arith, all_said_state _ _ messages _ _ says.2)
 
 pub says_after : (told : Bool) (speaker : Speaker) (messages more : List Message) (old mid new : Slot)
     → SaysAll told speaker messages old mid → SaysAll told speaker more mid new

@@ -51,7 +51,7 @@ kept_trans state_of low middle high (inr same) (inr also) = inr (same ∙ also)
 
 pub files_begin_themselves : (files : List File) → FilesBegin files files
 files_begin_themselves [] = tt
-files_begin_themselves (file ∷ files) = grind (arith, common_steps, begins_itself, files_begin_themselves files)
+files_begin_themselves (file ∷ files) = grind (arith, begins_itself, files_begin_themselves files)
 
 pub files_trans : (low middle high : List File) → FilesBegin low middle → FilesBegin middle high → FilesBegin low high
 files_trans [] middle high first second = tt
@@ -75,11 +75,11 @@ out_begins low high begins = search rules
 pub out_more : (told : Bool) (before : List Slot) (part : Part) (old new : List Slot) (more : List ℕ)
     → OutputsAt told before part old → new ≡ with_written 0 (told_of told more) old
     → OutputsAt told before (record part { out = part.out ++ more }) new
-out_more told before part old new more at wrote = grind (arith, common_steps, changed_at-append, length-changed_at, with_written-append, told_of-append)
+out_more told before part old new more at wrote = grind (arith, changed_at-append, length-changed_at, with_written-append, told_of-append)
 
 -- nothing was written yet
 pub nothing_out : (told : Bool) (before : List Slot) → 0 < length before → OutputsAt told before nothing before
-nothing_out told before standard = grind (arith, common_steps, append-nil, told_of-nil, with_written-nil)
+nothing_out told before standard = grind (arith, append-nil, told_of-nil, with_written-nil)
 
 -- how many slots there are
 pub outputs_count : (told : Bool) (before : List Slot) (part : Part) (now : List Slot) → OutputsAt told before part now
@@ -154,7 +154,7 @@ nothing_begins_part part = search rules
 pub marks_by : (IsName IsOther : List ℕ → Type 0) (fault : Fault) (before after : List Slot)
     → ((name : List ℕ) → IsName name → IsOther name) → Marks IsName fault before after
     → Marks IsOther fault before after
-marks_by IsName IsOther (Open slot) before after also is = grind (arith, common_steps)
+marks_by IsName IsOther (Open slot) before after also is = grind arith
 marks_by IsName IsOther fault before after also is = is
 
 -- the files of a part are at their places in what it begins
@@ -208,7 +208,7 @@ done_by zero part high begins closed within = refl
 done_by (suc place) [] high begins closed within = absurd (omega arith)
 done_by (suc place) (file ∷ part) [] begins closed within = absurd begins
 done_by (suc place) (file ∷ part) (whole ∷ high) begins closed within =
-    grind (arith, common_steps, closed_stays, done_by place _ _ begins.5 closed.1 (omega arith))
+    grind (arith, closed_stays, done_by place _ _ begins.5 closed.1 (omega arith))
 
 pub no_fewer : (low part : List File) → FilesBegin low part → length low ≤ length part
 no_fewer [] part begins = omega arith
@@ -218,12 +218,12 @@ no_fewer (file ∷ low) (whole ∷ part) begins = omega (arith, no_fewer low _ b
 -- in turn is in order
 pub in_order : {low part high : List File} {place : ℕ} → FilesBegin low part → FilesBegin part high → InTurn part place
     → InOrder low part high place
-in_order above below turn = grind (arith, common_steps, done_by, drop_all, no_fewer)
+in_order above below turn = grind (arith, done_by, drop_all, no_fewer)
 
 pub openings-append : (line : List ℕ → List ℕ) (some more : List File)
     → openings_for line (some ++ more) ≡ openings_for line some ++ openings_for line more
 openings-append line [] more = refl
-openings-append line (file ∷ some) more = grind (arith, common_steps, append_assoc, openings-append line some more)
+openings-append line (file ∷ some) more = grind (arith, append_assoc, openings-append line some more)
 
 -- the lines for files that are there, and for those that were opened since
 pub openings_since : (line : List ℕ → List ℕ) (low part : List File) → FilesBegin low part
@@ -231,7 +231,7 @@ pub openings_since : (line : List ℕ → List ℕ) (low part : List File) → F
 openings_since line [] part begins = refl
 openings_since line (file ∷ low) [] begins = absurd begins
 openings_since line (file ∷ low) (whole ∷ part) begins =
-    grind (arith, common_steps, append_assoc, openings_since line low _ begins.5)
+    grind (arith, append_assoc, openings_since line low _ begins.5)
 
 -- the lines that standard output had in the lower part, and those that it got since
 lines_in_order : (output : Output) (low part high : Part) (place : ℕ) (fault : Fault) → Begins low part
@@ -243,7 +243,7 @@ lines_in_order (gets_openings line) low part high place fault above has lines = 
       ∙ append_assoc low.out (openings_for line (drop (length low.files) part.files)) lines.next;
   due = lines.due;
 }
-lines_in_order (gets_lines line) low part high place fault above has lines = grind (arith, common_steps)
+lines_in_order (gets_lines line) low part high place fault above has lines = grind arith
 lines_in_order output low part high place fault above has lines = tt
 
 pub stopped_in_turn : (output : Output) (told : Bool) (before : List Slot) (low high : Part) (fault : Fault)

@@ -54,7 +54,7 @@ pub files_begin : (manner : Manner) (place : ℕ) (low high : List Share) → Sh
 files_begin manner place [] high begins = tt
 files_begin manner place (share ∷ low) [] begins = absurd begins
 files_begin manner place (share ∷ low) (whole ∷ high) begins =
-    grind (arith, common_steps, files_by, files_begin manner (place + 1) _ high begins.2)
+    grind (arith, files_by, files_begin manner (place + 1) _ high begins.2)
 
 -- What standard output is told of them
 
@@ -62,7 +62,7 @@ pub told-append : (output : Output) (a b : List File)
     → told_of_files output (a ++ b) ≡ told_of_files output a ++ told_of_files output b
 told-append (gets_lines line) [] b = refl
 told-append (gets_lines line) (file ∷ a) b =
-    grind (arith, common_steps, append_assoc, told-append (gets_lines line) a b)
+    grind (arith, append_assoc, told-append (gets_lines line) a b)
 told-append (gets_openings line) a b = openings-append _ a b
 told-append output a b = refl
 
@@ -87,7 +87,7 @@ open_untold : (line : File → List ℕ) (manner : Manner) (place : ℕ) (bytes 
     → lines_for line (files_from manner place (map (share Open) bytes)) ≡ []
 open_untold line manner place [] = refl
 open_untold line manner place (one ∷ bytes) =
-    grind (arith, common_steps, cond_both, open_untold line manner (place + 1) bytes)
+    grind (arith, cond_both, open_untold line manner (place + 1) bytes)
 
 told_by : (line : File → List ℕ) (has : Bool) (file : File) (low high : List File)
     → IsBeginning (lines_for line low) (lines_for line high)
@@ -107,16 +107,16 @@ told_grows : (output : Output) (manner : Manner) (place : ℕ) (front : List Sha
     (told_of_files output (files_from manner place (front ++ high)))
 told_grows (gets_lines line) manner place [] low high begins = rw (open_untold _ _ place low) (_, refl)
 told_grows (gets_lines line) manner place (one ∷ front) low high begins =
-    grind (arith, common_steps, told_by, told_grows (gets_lines line) manner (place + 1) front low high begins)
+    grind (arith, told_by, told_grows (gets_lines line) manner (place + 1) front low high begins)
 told_grows (gets_openings line) manner place front low high begins =
-    grind (arith, common_steps, openings_begin, files_begin, shares_after)
+    grind (arith, openings_begin, files_begin, shares_after)
 told_grows output manner place front low high begins = begins_itself []
 
 -- what is written of shares whose last ones are open, and go on
 pub part_grows : (manner : Manner) (front : List Share) (low : List (List ℕ)) (high : List Share)
     → SharesBegin (map (share Open) low) high
     → Begins (part_of manner (front ++ map (share Open) low)) (part_of manner (front ++ high))
-part_grows manner front low high begins = grind (arith, common_steps, told_grows, files_begin, shares_after)
+part_grows manner front low high begins = grind (arith, told_grows, files_begin, shares_after)
 
 -- What is written of a draft only grows.
 
@@ -161,13 +161,13 @@ files_stop manner place (one ∷ front) rest none = cc (files_stop manner (place
 
 pub stopped_part : (manner : Manner) (draft : Draft) → manner.has_name (length draft.ended) ≡ false
     → draft_part manner draft ≡ part_of manner (map (share Closed) draft.ended)
-stopped_part manner draft none = grind (arith, common_steps, files_stop, length-map)
+stopped_part manner draft none = grind (arith, files_stop, length-map)
 
 pub closed_files : (manner : Manner) (place : ℕ) (ended : List (List ℕ))
     → AllClosed (files_from manner place (map (share Closed) ended))
 closed_files manner place [] = tt
 closed_files manner place (one ∷ ended) =
-    grind (arith, common_steps, cond_both, closed_files manner (place + 1) ended)
+    grind (arith, cond_both, closed_files manner (place + 1) ended)
 
 -- The files that ended, and one more
 
@@ -184,7 +184,7 @@ files_with : (manner : Manner) (draft : Draft) (state : State) (bytes : List ℕ
     → AreNamed manner (suc (length draft.ended))
     → files_from manner 0 (map (share Closed) draft.ended ++ share state bytes ∷ [])
     ≡ ended_files manner draft ++ file_of (name_after manner draft) bytes state ∷ []
-files_with manner draft state bytes named = grind (arith, common_steps, length-map, files_on)
+files_with manner draft state bytes named = grind (arith, length-map, files_on)
 
 pub part_last : (manner : Manner) (draft : Draft) (state : State) (bytes : List ℕ)
     → AreNamed manner (suc (length draft.ended))
@@ -192,7 +192,7 @@ pub part_last : (manner : Manner) (draft : Draft) (state : State) (bytes : List 
     ≡ with_last
     (ended_out manner draft ++ told_of_files manner.output (file_of (name_after manner draft) bytes state ∷ []))
     (ended_files manner draft) (file_of (name_after manner draft) bytes state)
-part_last manner draft state bytes named = grind (arith, common_steps, files_with, with_last, file_of, told-append)
+part_last manner draft state bytes named = grind (arith, files_with, with_last, file_of, told-append)
 
 last_told : (output : Output) (name bytes : List ℕ)
     → told_of_files output (file_of name bytes Open ∷ []) ≡ told_before output name
@@ -204,7 +204,7 @@ pub open_part : (manner : Manner) (draft : Draft) → AreNamed manner (suc (leng
     → made_of draft.opening draft.bytes ≡ draft.bytes ∷ []
     → draft_part manner draft ≡ with_last (begun_out manner.output (ended_files manner draft) (name_after manner draft))
     (ended_files manner draft) (file_of (name_after manner draft) draft.bytes Open)
-open_part manner draft named makes = grind (arith, common_steps, part_last, with_last, file_of, last_told)
+open_part manner draft named makes = grind (arith, part_last, with_last, file_of, last_told)
 
 -- there is none
 pub none_part : (manner : Manner) (draft : Draft) → made_of draft.opening draft.bytes ≡ []

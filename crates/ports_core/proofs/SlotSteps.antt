@@ -115,7 +115,7 @@ none_past slots place past = grind (arith, common_steps)
 -- where there is no file, none is removed
 pub swept_none : (clears : Bool) (first : ℕ) (slots : List Slot)
     → ((place : ℕ) → first ≤ place → has_file (slot_at slots place).state ≡ false) → Swept clears first slots slots
-swept_none true first slots no_file = grind (arith, common_steps, none)
+swept_none true first slots no_file = grind (arith, none)
 swept_none false first slots no_file = refl
 
 -- as many outputs, each with a file just where it had one

@@ -34,6 +34,6 @@ spare_within work most n x lawful (inr (before, piece, is, few, going)) spare = 
   by (inr short) (inr complete) =
       let used : take (length spare.used) before ≡ spare.used = sym (take-append-le (length spare.used) before piece short) ∙ ap (take (length spare.used)) (sym is ∙ spare.joined) ∙ take_at spare.used spare.rest (length spare.used) refl in
       let all : spare.used ++ drop (length spare.used) before ≡ before =
-      grind (arith, common_steps, take-append-drop) in
-      let stays : IsComplete work spare.used (drop (length spare.used) before) = grind (arith, common_steps) in
+      grind (arith, take-append-drop) in
+      let stays : IsComplete work spare.used (drop (length spare.used) before) = grind arith in
       absurd (false≢true (sym going ∙ ap work.is_complete (sym all) ∙ stays.still))

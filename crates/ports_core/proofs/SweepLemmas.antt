@@ -94,7 +94,7 @@ one_tried : {files now next kept : List ℕ} {place left few : ℕ} {old mid : L
 one_tried {files} {now} {next} {kept} {place} {left} {few} {old} {mid} {file} {change} so_far within file_is size fits rest front_is tries =
     let less : place < length files = omega arith in
     let front = sym (drop-cons now place 0 within) ∙ so_far.rest ∙ drop-cons files place 0 less in
-    let same : file ≡ get_or files place 0 = grind (arith, common_steps) in
+    let same : file ≡ get_or files place 0 = grind arith in
     let are = rw (drop-cons files place 0 less ∙ ap (λ one. one ∷ drop (suc place) files) (sym same)) at so_far.are in
     rw (← (let e : suc place ≡ place + 1 = omega arith in e)) (record {
       size = size ∙ so_far.size;
@@ -102,7 +102,7 @@ one_tried {files} {now} {next} {kept} {place} {left} {few} {old} {mid} {file} {c
       tried = rw (front_is, take-suc files place 0 less, ← same) (tried_more _ _ so_far.tried
           (rw (append-nil kept) at (tried file [] kept [] change mid _ tries (all_tried _))));
       rest = rest ∙ ap (drop 1) front;
-      are = grind (arith, common_steps, still_there);
+      are = grind (arith, still_there);
     })
 
 -- the same by what the removal returned
@@ -182,4 +182,4 @@ pub all_cleared : (first : ℕ) (files left : List ℕ) (old new : List Slot) �
     → AreThere files old → ((place : ℕ) → is_among place files ≡ true → first ≤ place)
     → ((place : ℕ) → first ≤ place → has_file (slot_at old place).state ≡ is_among place files)
     → SweptFrom first old new
-all_cleared first files left old new done are from own = grind (arith, common_steps, same_size, others_same, each_cleared)
+all_cleared first files left old new done are from own = grind (arith, same_size, others_same, each_cleared)

@@ -11,10 +11,10 @@ use Rattle.ports_core.proofs.FileWriterLemmas.{goes_still}
 use Rattle.ports_core.proofs.FileBegunLemmas.{ended_none}
 
 pub returns-in-Skipped-clause-goes : goal.returns-in-Skipped-clause-goes
-returns-in-Skipped-clause-goes g c = grind (arith, common_steps, goes_still, ended_none)
+returns-in-Skipped-clause-goes g c = grind (arith, goes_still, ended_none)
 
 pub returns-in-Due-clause-goes : goal.returns-in-Due-clause-goes
-returns-in-Due-clause-goes g c = grind (arith, common_steps, goes_still, ended_none)
+returns-in-Due-clause-goes g c = grind (arith, goes_still, ended_none)
 
 pub returns-in_err-close-in-File-clause-goes : goal.returns-in_err-close-in-File-clause-goes
 returns-in_err-close-in-File-clause-goes g c = rw (handed_on _ _ c.from_residual.ensures.1)

@@ -9,7 +9,7 @@ use Rattle.std.proofs.Common.{rules}
 use Rattle.ports_core.proofs.FileWriterLemmas.{goes_still}
 
 pub returns-in-Skipped-clause-goes : goal.returns-in-Skipped-clause-goes
-returns-in-Skipped-clause-goes g c = grind (arith, common_steps, goes_still)
+returns-in-Skipped-clause-goes g c = grind (arith, goes_still)
 
 pub returns-in_err-slot-in-Due-clause-goes : goal.returns-in_err-slot-in-Due-clause-goes
 returns-in_err-slot-in-Due-clause-goes g c = rw (handed_on _ _ c.from_residual.ensures.1)

@@ -7,7 +7,7 @@ use Rattle.std.proofs.Common.{length-append}
 use Rattle.ports_core.proofs.FormLemmas.{length_written}
 
 pub returns-in_ok-push_copies-in-BlanksBefore : goal.returns-in_ok-push_copies-in-BlanksBefore
-returns-in_ok-push_copies-in-BlanksBefore c = grind (arith, common_steps, IfOk-weaker, append_assoc, before, length-append, length_written)
+returns-in_ok-push_copies-in-BlanksBefore c = grind (arith, IfOk-weaker, append_assoc, before, length-append, length_written)
 
 pub returns-in_ok-push_marked-in-BlanksAfter : goal.returns-in_ok-push_marked-in-BlanksAfter
-returns-in_ok-push_marked-in-BlanksAfter c = grind (arith, common_steps, IfOk-weaker, length-append, length_written, append_assoc, after)
+returns-in_ok-push_marked-in-BlanksAfter c = grind (arith, IfOk-weaker, length-append, length_written, append_assoc, after)
