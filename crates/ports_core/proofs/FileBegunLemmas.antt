@@ -25,8 +25,8 @@ use Rattle.ports_core.specs.{
 }
 use Rattle.ports_core.proofs.{
   PartLemmas.{begins_itself, nothing_begins, files_begin_themselves, part_trans},
-  PartSteps.{Becomes, becomes_again, with_last, begun_out, file_begins, file_of, line_begins, out_added, writes_to},
-  PartSteps.{opens, falls_wider, close_begins, closes_last, closes_not},
+  PartSteps.{Becomes, becomes_again, with_last, begun_out, file_of, line_begins, out_added, writes_to},
+  PartSteps.{opens, falls_wider, front_begins, closes_last, closes_not},
   OpenLemmas.{IsNextName, opens_not, stops_opening},
   ShareLemmas.{stopped_part, part_grows, closed_files, ended_files, name_after, open_part, none_part},
   SlotLemmas.length-changed_at,
@@ -81,13 +81,13 @@ module _ {manner : Manner} {writer : WriterState} {draft : Draft} (none : made_o
   -- all files up to it have names then
   due_named : (next : Draft) → writer.names.drawn < 2 ^ 64 → Unwritten draft next → IsTrue (has_next writer.names)
       → AreNamed manner (suc (length next.ended))
-  due_named next few so has = grind (arith, cases_lt, unmade_shares, unmade_count)
+  due_named next few so has = grind (arith, common_steps)
 
   -- the part with it
   due_part : (next : Draft) → writer.names.drawn < 2 ^ 64 → Unwritten draft next → IsTrue (has_next writer.names)
       → draft_part manner next ≡ with_last (begun_out manner.output (ended_files manner draft) (name_after manner draft))
       (ended_files manner draft) (file_of (name_after manner draft) next.bytes state.Open)
-  due_part next few so has = rw (← so.same) (open_part manner next (due_named next few so has) so.makes)
+  due_part next few so has = grind (arith, open_part, due_named)
 
 module _ {writer next : WriterState} {slot : ℕ} {old new : List Slot} (ready : IsReady writer old)
     (made : Made writer old new next slot) where
@@ -133,7 +133,7 @@ last_same current first old new same last = tt
 
 open_same : (current : Current) (bytes : List ℕ) (slots : List Slot) → IsOpenAt current slots
     → IsOpenAt current (with_written 0 bytes slots)
-open_same (File slot size) bytes slots at = (at.0, written_writable slots _ slot 0 bytes at.1 refl)
+open_same (File slot size) bytes slots at = grind (arith, written_writable)
 open_same Unopened bytes slots at = at
 open_same current bytes slots at = tt
 
@@ -211,7 +211,7 @@ goes_made {told} {writer} {made} {next} {change} {slot} bytes {old} {mid} {new} 
   reaches = λ manner draft writes. let (so, are) = of draft writes.current in
       reaches_as (none_part manner draft so.none)
       (due_part so.none writes (change draft) makes.few so makes.named ∙ ap (λ those. with_last (begun_out manner.output (ended_files manner draft) (name_after manner draft)) (ended_files manner draft) (file_of (name_after manner draft) those state.Open)) are)
-      (reaches_by leaves.owns (λ first last. becomes_again (part_trans _ _ _ (line_begins (told_before manner.output (name_after manner draft))) (file_begins (ended_files manner draft) (file_of (name_after manner draft) [] state.Open)))
+      (reaches_by leaves.owns (λ first last. becomes_again (part_trans _ _ _ (line_begins (told_before manner.output (name_after manner draft))) (grind (arith, begins_itself, more_files)))
       (made_becomes manner draft (due_name so.none writes) (ap (λ line. with_written 0 (told_of told line) old) (line_told so.none writes)) makes)
       (writes_to manner.output told (ended_files manner draft) (name_after manner draft) [] bytes mid fault (closed_files manner 0 draft.ended) (grind (arith, common_steps)) appends.wrote)));
   short = grind (arith, common_steps, never_short);
@@ -253,11 +253,7 @@ ended_none draft none = search rules
 -- what has one at once is begun
 pub at_once : {opening : Opening} → opening ≡ AtOnce → (draft : Draft) → draft.opening ≡ Never
     → Unwritten draft (with_next opening draft)
-at_once is draft never = record {
-  same = ended_none _ (never_made draft never);
-  none = never_made draft never;
-  makes = ap (λ those. made_of those []) is;
-}
+at_once is draft never = grind (arith, common_steps)
 
 -- it could not be made
 pub begin_unmade : {told : Bool} {writer next : WriterState} {opening : Opening} {old new : List Slot} {f : Fault}
@@ -283,9 +279,7 @@ begin_made {told} {next = next} {slot = slot} is ready made =
 file_ends : {manner : Manner} {writer : WriterState} {draft : Draft} (slot size : ℕ) → writer.current ≡ File slot size
     → Writes manner writer draft → Writes manner (paused writer) (with_next Never draft)
 file_ends {draft = draft} slot size is writes =
-    let makes = (now_is is writes).0 in
-    let count : length (shares_of draft) ≡ length (shares_of (with_next Never draft)) =
-    grind (arith, made_count, makes, length-append, length-map) in writes_on refl count refl writes
+    grind (arith, common_steps)
 
 file_closed : {writer : WriterState} {old new : List Slot} → KeepsMade old new
     → KeepsFiles writer (paused writer) old new
@@ -293,7 +287,7 @@ file_closed keeps = search (rules, there_same)
 
 closed_can : (slot : ℕ) (old new : List Slot) → 2 ≤ slot → new ≡ changed_at slot closes old → IsTrue (is_writable old 0)
     → IsTrue (is_writable new 0)
-closed_can slot old new two closed can = writable_elsewhere _ _ 0 _ _ (λ same. omega arith) closed can
+closed_can slot old new two closed can = grind (arith, common_steps)
 
 closed_leaves : {writer : WriterState} (slot size : ℕ) {old new : List Slot} → writer.current ≡ File slot size
     → IsReady writer old → new ≡ changed_at slot closes old → Leaves writer (paused writer) old new None
@@ -323,7 +317,7 @@ closed_begins : (output : Output) (front : List PartFile) (name bytes : List ℕ
     (with_last (told_of_files output front ++ told_of_files output (file_of name bytes state.Closed ∷ [])) front
     (file_of name bytes state.Closed))
 closed_begins output front name bytes = let (rest, is) = closed_told output name bytes in record {
-  out = grind (arith, is, append_assoc);
+  out = grind (arith, append_assoc);
   files = files_begin_themselves _;
 }
 
@@ -402,7 +396,7 @@ end_told {told} {writer} slot size {old} {mid} {new} {fault} is ready closed tel
   leaves = leaves;
   reaches = λ manner draft writes. let now = now_is is writes in let named = file_named now.0 writes in
       reaches_as (open_part manner draft named now.0) (grind (arith, common_steps, next_shares, part_last)) (reaches_by leaves.owns (λ first last. becomes_again
-      (close_begins _ (ended_files manner draft) (name_after manner draft) draft.bytes)
+      (grind (arith, begins_itself, front_begins))
       (closes_last manner.output told _ (ended_files manner draft) (name_after manner draft) draft.bytes old (last_file writer old is last).1 closed)
       (tells_file writer.tells manner.output told size (ended_files manner draft) (file_of (name_after manner draft) draft.bytes state.Closed) mid fault writes.same.output refl now.1 (closed_files manner 0 draft.ended)
       (let two = paused_now.streams in omega arith) tells)));

@@ -86,7 +86,7 @@ pub reaches_again : {output : Output} {told : Bool} {low middle high : Part} {ol
     {fault : Option Fault} {one two three : WriterState} → Begins low middle
     → Reaches output told one two low middle old mid None
     → Reaches output told two three middle high mid new fault → Reaches output told one three low high old new fault
-reaches_again {output} {told} {high = high} {new = new} {fault} begins first second = record { there = λ before at. there_from output told _ before high new fault begins (second.there before (first.there before at)) }
+reaches_again {output} {told} {high = high} {new = new} {fault} begins first second = grind (arith, there_from)
 
 -- it was stopped on its way to more
 pub stops_wider : {output : Output} {told : Bool} {low middle high : Part} {old new : List Slot} {fault : Fault}
@@ -126,12 +126,12 @@ in_turn place turn lines = search (rules, part_begins_itself)
 
 pub made_count : (draft : Draft) → made_of draft.opening draft.bytes ≡ draft.bytes ∷ []
     → length (shares_of draft) ≡ length draft.ended + 1
-made_count draft makes = grind (arith, length-append, length-map)
+made_count draft makes = grind (arith, common_steps)
 
 -- with an open file, those that ended and this one have names
 named_last : (manner : Manner) (draft : Draft) → AreNamed manner (length (shares_of draft))
     → made_of draft.opening draft.bytes ≡ draft.bytes ∷ [] → AreNamed manner (suc (length draft.ended))
-named_last manner draft named makes place less = named place (omega (arith, made_count))
+named_last manner draft named makes place less = grind (arith, made_count)
 
 pub lacks_memory : {told : Bool} (manner : Manner) (draft : Draft) {slots : List Slot} {writer next : WriterState}
     → AreNamed manner (length (shares_of draft))
@@ -177,21 +177,21 @@ breaks_later old mid new fault same keeps breaks = grind arith
 
 slots_again : {manner other : Manner} (old mid new : List Slot) (fault : Option Fault) → other ≡ manner
     → KeepsBroken old mid → KeepsOrBreaks other mid new fault → KeepsOrBreaks manner old new fault
-slots_again old mid new None same first second = keeps_again old mid new first second
-slots_again old mid new (Some fault) same first second = breaks_later _ _ _ _ same first second
+slots_again old mid new None same first second = grind (arith, keeps_again)
+slots_again old mid new (Some fault) same first second = grind (arith, breaks_later)
 
 -- how files are made stays
 pub same_manner : {writer next : WriterState} {old new : List Slot} {fault : Option Fault}
     → Leaves writer next old new fault → manner_in next ≡ manner_in writer
-same_manner leaves = cc (leaves.naming, leaves.tells)
+same_manner leaves = grind (arith, common_steps)
 
 pub leaves_again : {one two three : WriterState} {old mid new : List Slot} {fault : Option Fault}
     → Leaves one two old mid None → Leaves two three mid new fault → Leaves one three old new fault
 leaves_again first second =
-    grind (arith, slots_again, same_manner, where_well)
+    grind (arith, common_steps)
 
 pub keeps_files : {writer : WriterState} {slots : List Slot} → KeepsFiles writer writer slots slots
-keeps_files = record { owns = λ first owns. owns; there = λ are. are }
+keeps_files = grind (arith, common_steps)
 
 pub leaves_still : {writer : WriterState} {slots : List Slot} → IsReady writer slots
     → Leaves writer writer slots slots None
@@ -204,12 +204,12 @@ leaves_lacking = grind (arith, keeps_files)
 -- the open file can be written
 pub at_file : {writer : WriterState} {slot size : ℕ} {slots : List Slot} → writer.current ≡ File slot size
     → IsReady writer slots → (2 ≤ slot) × IsTrue (is_writable slots slot)
-at_file {slots = slots} is ready = subst (λ current. IsOpenAt current slots) is ready.current
+at_file {slots = slots} is ready = grind (arith, common_steps)
 
 -- and is the last output, where that is known of it
 pub last_file : (writer : WriterState) {slot size first : ℕ} (slots : List Slot) → writer.current ≡ File slot size
     → IsLast writer.current first slots → (first ≤ slot) × (suc slot ≡ length slots)
-last_file writer {first = first} slots is last = subst (λ current. IsLast current first slots) is last
+last_file writer {first = first} slots is last = grind (arith, common_steps)
 
 -- what can be told stays so, where standard output can still be written
 pub can_tell : (tells : Tells) (old new : List Slot) → (IsTrue (is_writable old 0) → IsTrue (is_writable new 0))
@@ -226,7 +226,7 @@ there_still [] old new keeps are = tt
 there_still (place ∷ files) old new keeps are = grind (arith, there_still files _ _ keeps are.2)
 
 pub there_same : (files : List ℕ) {old new : List Slot} → KeepsMade old new → AreThere files old → AreThere files new
-there_same files keeps are = there_still files _ _ (λ place has. keeps.same place ∙ has) are
+there_same files keeps are = grind (arith, there_still)
 
 -- one file more
 
@@ -285,13 +285,13 @@ owned_unopened {writer = writer} {next = next} {old = old} {new} none = let kept
 pub breaks_as : {manner own : Manner} (old new : List Slot) (fault : Fault) → IsManner manner own
     → Breaks own old new fault → Breaks manner old new fault
 breaks_as old new (fault.Write slot) same (out, rose) = grind arith
-breaks_as old new (Verdict Suffixes) same (place, few, none) = (place, few, sym (same.has place few) ∙ none)
+breaks_as old new (Verdict Suffixes) same (place, few, none) = grind (arith, common_steps)
 breaks_as old new fault same breaks = breaks
 
 -- standard output breaks where it is told anything alone
 line_rose : (told : Bool) (tells : Tells) (names : Names) (n : ℕ) {old new : List Slot} → CanTell tells old
     → BrokeAfter told old new 0 (line_next tells names) n → (writes (output_of tells) ≡ true) × Rose 0 old new
-line_rose told Openings names n can cut = grind (arith, common_steps, write_rose)
+line_rose told Openings names n can cut = search (rules, write_rose)
 line_rose told tells names n can cut = absurd (omega arith)
 
 pub make_breaks : (told : Bool) (tells : Tells) {names next : Names} {old new : List Slot} {f : Fault}
@@ -331,20 +331,14 @@ now_is is writes = grind arith
 pub file_named : {manner : Manner} {writer : WriterState} {draft : Draft}
     → made_of draft.opening draft.bytes ≡ draft.bytes ∷ [] → Writes manner writer draft
     → AreNamed manner (suc (length draft.ended))
-file_named {manner} {draft = draft} makes writes = named_last manner _ writes.named makes
+file_named {manner} {draft = draft} makes writes = grind (arith, named_last)
 
 -- it writes more, where no file was made
 pub writes_on : {manner : Manner} {writer next : WriterState} {draft after : Draft}
     → next ≡ record writer { current = next.current } → length (shares_of draft) ≡ length (shares_of after)
     → IsCurrent writer.tells after.opening after.bytes next.current → Writes manner writer draft
     → Writes manner next after
-writes_on {manner} same count current writes = rw same (record {
-  same = writes.same;
-  made = writes.made ∙ count;
-  kept = λ all. writes.kept all ∙ count;
-  named = subst (AreNamed manner) count writes.named;
-  current = current;
-})
+writes_on {manner} same count current writes = grind (arith, common_steps)
 
 -- Nothing is written: what is begun had no file, and has none
 
@@ -362,7 +356,7 @@ goes_still {writer = writer} current {slots} ready at last stays = grind (arith,
 -- nothing more is written
 pub put_nothing : {told : Bool} {writer : WriterState} {bytes : List ℕ} {slots : List Slot} → bytes ≡ []
     → IsReady writer slots → Goes told writer (with_bytes bytes) slots slots writer None
-put_nothing none ready = grind (arith, goes_still, append-nil)
+put_nothing none ready = grind (arith, common_steps)
 
 -- The open file gets more bytes, or breaks.
 
@@ -393,7 +387,7 @@ wrote_made told slot bytes old new (Some f) wrote = made_short _ _ _ _ _ f wrote
 wrote_can : (told : Bool) (slot : ℕ) (bytes : List ℕ) (place : ℕ) (old new : List Slot) (fault : Option Fault)
     → Wrote told slot bytes old new fault
     → IfNone fault (IsTrue (is_writable old place) → IsTrue (is_writable new place))
-wrote_can told slot bytes place old new None wrote = λ can. written_writable _ _ _ _ _ can wrote
+wrote_can told slot bytes place old new None wrote = grind (arith, written_writable)
 wrote_can told slot bytes place old new (Some f) wrote = tt
 
 -- a write to one of the outputs

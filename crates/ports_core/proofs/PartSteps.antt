@@ -70,23 +70,9 @@ pub more_files : (front more : List File) → FilesBegin front (front ++ more)
 more_files [] more = tt
 more_files (file ∷ front) more = (refl, refl, refl, inr refl, begins_itself _, more_files front _)
 
-pub file_begins : {out : List ℕ} (front : List File) (file : File)
-    → Begins (record { out = out; files = front }) (with_last out front file)
-file_begins {out} front file = grind (arith, begins_itself, more_files)
-
 pub front_begins : (front low high : List File) → FilesBegin low high → FilesBegin (front ++ low) (front ++ high)
 front_begins [] low high begins = begins
 front_begins (file ∷ front) low high begins = (refl, refl, refl, inr refl, begins_itself _, front_begins front _ _ begins)
-
-taken_more : (out : List ℕ) (front : List File) (name bytes more : List ℕ) (n : ℕ)
-    → Begins (with_last out front (file_of name (bytes ++ take n more) state.Open))
-    (with_last out front (file_of name (bytes ++ more) state.Open))
-taken_more out front name bytes more n = record { out = begins_itself _; files = front_begins _ (file_of name (bytes ++ take n more) state.Open ∷ []) _ (refl, refl, refl, inl refl, take_begins_after n _ _, tt) }
-
-pub close_begins : (out : List ℕ) (front : List File) (name bytes : List ℕ)
-    → Begins (with_last out front (file_of name bytes state.Open))
-    (with_last out front (file_of name bytes state.Closed))
-close_begins out front name bytes = grind (arith, begins_itself, front_begins)
 
 -- Steps
 
@@ -188,7 +174,7 @@ module _ (output : Output) (told : Bool) (front : List File) (name bytes : List 
       (with_last (begun_out output front name) front (file_of name (bytes ++ more) state.Open)) old new fault
   writes_to more old None closed last wrote = grind (arith, common_steps, bytes_added)
   writes_to more {slot} old (Some _) closed last (short.broke n cut) =
-      becomes_again (grind (arith, begins_itself, front_begins, begins_more)) (bytes_added _ _ _ _ _ _ _ _ last refl) (halts_here (taken_more _ _ _ _ _ n)
+      becomes_again (grind (arith, begins_itself, front_begins, begins_more)) (bytes_added _ _ _ _ _ _ _ _ last refl) (halts_here (grind (arith, begins_itself, front_begins, take_begins_after))
       (turn_last _ _ _ refl closed) (lines_of_last _ _ _ _ _ tt)
       (let size : length (with_written slot (told_of told (take n more)) old) ≡ length old = length-changed_at _ _ _ in omega arith, cut.slots)
       (λ before at. inr (last_place output _ _ _ _ (last ∙ sym (length-changed_at _ _ _)) at)))
@@ -199,7 +185,7 @@ module _ (output : Output) (told : Bool) (front : List File) (name bytes : List 
       (with_last (begun_out output front name) front (file_of name bytes state.Closed)) old new
       (Some (fault.Write slot))
   closes_not {slot} old closed last is =
-      becomes_again (close_begins _ _ _ _) (closes_last _ _ _ _ _ _ _ last refl) (halts_here (part_begins_itself _)
+      becomes_again (grind (arith, begins_itself, front_begins)) (closes_last _ _ _ _ _ _ _ last refl) (halts_here (part_begins_itself _)
       (turn_last _ _ _ refl closed)
       (lines_of_last _ _ _ _ _ tt)
       (omega (arith, length-changed_at), is)

@@ -159,10 +159,7 @@ filed_same made = search rules
 
 pub filed_more : {old mid new : List Slot} (why : Reason) (kept : List ℕ) → KeepsMade old mid
     → new ≡ mid ++ unopened why kept ∷ [] → KeepsFiled old new
-filed_more {mid = mid} why kept made added = record {
-  same = grind (arith, common_steps);
-  within = grind (arith, common_steps, length-append);
-} where
+filed_more {mid = mid} why kept made added = grind (arith, common_steps, length-append) where
   still : (place : ℕ) → has_file (slot_at (mid ++ unopened why kept ∷ []) place).state
       ≡ has_file (slot_at mid place).state
   still place = grind (arith, common_steps)
