@@ -51,9 +51,6 @@ use Rattle.ports_core.proofs.PartSteps.{more_files}
 
 -- What makes no file
 
-pub never_made : (draft : Draft) → draft.opening ≡ Never → made_of draft.opening draft.bytes ≡ []
-never_made draft is = search rules
-
 -- A file is made for what is begun.
 
 -- what is known where what is begun has no file, and one is made of it after a change
@@ -285,10 +282,6 @@ file_closed : {writer : WriterState} {old new : List Slot} → KeepsMade old new
     → KeepsFiles writer (paused writer) old new
 file_closed keeps = search (rules, there_same)
 
-closed_can : (slot : ℕ) (old new : List Slot) → 2 ≤ slot → new ≡ changed_at slot closes old → IsTrue (is_writable old 0)
-    → IsTrue (is_writable new 0)
-closed_can slot old new two closed can = grind (arith, common_steps)
-
 closed_leaves : {writer : WriterState} (slot size : ℕ) {old new : List Slot} → writer.current ≡ File slot size
     → IsReady writer old → new ≡ changed_at slot closes old → Leaves writer (paused writer) old new None
 closed_leaves slot size {old} {new} is ready closed =
@@ -300,8 +293,8 @@ closed_leaves slot size {old} {new} is ready closed =
       open_alone = λ alone. refl;
       owns = file_closed made;
       slots = keeps_close _ _ _ closed;
-      output = closed_can _ _ _ at.0 closed;
-      ready = grind (arith, can_tell, closed_can, there_same);
+      output = grind (arith, common_steps);
+      ready = grind (arith, can_tell, common_steps, there_same);
     }
 
 -- the file breaks as it is closed

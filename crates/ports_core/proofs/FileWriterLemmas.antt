@@ -34,7 +34,7 @@ use Rattle.ports_core.proofs.{
   ShareLemmas.{closed_files, ended_files, name_after, open_part, none_part, still_made, made_or},
   SlotLemmas.length-changed_at,
   SlotSteps.{KeepsFiled, KeepsMade, filed_more, filed_same, none_past, write_rose, keeps_write},
-  SlotSteps.{made_write, written_writable, made_short, open_rose, rose_later, keeps_again},
+  SlotSteps.{made_write, written_writable, made_short, rose_later, keeps_again},
   SweepLemmas.by_place,
 }
 use Rattle.ports_core.specs.inner.Write as short
@@ -128,11 +128,6 @@ pub made_count : (draft : Draft) → made_of draft.opening draft.bytes ≡ draft
     → length (shares_of draft) ≡ length draft.ended + 1
 made_count draft makes = grind (arith, common_steps)
 
--- with an open file, those that ended and this one have names
-named_last : (manner : Manner) (draft : Draft) → AreNamed manner (length (shares_of draft))
-    → made_of draft.opening draft.bytes ≡ draft.bytes ∷ [] → AreNamed manner (suc (length draft.ended))
-named_last manner draft named makes place less = grind (arith, made_count)
-
 pub lacks_memory : {told : Bool} (manner : Manner) (draft : Draft) {slots : List Slot} {writer next : WriterState}
     → AreNamed manner (length (shares_of draft))
     → Reaches manner.output told writer next (draft_part manner draft) (draft_part manner draft) slots slots
@@ -142,7 +137,7 @@ lacks_memory manner draft named = elim (made_or draft.opening draft.bytes) [
       let is = none_part manner draft none in
       reaches_as is is (in_turn (length (ended_files manner draft)) (turn_next (ended_files manner draft) (closed_files manner 0 draft.ended)) (lines_all manner.output (ended_files manner draft) _ Memory tt))
   | inr makes ↦
-      let is = open_part manner draft (named_last manner draft named makes) makes in
+      let is = open_part manner draft (grind (arith, made_count)) makes in
       reaches_as is is (in_turn (length (ended_files manner draft)) (turn_last (ended_files manner draft) _ _ refl (closed_files manner 0 draft.ended)) (lines_of_last manner.output (ended_files manner draft) _ _ Memory tt))
 ]
 
@@ -174,11 +169,6 @@ well_in A result holds = grind arith
 pub breaks_later : {manner other : Manner} (old mid new : List Slot) (fault : Fault) → other ≡ manner
     → KeepsBroken old mid → Breaks other mid new fault → Breaks manner old new fault
 breaks_later old mid new fault same keeps breaks = grind arith
-
-slots_again : {manner other : Manner} (old mid new : List Slot) (fault : Option Fault) → other ≡ manner
-    → KeepsBroken old mid → KeepsOrBreaks other mid new fault → KeepsOrBreaks manner old new fault
-slots_again old mid new None same first second = grind (arith, keeps_again)
-slots_again old mid new (Some fault) same first second = grind (arith, breaks_later)
 
 -- how files are made stays
 pub same_manner : {writer next : WriterState} {old new : List Slot} {fault : Option Fault}
@@ -299,7 +289,7 @@ pub make_breaks : (told : Bool) (tells : Tells) {names next : Names} {old new : 
     → Breaks (manner_by names.naming (output_of tells)) old new f
 make_breaks told tells can (no_line n few has cut) = grind (arith, common_steps, line_rose)
 make_breaks told tells can (no_file slot kept why number few has drew is added) =
-    grind (arith, common_steps, length-changed_at, rose_later, keeps_write, open_rose)
+    grind (arith, common_steps, length-changed_at, rose_later, keeps_write)
 make_breaks told tells {names} can (no_name few none same) = (names.drawn, few, none)
 make_breaks told tells can other = tt
 
@@ -331,7 +321,7 @@ now_is is writes = grind arith
 pub file_named : {manner : Manner} {writer : WriterState} {draft : Draft}
     → made_of draft.opening draft.bytes ≡ draft.bytes ∷ [] → Writes manner writer draft
     → AreNamed manner (suc (length draft.ended))
-file_named {manner} {draft = draft} makes writes = grind (arith, named_last)
+file_named {manner} {draft = draft} makes writes = grind (arith, made_count)
 
 -- it writes more, where no file was made
 pub writes_on : {manner : Manner} {writer next : WriterState} {draft after : Draft}

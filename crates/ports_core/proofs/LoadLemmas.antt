@@ -109,7 +109,6 @@ passes_so Keeps passes so = grind arith
 
 module _ {S : Type 0} (terms : Terms S) where
 
-
   pub loads_none : (told : Bool) {slot : ℕ} {stage : S} {sources : List Source} → terms.Holds stage []
       → terms.size stage ≡ 0
       → Loads terms told slot 0 stage stage sources sources

@@ -62,10 +62,6 @@ pub close_rose : (slot : ℕ) (old new : List Slot) → IsTrue (is_writable old 
     → SlotBreaks slot (changed_at slot closes old) new → Rose slot old new
 close_rose slot old new can within (why, is) = grind (arith, sound_at, broken_there, length-changed_at)
 
-pub open_rose : (slot : ℕ) (why : Reason) (kept : List ℕ) (old new : List Slot) → slot ≡ length old
-    → new ≡ old ++ unopened why kept ∷ [] → Rose slot old new
-open_rose slot why kept old new number is = grind (arith, common_steps)
-
 -- How many there are
 
 pub written_size : (slot : ℕ) (bytes : List ℕ) (old new : List Slot) → new ≡ with_written slot bytes old
@@ -104,10 +100,6 @@ pub writable_elsewhere : (old new : List Slot) (slot place : ℕ) (change : Slot
 writable_elsewhere old new slot place change differs is can = grind (arith, slot_at-elsewhere)
 
 -- Which have a file
-
-pub open_has_file : (state : State) (broken : Bool) → (is_open state && not broken) ≡ true → has_file state ≡ true
-open_has_file Open broken can = refl
-open_has_file state broken can = search rules
 
 pub none_past : (slots : List Slot) (place : ℕ) → length slots ≤ place → has_file (slot_at slots place).state ≡ false
 none_past slots place past = grind (arith, common_steps)

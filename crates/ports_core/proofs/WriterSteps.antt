@@ -88,7 +88,6 @@ next_begun {told} {mid = mid} {next} {opening} {between = between} {new} {fault}
 
 -- More bytes after others
 
-
 pub goes_more : {told : Bool} {one two three : WriterState} (a b : List ℕ) {old mid new : List Slot}
     {fault : Option Fault} → Goes told one (with_bytes a) old mid two None
     → Goes told two (with_bytes b) mid new three fault → Goes told one (with_bytes (a ++ b)) old new three fault

@@ -7,15 +7,14 @@ use Rattle.ports_core.proofs.file_writer.FileWriter.begin.Goals as goal
 use Rattle.std.proofs.lemmas.Grind.{common_steps}
 use Rattle.std.proofs.Common.{arith}
 use Rattle.ports_core.proofs.FileWriterLemmas.{goes_still}
-use Rattle.ports_core.proofs.FileBegunLemmas.{never_made}
 use Rattle.ports_core.proofs.FileBegunLemmas.{paused_ready}
 use Rattle.ports_core.proofs.FileBegunLemmas.{ended_none}
 
 pub returns-in-Never-clause-goes : goal.returns-in-Never-clause-goes
-returns-in-Never-clause-goes g c = rw c.in-Never.is (grind (arith, goes_still, ended_none, never_made, paused_ready))
+returns-in-Never-clause-goes g c = rw c.in-Never.is (grind (arith, goes_still, ended_none, paused_ready))
 
 pub returns-in-Late-clause-goes : goal.returns-in-Late-clause-goes
-returns-in-Late-clause-goes g c = rw c.in-Late.is (grind (arith, goes_still, ended_none, never_made, paused_ready))
+returns-in-Late-clause-goes g c = rw c.in-Late.is (grind (arith, goes_still, ended_none, paused_ready))
 
 pub returns-in_err-make_file-in-AtOnce-clause-goes : goal.returns-in_err-make_file-in-AtOnce-clause-goes
 returns-in_err-make_file-in-AtOnce-clause-goes g c = rw (handed_on _ _ c.from_residual.ensures.1) (begin_unmade c.in-AtOnce.is c.requires c.in_err-make_file-in-AtOnce.ensures)
