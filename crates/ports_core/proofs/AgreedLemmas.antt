@@ -110,7 +110,7 @@ pub none_before : (from i place offset : ℕ) (outputs : List (List ℕ)) → pl
 none_before from i place offset [] before is = grind arith
 none_before from i place offset (bytes ∷ outputs) before is = elim (cases_lt i (length bytes)) [
   | inl within ↦ (omega (arith, ap (λ those. (get_or those 0 (spot from i)).place) (sym (spot_in _ i _ _ within) ∙ is)))
-  | inr past ↦ none_before (from + 1) _ _ offset outputs (omega arith) (sym (spot_past _ i _ _ past) ∙ is)
+  | inr past ↦ none_before (from + 1) _ _ _ outputs (omega arith) (sym (spot_past _ i _ _ past) ∙ is)
 ]
 
 -- Outputs that are, one after another, a stretch of their input: their spots are right.
@@ -261,7 +261,7 @@ files_at (file ∷ low) (whole ∷ high) (suc place) begins less = files_at low 
 begins_at : {low high : Part} (place : ℕ) → Begins low high → place < length (outputs_of low)
     → IsBeginning (output_at low place) (output_at high place)
 begins_at zero begins less = begins.out
-begins_at {low} {high} (suc place) begins less = files_at _ _ _ begins.files (omega arith)
+begins_at (suc place) begins less = files_at _ _ _ begins.files (omega arith)
 
 -- as many outputs
 no_more : (work : Work) {x : List ℕ} (one other : Part) → IsAgreed work x one → IsAgreed work x other
@@ -274,17 +274,17 @@ no_longer : (work : Work) {x : List ℕ} (one other : Part) (place : ℕ) → Is
     → length (output_at one place) ≤ length (output_at other place)
 no_longer work one other place agreed also less within =
     let two = also.longest place within in
-    two.4 (output_at one place) (begins_at place (agreed.common two.0 two.2) less) (begins_at place (agreed.common two.1 two.3) less)
+    two.4 (output_at one place) (begins_at _ (agreed.common two.0 two.2) less) (begins_at _ (agreed.common two.1 two.3) less)
 
 pub one_is_agreed : (work : Work) (x : List ℕ) (one other : Part) → IsAgreed work x one → IsAgreed work x other
     → outputs_of one ≡ outputs_of other
 one_is_agreed work x one other agreed also =
     let count : length (outputs_of one) ≡ length (outputs_of other) =
-    (let few = no_more work one other agreed also in omega (arith, no_more work other one also agreed)) in
-    lists_same (outputs_of one) (outputs_of other) count (λ place less.
+    (let few = no_more work _ _ agreed also in omega (arith, no_more work _ _ also agreed)) in
+    lists_same _ _ count (λ place less.
     let within : place < length (outputs_of other) = rw count at less in
-    beginnings_same (output_at one place) (output_at other place) (output_at (work.whole (x ++ [])) place)
-    (begins_at place (agreed.common [] none_comes) less) (begins_at place (also.common [] none_comes) within)
+    beginnings_same _ _ _
+    (begins_at _ (agreed.common [] none_comes) less) (begins_at _ (also.common [] none_comes) within)
     (let short = no_longer work one other place agreed also less within in omega (arith, no_longer work other one place also agreed within less)))
 
 module _ {A G : Type 0} {comes : List A → Type 0} (goes : List A → ℕ → G) (x : List A) where

@@ -1,15 +1,5 @@
 -- Numbers in decimal, as the library prints them, filled with zeros.
-use Rattle.std.proofs.{
-  lemmas.{
-  Grind.common_steps,
-  List.length-append,
-  Fmt.{decimal_by_steps, decimal_is_IsNumeral, decimal_nonempty, length-decimal-le},
-  Int.Digits.digits_value-lt,
-},
-  Common.{◌≡◌, ℕ, ◌+◌, ◌-◌, ◌/◌, ◌%◌, ◌^◌, ◌<◌, ◌≤◌, zero, suc, max, List, [], ◌∷◌, ◌++◌, length},
-  Common.{replicate, decimal},
-  Common.{refl, sym, ◌∙◌, ap, subst, arith, append_assoc, rules},
-}
+use Rattle.std.proofs.{lemmas.{List.length-append, Fmt.{decimal_by_steps, decimal_is_IsNumeral, decimal_nonempty, length-decimal-le}, Int.Digits.digits_value-lt}, Common.{◌≡◌, ℕ, ◌+◌, ◌-◌, ◌/◌, ◌%◌, ◌^◌, ◌<◌, ◌≤◌, zero, suc, max, List, [], ◌∷◌, ◌++◌, length}, Common.{replicate, decimal}, Common.{refl, sym, ◌∙◌, ap, subst, arith, append_assoc, rules}}
 use Rattle.ports_core.{
   specs.{
   declared.{alphabet.Alphabet.TheVariants.Digits, form.Form.Form},
@@ -17,7 +7,6 @@ use Rattle.ports_core.{
 },
   proofs.{CounterLemmas.more_digits, FormLemmas.{below_more, digits_enough, digits_needed}},
 }
-use Rattle.ports_core.proofs.FormLemmas.{least_up_to}
 
 zeros : (width : ℕ) → written Digits width 0 ≡ replicate width 48
 zeros zero = refl

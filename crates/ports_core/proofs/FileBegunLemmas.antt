@@ -1,51 +1,12 @@
 -- What the writer of files does with what is begun: it has no file yet, gets one, and ends
-use Rattle.std.proofs.{
-  lemmas.{Grind.common_steps, Bool.cases_lt, List.length-map},
-  Common.{◌≡◌, ℕ, ◌+◌, ◌<◌, ◌≤◌, ◌^◌, suc, eqb, Bool, false, IsTrue, List, [], ◌∷◌, ◌++◌, length, map, decimal, Option},
-  Common.{Some, None, IfSome, Result, Ok, Err, IfErr, refl, sym, ◌∙◌, ap, subst, arith, rules, append-nil},
-  Common.{append_assoc, length-append},
-}
-use Rattle.ports_core.specs.{
-  Draft.{Manner, AreNamed, Draft, share, files_from, told_before, told_of_files, part_with, part_of, opening_line},
-  Draft.{size_of_file, output_of, made_of, shares_of, draft_part, with_bytes, with_next, manner_by},
-  FileWriter.{WriterState, Writes, IsCounted, IsCurrent, IsLast, IsOpenAt, IsReady, IsWrite, CanTell, RunsShort},
-  FileWriter.{KeepsFiles, KeepsOrBreaks, Leaves, Goes, paused},
-  Names.{next_name, has_next, line_next, told_next, OpensNone, no_name},
-  Part.{File as PartFile, Begins, IsBeginning, Output, gets_none, gets_bytes, gets_lines, gets_openings, lines_for},
-  Part.writes,
-  Slot.{SlotBreaks, Slot, with_written, told_of, changed_at, opened, closes, is_writable},
-  inner.{FileWriter.{MakesNone, Made, Appends, TellsSize, CountsOn, files_with}, Write.Wrote},
-  InTurn.{AllClosed, fault_in},
-  declared.fault.Fault.{Fault, TheVariants.Verdict},
-  declared.verdict.Verdict.TheVariants.Suffixes,
-  declared.file_writer.Current.{Current, TheVariants.{File, Unopened, Skipped, Due}},
-  declared.file_writer.Opening.{Opening, TheVariants.{Never, AtOnce}},
-  declared.file_writer.Tells.{Tells, TheVariants.{Nothing, Sizes, Openings}},
-  declared.slot.Mode.TheVariants.Fresh,
-}
-use Rattle.ports_core.proofs.{
-  PartLemmas.{begins_itself, nothing_begins, files_begin_themselves, part_trans},
-  PartSteps.{Becomes, becomes_again, with_last, begun_out, file_of, line_begins, out_added, writes_to},
-  PartSteps.{opens, falls_wider, front_begins, closes_last, closes_not},
-  OpenLemmas.{IsNextName, opens_not, stops_opening},
-  ShareLemmas.{stopped_part, part_grows, closed_files, ended_files, name_after, open_part, none_part},
-  SlotLemmas.length-changed_at,
-  SlotSteps.{KeepsMade, writable_within, close_rose, keeps_write, written_writable, keeps_open},
-  SlotSteps.{writable_before, made_again, opened_writable, made_close, made_break, keeps_close, writable_elsewhere},
-  WriteLemmas.none_written,
-  FileWriterLemmas.{tells_line, reaches_by, reaches_as, made_count, where_well, in_any, leaves_again, leaves_still},
-  FileWriterLemmas.{at_file, last_file, can_tell, there_same, owned_opened, owned_unopened, make_breaks},
-  FileWriterLemmas.{line_breaks, now_is, file_named, goes_still, never_short, wrote_leaves, appends_leaves, counted_on},
-  FileWriterLemmas.{none_counted, writes_on},
-}
+use Rattle.std.proofs.{lemmas.{Grind.common_steps, List.length-map}, Common.{◌≡◌, ℕ, ◌+◌, ◌<◌, ◌^◌, suc, eqb, Bool, false, IsTrue, List, [], ◌∷◌, ◌++◌, length, map, decimal, Option}, Common.{Some, None, IfSome, Result, Ok, Err, IfErr, refl, sym, ◌∙◌, ap, subst, arith, rules, append-nil}, Common.{append_assoc, length-append}}
+use Rattle.ports_core.specs.{Draft.{Manner, AreNamed, Draft, share, told_before, told_of_files, part_with, part_of, opening_line}, Draft.{size_of_file, output_of, made_of, shares_of, draft_part, with_bytes, with_next, manner_by}, FileWriter.{WriterState, Writes, IsCounted, IsCurrent, IsLast, IsOpenAt, IsReady, IsWrite, CanTell, RunsShort}, FileWriter.{KeepsFiles, KeepsOrBreaks, Leaves, Goes, paused}, Names.{next_name, has_next, line_next, told_next, OpensNone, no_name}, Part.{File as PartFile, Begins, IsBeginning, Output, gets_lines, gets_openings, lines_for}, Part.writes, Slot.{SlotBreaks, Slot, with_written, told_of, changed_at, opened, closes, is_writable}, inner.{FileWriter.{MakesNone, Made, Appends, TellsSize, CountsOn, files_with}, Write.Wrote}, InTurn.{AllClosed, fault_in}, declared.fault.Fault.{Fault, TheVariants.Verdict}, declared.verdict.Verdict.TheVariants.Suffixes, declared.file_writer.Current.{Current, TheVariants.{File, Unopened, Due}}, declared.file_writer.Opening.{Opening, TheVariants.{Never, AtOnce}}, declared.file_writer.Tells.{Tells, TheVariants.{Nothing, Sizes, Openings}}, declared.slot.Mode.TheVariants.Fresh}
+use Rattle.ports_core.proofs.{PartLemmas.{begins_itself, nothing_begins, files_begin_themselves, part_trans}, PartSteps.{Becomes, becomes_again, with_last, begun_out, file_of, line_begins, out_added, writes_to}, PartSteps.{opens, falls_wider, front_begins, closes_last, closes_not}, OpenLemmas.{IsNextName, opens_not, stops_opening}, ShareLemmas.{stopped_part, part_grows, closed_files, ended_files, name_after, open_part, none_part}, SlotLemmas.length-changed_at, SlotSteps.{KeepsMade, writable_within, close_rose, keeps_write, written_writable, keeps_open}, SlotSteps.{writable_before, made_again, opened_writable, made_close, made_break, keeps_close}, WriteLemmas.none_written, FileWriterLemmas.{tells_line, reaches_by, reaches_as, made_count, where_well, in_any, leaves_again, leaves_still}, FileWriterLemmas.{at_file, last_file, can_tell, there_same, owned_opened, owned_unopened, make_breaks}, FileWriterLemmas.{line_breaks, now_is, file_named, never_short, wrote_leaves, appends_leaves, counted_on}, FileWriterLemmas.{none_counted}}
 use Rattle.ports_core.specs.inner.Write as short
 use Rattle.ports_core.specs.declared.fault.Fault.TheVariants as fault
 use Rattle.ports_core.specs.declared.slot.State.TheVariants as state
 use Rattle.ports_core.proofs.ShareLemmas.{next_shares}
 use Rattle.ports_core.proofs.ShareLemmas.{part_last}
-use Rattle.ports_core.proofs.ShareLemmas.{files_stop}
-use Rattle.ports_core.proofs.FileWriterLemmas.{opened_by}
-use Rattle.ports_core.proofs.ShareLemmas.{told-append}
 use Rattle.ports_core.proofs.PartSteps.{front_begins}
 use Rattle.ports_core.proofs.PartSteps.{more_files}
 
@@ -110,7 +71,7 @@ module _ {writer next : WriterState} {slot : ℕ} {old new : List Slot} (ready :
 
 unmade_leaves : {told : Bool} {writer next : WriterState} {old new : List Slot} {f : Fault} → CanTell writer.tells old
     → MakesNone told writer old new next f → Leaves writer next old new (Some f)
-unmade_leaves {told} {writer} {next} {old} {new} {f} can makes = rw makes.same (record {
+unmade_leaves can makes = rw makes.same (record {
   naming = makes.naming;
   tells = refl;
   keeps = refl;
@@ -136,7 +97,7 @@ open_same current bytes slots at = tt
 
 line_leaves : (told : Bool) {writer : WriterState} {old : List Slot} → IsReady writer old
     → Leaves writer writer old (told_next told writer.tells writer.names old) None
-line_leaves told {writer} {old} ready = wrote_leaves told 0 (line_next writer.tells writer.names) None refl
+line_leaves told {writer} ready = wrote_leaves told 0 (line_next writer.tells writer.names) None refl
     (λ first last. last_same _ _ _ _ (length-changed_at 0 _ _) last) (keeps_write 0 _ _ _ refl) (open_same _ _ _ ready.current) ready refl
 
 -- it was made
@@ -147,7 +108,7 @@ made_becomes : {told : Bool} (manner : Manner) {writer made : WriterState} (draf
     → Becomes manner.output told (part_with manner.output (ended_files manner draft))
     (with_last (begun_out manner.output (ended_files manner draft) (name_after manner draft)) (ended_files manner draft)
     (file_of (name_after manner draft) [] state.Open)) old new None
-made_becomes {told} manner draft {old = old} {mid} {new} name line made = becomes_again (line_begins _) (out_added _ _ _ line)
+made_becomes {told} manner draft {mid} name line made = becomes_again (line_begins _) (out_added _ _ _ line)
     (opens _ _ _ _ _ (made.added ∙ ap (λ those. mid ++ opened those Fresh ∷ []) name))
 
 -- it could not be made
@@ -275,7 +236,7 @@ begin_made {told} {next = next} {slot = slot} is ready made =
 
 file_ends : {manner : Manner} {writer : WriterState} {draft : Draft} (slot size : ℕ) → writer.current ≡ File slot size
     → Writes manner writer draft → Writes manner (paused writer) (with_next Never draft)
-file_ends {draft = draft} slot size is writes =
+file_ends slot size is writes =
     grind (arith, common_steps)
 
 file_closed : {writer : WriterState} {old new : List Slot} → KeepsMade old new
@@ -284,7 +245,7 @@ file_closed keeps = search (rules, there_same)
 
 closed_leaves : {writer : WriterState} (slot size : ℕ) {old new : List Slot} → writer.current ≡ File slot size
     → IsReady writer old → new ≡ changed_at slot closes old → Leaves writer (paused writer) old new None
-closed_leaves slot size {old} {new} is ready closed =
+closed_leaves slot size is ready closed =
     let at = at_file is ready in
     let made = made_close _ _ _ at.1 closed in record {
       naming = refl;

@@ -1,42 +1,7 @@
 -- What the writer of files does: what it writes, whose the outputs are, and which faults come.
-use Rattle.std.proofs.{
-  lemmas.{Grind.common_steps, Bool.{false≢true, cases_lt}, List.{length-map, take-append-drop, Recursion.or_push}},
-  Common.{◌≡◌, ℕ, ◌+◌, ◌<◌, ◌≤◌, ◌^◌, zero, suc, eqb, eq-eqb, ne_eqb, Bool, true, ◌||◌, IsTrue, List, [], ◌∷◌, ◌++◌},
-  Common.{length, take, drop, replicate, decimal, Option, Some, None, IfNone, IfSome, Result, OnOk, IsErrAnd, inl, inr},
-  Common.{refl, sym, ◌∙◌, ap, subst, arith, rules, append-nil, length-append},
-  Math.{Bool.or-false, Seq.{take-append-add, take-append_seam, drop-append_seam}},
-}
-use Rattle.ports_core.specs.{
-  Draft.{Manner, AreNamed, Draft, output_of, made_of, shares_of, draft_part, with_bytes, manner_by},
-  FileWriter.{WriterState, Writes, CanCount, IsCounted, IsCurrent, IsLast, IsOpenAt, IsReady, IsManner, CanTell},
-  FileWriter.{Breaks, manner_in, At, KeepsFiles, KeepsOrBreaks, Leaves, Reaches, Goes},
-  Name.Naming,
-  Names.{line_next, OpensNone, no_memory, no_line, no_file, no_number, no_name},
-  Part.{File as PartFile, Part, OutputsAt, Begins, IsBeginning, Output, gets_lines, lines_for, writes},
-  Slot.{Slot, with_written, told_of, Rose, has_file, slot_at, opened, is_writable, KeepsBroken},
-  Swept.{AreThere, is_among},
-  inner.{FileWriter.{Made, Appends, CountsOn, files_with}, Write.{Wrote, WritesShort}},
-  InTurn.{AllClosed, InTurn, IsThere, LinesTo, fault_in},
-  Write.BrokeAfter,
-  declared.fault.Fault.{Fault, TheVariants.{Memory, Verdict}},
-  declared.verdict.Verdict.TheVariants.Suffixes,
-  declared.file_writer.Current.{Current, TheVariants.{File, Unopened, Skipped}},
-  declared.file_writer.Keeps.{Keeps, TheVariants.{Open as OpenOne, All}},
-  declared.file_writer.Tells.{Tells, TheVariants.{Nothing, Sizes, Openings}},
-  declared.names.Names.Names,
-  declared.slot.Mode.TheVariants.Fresh,
-}
-use Rattle.ports_core.proofs.{
-  HandedOn.handed_on,
-  PartLemmas.{take_begins_after, files_begin_themselves, part_begins_itself, turn_between, turn_next, turn_last},
-  PartSteps.{Becomes, becomes_again, with_last, halts_here, there_from, line_begins, lines_all, lines_of_last},
-  PartSteps.{out_added, writes_to},
-  ShareLemmas.{closed_files, ended_files, name_after, open_part, none_part, still_made, made_or},
-  SlotLemmas.length-changed_at,
-  SlotSteps.{KeepsFiled, KeepsMade, filed_more, filed_same, none_past, write_rose, keeps_write},
-  SlotSteps.{made_write, written_writable, made_short, rose_later, keeps_again},
-  SweepLemmas.by_place,
-}
+use Rattle.std.proofs.{lemmas.{Grind.common_steps, Bool.{false≢true, cases_lt}, List.{take-append-drop, Recursion.or_push}}, Common.{◌≡◌, ℕ, ◌+◌, ◌<◌, ◌≤◌, ◌^◌, zero, suc, eqb, eq-eqb, ne_eqb, Bool, true, ◌||◌, IsTrue, List, [], ◌∷◌, ◌++◌}, Common.{length, take, drop, replicate, decimal, Option, Some, None, IfNone, IfSome, Result, OnOk, IsErrAnd, inl, inr}, Common.{refl, sym, ◌∙◌, ap, subst, arith, rules, length-append}, Math.{Bool.or-false, Seq.{take-append-add, take-append_seam, drop-append_seam}}}
+use Rattle.ports_core.specs.{Draft.{Manner, AreNamed, Draft, output_of, made_of, shares_of, draft_part, with_bytes, manner_by}, FileWriter.{WriterState, Writes, CanCount, IsCounted, IsCurrent, IsLast, IsOpenAt, IsReady, IsManner, CanTell}, FileWriter.{Breaks, manner_in, At, KeepsFiles, KeepsOrBreaks, Leaves, Reaches, Goes}, Name.Naming, Names.{line_next, OpensNone, no_memory, no_line, no_file, no_number, no_name}, Part.{File as PartFile, Part, OutputsAt, Begins, IsBeginning, Output, gets_lines, lines_for, writes}, Slot.{Slot, with_written, told_of, Rose, has_file, slot_at, opened, is_writable, KeepsBroken}, Swept.{AreThere, is_among}, inner.{FileWriter.{Made, Appends, CountsOn, files_with}, Write.{Wrote, WritesShort}}, InTurn.{AllClosed, InTurn, IsThere, LinesTo, fault_in}, Write.BrokeAfter, declared.fault.Fault.{Fault, TheVariants.{Memory, Verdict}}, declared.verdict.Verdict.TheVariants.Suffixes, declared.file_writer.Current.{Current, TheVariants.{File, Unopened}}, declared.file_writer.Keeps.{Keeps, TheVariants.{Open as OpenOne, All}}, declared.file_writer.Tells.{Tells, TheVariants.{Nothing, Sizes, Openings}}, declared.names.Names.Names, declared.slot.Mode.TheVariants.Fresh}
+use Rattle.ports_core.proofs.{HandedOn.handed_on, PartLemmas.{take_begins_after, files_begin_themselves, part_begins_itself, turn_between, turn_next, turn_last}, PartSteps.{Becomes, becomes_again, with_last, halts_here, there_from, line_begins, lines_all, lines_of_last}, PartSteps.{out_added, writes_to}, ShareLemmas.{closed_files, ended_files, open_part, none_part, still_made, made_or}, SlotLemmas.length-changed_at, SlotSteps.{KeepsFiled, KeepsMade, filed_more, filed_same, none_past, write_rose, keeps_write}, SlotSteps.{made_write, written_writable, made_short, rose_later}, SweepLemmas.by_place}
 use Rattle.ports_core.specs.inner.Write as short
 use Rattle.ports_core.specs.declared.fault.Fault.TheVariants as fault
 use Rattle.ports_core.specs.declared.slot.State.TheVariants as state
@@ -86,13 +51,13 @@ pub reaches_again : {output : Output} {told : Bool} {low middle high : Part} {ol
     {fault : Option Fault} {one two three : WriterState} → Begins low middle
     → Reaches output told one two low middle old mid None
     → Reaches output told two three middle high mid new fault → Reaches output told one three low high old new fault
-reaches_again {output} {told} {high = high} {new = new} {fault} begins first second = grind (arith, there_from)
+reaches_again begins first second = grind (arith, there_from)
 
 -- it was stopped on its way to more
 pub stops_wider : {output : Output} {told : Bool} {low middle high : Part} {old new : List Slot} {fault : Fault}
     {writer next : WriterState} → Reaches output told writer next low middle old new (Some fault) → Begins middle high
     → Reaches output told writer next low high old new (Some fault)
-stops_wider {output} {told} {low} {middle} {high} {new = new} {fault = fault} stops begins =
+stops_wider stops begins =
     record { there = λ before at. turn_between _ _ _ _ _ _ _ _ _ (part_begins_itself _) (stops.there before at) begins }
 
 -- a step that is known of the outputs alone, as long as the open file is the last
@@ -194,12 +159,12 @@ leaves_lacking = grind (arith, keeps_files)
 -- the open file can be written
 pub at_file : {writer : WriterState} {slot size : ℕ} {slots : List Slot} → writer.current ≡ File slot size
     → IsReady writer slots → (2 ≤ slot) × IsTrue (is_writable slots slot)
-at_file {slots = slots} is ready = grind (arith, common_steps)
+at_file is ready = grind (arith, common_steps)
 
 -- and is the last output, where that is known of it
 pub last_file : (writer : WriterState) {slot size first : ℕ} (slots : List Slot) → writer.current ≡ File slot size
     → IsLast writer.current first slots → (first ≤ slot) × (suc slot ≡ length slots)
-last_file writer {first = first} slots is last = grind (arith, common_steps)
+last_file writer slots is last = grind (arith, common_steps)
 
 -- what can be told stays so, where standard output can still be written
 pub can_tell : (tells : Tells) (old new : List Slot) → (IsTrue (is_writable old 0) → IsTrue (is_writable new 0))
@@ -254,7 +219,7 @@ owned_opened two made = grind (arith, common_steps, opened_by)
 unmade_keeps : {told : Bool} {tells : Tells} {names next : Names} {old new : List Slot} {f : Fault}
     → OpensNone told tells names next old new f → KeepsFiled old new
 unmade_keeps (no_memory same) = rw same (record { same = λ place. refl; within = omega arith })
-unmade_keeps {told} {old = old} (no_line n few has cut) = filed_same (made_short _ 0 _ _ _ _ (short.broke n cut))
+unmade_keeps (no_line n few has cut) = filed_same (made_short _ 0 _ _ _ _ (short.broke n cut))
 unmade_keeps (no_file slot kept why number few has drew is added) =
     grind (arith, common_steps, filed_more, made_write)
 unmade_keeps (no_number few has same) =
@@ -321,14 +286,14 @@ now_is is writes = grind arith
 pub file_named : {manner : Manner} {writer : WriterState} {draft : Draft}
     → made_of draft.opening draft.bytes ≡ draft.bytes ∷ [] → Writes manner writer draft
     → AreNamed manner (suc (length draft.ended))
-file_named {manner} {draft = draft} makes writes = grind (arith, made_count)
+file_named makes writes = grind (arith, made_count)
 
 -- it writes more, where no file was made
 pub writes_on : {manner : Manner} {writer next : WriterState} {draft after : Draft}
     → next ≡ record writer { current = next.current } → length (shares_of draft) ≡ length (shares_of after)
     → IsCurrent writer.tells after.opening after.bytes next.current → Writes manner writer draft
     → Writes manner next after
-writes_on {manner} same count current writes = grind (arith, common_steps)
+writes_on same count current writes = grind (arith, common_steps)
 
 -- Nothing is written: what is begun had no file, and has none
 
@@ -396,7 +361,7 @@ wrote_leaves told {writer} {next} slot bytes {old} {new} fault same last slots s
   output = wrote_can told _ _ 0 _ _ _ wrote;
   ready = where_both fault (wrote_can _ _ bytes 0 _ _ _ wrote) still (λ can at. record {
     streams = (let two = ready.streams in omega (arith, two, made.size));
-    output = subst (λ tells. CanTell tells new) (sym (ap (λ (w : WriterState). w.tells) same)) (can_tell writer.tells old new can ready.output);
+    output = subst (λ tells. CanTell tells new) (sym (ap (λ (w : WriterState). w.tells) same)) (can_tell _ _ new can ready.output);
     files = owns.there ready.files;
     current = at;
   });

@@ -1,23 +1,7 @@
 -- How many digits a number has, and what is read of one in a form.
-use Rattle.std.proofs.{
-  Common.{◌≡◌, ℕ, ◌+◌, ◌-◌, ◌*◌, ◌/◌, ◌%◌, ◌^◌, ◌<◌, ◌≤◌, ◌==◌, ◌||◌, ◌&&◌, zero, suc, not},
-  Common.{nat_lt, Bool, true, false},
-  Common.{cond, List, [], ◌∷◌, ◌++◌, length, filter, replicate, inl, inr, refl, sym, ◌∙◌, ap, arith, add-mul},
-  Common.{mul_assoc, append-nil, append_assoc, length-append, mul-le-mul, pow-suc, div-add-mod', mod-lt},
-  Math.Nat.{pow-le-pow_right, pow-succ', pow-zero},
-  lemmas.{Grind.common_steps, List.Elements.filter-append},
-  lemmas.Bool.{cases_lt, cond_both, ltb-false, ltb-true, Decides.nat_tests},
-}
+use Rattle.std.proofs.{Common.{◌≡◌, ℕ, ◌+◌, ◌-◌, ◌*◌, ◌/◌, ◌%◌, ◌^◌, ◌<◌, ◌≤◌, ◌==◌, ◌||◌, ◌&&◌, zero, suc, not}, Common.{nat_lt, Bool, true, false}, Common.{cond, List, [], ◌∷◌, ◌++◌, length, filter, replicate, inl, inr, refl, sym, ◌∙◌, ap, arith, add-mul}, Common.{mul_assoc, append-nil, mul-le-mul, pow-suc, div-add-mod', mod-lt}, Math.Nat.{pow-le-pow_right, pow-succ', pow-zero}, lemmas.{Grind.common_steps, List.Elements.filter-append}, lemmas.Bool.{cases_lt, cond_both, ltb-false, ltb-true}}
 use Rattle.std.specs.{Str.Parse.{digits_value, digits_value_after}, Char.digit_value}
-use Rattle.ports_core.{
-  specs.declared.{
-  alphabet.Alphabet.Alphabet,
-  form.{Base.Base, Filling.{Filling, TheVariants.{Zeros, BlanksBefore, BlanksAfter}}, Form.Form},
-},
-  specs.Name.{radix, character, written, alphabet_of, digits_up_to, digit_count, digits_written, filled, formatted},
-  specs.Name.{hex_mark, mark_of, marked},
-  proofs.CounterLemmas.{many_characters, power_positive},
-}
+use Rattle.ports_core.{specs.declared.{alphabet.Alphabet.Alphabet, form.{Base.Base, Filling.{Filling, TheVariants.{Zeros, BlanksBefore, BlanksAfter}}, Form.Form}}, specs.Name.{radix, character, written, alphabet_of, digits_up_to, digit_count, digits_written, filled, formatted}, specs.Name.{hex_mark, marked}, proofs.CounterLemmas.{many_characters, power_positive}}
 use Rattle.ports_core.specs.declared.form.Base.TheVariants as base
 use Rattle.std.proofs.Common.{div-lt_iff_lt-mul}
 
@@ -145,10 +129,10 @@ pub formatted_value : (form : Form) (number : ℕ) → value_in form.base (forma
 formatted_value form number =
     let alphabet = alphabet_of form.base in
     let enough : number < radix alphabet ^ digits_written form number = below_more _ (digits_enough _ _) (omega arith) in
-    filled_value form.base form.filling form.width (marked form number)
+    filled_value _ form.filling form.width (marked form number)
     ∙ mark_value form.base (form.is_marked && nat_lt 0 number) (written alphabet (digits_written form number) number)
     ∙ written_value _ (are_digits _) _ _ 0 enough ∙ omega arith
 
 -- so no two numbers are written alike
 pub no_two_alike : (form : Form) {one other : ℕ} → formatted form one ≡ formatted form other → one ≡ other
-no_two_alike form {one} {other} same = sym (formatted_value form one) ∙ ap (value_in form.base) same ∙ formatted_value form other
+no_two_alike form same = sym (formatted_value form _) ∙ ap (value_in form.base) same ∙ formatted_value form _

@@ -1,8 +1,5 @@
 -- Lemmas on what all engines share.
-use Rattle.std.proofs.{
-  lemmas.Grind.common_steps,
-  Common.{◌≡◌, ℕ, ◌+◌, ◌≤◌, ◌<◌, ◌⊎◌, ◌++◌, rules, Bool, false, List, arith, Result, Ok, Err, IfErr, inl, inr, refl},
-}
+use Rattle.std.proofs.{Common.{◌≡◌, ℕ, ◌⊎◌, rules, Bool, false, List, arith, Result, Ok, Err, IfErr, inl, inr, refl}}
 use Rattle.ports_core.{
   specs.{
   Slot.Slot,
@@ -34,7 +31,7 @@ module _ {S : Type 0} (terms : Terms S) (told : Bool) (stage : S) (slots : List 
     ready = tt;
     owns = λ first own. own;
     there = λ are. are;
-    cut = refused (λ x. (terms.work stage).settled (x ++ piece)) is (λ x holds. (lawful x holds).grows x piece);
+    cut = refused _ is (λ x holds. (lawful x holds).grows x piece);
     met = why;
   }
 

@@ -1,5 +1,5 @@
 -- What a function returns where a `?` handed a fault on, from what is known there of the conversion.
-use Rattle.std.proofs.{lemmas.Grind.common_steps, Common.{◌≡◌, ℕ, Result, Err, IfErr, IsErrAnd, arith}}
+use Rattle.std.proofs.{Common.{◌≡◌, ℕ, Result, Err, IfErr, IsErrAnd, arith}}
 use Rattle.ports_core.specs.declared.fault.Fault.{Fault, TheVariants.Write}
 
 pub handed_on : {T E : Type 0} (result : Result T E) (fault : E) → IsErrAnd result (λ given. given ≡ fault)

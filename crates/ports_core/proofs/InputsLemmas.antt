@@ -1,9 +1,5 @@
 -- Lemmas on what reads leave of the inputs of a run.
-use Rattle.std.proofs.{
-  lemmas.{Grind.common_steps, Bool.{and_parts, false≢true, not-true}},
-  Common.{◌≡◌, ℕ, ◌≤◌, Bool, true, false, IsTrue, List, [], ◌++◌, take, slice_index_or, arith, ◌<◌, append-nil},
-  Common.take-append-drop,
-}
+use Rattle.std.proofs.{lemmas.{Grind.common_steps}, Common.{◌≡◌, ℕ, ◌≤◌, Bool, true, false, IsTrue, List, [], ◌++◌, take, slice_index_or, arith, ◌<◌, append-nil}, Common.take-append-drop}
 use Rattle.ports_core.{
   specs.{
   Inputs.{AsksAtMost, CameFrom, KeepsOthers, OfContent},

@@ -4,19 +4,7 @@ use Rattle.std.proofs.{
   Common.{◌≡◌, ℕ, ◌<◌, ◌≤◌, ◌^◌, max, zero, suc, Bool, true, false, IsTrue, List, [], ◌∷◌, length, take, replicate},
   Common.{if◌then◌else◌, refl, sym, ap, arith},
 }
-use Rattle.ports_core.{
-  specs.{
-  Slot.changed_at,
-  Source.{Source, source_at, is_readable, looks, skips},
-  Inputs.{HasLooked, PassesOver},
-  Engine.{Terms, Loads, TookIn},
-},
-  proofs.{
-  InputsLemmas.{changed_source, keeps_again, keeps_itself, keeps_others},
-  SlotLemmas.changed_there,
-  SourceLemmas.readable_within,
-},
-}
+use Rattle.ports_core.{specs.{Slot.changed_at, Source.{Source, source_at, is_readable, looks, skips}, Inputs.{HasLooked, PassesOver}, Engine.{Terms, Loads}}, proofs.{InputsLemmas.{changed_source, keeps_again, keeps_others}, SlotLemmas.changed_there, SourceLemmas.readable_within}}
 
 -- an input of which nothing is passed over is as it was
 pub none_passed : (slot : ℕ) (sources : List Source) → sources ≡ changed_at slot (skips 0) sources
@@ -37,7 +25,7 @@ looked_none most slot sources = grind arith
 -- one look
 pub looked_once : {most slot size : ℕ} {old new : List Source} → IsTrue (is_readable old slot) → size ≤ most
     → new ≡ changed_at slot (looks size) old → HasLooked most slot old new
-looked_once {slot = slot} {size} {old} {new} can few is = record { size = size; within = few; looked = changed_source _ _ _ _ can is; others = keeps_others _ _ _ _ is }
+looked_once {size} can few is = record { size = size; within = few; looked = changed_source _ _ _ _ can is; others = keeps_others _ _ _ _ is }
 
 -- more of them
 pub looked_again : {least most slot : ℕ} {old mid new : List Source} → HasLooked most slot old mid
@@ -64,7 +52,7 @@ passes_front : (told : Bool) {slot count : ℕ} {old new : List Source} → IsTr
     → (told ≡ true → count ≤ length (source_at old slot).left.bytes) → count < 2 ^ 63
     → new ≡ changed_at slot (skips count) old
     → PassesOver told slot count (λ x. Unit {0}) old new
-passes_front true {slot} {count} {old} {new} can has few passed =
+passes_front true {slot} {count} {old} can has few passed =
     let bytes = (source_at old slot).left.bytes in
     let long : length (take count bytes) ≡ count = length-take-le count bytes (has refl) in record {
       few = few;

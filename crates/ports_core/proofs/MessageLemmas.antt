@@ -1,8 +1,5 @@
 -- Lemmas on messages.
-use Rattle.std.proofs.{
-  lemmas.Grind.common_steps,
-  Common.{◌≡◌, ℕ, Bool, false, List, [], ◌∷◌, ◌++◌, take, Result, Ok, Err, OnOk, IfErr, ◌⊎◌, refl, sym, ◌∙◌, ap, arith},
-}
+use Rattle.std.proofs.{Common.{◌≡◌, ℕ, Bool, false, List, [], ◌∷◌, ◌++◌, take, Result, Ok, Err, OnOk, IfErr, ◌⊎◌, refl, sym, ◌∙◌, ap, arith}}
 use Rattle.ports_core.specs.{
   Slot.{Slot, slot_at, with_written, with_broken, adds, breaks, told_of},
   Write.BrokeAfter,

@@ -1,9 +1,5 @@
 -- A file with the next name that wasn't opened: why, and what that leaves.
-use Rattle.std.proofs.{
-  Common.{◌≡◌, ℕ, ◌<◌, ◌^◌, Bool, List, [], ◌∷◌, ◌++◌, ◌⊎◌, length, take, drop, None, Some, inl, inr, refl, sym, subst},
-  Common.{ap, ◌∙◌, IsTrue, arith, append_assoc},
-  lemmas.{Grind.common_steps, List.{append-nil, take-append-drop}},
-}
+use Rattle.std.proofs.{Common.{◌≡◌, ℕ, ◌<◌, ◌^◌, Bool, List, [], ◌∷◌, ◌++◌, ◌⊎◌, length, take, drop, None, Some, inl, inr, refl, sym, subst}, Common.{ap, ◌∙◌, IsTrue, arith, append_assoc}, lemmas.{List.{append-nil, take-append-drop}}}
 use Rattle.ports_core.specs.{
   Names.{next_name, has_next, with_one_drawn, told_next, line_next, OpensNone, no_memory, no_line, no_file, no_number},
   Names.no_name,
@@ -68,8 +64,8 @@ pub record StopsOpening (told : Bool) (tells : Tells) (names : Names) (old new :
 
 pub stops_opening : {told : Bool} {tells : Tells} {names next : Names} {old new : List Slot} {fault : Fault}
     → 0 < length old → OpensNone told tells names next old new fault → StopsOpening told tells names old new fault
-stops_opening {told} {old = old} some (no_memory same) = record { bytes = []; reached = old; wrote = none_written _ 0; begins = inl refl; due = λ line is. inl refl; marks = same; at = λ first place. tt }
-stops_opening {told} {old = old} some (no_name few none same) = record { bytes = []; reached = old; wrote = none_written _ 0; begins = inl refl; due = λ line is. refl; marks = same; at = λ first place. tt }
+stops_opening {old = old} some (no_memory same) = record { bytes = []; reached = old; wrote = none_written _ 0; begins = inl refl; due = λ line is. inl refl; marks = same; at = λ first place. tt }
+stops_opening {old = old} some (no_name few none same) = record { bytes = []; reached = old; wrote = none_written _ 0; begins = inl refl; due = λ line is. refl; marks = same; at = λ first place. tt }
 stops_opening {told} {tells} {names} {old = old} some (no_line n few has cut) = record {
   bytes = take n (line_next tells names);
   reached = with_written 0 (told_of told (take n (line_next tells names))) old;
@@ -118,7 +114,7 @@ pub opens_not : {output : Output} {told : Bool} (front : List File) {tells : Tel
     (file_of (next_name names) bytes state.Open)))
     → StopsOpening told tells names old new fault
     → Becomes output told (part_with output front) high old new (Some fault)
-opens_not {output} {told} front {tells} {names} {high} {old} {new} {fault} told_so closed begins is stops =
+opens_not {output} {told} front {tells} {names} {high} told_so closed begins is stops =
     becomes_again (line_begins _) (out_added _ _ _ stops.wrote) (halts_here (elim stops.begins [
       | inl none ↦ subst (λ bytes. Begins (begun_with output front bytes) high) (sym none) (subst (λ out. Begins (record { out = out; files = front }) high) (sym (append-nil (told_of_files output front))) begins)
       | inr some ↦ begun some.0 some.1

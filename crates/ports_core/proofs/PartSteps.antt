@@ -5,15 +5,7 @@ use Rattle.std.proofs.{
   lemmas.{Grind.common_steps, List.{append-nil, take_all}},
   Math.Seq.take-append_seam,
 }
-use Rattle.ports_core.specs.{
-  declared.{reason.Reason.TheVariants.Other, fault.Fault.Fault, slot.{Mode.TheVariants.Fresh, State.State}},
-  Draft.{told_before, told_of_files},
-  Slot.{SlotBreaks, Slot, opened, changed_at, adds, closes, with_written, told_of},
-  Part.{File, Part, OutputsAt, Begins, FilesBegin, IsNext, Marks, IsAt, IsDueLine, Output, gets_none, gets_bytes},
-  Part.{gets_lines, gets_openings, lines_for, openings_for},
-  InTurn.{AllClosed, InTurn, IsThere, LinesTo},
-  inner.Write.Wrote,
-}
+use Rattle.ports_core.specs.{declared.{reason.Reason.TheVariants.Other, fault.Fault.Fault, slot.{Mode.TheVariants.Fresh, State.State}}, Draft.{told_before, told_of_files}, Slot.{SlotBreaks, Slot, opened, changed_at, adds, closes, with_written, told_of}, Part.{File, Part, OutputsAt, Begins, FilesBegin, IsNext, Marks, IsAt, IsDueLine, Output}, Part.{gets_lines, gets_openings, lines_for, openings_for}, InTurn.{AllClosed, InTurn, IsThere, LinesTo}, inner.Write.Wrote}
 use Rattle.ports_core.proofs.{
   SlotLemmas.length-changed_at,
   FileLemmas.{gets, ended, file_more, last_changes, write_makes, close_makes},
@@ -33,19 +25,19 @@ pub there_from : (output : Output) (told : Bool) (There : Type 0) (before : List
     (new : List Slot) (fault : Option Fault) → Begins low middle
     → IsThere output told There before middle high new fault → IsThere output told There before low high new fault
 there_from output told There before high new None begins at = at
-there_from output told There before {low} {middle} high new (Some fault) begins at =
+there_from output told There before high new (Some fault) begins at =
     grind (arith, common_steps, turn_between, part_begins_itself)
 
 pub becomes_again : {output : Output} {told : Bool} {low middle high : Part} {old mid new : List Slot}
     {fault : Option Fault} → Begins low middle → Becomes output told low middle old mid None
     → Becomes output told middle high mid new fault → Becomes output told low high old new fault
-becomes_again {output} {told} {high = high} {new = new} {fault} begins first second =
+becomes_again begins first second =
     grind (arith, common_steps, gets, there_from)
 
 pub falls_wider : {output : Output} {told : Bool} {low middle high : Part} {old new : List Slot} {fault : Fault}
     → Becomes output told low middle old new (Some fault) → Begins middle high
     → Becomes output told low high old new (Some fault)
-falls_wider {output} {told} {low} {middle} {high} {new = new} {fault = fault} falls begins =
+falls_wider falls begins =
     record { gets = λ before at. turn_between _ _ _ _ _ _ _ _ _ (part_begins_itself _) (falls.gets before at) begins }
 
 -- a file with this name
@@ -64,7 +56,7 @@ begun_out output front name = told_of_files output front ++ told_before output n
 
 pub line_begins : {out : List ℕ} (line : List ℕ) {files : List File}
     → Begins (record { out = out; files = files }) (record { out = out ++ line; files = files })
-line_begins {out} line {files} = grind (arith, begins_more, files_begin_themselves)
+line_begins line = grind (arith, begins_more, files_begin_themselves)
 
 pub more_files : (front more : List File) → FilesBegin front (front ++ more)
 more_files [] more = tt
@@ -130,7 +122,7 @@ lines_all output front high fault other = tt
 pub out_added : (told : Bool) {part : Part} (more : List ℕ) (old : List Slot) {new : List Slot} {output : Output}
     → new ≡ with_written 0 (told_of told more) old
     → Becomes output told part (record part { out = part.out ++ more }) old new None
-out_added told {part} more old {new} wrote = record { gets = λ before at. out_more _ _ _ _ _ _ at wrote }
+out_added told more old wrote = record { gets = λ before at. out_more _ _ _ _ _ _ at wrote }
 
 module _ (output : Output) (told : Bool) (out : List ℕ) (front : List File) where
   -- the last slot is that of the last file
@@ -144,7 +136,7 @@ module _ (output : Output) (told : Bool) (out : List ℕ) (front : List File) wh
   pub opens : (name : List ℕ) {old new : List Slot} → new ≡ old ++ opened name Fresh ∷ []
       → Becomes output told (record { out = out; files = front })
       (with_last out front (file_of name [] state.Open)) old new None
-  opens name {old} {new} is = record { gets = λ before at. file_more _ _ _ _ _ _ _ at is }
+  opens name is = record { gets = λ before at. file_more _ _ _ _ _ _ _ at is }
 
   -- the last file gets bytes
   bytes_added : (name bytes more : List ℕ) {slot : ℕ} (old : List Slot) {new : List Slot} → suc slot ≡ length old
@@ -184,7 +176,7 @@ module _ (output : Output) (told : Bool) (front : List File) (name bytes : List 
       → Becomes output told (with_last (begun_out output front name) front (file_of name bytes state.Open))
       (with_last (begun_out output front name) front (file_of name bytes state.Closed)) old new
       (Some (fault.Write slot))
-  closes_not {slot} old closed last is =
+  closes_not old closed last is =
       becomes_again (grind (arith, begins_itself, front_begins)) (closes_last _ _ _ _ _ _ _ last refl) (halts_here (part_begins_itself _)
       (turn_last _ _ _ refl closed)
       (lines_of_last _ _ _ _ _ tt)

@@ -1,21 +1,6 @@
 -- The files of shares, and what standard output is told of them: what begins what, and the last file.
-use Rattle.std.proofs.{
-  lemmas.{Grind.common_steps, Bool.cond_both, List.length-map},
-  Common.{◌≡◌, ℕ, ◌+◌, suc, Bool, true, false, cond, List, [], ◌∷◌, ◌++◌, ◌⊎◌, length, map, inl, inr, refl, subst},
-  Common.{arith, append_assoc, append-nil, rules},
-}
-use Rattle.ports_core.specs.{
-  Draft.{Manner, AreNamed, Share, share, file_at, files_from, told_of_files, told_before, part_with, part_of, made_of},
-  Draft.{Draft, shares_of, draft_part, with_bytes, with_next},
-  Part.{File, nothing, Begins, FilesBegin, IsBeginning, Output, gets_none, gets_bytes, gets_lines, gets_openings},
-  Part.{lines_for, openings_for},
-  InTurn.AllClosed,
-  inner.{Part.HasLines, Shares.SharesBegin},
-  declared.{
-  file_writer.Opening.{Opening, TheVariants.{Never, Late, AtOnce}},
-  slot.State.{State, TheVariants.{Open, Closed}},
-},
-}
+use Rattle.std.proofs.{lemmas.{Grind.common_steps, Bool.cond_both, List.length-map}, Common.{◌≡◌, ℕ, ◌+◌, suc, Bool, true, false, cond, List, [], ◌∷◌, ◌++◌, ◌⊎◌, length, map, inl, inr, refl, subst}, Common.{arith, append_assoc, rules}}
+use Rattle.ports_core.specs.{Draft.{Manner, AreNamed, Share, share, file_at, files_from, told_of_files, told_before, part_with, part_of, made_of}, Draft.{Draft, shares_of, draft_part, with_bytes, with_next}, Part.{File, nothing, Begins, FilesBegin, IsBeginning, Output, gets_lines, gets_openings}, Part.{lines_for, openings_for}, InTurn.AllClosed, inner.{Part.HasLines, Shares.SharesBegin}, declared.{file_writer.Opening.{Opening, TheVariants.{Never, Late, AtOnce}}, slot.State.{State, TheVariants.{Open, Closed}}}}
 use Rattle.ports_core.proofs.{
   PartLemmas.{begins_itself, begins_more, openings-append, openings_since},
   PartSteps.{begun_out, with_last, file_of},
@@ -148,7 +133,7 @@ files_on manner place [] rest named = search rules
 files_on manner place (one ∷ front) rest named = cc (
   named place (omega arith),
   one_on _ _,
-  files_on manner (place + 1) front rest (λ other less. named other (omega arith)),
+  files_on manner (place + 1) front _ (λ other less. named other (omega arith)),
 )
 
 -- where the place after these has no name, more of them make no file
@@ -157,7 +142,7 @@ pub files_stop : (manner : Manner) (place : ℕ) (front rest : List Share)
     → files_from manner place (front ++ rest) ≡ files_from manner place front
 files_stop manner place [] [] none = refl
 files_stop manner place [] (one ∷ rest) none = search rules
-files_stop manner place (one ∷ front) rest none = cc (files_stop manner (place + 1) front rest (subst (λ n. manner.has_name n ≡ false) (one_on _ _) none))
+files_stop manner place (one ∷ front) rest none = cc (files_stop manner (place + 1) front _ (subst (λ n. manner.has_name n ≡ false) (one_on _ _) none))
 
 pub stopped_part : (manner : Manner) (draft : Draft) → manner.has_name (length draft.ended) ≡ false
     → draft_part manner draft ≡ part_of manner (map (share Closed) draft.ended)

@@ -1,18 +1,6 @@
 -- Slots as they are opened, written and closed, and as they break.
-use Rattle.std.proofs.{
-  lemmas.{Grind.common_steps, Bool.false≢true},
-  Common.{◌≡◌, ℕ, ◌<◌, ◌≤◌, zero, suc, not, ◌&&◌, List, [], ◌∷◌, ◌++◌, length, take, Bool, true, false, IsTrue, refl},
-  Common.{sym, ◌∙◌, ap, arith, rules, length-append},
-  Math.Seq.get_or-append_seam,
-}
-use Rattle.ports_core.specs.{
-  Slot.{SlotBreaks, Slot, Rose, is_open, has_file, can_write, no_slot, slot_at, changed_at, opened, unopened, adds},
-  Slot.{closes, breaks, with_written, with_broken, told_of, is_writable, KeepsBroken},
-  Swept.{Swept},
-  Write.BrokeAfter,
-  inner.Write.{WritesShort, broke},
-  declared.{fault.Fault.Fault, reason.Reason.Reason, slot.{Mode.Mode, State.{State, TheVariants.Open}}},
-}
+use Rattle.std.proofs.{lemmas.{Grind.common_steps}, Common.{◌≡◌, ℕ, ◌<◌, ◌≤◌, zero, suc, List, [], ◌∷◌, ◌++◌, length, Bool, true, false, IsTrue, refl}, Common.{◌∙◌, ap, arith, rules, length-append}}
+use Rattle.ports_core.specs.{Slot.{SlotBreaks, Slot, Rose, has_file, slot_at, changed_at, opened, unopened}, Slot.{closes, with_written, with_broken, is_writable, KeepsBroken}, Swept.{Swept}, Write.BrokeAfter, inner.Write.{WritesShort, broke}, declared.{fault.Fault.Fault, reason.Reason.Reason, slot.{Mode.Mode}}}
 use Rattle.ports_core.proofs.{
   PartLemmas.{sound_at, broken_at},
   SlotLemmas.{length-changed_at, slot_at-elsewhere},

@@ -1,17 +1,6 @@
 -- Lemmas on removing many files.
-use Rattle.std.proofs.{
-  lemmas.{Grind.common_steps, Bool.{false≢true, or_parts}},
-  Common.{◌≡◌, ℕ, ◌+◌, ◌<◌, ◌≤◌, zero, suc, eqb, eq-eqb, true, false, ◌||◌, List, [], ◌∷◌, ◌++◌, length, get_or, set},
-  Common.{take, drop, Result, Ok, Err, is_ok, OnOk, IfErr, refl, sym, ◌∙◌, ap, arith, length-set, take-suc},
-  Common.{take-suc-set, drop-cons, drop-set-lt, rules, append-nil, append_assoc},
-}
-use Rattle.ports_core.{
-  specs.Slot.{Slot, has_file, slot_at, changed_at, SlotBreaks, removes, closes, breaks},
-  specs.Swept.{Cleared, SweptFrom, removed, stuck, is_among, AreThere, Tries, Removes, all_tried, tried, goes},
-  specs.Swept.stays,
-  specs.declared.fault.Fault.Fault,
-  proofs.SlotLemmas.{length-changed_at, changed_at-again, slot_at-elsewhere},
-}
+use Rattle.std.proofs.{lemmas.{Bool.{false≢true, or_parts}}, Common.{◌≡◌, ℕ, ◌+◌, ◌<◌, ◌≤◌, zero, suc, eqb, true, false, List, [], ◌∷◌, ◌++◌, length, get_or, set}, Common.{take, drop, Result, Ok, Err, is_ok, OnOk, IfErr, refl, sym, ◌∙◌, ap, arith, length-set, take-suc}, Common.{take-suc-set, drop-cons, drop-set-lt, rules, append-nil, append_assoc}}
+use Rattle.ports_core.{specs.Slot.{Slot, has_file, slot_at, changed_at, SlotBreaks, removes, closes}, specs.Swept.{Cleared, SweptFrom, removed, stuck, is_among, AreThere, Tries, Removes, all_tried, tried, goes}, specs.Swept.stays, specs.declared.fault.Fault.Fault, proofs.SlotLemmas.{length-changed_at, changed_at-again, slot_at-elsewhere}}
 use Rattle.ports_core.specs.declared.fault.Fault.TheVariants as fault
 use Rattle.ports_core.specs.Swept.{none}
 
@@ -119,7 +108,7 @@ pub sweep_past : {files now : List ℕ} {place left file : ℕ} {old mid new : L
     → IfErr result (λ f. (f ≡ fault.Write file) × SlotBreaks file (changed_at file closes mid) new)
     → Sweeping files (set now left file) (place + 1) (left + 1) old new
 sweep_past (Ok done) so_far within file_is failed stuck_so = search rules
-sweep_past {files} {now} {place} {left} {file} {old} {mid} {new} (Err f) so_far within file_is failed (is, (why, stuck_so)) =
+sweep_past {files} {now} {place} {left} {file} (Err f) so_far within file_is failed (is, (why, stuck_so)) =
     rw (← (let e : suc left ≡ left + 1 = omega arith in e))
     (rw (stuck_so, changed_at-again _ _ _ _) (one_tried so_far within file_is (length-set now left file) (omega arith)
     (drop-set-lt (suc place) now left file (omega arith)) (take-suc-set now left file (omega arith)) (stays why)))
@@ -165,7 +154,7 @@ pub left_has : (files left : List ℕ) (old new : List Slot) (place : ℕ) → R
 left_has files left old new place (all_tried slots) are has = has
 left_has files left old new place (tried one places kept left' change old' new' tries rest) are has = by_place place one
     (λ same. rw (same, first_is _ _ are rest) (kept_has _ _ tries (left_apart _ _ _ _ _ rest are.1)))
-    (λ other. left_has _ left' _ new' place rest (still_there _ _ _ _ are.1 are.2) (grind (arith, elsewhere)) ∙ sym (kept_apart left' place tries other))
+    (λ other. left_has _ _ _ _ _ rest (still_there _ _ _ _ are.1 are.2) (grind (arith, elsewhere)) ∙ sym (kept_apart _ _ tries other))
 
 pub left_there : (files left : List ℕ) (old new : List Slot) → Removes files old left new → AreThere files old
     → AreThere left new

@@ -25,8 +25,6 @@ use Rattle.ports_core.proofs.{
 }
 use Rattle.ports_core.specs.declared.fault.Fault.TheVariants as fault
 use Rattle.ports_core.proofs.ShareLemmas.{part_grows}
-use Rattle.std.proofs.lemmas.List.{length-map}
-use Rattle.ports_core.proofs.ShareLemmas.{files_stop}
 
 -- One change after another
 

@@ -4,9 +4,6 @@ use Rattle.ports_core.{
   proofs.{HandedOn.of_write, FileWriterLemmas.{stop_is, line_is}},
 }
 use Rattle.ports_core.proofs.file_writer.write_size.Goals as goal
-use Rattle.std.proofs.Common.{rules}
-use Rattle.std.proofs.Math.Seq.{take-append-add}
-use Rattle.ports_core.proofs.FileWriterLemmas.{one_left}
 
 pub returns : goal.returns
 returns g c =

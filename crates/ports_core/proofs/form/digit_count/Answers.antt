@@ -1,4 +1,4 @@
-use Rattle.std.proofs.{Common.arith, lemmas.Grind.common_steps}
+use Rattle.std.proofs.{Common.arith}
 use Rattle.ports_core.proofs.FormLemmas.{counted}
 use Rattle.ports_core.proofs.form.digit_count.Goals as goal
 

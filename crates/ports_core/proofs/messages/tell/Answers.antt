@@ -1,7 +1,6 @@
 use Rattle.std.proofs.Common.{◌∙◌, sym}
 use Rattle.ports_core.proofs.MessageLemmas.{told_aloud}
 use Rattle.ports_core.proofs.messages.tell.Goals as goal
-use Rattle.std.proofs.Common.{arith}
 
 pub returns : goal.returns
 returns g c =

@@ -1,4 +1,4 @@
-use Rattle.std.proofs.{lemmas.Grind.common_steps, Common.arith}
+use Rattle.std.proofs.{Common.arith}
 use Rattle.ports_core.proofs.CounterLemmas.{block_has_two, next_size}
 use Rattle.ports_core.proofs.numbering.block_at.Goals as goal
 

@@ -1,10 +1,5 @@
-use Rattle.ports_core.{
-  proofs.{HandedOn.handed_on, FileBegunLemmas.{begin_made, begin_unmade}},
-  specs.declared.file_writer.Current.TheVariants.{Skipped, Due},
-}
-use Rattle.std.proofs.Common.{refl}
+use Rattle.ports_core.{proofs.{HandedOn.handed_on, FileBegunLemmas.{begin_made, begin_unmade}}}
 use Rattle.ports_core.proofs.file_writer.FileWriter.begin.Goals as goal
-use Rattle.std.proofs.lemmas.Grind.{common_steps}
 use Rattle.std.proofs.Common.{arith}
 use Rattle.ports_core.proofs.FileWriterLemmas.{goes_still}
 use Rattle.ports_core.proofs.FileBegunLemmas.{paused_ready}

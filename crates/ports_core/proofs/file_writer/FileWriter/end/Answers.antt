@@ -1,11 +1,8 @@
-use Rattle.std.proofs.Common.{refl}
 use Rattle.ports_core.proofs.{
   HandedOn.handed_on,
   FileBegunLemmas.{close_not, end_told, tells_write},
 }
 use Rattle.ports_core.proofs.file_writer.FileWriter.end.Goals as goal
-use Rattle.std.proofs.Common.{rules}
-use Rattle.std.proofs.lemmas.Grind.{common_steps}
 use Rattle.std.proofs.Common.{arith}
 use Rattle.ports_core.proofs.FileWriterLemmas.{goes_still}
 use Rattle.ports_core.proofs.FileBegunLemmas.{ended_none}

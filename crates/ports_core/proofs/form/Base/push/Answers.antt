@@ -1,4 +1,4 @@
-use Rattle.std.proofs.{lemmas.{Grind.common_steps, Result.IfOk-weaker}, Common.arith}
+use Rattle.std.proofs.{lemmas.{Result.IfOk-weaker}, Common.arith}
 use Rattle.ports_core.proofs.DecimalLemmas.{fills}
 use Rattle.ports_core.proofs.form.Base.push.Goals as goal
 

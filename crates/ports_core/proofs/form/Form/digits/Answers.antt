@@ -1,5 +1,5 @@
 use Rattle.std.proofs.Common.{arith}
-use Rattle.ports_core.{specs.Name.alphabet_of, proofs.FormLemmas.below_more}
+use Rattle.ports_core.{proofs.FormLemmas.below_more}
 use Rattle.ports_core.proofs.form.Form.digits.Goals as goal
 
 pub returns-clause-enough : goal.returns-clause-enough

@@ -1,4 +1,4 @@
-use Rattle.std.proofs.{Common.arith, lemmas.{Grind.common_steps, Result.IfOk-weaker}}
+use Rattle.std.proofs.{Common.arith, lemmas.{Result.IfOk-weaker}}
 use Rattle.ports_core.proofs.form.Form.push.Goals as goal
 use Rattle.std.proofs.Common.{append_assoc}
 use Rattle.ports_core.proofs.FormLemmas.{after}

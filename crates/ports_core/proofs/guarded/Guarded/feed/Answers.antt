@@ -1,8 +1,6 @@
-use Rattle.std.proofs.{Common.{refl, length, arith, inl, inr}, lemmas.Grind.common_steps}
+use Rattle.std.proofs.{Common.{refl, arith, inl, inr}, lemmas.Grind.common_steps}
 use Rattle.ports_core.{specs.Engine.{over, long}, proofs.GuardLemmas.{pass_refused, passes_caused}}
 use Rattle.ports_core.proofs.guarded.Guarded.feed.Goals as goal
-use Rattle.std.proofs.Common.{rules}
-use Rattle.ports_core.proofs.GuardLemmas.{caused}
 
 pub returns-then-self-clause-passes : goal.returns-then-self-clause-passes
 returns-then-self-clause-passes g c = rw (← c.self.view_is) (pass_refused _ _ _ _ (g.met.S.Stage.lawful _) _ (inr refl) (over c.if-self.true refl))

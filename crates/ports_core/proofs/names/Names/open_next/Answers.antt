@@ -1,7 +1,4 @@
-use Rattle.std.proofs.{
-  Common.{refl, subst, sym, ◌∙◌, arith},
-  lemmas.{Grind.common_steps, Result.{IfErr-weaker, IfOk-weaker}},
-}
+use Rattle.std.proofs.{Common.{refl, subst, sym, ◌∙◌, arith}, lemmas.{Result.{IfErr-weaker}}}
 use Rattle.ports_core.{
   proofs.{HandedOn.fault_is, OpenLemmas.{opens_none, told_so, untold}, SlotLemmas.length-changed_at},
   specs.Names.{OpensNone, no_memory, no_name},

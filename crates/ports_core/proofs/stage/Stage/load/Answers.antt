@@ -1,4 +1,4 @@
-use Rattle.std.proofs.{Common.arith, lemmas.Grind.common_steps}
+use Rattle.std.proofs.{Common.arith}
 use Rattle.ports_core.proofs.LoadLemmas.{loads_none}
 use Rattle.ports_core.proofs.stage.Stage.load.Goals as goal
 
