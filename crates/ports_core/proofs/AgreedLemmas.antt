@@ -1,10 +1,10 @@
 -- Lemmas on what all continuations agree on.
 use Rattle.std.proofs.{
   lemmas.{
-  Grind.common_steps,
-  List.{append-nil, get_or_append_left, get_or-replicate, length-map, length-replicate},
-  Bool.cases_lt,
-},
+    Grind.common_steps,
+    List.{append-nil, get_or_append_left, get_or-replicate, length-map, length-replicate},
+    Bool.cases_lt,
+  },
   Common.{◌≡◌, ◌≢◌, ℕ, ◌+◌, ◌-◌, ◌<◌, ◌≤◌, zero, suc, List, [], ◌∷◌, ◌++◌, length, get_or, replicate, inl},
   Common.{inr, sym},
   Common.{◌∙◌, ap, arith, length-append, lit<, map, take, drop, refl, rules, subst},
@@ -12,10 +12,10 @@ use Rattle.std.proofs.{
 }
 use Rattle.ports_core.{
   specs.{
-  Part.{IsBeginning, Begins, File, Part, FilesBegin},
-  Work.{Work, IsLawful},
-  Agreed.{AgreeOn, CanCome, DifferOn, outputs_of, output_at, IsAgreed, Spot, spot, spots_from, GoesTo, ArePlaced},
-},
+    Part.{IsBeginning, Begins, File, Part, FilesBegin},
+    Work.{Work, IsLawful},
+    Agreed.{AgreeOn, CanCome, DifferOn, outputs_of, output_at, IsAgreed, Spot, spot, spots_from, GoesTo, ArePlaced},
+  },
   proofs.PartLemmas.{part_trans, no_fewer},
 }
 

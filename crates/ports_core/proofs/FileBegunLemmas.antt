@@ -1,14 +1,49 @@
 -- What the writer of files does with what is begun: it has no file yet, gets one, and ends
-use Rattle.std.proofs.{lemmas.{Grind.common_steps, List.length-map}, Common.{◌≡◌, ℕ, ◌+◌, ◌<◌, ◌^◌, suc, eqb, Bool, false, IsTrue, List, [], ◌∷◌, ◌++◌, length, map, decimal, Option}, Common.{Some, None, IfSome, Result, Ok, Err, IfErr, refl, sym, ◌∙◌, ap, subst, arith, rules, append-nil}, Common.{append_assoc, length-append}}
-use Rattle.ports_core.specs.{Draft.{Manner, AreNamed, Draft, share, told_before, told_of_files, part_with, part_of, opening_line}, Draft.{size_of_file, output_of, made_of, shares_of, draft_part, with_bytes, with_next, manner_by}, FileWriter.{WriterState, Writes, IsCounted, IsCurrent, IsLast, IsOpenAt, IsReady, IsWrite, CanTell, RunsShort}, FileWriter.{KeepsFiles, KeepsOrBreaks, Leaves, Goes, paused}, Names.{next_name, has_next, line_next, told_next, OpensNone, no_name}, Part.{File as PartFile, Begins, IsBeginning, Output, gets_lines, gets_openings, lines_for}, Part.writes, Slot.{SlotBreaks, Slot, with_written, told_of, changed_at, opened, closes, is_writable}, inner.{FileWriter.{MakesNone, Made, Appends, TellsSize, CountsOn, files_with}, Write.Wrote}, InTurn.{AllClosed, fault_in}, declared.fault.Fault.{Fault, TheVariants.Verdict}, declared.verdict.Verdict.TheVariants.Suffixes, declared.file_writer.Current.{Current, TheVariants.{File, Unopened, Due}}, declared.file_writer.Opening.{Opening, TheVariants.{Never, AtOnce}}, declared.file_writer.Tells.{Tells, TheVariants.{Nothing, Sizes, Openings}}, declared.slot.Mode.TheVariants.Fresh}
-use Rattle.ports_core.proofs.{PartLemmas.{begins_itself, nothing_begins, files_begin_themselves, part_trans}, PartSteps.{Becomes, becomes_again, with_last, begun_out, file_of, line_begins, out_added, writes_to}, PartSteps.{opens, falls_wider, front_begins, closes_last, closes_not}, OpenLemmas.{IsNextName, opens_not, stops_opening}, ShareLemmas.{stopped_part, part_grows, closed_files, ended_files, name_after, open_part, none_part}, SlotLemmas.length-changed_at, SlotSteps.{KeepsMade, writable_within, close_rose, keeps_write, written_writable, keeps_open}, SlotSteps.{writable_before, made_again, opened_writable, made_close, made_break, keeps_close}, WriteLemmas.none_written, FileWriterLemmas.{tells_line, reaches_by, reaches_as, made_count, where_well, in_any, leaves_again, leaves_still}, FileWriterLemmas.{at_file, last_file, can_tell, there_same, owned_opened, owned_unopened, make_breaks}, FileWriterLemmas.{line_breaks, now_is, file_named, never_short, wrote_leaves, appends_leaves, counted_on}, FileWriterLemmas.{none_counted}}
+use Rattle.std.proofs.{
+  lemmas.{Grind.common_steps, List.length-map},
+  Common.{◌≡◌, ℕ, ◌+◌, ◌<◌, ◌^◌, suc, eqb, Bool, false, IsTrue, List, [], ◌∷◌, ◌++◌, length, map, decimal, Option},
+  Common.{Some, None, IfSome, Result, Ok, Err, IfErr, refl, sym, ◌∙◌, ap, subst, arith, rules, append-nil},
+  Common.{append_assoc, length-append},
+}
+use Rattle.ports_core.specs.{
+  Draft.{Manner, AreNamed, Draft, share, told_before, told_of_files, part_with, part_of, opening_line, size_of_file},
+  Draft.{output_of, made_of, shares_of, draft_part, with_bytes, with_next, manner_by},
+  FileWriter.{WriterState, Writes, IsCounted, IsCurrent, IsLast, IsOpenAt, IsReady, IsWrite, CanTell, RunsShort},
+  FileWriter.{KeepsFiles, KeepsOrBreaks, Leaves, Goes, paused},
+  Names.{next_name, has_next, line_next, told_next, OpensNone, no_name},
+  Part.{File as PartFile, Begins, IsBeginning, Output, gets_lines, gets_openings, lines_for, writes},
+  Slot.{SlotBreaks, Slot, with_written, told_of, changed_at, opened, closes, is_writable},
+  inner.{FileWriter.{MakesNone, Made, Appends, TellsSize, CountsOn, files_with}, Write.Wrote},
+  InTurn.{AllClosed, fault_in},
+  declared.{
+    fault.Fault.{Fault, TheVariants.Verdict},
+    verdict.Verdict.TheVariants.Suffixes,
+    file_writer.{
+      Current.{Current, TheVariants.{File, Unopened, Due}},
+      Opening.{Opening, TheVariants.{Never, AtOnce}},
+      Tells.{Tells, TheVariants.{Nothing, Sizes, Openings}},
+    },
+    slot.Mode.TheVariants.Fresh,
+  },
+}
+use Rattle.ports_core.proofs.{
+  PartLemmas.{begins_itself, nothing_begins, files_begin_themselves, part_trans},
+  PartSteps.{Becomes, becomes_again, with_last, begun_out, file_of, line_begins, out_added, writes_to, opens},
+  PartSteps.{falls_wider, front_begins, closes_last, closes_not, more_files},
+  OpenLemmas.{IsNextName, opens_not, stops_opening},
+  ShareLemmas.{stopped_part, part_grows, closed_files, ended_files, name_after, open_part, none_part, next_shares},
+  ShareLemmas.part_last,
+  SlotLemmas.length-changed_at,
+  SlotSteps.{KeepsMade, writable_within, close_rose, keeps_write, written_writable, keeps_open, writable_before},
+  SlotSteps.{made_again, opened_writable, made_close, made_break, keeps_close},
+  WriteLemmas.none_written,
+  FileWriterLemmas.{tells_line, reaches_by, reaches_as, made_count, where_well, in_any, leaves_again, leaves_still},
+  FileWriterLemmas.{at_file, last_file, can_tell, there_same, owned_opened, owned_unopened, make_breaks, line_breaks},
+  FileWriterLemmas.{now_is, file_named, never_short, wrote_leaves, appends_leaves, counted_on, none_counted},
+}
 use Rattle.ports_core.specs.inner.Write as short
 use Rattle.ports_core.specs.declared.fault.Fault.TheVariants as fault
 use Rattle.ports_core.specs.declared.slot.State.TheVariants as state
-use Rattle.ports_core.proofs.ShareLemmas.{next_shares}
-use Rattle.ports_core.proofs.ShareLemmas.{part_last}
-use Rattle.ports_core.proofs.PartSteps.{front_begins}
-use Rattle.ports_core.proofs.PartSteps.{more_files}
 
 -- What makes no file
 
@@ -43,7 +78,8 @@ module _ {manner : Manner} {writer : WriterState} {draft : Draft} (none : made_o
 
   -- the part with it
   due_part : (next : Draft) → writer.names.drawn < 2 ^ 64 → Unwritten draft next → IsTrue (has_next writer.names)
-      → draft_part manner next ≡ with_last (begun_out manner.output (ended_files manner draft) (name_after manner draft))
+      → draft_part manner next
+      ≡ with_last (begun_out manner.output (ended_files manner draft) (name_after manner draft))
       (ended_files manner draft) (file_of (name_after manner draft) next.bytes state.Open)
   due_part next few so has = grind (arith, open_part, due_named)
 

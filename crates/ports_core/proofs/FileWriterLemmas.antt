@@ -1,7 +1,46 @@
 -- What the writer of files does: what it writes, whose the outputs are, and which faults come.
-use Rattle.std.proofs.{lemmas.{Grind.common_steps, Bool.{false≢true, cases_lt}, List.{take-append-drop, Recursion.or_push}}, Common.{◌≡◌, ℕ, ◌+◌, ◌<◌, ◌≤◌, ◌^◌, zero, suc, eqb, eq-eqb, ne_eqb, Bool, true, ◌||◌, IsTrue, List, [], ◌∷◌, ◌++◌}, Common.{length, take, drop, replicate, decimal, Option, Some, None, IfNone, IfSome, Result, OnOk, IsErrAnd, inl, inr}, Common.{refl, sym, ◌∙◌, ap, subst, arith, rules, length-append}, Math.{Bool.or-false, Seq.{take-append-add, take-append_seam, drop-append_seam}}}
-use Rattle.ports_core.specs.{Draft.{Manner, AreNamed, Draft, output_of, made_of, shares_of, draft_part, with_bytes, manner_by}, FileWriter.{WriterState, Writes, CanCount, IsCounted, IsCurrent, IsLast, IsOpenAt, IsReady, IsManner, CanTell}, FileWriter.{Breaks, manner_in, At, KeepsFiles, KeepsOrBreaks, Leaves, Reaches, Goes}, Name.Naming, Names.{line_next, OpensNone, no_memory, no_line, no_file, no_number, no_name}, Part.{File as PartFile, Part, OutputsAt, Begins, IsBeginning, Output, gets_lines, lines_for, writes}, Slot.{Slot, with_written, told_of, Rose, has_file, slot_at, opened, is_writable, KeepsBroken}, Swept.{AreThere, is_among}, inner.{FileWriter.{Made, Appends, CountsOn, files_with}, Write.{Wrote, WritesShort}}, InTurn.{AllClosed, InTurn, IsThere, LinesTo, fault_in}, Write.BrokeAfter, declared.fault.Fault.{Fault, TheVariants.{Memory, Verdict}}, declared.verdict.Verdict.TheVariants.Suffixes, declared.file_writer.Current.{Current, TheVariants.{File, Unopened}}, declared.file_writer.Keeps.{Keeps, TheVariants.{Open as OpenOne, All}}, declared.file_writer.Tells.{Tells, TheVariants.{Nothing, Sizes, Openings}}, declared.names.Names.Names, declared.slot.Mode.TheVariants.Fresh}
-use Rattle.ports_core.proofs.{HandedOn.handed_on, PartLemmas.{take_begins_after, files_begin_themselves, part_begins_itself, turn_between, turn_next, turn_last}, PartSteps.{Becomes, becomes_again, with_last, halts_here, there_from, line_begins, lines_all, lines_of_last}, PartSteps.{out_added, writes_to}, ShareLemmas.{closed_files, ended_files, open_part, none_part, still_made, made_or}, SlotLemmas.length-changed_at, SlotSteps.{KeepsFiled, KeepsMade, filed_more, filed_same, none_past, write_rose, keeps_write}, SlotSteps.{made_write, written_writable, made_short, rose_later}, SweepLemmas.by_place}
+use Rattle.std.proofs.{
+  lemmas.{Grind.common_steps, Bool.{false≢true, cases_lt}, List.{take-append-drop, Recursion.or_push}},
+  Common.{◌≡◌, ℕ, ◌+◌, ◌<◌, ◌≤◌, ◌^◌, zero, suc, eqb, eq-eqb, ne_eqb, Bool, true, ◌||◌, IsTrue, List, [], ◌∷◌},
+  Common.{◌++◌, length, take, drop, replicate, decimal, Option, Some, None, IfNone, IfSome, Result, OnOk, IsErrAnd},
+  Common.{inl, inr, refl, sym, ◌∙◌, ap, subst, arith, rules, length-append},
+  Math.{Bool.or-false, Seq.{take-append-add, take-append_seam, drop-append_seam}},
+}
+use Rattle.ports_core.specs.{
+  Draft.{Manner, AreNamed, Draft, output_of, made_of, shares_of, draft_part, with_bytes, manner_by},
+  FileWriter.{WriterState, Writes, CanCount, IsCounted, IsCurrent, IsLast, IsOpenAt, IsReady, IsManner, CanTell},
+  FileWriter.{Breaks, manner_in, At, KeepsFiles, KeepsOrBreaks, Leaves, Reaches, Goes},
+  Name.Naming,
+  Names.{line_next, OpensNone, no_memory, no_line, no_file, no_number, no_name},
+  Part.{File as PartFile, Part, OutputsAt, Begins, IsBeginning, Output, gets_lines, lines_for, writes},
+  Slot.{Slot, with_written, told_of, Rose, has_file, slot_at, opened, is_writable, KeepsBroken},
+  Swept.{AreThere, is_among},
+  inner.{FileWriter.{Made, Appends, CountsOn, files_with}, Write.{Wrote, WritesShort}},
+  InTurn.{AllClosed, InTurn, IsThere, LinesTo, fault_in},
+  Write.BrokeAfter,
+  declared.{
+    fault.Fault.{Fault, TheVariants.{Memory, Verdict}},
+    verdict.Verdict.TheVariants.Suffixes,
+    file_writer.{
+      Current.{Current, TheVariants.{File, Unopened}},
+      Keeps.{Keeps, TheVariants.{Open as OpenOne, All}},
+      Tells.{Tells, TheVariants.{Nothing, Sizes, Openings}},
+    },
+    names.Names.Names,
+    slot.Mode.TheVariants.Fresh,
+  },
+}
+use Rattle.ports_core.proofs.{
+  HandedOn.handed_on,
+  PartLemmas.{take_begins_after, files_begin_themselves, part_begins_itself, turn_between, turn_next, turn_last},
+  PartSteps.{Becomes, becomes_again, with_last, halts_here, there_from, line_begins, lines_all, lines_of_last},
+  PartSteps.{out_added, writes_to},
+  ShareLemmas.{closed_files, ended_files, open_part, none_part, still_made, made_or},
+  SlotLemmas.length-changed_at,
+  SlotSteps.{KeepsFiled, KeepsMade, filed_more, filed_same, none_past, write_rose, keeps_write, made_write},
+  SlotSteps.{written_writable, made_short, rose_later},
+  SweepLemmas.by_place,
+}
 use Rattle.ports_core.specs.inner.Write as short
 use Rattle.ports_core.specs.declared.fault.Fault.TheVariants as fault
 use Rattle.ports_core.specs.declared.slot.State.TheVariants as state

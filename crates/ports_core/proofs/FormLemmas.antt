@@ -1,9 +1,22 @@
 -- How many digits a number has, and what is read of one in a form.
-use Rattle.std.proofs.{Common.{◌≡◌, ℕ, ◌+◌, ◌-◌, ◌*◌, ◌/◌, ◌%◌, ◌^◌, ◌<◌, ◌≤◌, ◌==◌, ◌||◌, ◌&&◌, zero, suc, not}, Common.{nat_lt, Bool, true, false}, Common.{cond, List, [], ◌∷◌, ◌++◌, length, filter, replicate, inl, inr, refl, sym, ◌∙◌, ap, arith, add-mul}, Common.{mul_assoc, append-nil, mul-le-mul, pow-suc, div-add-mod', mod-lt}, Math.Nat.{pow-le-pow_right, pow-succ', pow-zero}, lemmas.{Grind.common_steps, List.Elements.filter-append}, lemmas.Bool.{cases_lt, cond_both, ltb-false, ltb-true}}
+use Rattle.std.proofs.{
+  Common.{◌≡◌, ℕ, ◌+◌, ◌-◌, ◌*◌, ◌/◌, ◌%◌, ◌^◌, ◌<◌, ◌≤◌, ◌==◌, ◌||◌, ◌&&◌, zero, suc, not},
+  Common.{nat_lt, Bool, true, false, cond, List, [], ◌∷◌, ◌++◌, length, filter, replicate, inl, inr, refl, sym, ◌∙◌},
+  Common.{ap, arith, add-mul, mul_assoc, append-nil, mul-le-mul, pow-suc, div-add-mod', mod-lt, div-lt_iff_lt-mul},
+  Math.Nat.{pow-le-pow_right, pow-succ', pow-zero},
+  lemmas.{Grind.common_steps, List.Elements.filter-append, Bool.{cases_lt, cond_both, ltb-false, ltb-true}},
+}
 use Rattle.std.specs.{Str.Parse.{digits_value, digits_value_after}, Char.digit_value}
-use Rattle.ports_core.{specs.declared.{alphabet.Alphabet.Alphabet, form.{Base.Base, Filling.{Filling, TheVariants.{Zeros, BlanksBefore, BlanksAfter}}, Form.Form}}, specs.Name.{radix, character, written, alphabet_of, digits_up_to, digit_count, digits_written, filled, formatted}, specs.Name.{hex_mark, marked}, proofs.CounterLemmas.{many_characters, power_positive}}
+use Rattle.ports_core.specs.{
+  declared.{
+    alphabet.Alphabet.Alphabet,
+    form.{Base.Base, Filling.{Filling, TheVariants.{Zeros, BlanksBefore, BlanksAfter}}, Form.Form},
+  },
+  Name.{radix, character, written, alphabet_of, digits_up_to, digit_count, digits_written, filled, formatted},
+  Name.{hex_mark, marked},
+}
+use Rattle.ports_core.proofs.CounterLemmas.{many_characters, power_positive}
 use Rattle.ports_core.specs.declared.form.Base.TheVariants as base
-use Rattle.std.proofs.Common.{div-lt_iff_lt-mul}
 
 -- how many digits a number has
 

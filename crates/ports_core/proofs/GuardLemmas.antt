@@ -2,12 +2,12 @@
 use Rattle.std.proofs.{Common.{◌≡◌, ℕ, ◌⊎◌, rules, Bool, false, List, arith, Result, Ok, Err, IfErr, inl, inr, refl}}
 use Rattle.ports_core.{
   specs.{
-  Slot.Slot,
-  Part.{Part, Begins},
-  Work.IsLawful,
-  Engine.{CutsOff, Terms, Finishes, IsCaused, Passes, cut, met},
-  declared.fault.Fault.{Fault, TheVariants.{Failed, TooLong}},
-},
+    Slot.Slot,
+    Part.{Part, Begins},
+    Work.IsLawful,
+    Engine.{CutsOff, Terms, Finishes, IsCaused, Passes, cut, met},
+    declared.fault.Fault.{Fault, TheVariants.{Failed, TooLong}},
+  },
   proofs.PartLemmas.stopped_here,
 }
 
@@ -50,8 +50,9 @@ module _ {S : Type 0} (terms : Terms S) (told : Bool) (stage : S) (slots : List 
   }
 
 -- why its stage stopped is why an engine did
-pub caused : (Met : Fault → Type 0) {is_over : Bool} (fed size : ℕ) (old new : List Slot) (result : Result (Unit {0}) Fault)
-    → is_over ≡ false → IfErr result Met → IfErr result (IsCaused Met is_over fed size old new)
+pub caused : (Met : Fault → Type 0) {is_over : Bool} (fed size : ℕ) (old new : List Slot)
+    (result : Result (Unit {0}) Fault) → is_over ≡ false → IfErr result Met
+    → IfErr result (IsCaused Met is_over fed size old new)
 caused Met fed size old new (Ok u) going why = tt
 caused Met fed size old new (Err fault) going why = met fault going why
 

@@ -1,13 +1,15 @@
 -- Lemmas on what reads leave of the inputs of a run.
-use Rattle.std.proofs.{lemmas.{Grind.common_steps}, Common.{◌≡◌, ℕ, ◌≤◌, Bool, true, false, IsTrue, List, [], ◌++◌, take, slice_index_or, arith, ◌<◌, append-nil}, Common.take-append-drop}
-use Rattle.ports_core.{
-  specs.{
+use Rattle.std.proofs.{
+  lemmas.Grind.common_steps,
+  Common.{◌≡◌, ℕ, ◌≤◌, Bool, true, false, IsTrue, List, [], ◌++◌, take, slice_index_or, arith, ◌<◌, append-nil},
+  Common.take-append-drop,
+}
+use Rattle.ports_core.specs.{
   Inputs.{AsksAtMost, CameFrom, KeepsOthers, OfContent},
   Slot.changed_at,
   Source.{Content, ReadFails, Source, source_at, is_readable, gives, Gave, BrokeOff, IsFresh},
-},
-  proofs.{SlotLemmas.{changed_there, elsewhere, length-changed_at}, SourceLemmas.readable_within},
 }
+use Rattle.ports_core.proofs.{SlotLemmas.{changed_there, elsewhere, length-changed_at}, SourceLemmas.readable_within}
 
 -- what was read of the input with this number so far, and what is left of it
 pub record HasRead (content : Content) (x : List ℕ) (slot : ℕ) (sources : List Source) : Type 0 where

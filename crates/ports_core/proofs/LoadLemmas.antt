@@ -4,7 +4,17 @@ use Rattle.std.proofs.{
   Common.{◌≡◌, ℕ, ◌<◌, ◌≤◌, ◌^◌, max, zero, suc, Bool, true, false, IsTrue, List, [], ◌∷◌, length, take, replicate},
   Common.{if◌then◌else◌, refl, sym, ap, arith},
 }
-use Rattle.ports_core.{specs.{Slot.changed_at, Source.{Source, source_at, is_readable, looks, skips}, Inputs.{HasLooked, PassesOver}, Engine.{Terms, Loads}}, proofs.{InputsLemmas.{changed_source, keeps_again, keeps_others}, SlotLemmas.changed_there, SourceLemmas.readable_within}}
+use Rattle.ports_core.specs.{
+  Slot.changed_at,
+  Source.{Source, source_at, is_readable, looks, skips},
+  Inputs.{HasLooked, PassesOver},
+  Engine.{Terms, Loads},
+}
+use Rattle.ports_core.proofs.{
+  InputsLemmas.{changed_source, keeps_again, keeps_others},
+  SlotLemmas.changed_there,
+  SourceLemmas.readable_within,
+}
 
 -- an input of which nothing is passed over is as it was
 pub none_passed : (slot : ℕ) (sources : List Source) → sources ≡ changed_at slot (skips 0) sources
@@ -96,7 +106,6 @@ passes_so Keeps passes so = grind arith
 -- a stage that takes in none stays as it was
 
 module _ {S : Type 0} (terms : Terms S) where
-
   pub loads_none : (told : Bool) {slot : ℕ} {stage : S} {sources : List Source} → terms.Holds stage []
       → terms.size stage ≡ 0
       → Loads terms told slot 0 stage stage sources sources

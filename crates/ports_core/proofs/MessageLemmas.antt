@@ -1,15 +1,18 @@
 -- Lemmas on messages.
-use Rattle.std.proofs.{Common.{◌≡◌, ℕ, Bool, false, List, [], ◌∷◌, ◌++◌, take, Result, Ok, Err, OnOk, IfErr, ◌⊎◌, refl, sym, ◌∙◌, ap, arith}}
+use Rattle.std.proofs.{
+  Common.{◌≡◌, ℕ, Bool, false, List, [], ◌∷◌, ◌++◌, take, Result, Ok, Err, OnOk, IfErr, ◌⊎◌, refl, sym, ◌∙◌, ap},
+  Common.arith,
+}
 use Rattle.ports_core.specs.{
   Slot.{Slot, slot_at, with_written, with_broken, adds, breaks, told_of},
   Write.BrokeAfter,
   Text.{Message, is_quiet, line_of, message_of, status_after},
   declared.{
-  calling.Speaker.Speaker,
-  reason.Reason.Reason,
-  whole.WriteCut.WriteCut,
-  fault.Fault.{Fault, TheVariants.Memory},
-},
+    calling.Speaker.Speaker,
+    reason.Reason.Reason,
+    whole.WriteCut.WriteCut,
+    fault.Fault.{Fault, TheVariants.Memory},
+  },
   Message.{Prints, whole, cut, passed, PrintsOn, Says, SaysAll, SaysOn, TellsOn, output_named, output_reason},
 }
 

@@ -1,10 +1,14 @@
 -- A file with the next name that wasn't opened: why, and what that leaves.
-use Rattle.std.proofs.{Common.{◌≡◌, ℕ, ◌<◌, ◌^◌, Bool, List, [], ◌∷◌, ◌++◌, ◌⊎◌, length, take, drop, None, Some, inl, inr, refl, sym, subst}, Common.{ap, ◌∙◌, IsTrue, arith, append_assoc}, lemmas.{List.{append-nil, take-append-drop}}}
+use Rattle.std.proofs.{
+  Common.{◌≡◌, ℕ, ◌<◌, ◌^◌, Bool, List, [], ◌∷◌, ◌++◌, ◌⊎◌, length, take, drop, None, Some, inl, inr, refl, sym},
+  Common.{subst, ap, ◌∙◌, IsTrue, arith, append_assoc},
+  lemmas.List.{append-nil, take-append-drop},
+}
 use Rattle.ports_core.specs.{
-  Names.{next_name, has_next, with_one_drawn, told_next, line_next, OpensNone, no_memory, no_line, no_file, no_number},
-  Names.no_name,
+  Names.{next_name, has_next, with_one_drawn, told_next, line_next, OpensNone, no_memory, no_line, no_file},
+  Names.{no_number, no_name},
   Slot.{Slot, FailsToOpen, broke, numberless, unopened, told_of, with_written},
-  Part.{File, Part, Begins, IsAt, IsBeginning, IsDueLine, IsNext, Marks, Output},
+  Part.{File, Part, Begins, IsAt, IsBeginning, IsDueLine, IsNext, Marks, Output, nothing},
   InTurn.AllClosed,
   Draft.{output_of, part_with, told_before, told_of_files},
   Write.BrokeAfter,
@@ -20,7 +24,6 @@ use Rattle.ports_core.proofs.{
 }
 use Rattle.ports_core.specs.inner.Write as short
 use Rattle.ports_core.specs.declared.slot.State.TheVariants as state
-use Rattle.ports_core.specs.Part.{nothing}
 
 -- after standard output was told of the file
 pub opens_none : (told : Bool) (tells : Tells) (names : Names) {next : Names} {name : List ℕ} (old : List Slot)

@@ -1,6 +1,18 @@
 -- Lemmas on what outputs have got.
-use Rattle.std.proofs.{lemmas.{Grind.common_steps, List.{append-nil, take-append-drop, drop_all, length-map}}, Common.{◌≡◌, ℕ, ◌+◌, ◌<◌, ◌≤◌, zero, suc, List, [], ◌∷◌, ◌++◌, length, take, drop, Bool, true, false, IsTrue, ◌⊎◌}, Common.{inl, inr, refl, sym, ◌∙◌, ap, arith, append_assoc, rules}}
-use Rattle.ports_core.specs.{Slot.{Slot, slot_at, is_writable, with_written, with_broken, told_of}, Write.BrokeAfter, Part.{File, Part, nothing, only_out, OutputsAt, IsBeginning, FilesBegin, Begins, IsNext, Marks, IsAt, InOrder}, Part.{StoppedBetween, Output, gets_bytes, gets_lines, gets_openings, openings_for, IsDueLine}, Part.LinesInOrder, InTurn.{AllClosed, InTurn, StoppedInTurn, LinesTo}, inner.Part.HasLines, declared.{reason.Reason.Reason, slot.State.State, fault.Fault.{Fault, TheVariants.{Memory, Write, Open}}}}
+use Rattle.std.proofs.{
+  lemmas.{Grind.common_steps, List.{append-nil, take-append-drop, drop_all, length-map}},
+  Common.{◌≡◌, ℕ, ◌+◌, ◌<◌, ◌≤◌, zero, suc, List, [], ◌∷◌, ◌++◌, length, take, drop, Bool, true, false, IsTrue},
+  Common.{◌⊎◌, inl, inr, refl, sym, ◌∙◌, ap, arith, append_assoc, rules},
+}
+use Rattle.ports_core.specs.{
+  Slot.{Slot, slot_at, is_writable, with_written, with_broken, told_of},
+  Write.BrokeAfter,
+  Part.{File, Part, nothing, only_out, OutputsAt, IsBeginning, FilesBegin, Begins, IsNext, Marks, IsAt, InOrder},
+  Part.{StoppedBetween, Output, gets_bytes, gets_lines, gets_openings, openings_for, IsDueLine, LinesInOrder},
+  InTurn.{AllClosed, InTurn, StoppedInTurn, LinesTo},
+  inner.Part.HasLines,
+  declared.{reason.Reason.Reason, slot.State.State, fault.Fault.{Fault, TheVariants.{Memory, Write, Open}}},
+}
 use Rattle.ports_core.proofs.{
   SlotLemmas.{changed_at-append, length-changed_at, with_written-nil},
   WriteLemmas.{told_of-append, told_of-nil, with_written-append},

@@ -5,7 +5,15 @@ use Rattle.std.proofs.{
   lemmas.{Grind.common_steps, List.{append-nil, take_all}},
   Math.Seq.take-append_seam,
 }
-use Rattle.ports_core.specs.{declared.{reason.Reason.TheVariants.Other, fault.Fault.Fault, slot.{Mode.TheVariants.Fresh, State.State}}, Draft.{told_before, told_of_files}, Slot.{SlotBreaks, Slot, opened, changed_at, adds, closes, with_written, told_of}, Part.{File, Part, OutputsAt, Begins, FilesBegin, IsNext, Marks, IsAt, IsDueLine, Output}, Part.{gets_lines, gets_openings, lines_for, openings_for}, InTurn.{AllClosed, InTurn, IsThere, LinesTo}, inner.Write.Wrote}
+use Rattle.ports_core.specs.{
+  declared.{reason.Reason.TheVariants.Other, fault.Fault.Fault, slot.{Mode.TheVariants.Fresh, State.State}},
+  Draft.{told_before, told_of_files},
+  Slot.{SlotBreaks, Slot, opened, changed_at, adds, closes, with_written, told_of},
+  Part.{File, Part, OutputsAt, Begins, FilesBegin, IsNext, Marks, IsAt, IsDueLine, Output, gets_lines, gets_openings},
+  Part.{lines_for, openings_for},
+  InTurn.{AllClosed, InTurn, IsThere, LinesTo},
+  inner.Write.Wrote,
+}
 use Rattle.ports_core.proofs.{
   SlotLemmas.length-changed_at,
   FileLemmas.{gets, ended, file_more, last_changes, write_makes, close_makes},

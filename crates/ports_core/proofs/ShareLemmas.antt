@@ -1,6 +1,20 @@
 -- The files of shares, and what standard output is told of them: what begins what, and the last file.
-use Rattle.std.proofs.{lemmas.{Grind.common_steps, Bool.cond_both, List.length-map}, Common.{◌≡◌, ℕ, ◌+◌, suc, Bool, true, false, cond, List, [], ◌∷◌, ◌++◌, ◌⊎◌, length, map, inl, inr, refl, subst}, Common.{arith, append_assoc, rules}}
-use Rattle.ports_core.specs.{Draft.{Manner, AreNamed, Share, share, file_at, files_from, told_of_files, told_before, part_with, part_of, made_of}, Draft.{Draft, shares_of, draft_part, with_bytes, with_next}, Part.{File, nothing, Begins, FilesBegin, IsBeginning, Output, gets_lines, gets_openings}, Part.{lines_for, openings_for}, InTurn.AllClosed, inner.{Part.HasLines, Shares.SharesBegin}, declared.{file_writer.Opening.{Opening, TheVariants.{Never, Late, AtOnce}}, slot.State.{State, TheVariants.{Open, Closed}}}}
+use Rattle.std.proofs.{
+  lemmas.{Grind.common_steps, Bool.cond_both, List.length-map},
+  Common.{◌≡◌, ℕ, ◌+◌, suc, Bool, true, false, cond, List, [], ◌∷◌, ◌++◌, ◌⊎◌, length, map, inl, inr, refl, subst},
+  Common.{arith, append_assoc, rules},
+}
+use Rattle.ports_core.specs.{
+  Draft.{Manner, AreNamed, Share, share, file_at, files_from, told_of_files, told_before, part_with, part_of},
+  Draft.{made_of, Draft, shares_of, draft_part, with_bytes, with_next},
+  Part.{File, nothing, Begins, FilesBegin, IsBeginning, Output, gets_lines, gets_openings, lines_for, openings_for},
+  InTurn.AllClosed,
+  inner.{Part.HasLines, Shares.SharesBegin},
+  declared.{
+    file_writer.Opening.{Opening, TheVariants.{Never, Late, AtOnce}},
+    slot.State.{State, TheVariants.{Open, Closed}},
+  },
+}
 use Rattle.ports_core.proofs.{
   PartLemmas.{begins_itself, begins_more, openings-append, openings_since},
   PartSteps.{begun_out, with_last, file_of},

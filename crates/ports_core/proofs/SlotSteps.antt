@@ -1,12 +1,22 @@
 -- Slots as they are opened, written and closed, and as they break.
-use Rattle.std.proofs.{lemmas.{Grind.common_steps}, Common.{◌≡◌, ℕ, ◌<◌, ◌≤◌, zero, suc, List, [], ◌∷◌, ◌++◌, length, Bool, true, false, IsTrue, refl}, Common.{◌∙◌, ap, arith, rules, length-append}}
-use Rattle.ports_core.specs.{Slot.{SlotBreaks, Slot, Rose, has_file, slot_at, changed_at, opened, unopened}, Slot.{closes, with_written, with_broken, is_writable, KeepsBroken}, Swept.{Swept}, Write.BrokeAfter, inner.Write.{WritesShort, broke}, declared.{fault.Fault.Fault, reason.Reason.Reason, slot.{Mode.Mode}}}
+use Rattle.std.proofs.{
+  lemmas.Grind.common_steps,
+  Common.{◌≡◌, ℕ, ◌<◌, ◌≤◌, zero, suc, List, [], ◌∷◌, ◌++◌, length, Bool, true, false, IsTrue, refl, ◌∙◌, ap},
+  Common.{arith, rules, length-append},
+}
+use Rattle.ports_core.specs.{
+  Slot.{SlotBreaks, Slot, Rose, has_file, slot_at, changed_at, opened, unopened, closes, with_written, with_broken},
+  Slot.{is_writable, KeepsBroken},
+  Swept.{Swept, none},
+  Write.BrokeAfter,
+  inner.Write.{WritesShort, broke},
+  declared.{fault.Fault.Fault, reason.Reason.Reason, slot.Mode.Mode},
+}
 use Rattle.ports_core.proofs.{
   PartLemmas.{sound_at, broken_at},
   SlotLemmas.{length-changed_at, slot_at-elsewhere},
   WriteLemmas.writable-written,
 }
-use Rattle.ports_core.specs.Swept.{none}
 
 -- Outputs that were broken stay broken.
 

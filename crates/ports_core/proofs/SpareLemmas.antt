@@ -1,11 +1,12 @@
 -- Lemmas on what of an input isn't used.
 use Rattle.std.proofs.{
   lemmas.{
-  Grind.common_steps,
-  Bool.{false≢true, cases_lt},
-  List.{length-append, take-append-drop, take-append-le, take_at},
-},
-  Common.{◌≡◌, ℕ, ◌≤◌, ◌<◌, true, false, List, [], ◌++◌, length, take, drop, ◌⊎◌, inl, inr, refl, sym, ◌∙◌, ap, arith},
+    Grind.common_steps,
+    Bool.{false≢true, cases_lt},
+    List.{length-append, take-append-drop, take-append-le, take_at},
+  },
+  Common.{◌≡◌, ℕ, ◌≤◌, ◌<◌, true, false, List, [], ◌++◌, length, take, drop, ◌⊎◌, inl, inr, refl, sym, ◌∙◌, ap},
+  Common.arith,
 }
 use Rattle.ports_core.specs.Work.{Work, IsLawful, IsComplete, IsNeeded, IsSpare}
 

@@ -1,8 +1,17 @@
 -- Lemmas on removing many files.
-use Rattle.std.proofs.{lemmas.{Bool.{false≢true, or_parts}}, Common.{◌≡◌, ℕ, ◌+◌, ◌<◌, ◌≤◌, zero, suc, eqb, true, false, List, [], ◌∷◌, ◌++◌, length, get_or, set}, Common.{take, drop, Result, Ok, Err, is_ok, OnOk, IfErr, refl, sym, ◌∙◌, ap, arith, length-set, take-suc}, Common.{take-suc-set, drop-cons, drop-set-lt, rules, append-nil, append_assoc}}
-use Rattle.ports_core.{specs.Slot.{Slot, has_file, slot_at, changed_at, SlotBreaks, removes, closes}, specs.Swept.{Cleared, SweptFrom, removed, stuck, is_among, AreThere, Tries, Removes, all_tried, tried, goes}, specs.Swept.stays, specs.declared.fault.Fault.Fault, proofs.SlotLemmas.{length-changed_at, changed_at-again, slot_at-elsewhere}}
+use Rattle.std.proofs.{
+  lemmas.Bool.{false≢true, or_parts},
+  Common.{◌≡◌, ℕ, ◌+◌, ◌<◌, ◌≤◌, zero, suc, eqb, true, false, List, [], ◌∷◌, ◌++◌, length, get_or, set, take, drop},
+  Common.{Result, Ok, Err, is_ok, OnOk, IfErr, refl, sym, ◌∙◌, ap, arith, length-set, take-suc, take-suc-set},
+  Common.{drop-cons, drop-set-lt, rules, append-nil, append_assoc},
+}
+use Rattle.ports_core.specs.{
+  Slot.{Slot, has_file, slot_at, changed_at, SlotBreaks, removes, closes},
+  Swept.{Cleared, SweptFrom, removed, stuck, is_among, AreThere, Tries, Removes, all_tried, tried, goes, stays, none},
+  declared.fault.Fault.Fault,
+}
+use Rattle.ports_core.proofs.SlotLemmas.{length-changed_at, changed_at-again, slot_at-elsewhere}
 use Rattle.ports_core.specs.declared.fault.Fault.TheVariants as fault
-use Rattle.ports_core.specs.Swept.{none}
 
 -- Among others
 

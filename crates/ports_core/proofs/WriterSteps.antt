@@ -1,8 +1,8 @@
 -- What the writer of files does, one change after another, and where one is stopped.
 use Rattle.std.proofs.{
   lemmas.{Grind.common_steps, Bool.false≢true},
-  Common.{◌≡◌, ℕ, Bool, false, List, [], ◌∷◌, ◌++◌, ◌⊎◌, length, Option, Some, None, Result, Ok, Err, IfErr, inl, inr},
-  Common.{refl, sym, ◌∙◌, ap, subst, arith, rules, append_assoc},
+  Common.{◌≡◌, ℕ, Bool, false, List, [], ◌∷◌, ◌++◌, ◌⊎◌, length, Option, Some, None, Result, Ok, Err, IfErr, inl},
+  Common.{inr, refl, sym, ◌∙◌, ap, subst, arith, rules, append_assoc},
 }
 use Rattle.ports_core.specs.{
   Draft.{Manner, Draft, made_of, draft_part, with_bytes, with_next},
@@ -12,19 +12,18 @@ use Rattle.ports_core.specs.{
   Swept.Removes,
   InTurn.fault_in,
   declared.{
-  fault.Fault.{Fault, TheVariants.{Memory, Verdict}},
-  verdict.Verdict.TheVariants.Suffixes,
-  file_writer.{Current.TheVariants.Skipped, Opening.{Opening, TheVariants.Never}},
-},
+    fault.Fault.{Fault, TheVariants.{Memory, Verdict}},
+    verdict.Verdict.TheVariants.Suffixes,
+    file_writer.{Current.TheVariants.Skipped, Opening.{Opening, TheVariants.Never}},
+  },
 }
 use Rattle.ports_core.proofs.{
-  ShareLemmas.{stopped_part, bytes_begin, next_begins, still_made},
+  ShareLemmas.{stopped_part, bytes_begin, next_begins, still_made, part_grows},
   SweepLemmas.{left_apart, left_has, left_there, same_size},
   FileWriterLemmas.{lacks_memory, leaves_again, leaves_lacking, put_nothing, reaches_again, reaches_as, stops_wider},
   FileWriterLemmas.{where_short, where_well},
 }
 use Rattle.ports_core.specs.declared.fault.Fault.TheVariants as fault
-use Rattle.ports_core.proofs.ShareLemmas.{part_grows}
 
 -- One change after another
 

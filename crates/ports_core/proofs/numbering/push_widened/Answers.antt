@@ -1,7 +1,5 @@
-use Rattle.std.proofs.lemmas.Result.{IfOk-weaker}
+use Rattle.std.proofs.{lemmas.{Result.IfOk-weaker, Grind.common_steps}, Common.arith}
 use Rattle.ports_core.proofs.numbering.push_widened.Goals as goal
-use Rattle.std.proofs.lemmas.Grind.{common_steps}
-use Rattle.std.proofs.Common.{arith}
 use Rattle.ports_core.proofs.CounterLemmas.{in_block_at}
 
 pub returns : goal.returns

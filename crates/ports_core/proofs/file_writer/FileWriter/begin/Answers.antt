@@ -1,9 +1,10 @@
-use Rattle.ports_core.{proofs.{HandedOn.handed_on, FileBegunLemmas.{begin_made, begin_unmade}}}
+use Rattle.ports_core.proofs.{
+  HandedOn.handed_on,
+  FileBegunLemmas.{begin_made, begin_unmade, paused_ready, ended_none},
+  FileWriterLemmas.goes_still,
+}
 use Rattle.ports_core.proofs.file_writer.FileWriter.begin.Goals as goal
 use Rattle.std.proofs.Common.{arith}
-use Rattle.ports_core.proofs.FileWriterLemmas.{goes_still}
-use Rattle.ports_core.proofs.FileBegunLemmas.{paused_ready}
-use Rattle.ports_core.proofs.FileBegunLemmas.{ended_none}
 
 pub returns-in-Never-clause-goes : goal.returns-in-Never-clause-goes
 returns-in-Never-clause-goes g c = rw c.in-Never.is (grind (arith, goes_still, ended_none, paused_ready))

@@ -1,11 +1,10 @@
 use Rattle.ports_core.proofs.{
   HandedOn.handed_on,
-  FileBegunLemmas.{close_not, end_told, tells_write},
+  FileBegunLemmas.{close_not, end_told, tells_write, ended_none},
+  FileWriterLemmas.goes_still,
 }
 use Rattle.ports_core.proofs.file_writer.FileWriter.end.Goals as goal
 use Rattle.std.proofs.Common.{arith}
-use Rattle.ports_core.proofs.FileWriterLemmas.{goes_still}
-use Rattle.ports_core.proofs.FileBegunLemmas.{ended_none}
 
 pub returns-in-Skipped-clause-goes : goal.returns-in-Skipped-clause-goes
 returns-in-Skipped-clause-goes g c = grind (arith, goes_still, ended_none)

@@ -1,7 +1,10 @@
-use Rattle.ports_core.proofs.{HandedOn.handed_on, FileWriterLemmas.{put_file}, FileBegunLemmas.{first_bytes, goes_made, goes_unmade}}
+use Rattle.ports_core.proofs.{
+  HandedOn.handed_on,
+  FileWriterLemmas.{put_file, goes_still},
+  FileBegunLemmas.{first_bytes, goes_made, goes_unmade},
+}
 use Rattle.std.proofs.{Common.arith, lemmas.Grind.common_steps}
 use Rattle.ports_core.proofs.file_writer.FileWriter.put.Goals as goal
-use Rattle.ports_core.proofs.FileWriterLemmas.{goes_still}
 
 pub returns-in-Skipped-clause-goes : goal.returns-in-Skipped-clause-goes
 returns-in-Skipped-clause-goes g c = grind (arith, goes_still)

@@ -1,10 +1,6 @@
-use Rattle.std.proofs.{Common.arith, lemmas.{Result.IfOk-weaker}}
+use Rattle.std.proofs.{Common.{arith, append_assoc, length-append}, lemmas.Result.IfOk-weaker}
 use Rattle.ports_core.proofs.form.Form.push.Goals as goal
-use Rattle.std.proofs.Common.{append_assoc}
-use Rattle.ports_core.proofs.FormLemmas.{after}
-use Rattle.ports_core.proofs.FormLemmas.{before}
-use Rattle.std.proofs.Common.{length-append}
-use Rattle.ports_core.proofs.FormLemmas.{length_written}
+use Rattle.ports_core.proofs.FormLemmas.{after, before, length_written}
 
 pub returns-in_ok-push_copies-in-BlanksBefore : goal.returns-in_ok-push_copies-in-BlanksBefore
 returns-in_ok-push_copies-in-BlanksBefore c = grind (arith, IfOk-weaker, append_assoc, before, length-append, length_written)
