@@ -1,15 +1,5 @@
 -- Lemmas on what all continuations agree on.
-use Rattle.std.proofs.{
-  lemmas.{
-    Grind.common_steps,
-    List.{append-nil, get_or_append_left, get_or-replicate, length-map, length-replicate},
-    Bool.cases_lt,
-  },
-  Common.{◌≡◌, ◌≢◌, ℕ, ◌+◌, ◌-◌, ◌<◌, ◌≤◌, zero, suc, List, [], ◌∷◌, ◌++◌, length, get_or, replicate, inl},
-  Common.{inr, sym},
-  Common.{◌∙◌, ap, arith, length-append, lit<, map, take, drop, refl, rules, subst},
-  Math.Seq.{drop-append_seam, get_or-append_right, take-append_seam},
-}
+use Rattle.std.proofs.{lemmas.{Grind.common_steps, List.{append-nil, length-map}, Bool.cases_lt}, Common.{◌≡◌, ◌≢◌, ℕ, ◌+◌, ◌-◌, ◌<◌, ◌≤◌, zero, suc, List, [], ◌∷◌, ◌++◌, length, get_or, replicate, inl}, Common.{inr, sym}, Common.{◌∙◌, ap, arith, length-append, lit<, map, take, drop, refl, rules, subst}, Math.Seq.{drop-append_seam, get_or-append_right, take-append_seam}}
 use Rattle.ports_core.{
   specs.{
     Part.{IsBeginning, Begins, File, Part, FilesBegin},
@@ -182,10 +172,10 @@ pub record IsStretch (whole : List ℕ → Part) (spots_of : List ℕ → ℕ �
 -- the outputs that aren't empty
 past_empty : (place k : ℕ) (outputs : List (List ℕ))
     → get_or (replicate place [] ++ outputs) (place + k) [] ≡ get_or outputs k []
-past_empty place k outputs = grind (arith, get_or-append_right, length-replicate)
+past_empty place k outputs = grind (arith, common_steps)
 
 empty_before : (place n : ℕ) (outputs : List (List ℕ)) → n < place → get_or (replicate place [] ++ outputs) n [] ≡ []
-empty_before place n outputs less = grind (arith, get_or_append_left, length-replicate, get_or-replicate)
+empty_before place n outputs less = grind (arith, common_steps)
 
 module _ (work : Work) {spots_of : List ℕ → ℕ → List Spot} (place : ℕ) {outputs : List ℕ → List (List ℕ)}
     (stretch : IsStretch work.whole spots_of place outputs) where
@@ -290,7 +280,7 @@ one_is_agreed work x one other agreed also =
 module _ {A G : Type 0} {comes : List A → Type 0} (goes : List A → ℕ → G) (x : List A) where
   begins_no_later : (one other : List A) (here : DifferOn comes goes x one) (there : DifferOn comes goes x other)
       → length here.before ≤ length there.before
-  begins_no_later one other here there = grind (arith, cases_lt, length-append)
+  begins_no_later one other here there = grind (arith, common_steps)
 
   pub one_is_undecided : (one other : List A) → DifferOn comes goes x one → DifferOn comes goes x other → one ≡ other
   one_is_undecided one other here there =

@@ -1,13 +1,5 @@
 -- Numbers in decimal, as the library prints them, filled with zeros.
-use Rattle.std.proofs.{
-  lemmas.{
-    List.length-append,
-    Fmt.{decimal_by_steps, decimal_is_IsNumeral, decimal_nonempty, length-decimal-le},
-    Int.Digits.digits_value-lt,
-  },
-  Common.{◌≡◌, ℕ, ◌+◌, ◌-◌, ◌/◌, ◌%◌, ◌^◌, ◌<◌, ◌≤◌, zero, suc, max, List, [], ◌∷◌, ◌++◌, length},
-  Common.{replicate, decimal, refl, sym, ◌∙◌, ap, subst, arith, append_assoc, rules},
-}
+use Rattle.std.proofs.{lemmas.{List.length-append, Fmt.{decimal_by_steps, decimal_is_IsNumeral, decimal_nonempty, length-decimal-le}, Int.Digits.digits_value-lt}, Common.{◌≡◌, ℕ, ◌+◌, ◌-◌, ◌/◌, ◌%◌, ◌^◌, ◌<◌, ◌≤◌, zero, suc, max, List, [], ◌∷◌, ◌++◌, length}, Common.{replicate, decimal, refl, sym, ◌∙◌, ap, arith, append_assoc, rules}}
 use Rattle.ports_core.specs.{
   declared.{alphabet.Alphabet.TheVariants.Digits, form.Form.Form},
   Name.{decimal_form, digit_count, digits_written, formatted, marked, written, zero_filled},
@@ -49,8 +41,7 @@ fills (suc width) n some small least = decimal_by_steps Fills fills_one fills_mo
 -- it has as many digits as it needs, and one for 0
 long_enough : (n : ℕ) → n < 2 ^ 64 → digit_count Digits n ≤ length (decimal n)
 long_enough n least =
-    let is = decimal_is_IsNumeral n least in
-    digits_needed Digits n _ (subst (λ value. value < 10 ^ length (decimal n)) is.1 (digits_value-lt 10 (decimal n) is.0.1))
+    grind (arith, decimal_is_IsNumeral, digits_needed, digits_value-lt)
 
 no_longer : (n : ℕ) → n < 2 ^ 64 → length (decimal n) ≤ max 1 (digit_count Digits n)
 no_longer n least = length-decimal-le (max 1 (digit_count Digits n)) n (omega arith) (below_more Digits (digits_enough Digits n) (omega arith)) least

@@ -45,8 +45,6 @@ use Rattle.ports_core.specs.inner.Write as short
 use Rattle.ports_core.specs.declared.fault.Fault.TheVariants as fault
 use Rattle.ports_core.specs.declared.slot.State.TheVariants as state
 
--- What makes no file
-
 -- A file is made for what is begun.
 
 -- what is known where what is begun has no file, and one is made of it after a change
@@ -266,9 +264,7 @@ begin_made {told} {next = next} {slot = slot} is ready made =
     goes_made [] (λ draft never. (at_once is draft never, refl)) (paused_ready ready) (record { few = made.few; named = made.named; place = made.place; added = made.added; same = made.same })
     (record { same = refl; current = (0, ap (λ (w : WriterState). w.current) made.same, counts_none next.tells); still = tt; wrote = none_written told slot })
 
--- What is begun ends, and what is next begins.
-
--- it has one
+-- What is begun ends, where it has a file.
 
 file_ends : {manner : Manner} {writer : WriterState} {draft : Draft} (slot size : ℕ) → writer.current ≡ File slot size
     → Writes manner writer draft → Writes manner (paused writer) (with_next Never draft)

@@ -38,7 +38,7 @@ least_up_to alphabet number (suc bound) count small =
     (λ more. elim (cases_lt bound count) [
       | inl less ↦ less
       | inr reached ↦
-          let some : 0 < radix alphabet = omega (arith, many_characters) in
+          let some : 0 < radix alphabet = grind (arith, common_steps) in
           absurd (omega (arith, ltb-false _ _ more, pow-le-pow_right some reached))
     ])
 

@@ -59,7 +59,7 @@ pub part_begins_itself : (part : Part) → Begins part part
 part_begins_itself part = grind (arith, begins_itself, files_begin_themselves)
 
 pub part_trans : (low middle high : Part) → Begins low middle → Begins middle high → Begins low high
-part_trans low middle high first second = grind (arith, common_steps, begins_trans, files_trans)
+part_trans low middle high first second = search (rules, begins_trans, files_trans)
 
 -- parts that have bytes on standard output alone
 
@@ -183,7 +183,7 @@ due_by IsDue IsOther line bytes fault also due = due
 lines_wider : (output : Output) (part high more : Part) (place : ℕ) (fault : Fault) → Begins high more
     → LinesTo output part high place fault → LinesTo output part more place fault
 lines_wider (gets_lines line) part high more place fault begins lines = lines
-lines_wider (gets_openings line) part high more place fault begins lines = record { next = lines.next; all = lines.all; due = due_by _ _ _ _ _ (next_wider _ begins) lines.due }
+lines_wider (gets_openings line) part high more place fault begins lines = search (rules, due_by, next_wider)
 lines_wider output part high more place fault begins lines = tt
 
 -- what stopped in turn between two parts stopped between one that begins the lower and one that the higher begins

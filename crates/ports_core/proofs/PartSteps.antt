@@ -122,8 +122,8 @@ lines_due output front name bytes high fault none due = tt
 -- the lines for closed files alone
 pub lines_all : (output : Output) (front : List File) (high : Part) (fault : Fault) → IsNoOpen fault
     → LinesTo output (record { out = told_of_files output front; files = front }) high (length front) fault
-lines_all (gets_lines line) front high fault other = grind (arith, append-nil, take_all)
-lines_all (gets_openings line) front high fault other = grind (arith, append-nil, none_due)
+lines_all (gets_lines line) front high fault other = grind (arith, common_steps)
+lines_all (gets_openings line) front high fault other = grind (arith, common_steps)
 lines_all output front high fault other = tt
 
 -- standard output gets more

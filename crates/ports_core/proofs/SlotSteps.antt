@@ -1,9 +1,5 @@
 -- Slots as they are opened, written and closed, and as they break.
-use Rattle.std.proofs.{
-  lemmas.Grind.common_steps,
-  Common.{◌≡◌, ℕ, ◌<◌, ◌≤◌, zero, suc, List, [], ◌∷◌, ◌++◌, length, Bool, true, false, IsTrue, refl, ◌∙◌, ap},
-  Common.{arith, rules, length-append},
-}
+use Rattle.std.proofs.{lemmas.Grind.common_steps, Common.{◌≡◌, ℕ, ◌<◌, ◌≤◌, zero, suc, List, [], ◌∷◌, ◌++◌, length, Bool, true, false, IsTrue, refl, ◌∙◌, ap}, Common.{arith, rules}}
 use Rattle.ports_core.specs.{
   Slot.{SlotBreaks, Slot, Rose, has_file, slot_at, changed_at, opened, unopened, closes, with_written, with_broken},
   Slot.{is_writable, KeepsBroken},
@@ -149,7 +145,7 @@ filed_same made = search rules
 
 pub filed_more : {old mid new : List Slot} (why : Reason) (kept : List ℕ) → KeepsMade old mid
     → new ≡ mid ++ unopened why kept ∷ [] → KeepsFiled old new
-filed_more {mid = mid} why kept made added = grind (arith, common_steps, length-append) where
+filed_more {mid = mid} why kept made added = grind (arith, common_steps) where
   still : (place : ℕ) → has_file (slot_at (mid ++ unopened why kept ∷ []) place).state
       ≡ has_file (slot_at mid place).state
   still place = grind (arith, common_steps)
