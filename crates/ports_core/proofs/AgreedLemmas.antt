@@ -1,13 +1,16 @@
 -- Lemmas on what all continuations agree on.
-use Rattle.std.proofs.{lemmas.{Grind.common_steps, List.{append-nil, length-map}, Bool.cases_lt}, Common.{◌≡◌, ◌≢◌, ℕ, ◌+◌, ◌-◌, ◌<◌, ◌≤◌, zero, suc, List, [], ◌∷◌, ◌++◌, length, get_or, replicate, inl}, Common.{inr, sym}, Common.{◌∙◌, ap, arith, length-append, lit<, map, take, drop, refl, rules, subst}, Math.Seq.{drop-append_seam, get_or-append_right, take-append_seam}}
-use Rattle.ports_core.{
-  specs.{
-    Part.{IsBeginning, Begins, File, Part, FilesBegin},
-    Work.{Work, IsLawful},
-    Agreed.{AgreeOn, CanCome, DifferOn, outputs_of, output_at, IsAgreed, Spot, spot, spots_from, GoesTo, ArePlaced},
-  },
-  proofs.PartLemmas.{part_trans, no_fewer},
+use Rattle.std.proofs.{
+  lemmas.{Grind.common_steps, List.{append-nil, length-map}, Bool.cases_lt},
+  Common.{◌≡◌, ◌≢◌, ℕ, ◌+◌, ◌-◌, ◌<◌, ◌≤◌, zero, suc, List, [], ◌∷◌, ◌++◌, length, get_or, replicate, inl},
+  Common.{inr, sym, ◌∙◌, ap, arith, length-append, lit<, map, take, drop, refl, rules, subst},
+  Math.Seq.{drop-append_seam, get_or-append_right, take-append_seam},
 }
+use Rattle.ports_core.specs.{
+  Part.{IsBeginning, Begins, File, Part, FilesBegin},
+  Work.{Work, IsLawful},
+  Agreed.{AgreeOn, CanCome, DifferOn, outputs_of, output_at, IsAgreed, Spot, spot, spots_from, GoesTo, ArePlaced},
+}
+use Rattle.ports_core.proofs.PartLemmas.{part_trans, no_fewer}
 
 -- Some continuations
 

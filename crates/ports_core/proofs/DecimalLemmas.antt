@@ -1,5 +1,13 @@
 -- Numbers in decimal, as the library prints them, filled with zeros.
-use Rattle.std.proofs.{lemmas.{List.length-append, Fmt.{decimal_by_steps, decimal_is_IsNumeral, decimal_nonempty, length-decimal-le}, Int.Digits.digits_value-lt}, Common.{◌≡◌, ℕ, ◌+◌, ◌-◌, ◌/◌, ◌%◌, ◌^◌, ◌<◌, ◌≤◌, zero, suc, max, List, [], ◌∷◌, ◌++◌, length}, Common.{replicate, decimal, refl, sym, ◌∙◌, ap, arith, append_assoc, rules}}
+use Rattle.std.proofs.{
+  lemmas.{
+    List.length-append,
+    Fmt.{decimal_by_steps, decimal_is_IsNumeral, decimal_nonempty, length-decimal-le},
+    Int.Digits.digits_value-lt,
+  },
+  Common.{◌≡◌, ℕ, ◌+◌, ◌-◌, ◌/◌, ◌%◌, ◌^◌, ◌<◌, ◌≤◌, zero, suc, max, List, [], ◌∷◌, ◌++◌, length},
+  Common.{replicate, decimal, refl, sym, ◌∙◌, ap, arith, append_assoc, rules},
+}
 use Rattle.ports_core.specs.{
   declared.{alphabet.Alphabet.TheVariants.Digits, form.Form.Form},
   Name.{decimal_form, digit_count, digits_written, formatted, marked, written, zero_filled},

@@ -151,7 +151,8 @@ module _ {told : Bool} {writer next : WriterState} {change : Draft → Draft} {o
     → Unwritten draft (change draft)) (makes : MakesNone told writer old new next f) where
   unmade_begins : (manner : Manner) (draft : Draft) → Unwritten draft (change draft)
       → Begins (part_with manner.output (ended_files manner draft)) (draft_part manner (change draft))
-  unmade_begins manner draft so = subst (λ part. Begins part (draft_part manner (change draft))) (ap (λ ended. part_of manner (map (share state.Closed) ended ++ [])) so.same ∙ ap (part_of manner) (append-nil (map (share state.Closed) draft.ended)))
+  unmade_begins manner draft so = subst (λ part. Begins part (draft_part manner (change draft)))
+      (ap (λ ended. part_of manner (map (share state.Closed) ended ++ [])) so.same ∙ ap (part_of manner) (append-nil (map (share state.Closed) draft.ended)))
       (part_grows manner (map (share state.Closed) (change draft).ended) [] _ tt)
 
   -- the file that is due
@@ -184,8 +185,10 @@ module _ {told : Bool} {writer next : WriterState} {change : Draft → Draft} {o
   goes_unmade = record {
     leaves = unmade_leaves ready.output makes;
     reaches = λ manner draft writes. let so = of draft writes.current in
-        reaches_as (none_part manner draft so.none) refl (reaches_by (unmade_leaves ready.output makes).owns (λ first last. opens_not (ended_files manner draft)
-        (ap (λ output. told_before output (next_name writer.names)) writes.same.output) (closed_files manner 0 draft.ended) (unmade_begins manner draft so) (unmade_due manner draft so writes)
+        reaches_as (none_part manner draft so.none) refl (reaches_by (unmade_leaves ready.output makes).owns
+        (λ first last. opens_not (ended_files manner draft)
+        (ap (λ output. told_before output (next_name writer.names)) writes.same.output)
+        (closed_files manner 0 draft.ended) (unmade_begins manner draft so) (unmade_due manner draft so writes)
         (stops_opening (let two = ready.streams in omega arith) makes.none)));
     short = unmade_short;
     writes = tt;
@@ -202,10 +205,14 @@ goes_made {told} {writer} {made} {next} {change} {slot} bytes {old} {mid} {new} 
   leaves = leaves;
   reaches = λ manner draft writes. let (so, are) = of draft writes.current in
       reaches_as (none_part manner draft so.none)
-      (due_part so.none writes (change draft) makes.few so makes.named ∙ ap (λ those. with_last (begun_out manner.output (ended_files manner draft) (name_after manner draft)) (ended_files manner draft) (file_of (name_after manner draft) those state.Open)) are)
-      (reaches_by leaves.owns (λ first last. becomes_again (part_trans _ _ _ (line_begins (told_before manner.output (name_after manner draft))) (grind (arith, begins_itself, more_files)))
+      (due_part so.none writes (change draft) makes.few so makes.named ∙ ap
+      (λ those. with_last (begun_out manner.output (ended_files manner draft) (name_after manner draft))
+      (ended_files manner draft) (file_of (name_after manner draft) those state.Open)) are)
+      (reaches_by leaves.owns (λ first last. becomes_again
+      (part_trans _ _ _ (line_begins (told_before manner.output (name_after manner draft))) (grind (arith, begins_itself, more_files)))
       (made_becomes manner draft (due_name so.none writes) (ap (λ line. with_written 0 (told_of told line) old) (line_told so.none writes)) makes)
-      (writes_to manner.output told (ended_files manner draft) (name_after manner draft) [] bytes mid fault (closed_files manner 0 draft.ended) (grind (arith, common_steps)) appends.wrote)));
+      (writes_to manner.output told (ended_files manner draft) (name_after manner draft) [] bytes mid fault
+      (closed_files manner 0 draft.ended) (grind (arith, common_steps)) appends.wrote)));
   short = grind (arith, common_steps, never_short);
   writes = where_well fault appends.current (λ current manner draft writes. let (so, are) = of draft writes.current in
       let count : length (shares_of (change draft)) ≡ length draft.ended + 1 =
@@ -224,7 +231,8 @@ goes_made {told} {writer} {made} {next} {change} {slot} bytes {old} {mid} {new} 
   is_file = ap (λ (w : WriterState). w.current) makes.same
 
   leaves : Leaves writer next old new fault
-  leaves = leaves_again (line_leaves told ready) (leaves_again (made_leaves line_ready makes) (appends_leaves bytes is_file (made_ready line_ready makes) appends))
+  leaves = leaves_again (line_leaves told ready) (leaves_again (made_leaves line_ready makes)
+      (appends_leaves bytes is_file (made_ready line_ready makes) appends))
 
 -- The first bytes of what gets its file with them
 pub first_bytes : (tells : Tells) {current : Current} (bytes : List ℕ) → current ≡ Due → false ≡ eqb (length bytes) 0
@@ -261,7 +269,8 @@ pub begin_made : {told : Bool} {writer next : WriterState} {opening : Opening} {
     → opening ≡ AtOnce → IsReady writer old → Made writer (told_next told writer.tells writer.names old) new next slot
     → Goes told (paused writer) (with_next opening) old new next None
 begin_made {told} {next = next} {slot = slot} is ready made =
-    goes_made [] (λ draft never. (at_once is draft never, refl)) (paused_ready ready) (record { few = made.few; named = made.named; place = made.place; added = made.added; same = made.same })
+    goes_made [] (λ draft never. (at_once is draft never, refl)) (paused_ready ready)
+    (record { few = made.few; named = made.named; place = made.place; added = made.added; same = made.same })
     (record { same = refl; current = (0, ap (λ (w : WriterState). w.current) made.same, counts_none next.tells); still = tt; wrote = none_written told slot })
 
 -- What is begun ends, where it has a file.
@@ -311,30 +320,32 @@ pub close_not : {told : Bool} {writer : WriterState} (slot size : ℕ) {old new 
     → writer.current ≡ File slot size → IsReady writer old → f ≡ fault.Write slot
     → SlotBreaks slot (changed_at slot closes old) new
     → Goes told writer (with_next Never) old new (paused writer) (Some f)
-close_not {told} {writer} slot size {old} {new} is ready which broken = subst (λ f. Goes told writer (with_next Never) old new (paused writer) (Some f)) (sym which) (record {
-  leaves = record {
-    naming = refl;
-    tells = refl;
-    keeps = refl;
-    open_alone = λ alone. refl;
-    owns = owns;
-    slots = (let at = at_file is ready in (
-      λ none. absurd (omega arith),
-      close_rose slot old new at.1
-          (writable_within slot old at.1) broken,
-    ));
-    output = tt;
-    ready = tt;
-  };
-  reaches = λ manner draft writes. let now = now_is is writes in let named = file_named now.0 writes in
-      reaches_as (open_part manner draft named now.0) (grind (arith, common_steps, next_shares, part_last))
-      (reaches_by owns (λ first last. falls_wider (closes_not manner.output told (ended_files manner draft) (name_after manner draft) draft.bytes old
-      (closed_files manner 0 draft.ended) (last_file writer old is last).1 broken) (closed_begins manner.output (ended_files manner draft) (name_after manner draft) draft.bytes)));
-  short = λ short_is. absurd (cc);
-  writes = tt;
-}) where
-  owns : KeepsFiles writer (paused writer) old new
-  owns = file_closed (made_again old (changed_at slot closes old) new (made_close slot old _ (at_file is ready).1 refl) (made_break slot _ new broken))
+close_not {told} {writer} slot size {old} {new} is ready which broken = subst (λ f. Goes told writer
+    (with_next Never) old new (paused writer) (Some f)) (sym which) (record {
+      leaves = record {
+        naming = refl;
+        tells = refl;
+        keeps = refl;
+        open_alone = λ alone. refl;
+        owns = owns;
+        slots = (let at = at_file is ready in (
+          λ none. absurd (omega arith),
+          close_rose slot old new at.1
+              (writable_within slot old at.1) broken,
+        ));
+        output = tt;
+        ready = tt;
+      };
+      reaches = λ manner draft writes. let now = now_is is writes in let named = file_named now.0 writes in
+          reaches_as (open_part manner draft named now.0) (grind (arith, common_steps, next_shares, part_last))
+          (reaches_by owns (λ first last. falls_wider (closes_not manner.output told (ended_files manner draft) (name_after manner draft) draft.bytes old
+          (closed_files manner 0 draft.ended) (last_file writer old is last).1 broken) (closed_begins manner.output
+          (ended_files manner draft) (name_after manner draft) draft.bytes)));
+      short = λ short_is. absurd (cc);
+      writes = tt;
+    }) where
+      owns : KeepsFiles writer (paused writer) old new
+      owns = file_closed (made_again old (changed_at slot closes old) new (made_close slot old _ (at_file is ready).1 refl) (made_break slot _ new broken))
 
 -- it is told of, or standard output breaks
 tells_file : (tells : Tells) (output : Output) (told : Bool) (size : ℕ) (front : List PartFile) (file : PartFile)
@@ -343,10 +354,13 @@ tells_file : (tells : Tells) (output : Output) (told : Bool) (size : ℕ) (front
     → Becomes output told (with_last (begun_out output front file.name) front file)
     (with_last (told_of_files output front ++ told_of_files output (file ∷ [])) front file) old new fault
 tells_file Nothing output told size front file old fault is shut size_is closed some (well, same) = rw (well, same, ← is) (record { gets = λ before at. at })
-tells_file Openings output told size front file old fault is shut size_is closed some (well, same) = rw (well, same, ← is, append-nil (opening_line file.name)) (record { gets = λ before at. at })
-tells_file Sizes output told size front file old {new} fault is shut size_is closed some wrote = rw (← is) (rw (append-nil (lines_for size_of_file front), line_told) (tells_line _ _ _ _ shut _ _ closed some (subst (λ n. Wrote told 0 (decimal n ++ 10 ∷ []) old new fault) size_is wrote))) where
-  line_told : lines_for size_of_file (file ∷ []) ≡ size_of_file file
-  line_told = grind (arith, common_steps)
+tells_file Openings output told size front file old fault is shut size_is closed some (well, same) = rw
+    (well, same, ← is, append-nil (opening_line file.name)) (record { gets = λ before at. at })
+tells_file Sizes output told size front file old {new} fault is shut size_is closed some wrote = rw (← is)
+    (rw (append-nil (lines_for size_of_file front), line_told) (tells_line _ _ _ _ shut _ _ closed some
+    (subst (λ n. Wrote told 0 (decimal n ++ 10 ∷ []) old new fault) size_is wrote))) where
+      line_told : lines_for size_of_file (file ∷ []) ≡ size_of_file file
+      line_told = grind (arith, common_steps)
 
 told_leaves : (told : Bool) (writer : WriterState) (size : ℕ) {old new : List Slot} (fault : Option Fault)
     (tells : Tells) → writer.tells ≡ tells → IsReady (paused writer) old → TellsSize told tells size old new fault
@@ -381,10 +395,12 @@ pub end_told : {told : Bool} {writer : WriterState} (slot size : ℕ) {old mid n
 end_told {told} {writer} slot size {old} {mid} {new} {fault} is ready closed tells = record {
   leaves = leaves;
   reaches = λ manner draft writes. let now = now_is is writes in let named = file_named now.0 writes in
-      reaches_as (open_part manner draft named now.0) (grind (arith, common_steps, next_shares, part_last)) (reaches_by leaves.owns (λ first last. becomes_again
+      reaches_as (open_part manner draft named now.0) (grind (arith, common_steps, next_shares, part_last))
+      (reaches_by leaves.owns (λ first last. becomes_again
       (grind (arith, begins_itself, front_begins))
       (closes_last manner.output told _ (ended_files manner draft) (name_after manner draft) draft.bytes old (last_file writer old is last).1 closed)
-      (tells_file writer.tells manner.output told size (ended_files manner draft) (file_of (name_after manner draft) draft.bytes state.Closed) mid fault writes.same.output refl now.1 (closed_files manner 0 draft.ended)
+      (tells_file writer.tells manner.output told size (ended_files manner draft)
+      (file_of (name_after manner draft) draft.bytes state.Closed) mid fault writes.same.output refl now.1 (closed_files manner 0 draft.ended)
       (let two = paused_now.streams in omega arith) tells)));
   short = told_short _ told writer.tells size mid new fault tells;
   writes = grind (arith, common_steps, in_any, file_ends, is);

@@ -59,7 +59,8 @@ module _ (line : PartFile → List ℕ) (told : Bool) (front : List PartFile) (f
     all = grind (arith, take-append_seam);
     cut = inr (
       refl,
-      subst (IsBeginning (take n (line file))) (sym (ap (λ files. lines_for line (take 1 files)) (drop-append_seam front (file ∷ [])) ∙ told_line)) (drop n (line file), sym (take-append-drop n (line file))),
+      subst (IsBeginning (take n (line file))) (sym (ap (λ files. lines_for line (take 1 files))
+          (drop-append_seam front (file ∷ [])) ∙ told_line)) (drop n (line file), sym (take-append-drop n (line file))),
     );
   } where
     told_line : lines_for line (file ∷ []) ≡ line file
@@ -104,12 +105,13 @@ pub reaches_by : {output : Output} {told : Bool} {low high : Part} {old new : Li
     {writer next : WriterState} → KeepsFiles writer next old new
     → ((first : ℕ) → IsLast writer.current first old → Becomes output told low high old new fault)
     → Reaches output told writer next low high old new fault
-reaches_by {output} {told} {low} {high} {old} {new} {fault} {writer} {next} keeps becomes = record { there = λ before at. by fault before at ((becomes (length before) at.owns.last).gets before at.outputs) } where
-  by : (fault : Option Fault) (before : List Slot) → At told writer before low old
-      → IsThere output told (OutputsAt told before high new) before low high new fault
-      → IsThere output told (At told next before high new) before low high new fault
-  by None before at outputs = grind arith
-  by (Some why) before at stops = stops
+reaches_by {output} {told} {low} {high} {old} {new} {fault} {writer} {next} keeps becomes =
+    record { there = λ before at. by fault before at ((becomes (length before) at.owns.last).gets before at.outputs) } where
+      by : (fault : Option Fault) (before : List Slot) → At told writer before low old
+          → IsThere output told (OutputsAt told before high new) before low high new fault
+          → IsThere output told (At told next before high new) before low high new fault
+      by None before at outputs = grind arith
+      by (Some why) before at stops = stops
 
 -- the same of parts that are written otherwise
 pub reaches_as : {output : Output} {told : Bool} {low low' high high' : Part} {old new : List Slot}
@@ -139,10 +141,12 @@ pub lacks_memory : {told : Bool} (manner : Manner) (draft : Draft) {slots : List
 lacks_memory manner draft named = elim (made_or draft.opening draft.bytes) [
   | inl none ↦
       let is = none_part manner draft none in
-      reaches_as is is (in_turn (length (ended_files manner draft)) (turn_next (ended_files manner draft) (closed_files manner 0 draft.ended)) (lines_all manner.output (ended_files manner draft) _ Memory tt))
+      reaches_as is is (in_turn (length (ended_files manner draft)) (turn_next (ended_files manner draft)
+      (closed_files manner 0 draft.ended)) (lines_all manner.output (ended_files manner draft) _ Memory tt))
   | inr makes ↦
       let is = open_part manner draft (grind (arith, made_count)) makes in
-      reaches_as is is (in_turn (length (ended_files manner draft)) (turn_last (ended_files manner draft) _ _ refl (closed_files manner 0 draft.ended)) (lines_of_last manner.output (ended_files manner draft) _ _ Memory tt))
+      reaches_as is is (in_turn (length (ended_files manner draft)) (turn_last (ended_files manner draft) _ _ refl
+      (closed_files manner 0 draft.ended)) (lines_of_last manner.output (ended_files manner draft) _ _ Memory tt))
 ]
 
 -- Outputs that were broken stay broken, and files stay the writer's own.

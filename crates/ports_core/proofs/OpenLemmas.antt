@@ -42,7 +42,8 @@ pub untold : (told : Bool) (tells : Tells) (names : Names) {next : Names} {name 
     → TellsOpening told (told_before (output_of tells) name) old new (Some fault)
     → OpensNone told tells names next old new fault
 untold told tells names {next} old new named few has (inl (is, same)) = subst (OpensNone told tells names next old new) (sym is) (no_memory same)
-untold told tells names old new named few has (inr (short.broke n cut)) = no_line n few has (subst (λ name. BrokeAfter told old new 0 (told_before (output_of tells) name) n) named cut)
+untold told tells names old new named few has (inr (short.broke n cut)) = no_line n few has
+    (subst (λ name. BrokeAfter told old new 0 (told_before (output_of tells) name) n) named cut)
 
 pub told_so : (told : Bool) (tells : Tells) (names : Names) {name : List ℕ} (old mid : List Slot)
     → name ≡ next_name names → TellsOpening told (told_before (output_of tells) name) old mid None
@@ -67,8 +68,26 @@ pub record StopsOpening (told : Bool) (tells : Tells) (names : Names) (old new :
 
 pub stops_opening : {told : Bool} {tells : Tells} {names next : Names} {old new : List Slot} {fault : Fault}
     → 0 < length old → OpensNone told tells names next old new fault → StopsOpening told tells names old new fault
-stops_opening {old = old} some (no_memory same) = record { bytes = []; reached = old; wrote = none_written _ 0; begins = inl refl; due = λ line is. inl refl; marks = same; at = λ first place. tt }
-stops_opening {old = old} some (no_name few none same) = record { bytes = []; reached = old; wrote = none_written _ 0; begins = inl refl; due = λ line is. refl; marks = same; at = λ first place. tt }
+stops_opening {old = old} some (no_memory same) = record {
+  bytes = [];
+  reached = old;
+  wrote =
+      none_written _ 0;
+  begins = inl refl;
+  due = λ line is. inl refl;
+  marks = same;
+  at = λ first place. tt;
+}
+stops_opening {old = old} some (no_name few none same) = record {
+  bytes = [];
+  reached = old;
+  wrote =
+      none_written _ 0;
+  begins = inl refl;
+  due = λ line is. refl;
+  marks = same;
+  at = λ first place. tt;
+}
 stops_opening {told} {tells} {names} {old = old} some (no_line n few has cut) = record {
   bytes = take n (line_next tells names);
   reached = with_written 0 (told_of told (take n (line_next tells names))) old;
@@ -119,7 +138,8 @@ pub opens_not : {output : Output} {told : Bool} (front : List File) {tells : Tel
     → Becomes output told (part_with output front) high old new (Some fault)
 opens_not {output} {told} front {tells} {names} {high} told_so closed begins is stops =
     becomes_again (line_begins _) (out_added _ _ _ stops.wrote) (halts_here (elim stops.begins [
-      | inl none ↦ subst (λ bytes. Begins (begun_with output front bytes) high) (sym none) (subst (λ out. Begins (record { out = out; files = front }) high) (sym (append-nil (told_of_files output front))) begins)
+      | inl none ↦ subst (λ bytes. Begins (begun_with output front bytes) high) (sym none)
+          (subst (λ out. Begins (record { out = out; files = front }) high) (sym (append-nil (told_of_files output front))) begins)
       | inr some ↦ begun some.0 some.1
     ]) (turn_next _ closed) (lines_due _ _ _ _ _ _ none (λ line same. due_by _ _ _ _ _ next (stops.due line (told_so ∙ same))))
     (marks_by _ _ _ _ _ next stops.marks) (λ before at. stops.at (length before) (length front))) where
@@ -136,7 +156,11 @@ opens_not {output} {told} front {tells} {names} {high} told_so closed begins is 
       begun : IsNextName names (next_name names) → IsBeginning stops.bytes (line_next tells names)
           → Begins (begun_with output front stops.bytes) high
       begun due (rest, line) = let (bytes, so) = is due in subst (λ part. Begins (begun_with output front stops.bytes) part) (sym so) (record {
-        out = (rest, ap (λ text. told_of_files output front ++ text) (sym told_so ∙ line) ∙ sym (append_assoc (told_of_files output front) stops.bytes rest));
+        out = (
+          rest,
+          ap (λ text. told_of_files output front ++ text) (sym told_so ∙ line) ∙ sym
+              (append_assoc (told_of_files output front) stops.bytes rest),
+        );
         files = more_files _ _;
       })
 

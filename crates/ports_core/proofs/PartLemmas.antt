@@ -34,7 +34,11 @@ pub begins_trans : (low middle high : List ℕ) → IsBeginning low middle → I
 begins_trans low middle high (rest, is) (more, is_too) = grind (arith, common_steps)
 
 pub take_begins_after : (n : ℕ) (before bytes : List ℕ) → IsBeginning (before ++ take n bytes) (before ++ bytes)
-take_begins_after n before bytes = (drop n bytes, ap (λ rest. before ++ rest) (sym (take-append-drop n bytes)) ∙ sym (append_assoc before (take n bytes) (drop n bytes)))
+take_begins_after n before bytes = (
+  drop n bytes,
+  ap (λ rest. before ++ rest) (sym (take-append-drop n bytes)) ∙ sym
+      (append_assoc before (take n bytes) (drop n bytes)),
+)
 
 -- a file that is open may be closed by then; any other stays
 pub kept_trans : {X : Type 0} (state_of : X → State) (low middle high : X)
@@ -234,7 +238,8 @@ lines_in_order : (output : Output) (low part high : Part) (place : ℕ) (fault :
     → LinesInOrder output low part high place fault
 lines_in_order (gets_openings line) low part high place fault above has lines = record {
   next = lines.next;
-  all = lines.all ∙ ap (λ had. had ++ lines.next) (openings_since _ _ _ above.files ∙ ap (λ had. had ++ openings_for line (drop (length low.files) part.files)) (sym has))
+  all = lines.all ∙ ap (λ had. had ++ lines.next) (openings_since _ _ _ above.files ∙ ap
+      (λ had. had ++ openings_for line (drop (length low.files) part.files)) (sym has))
       ∙ append_assoc low.out (openings_for line (drop (length low.files) part.files)) lines.next;
   due = lines.due;
 }

@@ -100,10 +100,16 @@ halts_here {low = low} {old = old} {place = place} begins turn lines marks from 
 -- the lines for files of which the last one isn't closed, or wasn't when they were written
 pub lines_of_last : (output : Output) (front : List File) (file : File) (high : Part) (fault : Fault) → IsNoOpen fault
     → LinesTo output (with_last (begun_out output front file.name) front file) high (length front) fault
-lines_of_last (gets_lines line) front file high fault other = record { next = []; all = ap (λ files. lines_for line files ++ []) (sym (take-append_seam front (file ∷ []))); cut = inl refl }
+lines_of_last (gets_lines line) front file high fault other = record {
+  next = [];
+  all = ap
+      (λ files. lines_for line files ++ []) (sym (take-append_seam front (file ∷ [])));
+  cut = inl refl;
+}
 lines_of_last (gets_openings line) front file high fault other = record {
   next = [];
-  all = sym (append-nil (openings_for line (front ++ file ∷ [])) ∙ openings-append line front (file ∷ []) ∙ ap (λ rest. openings_for line front ++ rest) (append-nil (line file.name)));
+  all = sym (append-nil (openings_for line (front ++ file ∷ [])) ∙ openings-append line front (file ∷ []) ∙ ap
+      (λ rest. openings_for line front ++ rest) (append-nil (line file.name)));
   due = none_due _ _ _ other;
 }
 lines_of_last output front file high fault other = tt
@@ -153,7 +159,8 @@ module _ (output : Output) (told : Bool) (out : List ℕ) (front : List File) wh
       (with_last out front (file_of name (bytes ++ more) state.Open)) old new None
   bytes_added name bytes more {slot} old {new} last wrote = record {
     gets = λ before at.
-        last_changes told (adds (told_of told more)) (gets more) (write_makes _ _) before (with_last out front (file_of name bytes state.Open)) front (file_of name bytes state.Open) old new slot refl last at wrote;
+        last_changes told (adds (told_of told more)) (gets more) (write_makes _ _) before
+        (with_last out front (file_of name bytes state.Open)) front (file_of name bytes state.Open) old new slot refl last at wrote;
   }
 
   -- it is closed
@@ -163,7 +170,8 @@ module _ (output : Output) (told : Bool) (out : List ℕ) (front : List File) wh
       (with_last out front (file_of name bytes state.Closed)) old new None
   closes_last name bytes {slot} old {new} last closed = record {
     gets = λ before at.
-        last_changes told closes ended (close_makes _) before (with_last out front (file_of name bytes state.Open)) front (file_of name bytes state.Open) old new slot refl last at closed;
+        last_changes told closes ended (close_makes _) before
+        (with_last out front (file_of name bytes state.Open)) front (file_of name bytes state.Open) old new slot refl last at closed;
   }
 
 -- it gets bytes or is closed, or breaks as it does, where standard output has what it is told of these files
@@ -174,7 +182,8 @@ module _ (output : Output) (told : Bool) (front : List File) (name bytes : List 
       (with_last (begun_out output front name) front (file_of name (bytes ++ more) state.Open)) old new fault
   writes_to more old None closed last wrote = grind (arith, common_steps, bytes_added)
   writes_to more {slot} old (Some _) closed last (short.broke n cut) =
-      becomes_again (grind (arith, begins_itself, front_begins, begins_more)) (bytes_added _ _ _ _ _ _ _ _ last refl) (halts_here (grind (arith, begins_itself, front_begins, take_begins_after))
+      becomes_again (grind (arith, begins_itself, front_begins, begins_more))
+      (bytes_added _ _ _ _ _ _ _ _ last refl) (halts_here (grind (arith, begins_itself, front_begins, take_begins_after))
       (turn_last _ _ _ refl closed) (lines_of_last _ _ _ _ _ tt)
       (let size : length (with_written slot (told_of told (take n more)) old) ≡ length old = length-changed_at _ _ _ in omega arith, cut.slots)
       (λ before at. inr (last_place output _ _ _ _ (last ∙ sym (length-changed_at _ _ _)) at)))

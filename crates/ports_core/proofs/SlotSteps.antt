@@ -1,5 +1,9 @@
 -- Slots as they are opened, written and closed, and as they break.
-use Rattle.std.proofs.{lemmas.Grind.common_steps, Common.{◌≡◌, ℕ, ◌<◌, ◌≤◌, zero, suc, List, [], ◌∷◌, ◌++◌, length, Bool, true, false, IsTrue, refl, ◌∙◌, ap}, Common.{arith, rules}}
+use Rattle.std.proofs.{
+  lemmas.Grind.common_steps,
+  Common.{◌≡◌, ℕ, ◌<◌, ◌≤◌, zero, suc, List, [], ◌∷◌, ◌++◌, length, Bool, true, false, IsTrue, refl, ◌∙◌, ap},
+  Common.{arith, rules},
+}
 use Rattle.ports_core.specs.{
   Slot.{SlotBreaks, Slot, Rose, has_file, slot_at, changed_at, opened, unopened, closes, with_written, with_broken},
   Slot.{is_writable, KeepsBroken},

@@ -33,7 +33,9 @@ spare_within work most n x lawful (inr (before, piece, is, few, going)) spare = 
   by over (inl none) = omega (arith, ap length none)
   by (inl over) (inr complete) = omega (arith, ap length is ∙ length-append before piece, ap length spare.joined ∙ length-append spare.used spare.rest)
   by (inr short) (inr complete) =
-      let used : take (length spare.used) before ≡ spare.used = sym (take-append-le (length spare.used) before piece short) ∙ ap (take (length spare.used)) (sym is ∙ spare.joined) ∙ take_at spare.used spare.rest (length spare.used) refl in
+      let used : take (length spare.used) before ≡ spare.used = sym
+      (take-append-le (length spare.used) before piece short) ∙ ap (take (length spare.used))
+      (sym is ∙ spare.joined) ∙ take_at spare.used spare.rest (length spare.used) refl in
       let all : spare.used ++ drop (length spare.used) before ≡ before =
       grind (arith, take-append-drop) in
       let stays : IsComplete work spare.used (drop (length spare.used) before) = grind arith in

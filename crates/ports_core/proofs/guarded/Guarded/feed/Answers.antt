@@ -6,7 +6,8 @@ pub returns-then-self-clause-passes : goal.returns-then-self-clause-passes
 returns-then-self-clause-passes g c = rw (← c.self.view_is) (pass_refused _ _ _ _ (g.met.S.Stage.lawful _) _ (inr refl) (over c.if-self.true refl))
 
 pub returns-in_default-clause-passes : goal.returns-in_default-clause-passes
-returns-in_default-clause-passes g c = rw (← c.self.view_is) (pass_refused _ _ _ _ (g.met.S.Stage.lawful _) _ (inl refl) (long c.if-self.false (grind arith) refl))
+returns-in_default-clause-passes g c = rw (← c.self.view_is) (pass_refused _ _ _ _ (g.met.S.Stage.lawful _) _
+    (inl refl) (long c.if-self.false (grind arith) refl))
 
 pub returns-in-Ok-clause-passes : goal.returns-in-Ok-clause-passes
 returns-in-Ok-clause-passes g c = grind arith

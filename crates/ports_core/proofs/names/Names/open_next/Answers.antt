@@ -21,5 +21,7 @@ returns-clause-slot g c = grind (arith, length-changed_at)
 pub returns-clause-err : goal.returns-clause-err
 returns-clause-err g c =
     let named = c.as_str-2.ensures.value ∙ rw c.in-Some.is at c.in_ok-name.ensures.name in
-    IfErr-weaker _ _ _ (λ fault fails. opens_none _ _ _ _ named c.in_ok-name.ensures.few (rw c.in-Some.is at c.in_ok-name.ensures.left) (rw c.in-Some.is at c.in_ok-name.ensures.drew)
-    (told_so _ _ c.args.self.now _ _ (c.as_str.ensures.value ∙ rw c.in-Some.is at c.in_ok-name.ensures.name) c.in_ok-tell_opening.ensures) fails) c.open.ensures.err
+    IfErr-weaker _ _ _ (λ fault fails. opens_none _ _ _ _ named c.in_ok-name.ensures.few
+    (rw c.in-Some.is at c.in_ok-name.ensures.left) (rw c.in-Some.is at c.in_ok-name.ensures.drew)
+    (told_so _ _ c.args.self.now _ _ (c.as_str.ensures.value
+    ∙ rw c.in-Some.is at c.in_ok-name.ensures.name) c.in_ok-tell_opening.ensures) fails) c.open.ensures.err
