@@ -477,12 +477,12 @@ module _ {code : List Node} {shifts : ShiftTable} {line : List ℕ} {place : ℕ
   pub at_more : {word' read : ℕ} (d : ℕ) {added : ℕ} (e : ℕ) → place < length line → slice_index line place < 256
       → read ≡ get_or shifts.words.items (slice_index line place) d → word' ≡ read / 2 ^ (word % 64)
       → added ≡ get_or shifts.weights.items (word % 256) e → IsAt code shifts line (place + 1) word' (steps + added)
-  at_more {read = read} d {added} e h b r w g =
+  at_more d e h b r w g =
       let o = rw (get_or_default shifts.words.items (slice_index line place) 0 d (omega (arith, a.2.words.size)), ← r) at
       (a.2.words.each (slice_index line place) b a.3.0 a.3.2.known) in
       let i = rw a.3.1 at (weight_read _ e a.2 g) in
       let m = state_more a.1 a.3.2 h a.2.complete b i o in
-      (a.0, a.1, a.2, (m.0, ap (λ k. k % 64) (w ∙ ap (λ k. read / 2 ^ k) a.3.1) ∙ m.1, m.2))
+      (a.0, a.1, a.2, (m.0, rw (w, a.3.1) m.1, m.2))
 
   pub at_stop : word % 64 ≡ shifts.stop → IsOutcome code line (record { found = true; steps = steps })
   at_stop e = search rules

@@ -8,8 +8,6 @@ returns-then-led-ne0 c =
     let hop = c.args.hop.now in
     let fits : get_or c.args.words.now hop.at 0 < 2 ^ 64 = search rules in
     let high : get_or c.args.words.now hop.word 0 < 2 ^ 64 = search rules in
-    let holds = not (eqb (bit_and (get_or c.args.words.now hop.at 0) hop.from) 0) in
-    let all : ℕ = bit_or (get_or c.args.words.now hop.word 0) (bool_byte holds * 2 ^ hop.bit % 2 ^ 64) in
     follows_more c.requires.closures c.requires.hop c.requires.size high c.requires.begun c.requires.apart
     (led_is c.requires.hop c.requires.size fits high (not_zero) is_not_zero refl) refl c.if-led-ne0.true c.looked_up.ensures (search rules) refl
 
@@ -18,7 +16,5 @@ returns-else-led-ne0 c =
     let hop = c.args.hop.now in
     let fits : get_or c.args.words.now hop.at 0 < 2 ^ 64 = search rules in
     let high : get_or c.args.words.now hop.word 0 < 2 ^ 64 = search rules in
-    let holds = not (eqb (bit_and (get_or c.args.words.now hop.at 0) hop.from) 0) in
-    let all : ℕ = bit_or (get_or c.args.words.now hop.word 0) (bool_byte holds * 2 ^ hop.bit % 2 ^ 64) in
     follows_none c.requires.hop c.requires.size high c.requires.apart
     (led_is c.requires.hop c.requires.size fits high (not_zero) is_not_zero refl) refl c.if-led-ne0.false
