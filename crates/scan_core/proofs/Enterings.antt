@@ -1,6 +1,6 @@
 -- The nodes at the numbers of a code, and what they lead to.
 use Rattle.std.proofs.{
-  Common.{rules, ◌≡◌, ◌⊎◌, inl, inr, ℕ, zero, suc, ◌+◌, ◌<◌, ◌≤◌, Bool, true, false, IsTrue, List, [], ◌∷◌, length},
+  Common.{rules, ◌≡◌, ◌⊎◌, ◌↔◌, inl, inr, ℕ, zero, suc, ◌+◌, ◌<◌, ◌≤◌, Bool, true, false, IsTrue, List, [], ◌∷◌, length},
   Common.{get_or, refl, sym, ◌∙◌, arith, ◌-◌, ◌++◌},
   lemmas.{Bool.false≢true, Grind.common_steps},
 }
@@ -12,7 +12,7 @@ use Rattle.scan_core.specs.{
   },
   Code.{At, weight_of, weight},
   Sets.{weight_if, positions_among},
-  inner.{Sets.{LeadsOn, Flows, IsCode, Passes}, Branches.IsBranch, Each.AreEach},
+  inner.{Sets.{LeadsOn, Flows, IsCode, Passes}, Branches.{IsBranch, Opens}, Each.AreEach},
 }
 
 pub weight_most : (node : Node) → weight_of node ≤ 1
@@ -129,6 +129,12 @@ way_is {code} {number} (Back by) c here = let b : by ≤ number = c.fits number 
 pub led_by : {code : List Node} {number : ℕ} {branch : Branch} {at_first at_last : Bool} {to : ℕ} (So : ℕ → Type 0)
     → IsBranch code number branch → So branch.one → So branch.other → Flows code at_first at_last number to → So to
 led_by {at_first} {at_last} {to} So w one other f = elim ((w.exact at_first at_last to).0 f).1 [ inl e ↦ rw e one | inr e ↦ rw e other ]
+
+-- a branch that isn't open leads nowhere
+pub never_led : {code : List Node} {number to : ℕ} {branch : Branch} {at_first at_last opens : Bool}
+    → IsBranch code number branch → (IsTrue opens ↔ Opens branch.when at_first at_last) → opens ≡ false
+    → Flows code at_first at_last number to → ⊥
+never_led {to = to} {at_first = at_first} {at_last = at_last} w o closed f = false≢true (sym closed ∙ o.1 ((w.exact at_first at_last to).0 f).0)
 
 -- Lists of which each entry is what its place asks for.
 
