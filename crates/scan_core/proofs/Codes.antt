@@ -53,7 +53,8 @@ leads_shift (Back by) line base at place at' place' d e h = (omega arith, h.1)
 -- a walk over a code that stands in a longer one
 walk_in : (a code : List Node) (line : List ℕ) (base : ℕ)
     → ((n : ℕ) (node : Node) → At a n node → At code (base + n) node) → (count at place to stop : ℕ) {there last : ℕ}
-    → there ≡ base + at → last ≡ base + to → Walks a line count at place to stop → Walks code line count there place last stop
+    → there ≡ base + at → last ≡ base + to → Walks a line count at place to stop
+    → Walks code line count there place last stop
 walk_in a code line base moves zero at place to stop d e w = (omega arith, w.1)
 walk_in a code line base moves (suc count) at place to stop d e w = (
   base + w.0,

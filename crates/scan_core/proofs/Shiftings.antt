@@ -157,7 +157,8 @@ module _ {code : List Node} {line : List ℕ} {place steps : ℕ} (set : List Bo
   all_counted : steps + positions_among code set ≤ (place + 1) * (weight code + 1)
   all_counted = steps_more place s.bound (positions_most code set)
 
-  pub counted_more : (IsMarked set (length code) → ⊥) → IsCounted code line (place + 1) (steps + positions_among code set)
+  pub counted_more : (IsMarked set (length code) → ⊥)
+      → IsCounted code line (place + 1) (steps + positions_among code set)
   counted_more never = record {
     none = λ before l k. elim (cases_eq before place) [
       | inl same ↦ never ((here _).1 (rw same at k))
@@ -213,7 +214,8 @@ module _ {code : List Node} {sets : List (List Bool)} {line : List ℕ} {place s
   walked_here number = search (rules, inner_entered)
 
   -- what a byte leads to from the state's set
-  next_inner : {number : ℕ} → Next code (slice_index line place) (InSets sets state) number ↔ Inner code line (suc place) number
+  next_inner : {number : ℕ}
+      → Next code (slice_index line place) (InSets sets state) number ↔ Inner code line (suc place) number
   next_inner = let came = came_exact _ walked_here h refl in (
     λ n. (n.0, elim n.1 [ inl led ↦ inl ((came n.0).0 led) | inr e ↦ inr e ], n.2),
     λ f. (f.0, elim f.1 [ inl c ↦ inl ((came f.0).1 c) | inr e ↦ inr e ], f.2),

@@ -9,8 +9,8 @@ use Rattle.scan_core.{
 use Rattle.scan_core.proofs.shift_walk.walk_by_shifts.Goals as goal
 
 -- one stride more
-strode : (c : After-stride-strode) → IsAt c.args.nodes.now c.args.table.now c.args.line.now (c.loop-place.place + 16) c.stride-strode.result.word
-    (c.loop-place.steps + c.stride-strode.result.steps)
+strode : (c : After-stride-strode) → IsAt c.args.nodes.now c.args.table.now c.args.line.now
+    (c.loop-place.place + 16) c.stride-strode.result.word (c.loop-place.steps + c.stride-strode.result.steps)
 strode c = c.stride-strode.ensures.at c.loop-place.steps c.loop-place.invariant.at
 
 -- the rest of the line
@@ -22,13 +22,16 @@ strode_all c = c.stride-strode-2.ensures.at c.loop-place.steps c.loop-place.inva
 fixed : (c : Then-state) → IsOutcome c.args.nodes.now c.args.line.now (record {
   found = c.index-state.result.now.ends;
   steps = c.loop-place.steps + c.stride-strode.result.steps
-      + c.index-state.result.now.positions * (length c.args.line.now - (c.loop-place.place + 16)) + c.index-state.result.now.last_positions;
+      + c.index-state.result.now.positions * (length c.args.line.now - (c.loop-place.place + 16))
+      + c.index-state.result.now.last_positions;
 })
 fixed c = at_fixed _ (c.stride-strode.ensures.at c.loop-place.steps c.loop-place.invariant.at) c.if-word-table.false _ c.requires.some
     (λ k h. search (rules, c.type_inv.line)) c.index-state.ensures c.if-state.true refl
 
-ends : (c : After-index-state-2) → IsOutcome c.args.nodes.now c.args.line.now
-    (record { found = c.index-state-2.result.now.ends; steps = c.loop-place.steps + c.stride-strode-2.result.steps + c.index-state-2.result.now.last_positions })
+ends : (c : After-index-state-2) → IsOutcome c.args.nodes.now c.args.line.now (record {
+  found = c.index-state-2.result.now.ends;
+  steps = c.loop-place.steps + c.stride-strode-2.result.steps + c.index-state-2.result.now.last_positions;
+})
 ends c = at_end _ (c.stride-strode-2.ensures.at c.loop-place.steps c.loop-place.invariant.at) c.if-strode-table.false _ (omega arith) c.requires.some c.index-state-2.ensures
 
 pub loop-place-init : goal.loop-place-init

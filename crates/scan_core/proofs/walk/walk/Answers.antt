@@ -6,8 +6,8 @@ use Rattle.scan_core.proofs.{
 use Rattle.scan_core.proofs.walk.walk.Goals as goal
 
 -- the stretch in which the state stays was walked
-walked : (c : After-positions_of_places-steps) → WalkedOf c.args.nodes.now c.args.table.now c.args.line.now c.stretch_end-end.result c.loop-place.state
-    (c.loop-place.steps + c.positions_of_places-steps.result)
+walked : (c : After-positions_of_places-steps) → WalkedOf c.args.nodes.now c.args.table.now c.args.line.now
+    c.stretch_end-end.result c.loop-place.state (c.loop-place.steps + c.positions_of_places-steps.result)
 walked c = walk_run _ c.loop-place.invariant c.index.ensures c.stretch_end-end.ensures.low c.stretch_end-end.ensures.high
     (λ k h. search (rules, c.type_inv.line)) c.stretch_end-end.ensures.stays c.positions_of_places-steps.ensures
 
