@@ -242,6 +242,10 @@ close_word {code} {at} {word} {all} {old} {now} h ew c fits small es = record {
     in_all : (bit : ℕ) → bit < 64 → IsIn now (at * 64 + bit) → bit_at all bit ≡ 1
     in_all bit l k = elim (either_bit _ _ _ (sym (ap (λ w. bit_at w bit) read) ∙ (is_in_word _ _ _ l).1 k)) [ inl w ↦ c.kept bit l w | inr a ↦ a ]
 
+-- all that is in a set is in another
+abbrev pub Within : List ℕ → List ℕ → Type 0
+Within base words = (number : ℕ) → IsIn base number → IsIn words number
+
 -- a number of a word of which none leads out of the base leads to numbers of it
 based_of : {code : List Node} {closures : Closures} {at : ℕ} (words : List ℕ) {start to : ℕ} → AreClosures code closures
     → at < width code → bit_and (get_or words at 0) (get_or closures.leads.items at 0) ≡ 0 → start / 64 ≡ at
@@ -256,7 +260,7 @@ based_of {at} words {start} {to} c inside e here h f =
 
 -- a number of a word that was closed leads to numbers of the set, or by a hop
 closed_meets : {code : List Node} {closures : Closures} {at : ℕ} {old now : List ℕ} → AreClosures code closures
-    → Closed code at old now → ((number : ℕ) → IsIn closures.base.items number → IsIn old number)
+    → Closed code at old now → Within closures.base.items old
     → {start to : ℕ} → start / 64 ≡ at → IsIn now start → Flows code false false start to
     → IsIn now to ⊎ PartsTo closures.hops.onward.items closures.hops.landings.items (start / 64) to
 closed_meets c w begun {start} {to} here k f = elim (c.hops.met start to f) [
@@ -272,7 +276,7 @@ pub record Apart (code : List Node) (closures : Closures) (old now : List ℕ) (
 
 pub apart_skip : {code : List Node} {closures : Closures} {old now : List ℕ} {count : ℕ}
     → Apart code closures old now count → AreClosures code closures
-    → ((number : ℕ) → IsIn closures.base.items number → IsIn old number) → count < width code
+    → Within closures.base.items old → count < width code
     → bit_and (get_or now count 0) (get_or closures.leads.items count 0) ≡ 0 → Apart code closures old now (count + 1)
 apart_skip {count} s c begun inside e = record {
   adds = s.adds;
@@ -284,7 +288,7 @@ apart_skip {count} s c begun inside e = record {
 
 pub apart_more : {code : List Node} {closures : Closures} {old now new : List ℕ} {count all : ℕ}
     → Apart code closures old now count → AreClosures code closures
-    → ((number : ℕ) → IsIn closures.base.items number → IsIn old number) → count < width code → length old ≡ width code
+    → Within closures.base.items old → count < width code → length old ≡ width code
     → Closes code count (get_or now count 0) all → get_or now count 0 < 2 ^ 64 → all < 2 ^ 64 → new ≡ set now count all
     → Apart code closures old new (count + 1)
 apart_more {code} {now} {new} {count} s c begun inside size closes fits small en = record {
@@ -356,83 +360,72 @@ led_is {code} {hop} {old} {mid} {holds} is size fits high some any em = record {
         let start : ℕ = hop.at * 64 + one.0 in
         (start, (is_in_word _ _ _ one.1).0 one.2, (1, (start, refl, rw (← e) at ((is.exact one.0 one.1).0 one.3))))
 
--- no number is new
-pub follows_none : {code : List Node} {closures : Closures} {hop : Hop} {old mid : List ℕ} {all over : ℕ}
-    → IsHop code hop → length old ≡ width code → get_or old hop.word 0 < 2 ^ 64 → IsApart code closures.hops old
-    → Led code hop old mid all
-    → over ≡ bit_and all (bit_not w64 (get_or old hop.word 0)) → over ≡ 0 → Follows code closures hop old mid over
-follows_none {hop} {old} {mid} {all} is size high apart led eo z = record {
-  closer = record {
-    adds = led.adds;
-    apart = λ from to k flow. elim (apart from to (settled from k) flow) [ inl there ↦ inl (led.adds.kept to there) | inr hop ↦ inr hop ];
-    fuller = rw (← led.set) at (unset_fuller old hop.word all led.larger);
-    less = λ some. absurd (some z);
-  };
-  followed = led.followed;
-  settled = λ none. settled;
-}
-  where
-    read : get_or mid hop.word 0 ≡ all
-    read = ap (λ w. get_or w hop.word 0) led.set ∙ get_or-set_same old hop.word all 0 (let w = is.word in omega arith)
+read_led : {code : List Node} {hop : Hop} {old mid : List ℕ} {all : ℕ} → IsHop code hop → length old ≡ width code
+    → Led code hop old mid all → get_or mid hop.word 0 ≡ all
+read_led {hop = hop} {old = old} {all = all} is size led =
+    ap (λ w. get_or w hop.word 0) led.set ∙ get_or-set_same old hop.word all 0 (omega (arith, is.word))
 
-    -- its bit was there
-    was_in : IsIn mid (end_of hop) → IsIn old (end_of hop)
-    was_in k =
-        let now = sym (ap (λ w. bit_at w hop.bit) read) ∙ (is_in_word mid hop.word hop.bit is.bit).1 k in
-        let e = fresh_bit all high is.bit in
-        let none = ap (λ w. bit_at w hop.bit) (sym eo ∙ z) ∙ bit_at-zero hop.bit in
-        let l = bit_at-lt (get_or old hop.word 0) hop.bit in
-        (is_in_word old hop.word hop.bit is.bit).0 (omega arith)
+module _ {code : List Node} {closures : Closures} {hop : Hop} {old mid : List ℕ} {all over : ℕ} (is : IsHop code hop)
+    (size : length old ≡ width code) (high : get_or old hop.word 0 < 2 ^ 64) (apart : IsApart code closures.hops old)
+    (led : Led code hop old mid all) (eo : over ≡ bit_and all (bit_not w64 (get_or old hop.word 0))) where
+  -- no number is new
+  pub follows_none : over ≡ 0 → Follows code closures hop old mid over
+  follows_none z = record {
+    closer = record {
+      adds = led.adds;
+      apart = λ from to k flow. elim (apart from to (settled from k) flow) [ inl there ↦ inl (led.adds.kept to there) | inr hop ↦ inr hop ];
+      fuller = rw (← led.set) at (unset_fuller old hop.word all led.larger);
+      less = λ some. absurd (some z);
+    };
+    followed = led.followed;
+    settled = λ none. settled;
+  }
+    where
+      -- its bit was there
+      was_in : IsIn mid (end_of hop) → IsIn old (end_of hop)
+      was_in k =
+          let now = sym (ap (λ w. bit_at w hop.bit) (read_led is size led)) ∙ (is_in_word mid hop.word hop.bit is.bit).1 k in
+          let none = ap (λ w. bit_at w hop.bit) (sym eo ∙ z) ∙ bit_at-zero hop.bit in
+          (is_in_word old hop.word hop.bit is.bit).0 (omega (arith, now, none, fresh_bit all high is.bit, bit_at-lt (get_or old hop.word 0) hop.bit))
 
-    settled : (number : ℕ) → IsIn mid number → IsIn old number
-    settled number k = elim (led.new number k) [ inl was ↦ was | inr e ↦ rw (← e) at (was_in (subst (IsIn mid) e k)) ]
+      settled : (number : ℕ) → IsIn mid number → IsIn old number
+      settled number k = elim (led.new number k) [ inl was ↦ was | inr e ↦ rw (← e) at (was_in (subst (IsIn mid) e k)) ]
 
--- a number is new, and its word was closed
-pub follows_more : {code : List Node} {closures : Closures} {hop : Hop} {old mid new : List ℕ} {all inside over : ℕ}
-    → AreClosures code closures → IsHop code hop → length old ≡ width code → get_or old hop.word 0 < 2 ^ 64
-    → ((number : ℕ) → IsIn closures.base.items number → IsIn old number) → IsApart code closures.hops old
-    → Led code hop old mid all → over ≡ bit_and all (bit_not w64 (get_or old hop.word 0)) → (over ≡ 0 → ⊥)
-    → Closes code hop.word all inside → inside < 2 ^ 64 → new ≡ set mid hop.word inside
-    → Follows code closures hop old new over
-follows_more {code} {hop} {old} {mid} {new} {all} {over} c is size high begun apart led eo some closes small en = record {
-  closer = record {
-    adds = adds_both led.adds w.adds;
-    apart = λ from to k flow. elim (cases_eq (from / 64) hop.word) [
-      | inl here ↦ closed_meets c w (λ number based. led.adds.kept number (begun number based)) here k flow
-      | inr other ↦ elim (led.new from (w.elsewhere from other k)) [
-        | inl was ↦ elim (apart from to was flow) [ inl there ↦ inl (w.adds.kept to (led.adds.kept to there)) | inr hop ↦ inr hop ]
-        | inr e ↦ absurd (other (let b = is.bit in omega arith))
-      ]
-    ];
-    fuller = omega (arith, w.fuller, less);
-    less = λ some. omega (arith, w.fuller, less);
-  };
-  followed = λ bit small one k. w.adds.kept (end_of hop) (led.followed bit small one k);
-  settled = λ none. absurd (some none);
-}
-  where
-    inside_old : hop.word < length old
-    inside_old = let w = is.word in omega arith
+  -- a number is new, and its word was closed
+  pub follows_more : {new : List ℕ} {inside : ℕ} → AreClosures code closures → Within closures.base.items old
+      → (over ≡ 0 → ⊥) → Closes code hop.word all inside → inside < 2 ^ 64 → new ≡ set mid hop.word inside
+      → Follows code closures hop old new over
+  follows_more {new} c begun some closes small en = record {
+    closer = record {
+      adds = adds_both led.adds w.adds;
+      apart = λ from to k flow. elim (cases_eq (from / 64) hop.word) [
+        | inl here ↦ closed_meets c w (λ number based. led.adds.kept number (begun number based)) here k flow
+        | inr other ↦ elim (led.new from (w.elsewhere from other k)) [
+          | inl was ↦ elim (apart from to was flow) [ inl there ↦ inl (w.adds.kept to (led.adds.kept to there)) | inr hop ↦ inr hop ]
+          | inr e ↦ absurd (other (omega (arith, is.bit)))
+        ]
+      ];
+      fuller = omega (arith, w.fuller, less);
+      less = λ some. omega (arith, w.fuller, less);
+    };
+    followed = λ bit small one k. w.adds.kept (end_of hop) (led.followed bit small one k);
+    settled = λ none. absurd (some none);
+  }
+    where
+      inside_old : hop.word < length old
+      inside_old = omega (arith, is.word)
 
-    read : all ≡ get_or mid hop.word 0
-    read = sym (ap (λ w. get_or w hop.word 0) led.set ∙ get_or-set_same old hop.word all 0 inside_old)
+      w : Closed code hop.word mid new
+      w = close_word (omega (arith, led.adds.size)) (sym (read_led is size led)) closes led.fits small en
 
-    w : Closed code hop.word mid new
-    w = close_word (let s = led.adds.size in omega arith) read closes led.fits small en
+      differs : get_or old hop.word 0 ≡ all → ⊥
+      differs e =
+          let one = bit_at-trailing_zeros w64 over (omega arith) (omega (arith, led.fits, and_le_l all (bit_not w64 (get_or old hop.word 0)))) in
+          let bit : ℕ = trailing_zeros w64 over in
+          omega (arith, fresh_bit all high one.0, sym (ap (λ w. bit_at w bit) eo) ∙ one.1, ap (λ w. bit_at w bit) e)
 
-    differs : get_or old hop.word 0 ≡ all → ⊥
-    differs e =
-        let f = and_le_l all (bit_not w64 (get_or old hop.word 0)) in
-        let a = led.fits in
-        let one = bit_at-trailing_zeros w64 over (omega arith) (omega arith) in
-        let bit : ℕ = trailing_zeros w64 over in
-        let b = fresh_bit all high one.0 in
-        let is = sym (ap (λ w. bit_at w bit) eo) ∙ one.1 in
-        let same = ap (λ w. bit_at w bit) e in
-        omega arith
-
-    less : unset mid < unset old
-    less = rw (← led.set) at (unset-set old hop.word all inside_old (let l = led.larger in omega (arith, l, differs)) (let l = led.fits in omega (arith, l)))
+      less : unset mid < unset old
+      less = rw (← led.set) at (unset-set old hop.word all inside_old (omega (arith, led.larger, differs)) (omega (arith, led.fits)))
 
 -- Following all hops.
 
@@ -549,7 +542,7 @@ spreads_more s p = record { adds = adds_both s.adds p.closer.adds; apart = p.clo
 pub spreads_end : {code : List Node} {closures : Closures} {base : List ℕ} {landings : List Hop} {old now new : List ℕ}
     {over : ℕ} → Spreads code closures old now over → over ≡ 0 → HasLanded code base landings now new
     → base ≡ closures.base.items → landings ≡ closures.hops.landings.items
-    → ((number : ℕ) → IsIn closures.base.items number → IsIn old number) → SpreadsOut code false false old new
+    → Within closures.base.items old → SpreadsOut code false false old new
 spreads_end {code} {new} s z l eb el begun = spreads_out (adds_both s.adds l.adds) closed
   where
     closed : (from to : ℕ) → IsIn new from → Flows code false false from to → IsIn new to
@@ -564,8 +557,8 @@ spreads_end {code} {new} s z l eb el begun = spreads_out (adds_both s.adds l.add
 -- At a line's front and end.
 
 pub spreads_front : {code : List Node} {base front old new : List ℕ} {at_first at_last : Bool} → IsBase code base
-    → IsBegun code true front → length old ≡ width code → ((number : ℕ) → IsIn base number → IsIn old number)
-    → ((number : ℕ) → IsIn old number → IsIn base number) → new ≡ front → IsTrue at_first → at_last ≡ false
+    → IsBegun code true front → length old ≡ width code → Within base old
+    → Within old base → new ≡ front → IsTrue at_first → at_last ≡ false
     → SpreadsOut code at_first at_last old new
 spreads_front {code} {old} {new} b f size begun only e t l = rw (← t) at (subst (λ last. SpreadsOut code true last old new) (sym l) (record {
   size = ap length e ∙ f.size ∙ sym size;

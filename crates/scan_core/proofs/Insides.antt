@@ -8,11 +8,12 @@ use Rattle.std.proofs.{
 use Rattle.std.proofs.lemmas.{
   Bool.{cases_eq, false≢true, cases_lt},
   List.{get_or-set_same, get_or-set_other, length-set, set-get_or},
-  Nat.{le_or_l, or_lt, and_le_l},
+  Nat.{le_or_l, or_lt, and_le_l, mod-pow-add, pow_pos},
   Nat.Bits.{shr_and_one, bit_at_set_same, bit_at_set_other, and_high, bit_at_and, bit_at_or, bit_at_not, bit_at-lt},
   Nat.Bits.{bit_at-zero, bit_at_mask_inside, bit_at_ones, bit_at_above, bit_at_cat_low, bit_at_cat_high},
   Grind.common_steps,
 }
+use Rattle.std.proofs.Math.Nat.{mod-lt}
 use Rattle.std.specs.Int.{bit_at, bit_not, Bits.{or_zero_r, or_zero_l}}
 use mir.Val.{bool_byte}
 use Rattle.scan_core.{
@@ -326,60 +327,11 @@ inside_smaller all {done} {bit} small fits here = elim (cases_eq (bit_or done (1
   | inr grown ↦ let l = le_or_l done (1 * 2 ^ bit % 2 ^ 64) in let m = or_lt 64 done (1 * 2 ^ bit % 2 ^ 64) fits (omega arith) in omega arith
 ]
 
--- the first eights of a word are joined
-pub record Joining (code : List Node) (at word eight all : ℕ) : Type 0 where
-  pub kept : (bit : ℕ) → bit < eight * 8 → bit_at word bit ≡ 1 → bit_at all bit ≡ 1
-  pub from_word : (number : ℕ) → number < 64 → bit_at all number ≡ 1
-      → (bit : ℕ) × (bit < 64) × (bit_at word bit ≡ 1) × FlowsOn code false false (at * 64 + bit) (at * 64 + number)
-  pub closed : (number to : ℕ) → number < 64 → to < 64 → bit_at all number ≡ 1
-      → Flows code false false (at * 64 + number) (at * 64 + to) → bit_at all to ≡ 1
-
--- the bits of eight numbers of a word
-eight_bits : {word : ℕ} (eight bit : ℕ) → word < 2 ^ 64
-    → bit_at (word / 2 ^ (eight * 8) % 256 * 2 ^ (eight * 8) % 2 ^ 64) bit
-    ≡ min (bit_at word bit) (bit_at (2 ^ (8 + eight * 8) - 2 ^ (eight * 8)) bit)
-eight_bits {word} eight bit h =
-    let e : bit_and word (2 ^ (8 + eight * 8) - 2 ^ (eight * 8)) ≡ word / 2 ^ (eight * 8) % 256 * 2 ^ (eight * 8) = and_high word 8 _ in
-    let l = and_le_l word (2 ^ (8 + eight * 8) - 2 ^ (eight * 8)) in
-    let q : word / 2 ^ (eight * 8) % 256 * 2 ^ (eight * 8) % 2 ^ 64 ≡ bit_and word (2 ^ (8 + eight * 8) - 2 ^ (eight * 8)) = omega arith in
-    ap (λ x. bit_at x bit) q ∙ bit_at_and word (2 ^ (8 + eight * 8) - 2 ^ (eight * 8)) bit
-
 -- an entry by its word, its eight and its choice
 entry_at : {code : List Node} (place : ℕ) {at eight chosen entry : ℕ} → place / 2048 ≡ at → place / 256 % 8 ≡ eight
     → place % 256 ≡ chosen
     → Closes code (place / 2048) (chosen_at place) entry → Closes code at (chosen * 2 ^ (eight * 8) % 2 ^ 64) entry
 entry_at place word which low c = search rules
-
-pub join_more : {code : List Node} {inside : List ℕ} {at word eight all entry : ℕ}
-    → Joining code at word eight all → AreEach 0 (IsInside code) (width code * 2048) inside → at < width code
-    → eight < 8 → word < 2 ^ 64 → entry ≡ get_or inside (at * 2048 + (eight * 256 + word / 2 ^ (eight * 8) % 256)) 0
-    → Joining code at word (eight + 1) (bit_or all entry)
-join_more {code} {at} {word} {eight} {all} {entry} j i within h fits e = record {
-  kept = λ bit l is. elim (cases_lt bit (eight * 8)) [
-    | inl before ↦ left_bit all entry bit (j.kept bit before is)
-    | inr here ↦
-        let m = eight_bits eight bit fits in
-        let o = bit_at_mask_inside (eight * 8) (8 + eight * 8) bit here (omega arith) in
-        right_bit all entry bit (c.kept bit (omega arith) (omega arith))
-  ];
-  from_word = λ number l is. elim (either_bit all entry number is) [
-    | inl old ↦ j.from_word number l old
-    | inr new ↦
-        let k = c.from_chosen number l new in
-        let m = eight_bits eight k.0 fits in
-        let b = bit_at-lt word k.0 in
-        (k.0, k.1, (let is = k.2 in omega arith), k.3)
-  ];
-  closed = λ number to l m is f. elim (either_bit all entry number is) [
-    | inl old ↦ left_bit all entry to (j.closed number to l m old f)
-    | inr new ↦ right_bit all entry to (c.closed number to l m new f)
-  ];
-}
-  where
-    c : Closes code at (word / 2 ^ (eight * 8) % 256 * 2 ^ (eight * 8) % 2 ^ 64) entry
-    c =
-        let place : ℕ = at * 2048 + (eight * 256 + word / 2 ^ (eight * 8) % 256) in
-        rw e (entry_at place (omega arith) (omega arith) (omega arith) (i.each place (omega arith)))
 
 -- the bits of a number in its place in a word
 fitted : (n i : ℕ) → i < 64 → bit_at (n % 2 ^ 64) i ≡ bit_at n i
@@ -397,22 +349,14 @@ placed_below n {s} {i} h l = fitted _ i h ∙ ap (λ x. bit_at x i) (omega arith
 pub placed : (n : ℕ) {s i : ℕ} → i < 64 → s ≤ i → bit_at (n * 2 ^ s % 2 ^ 64) i ≡ bit_at n (i - s)
 placed n {s} {i} h l = fitted _ i h ∙ ap (λ x. bit_at x i) (omega arith) ∙ bit_at_cat_high n s 0 i (search rules) l
 
--- the bits of a number are those of its lower and of its higher four bits
-halved : (high low j : ℕ) → low < 16 → bit_at (high * 16 + low) j ≡ max (bit_at (high * 16) j) (bit_at low j)
-halved high low j h = elim (cases_lt j 4) [
-  | inl l ↦
-      let a = bit_at_cat_low high 4 low j l in
-      let b = bit_at_cat_low high 4 0 j l in
-      let z = bit_at-zero j in
-      let e : bit_at (high * 16 + 0) j ≡ bit_at (high * 16) j = ap (λ x. bit_at x j) (omega arith) in
-      omega arith
-  | inr l ↦
-      let a = bit_at_cat_high high 4 low j h l in
-      let b = bit_at_cat_high high 4 0 j (omega arith) l in
-      let z = bit_at_above low 4 j h l in
-      let e : bit_at (high * 16 + 0) j ≡ bit_at (high * 16) j = ap (λ x. bit_at x j) (omega arith) in
-      omega arith
-]
+-- the bits of a number are those of its lower and of its higher part
+halves : (high low k i : ℕ) → low < 2 ^ k → bit_at (high * 2 ^ k + low) i ≡ max (bit_at (high * 2 ^ k) i) (bit_at low i)
+halves high low k i h =
+    let none : bit_at (high * 2 ^ k + 0) i ≡ bit_at (high * 2 ^ k) i = ap (λ x. bit_at x i) (omega arith) in
+    elim (cases_lt i k) [
+      | inl l ↦ omega (arith, bit_at_cat_low high k low i l, bit_at_cat_low high k 0 i l, bit_at-zero i, none)
+      | inr l ↦ omega (arith, bit_at_cat_high high k low i h l, bit_at_cat_high high k 0 i (omega arith) l, bit_at_above low k i h l, none)
+    ]
 
 halved_placed : (high low s i : ℕ) → low < 16 → i < 64
     → bit_at ((high * 16 + low) * 2 ^ s % 2 ^ 64) i
@@ -427,7 +371,7 @@ halved_placed high low s i h small = elim (cases_lt i s) [
       let a = placed (high * 16 + low) small l in
       let b = placed (high * 16) small l in
       let d = placed low small l in
-      let e = halved high low (i - s) h in
+      let e = halves high low 4 (i - s) h in
       omega arith
 ]
 
@@ -449,6 +393,35 @@ closes_both one other all more c d e = record {
     | inr new ↦ right_bit _ _ _ (d.closed number to h l new f)
   ];
 }
+
+-- nothing leads nowhere
+pub closes_none : (code : List Node) (at : ℕ) → Closes code at 0 0
+closes_none code at = record {
+  kept = λ bit h is. is;
+  from_chosen = λ number h is. absurd (omega (arith, bit_at-zero number));
+  closed = λ number to h l is f. absurd (omega (arith, bit_at-zero number));
+}
+
+-- the entry of the next eight numbers of a word is joined to what those before them lead to
+pub join_more : {code : List Node} {inside : List ℕ} {at eight all entry : ℕ} (word : ℕ)
+    → Closes code at (word % 2 ^ (eight * 8)) all → AreEach 0 (IsInside code) (width code * 2048) inside
+    → at < width code → eight < 8
+    → entry ≡ get_or inside (at * 2048 + (eight * 256 + word / 2 ^ (eight * 8) % 256)) 0
+    → Closes code at (word % 2 ^ ((eight + 1) * 8)) (bit_or all entry)
+join_more {code} {inside} {at} {eight} {all} {entry} word j i within h e = closes_both _ _ _ _ j here bits
+  where
+    here : Closes code at (word / 2 ^ (eight * 8) % 256 * 2 ^ (eight * 8) % 2 ^ 64) entry
+    here =
+        let place : ℕ = at * 2048 + (eight * 256 + word / 2 ^ (eight * 8) % 256) in
+        rw e (entry_at place (omega arith) (omega arith) (omega arith) (i.each place (omega arith)))
+
+    bits : (bit : ℕ) → bit < 64 → bit_at (word % 2 ^ ((eight + 1) * 8)) bit
+        ≡ max (bit_at (word % 2 ^ (eight * 8)) bit) (bit_at (word / 2 ^ (eight * 8) % 256 * 2 ^ (eight * 8) % 2 ^ 64) bit)
+    bits bit l =
+        let next : (eight + 1) * 8 ≡ 8 + eight * 8 = omega arith in
+        let low : word % 2 ^ (eight * 8) < 2 ^ (eight * 8) = mod-lt word (pow_pos (eight * 8)) in
+        rw (next, mod-pow-add word 8 (eight * 8)) (omega (arith, halves (word / 2 ^ (eight * 8) % 256) _ _ bit low,
+        fitted (word / 2 ^ (eight * 8) % 256 * 2 ^ (eight * 8)) bit l))
 
 -- the entry of a choice with both lower and higher numbers
 pub entry_of_halves : {code : List Node} {inside : List ℕ} {place : ℕ} → AreEach 0 (IsInside code) place inside
