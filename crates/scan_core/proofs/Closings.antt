@@ -22,7 +22,7 @@ use mir.Val.{bool_byte}
 use Rattle.scan_core.specs.{
   Code.At,
   declared.{closures.Closures.Closures, hops.Hop.Hop, node.Node.Node, branch.Branch.Branch},
-  inner.Closing.{Closer, Follows, HasLanded, IsApart, Passes},
+  inner.Closing.{Closer, Follows, HasLanded, IsApart, FollowsHops},
   inner.Closures.{AreClosures, Closes, HasAnchors, IsBase, IsBegun, IsPlain, Stays},
   inner.Hops.{AreHops, AreLandings, HopsTo, IsHop, IsLanding, Meets, PartsTo, end_of, no_hop},
   inner.Sets.{Flows, FlowsOn, LeadsOn},
@@ -33,6 +33,7 @@ use Rattle.scan_core.proofs.{
   Countings.set_elsewhere,
   Enterings.{at_index, at_least, each_more, each_to, flows_of, led_by, parts_anywhere},
   Insides.{adds_anywhere, adds_both, entered_one, either_bit, flows_join, fresh_bit, is_in_word, is_within, left_bit},
+  Insides.lowest_in,
   Insides.{right_bit, spreads_out, unset-set},
 }
 
@@ -40,14 +41,10 @@ use Rattle.scan_core.proofs.{
 pub one_of : {word : ℕ} (from : ℕ) → word < 2 ^ 64 → (bit_and word from ≡ 0 → ⊥)
     → (bit : ℕ) × (bit < 64) × (bit_at word bit ≡ 1) × (bit_at from bit ≡ 1)
 one_of {word} from fits some =
-    let l = and_le_l word from in
-    let lowest = bit_at-trailing_zeros w64 (bit_and word from) (omega arith) (omega arith) in
+    let lowest = lowest_in word from fits some in
     let bit : ℕ = trailing_zeros w64 (bit_and word from) in
     let e = bit_at_and word from bit in
-    let is = lowest.1 in
-    let m = bit_at-lt word bit in
-    let n = bit_at-lt from bit in
-    (bit, lowest.0, omega arith, omega arith)
+    (bit, lowest.0, omega (arith, e, lowest.1, bit_at-lt word bit), omega (arith, e, lowest.1, bit_at-lt from bit))
 
 pub none_of : (word from bit : ℕ) → bit_and word from ≡ 0 → bit_at word bit ≡ 1 → bit_at from bit ≡ 1 → ⊥
 none_of word from bit none here there =
@@ -473,7 +470,7 @@ from_bit {code} {hop} {from} is at end flow =
 
 pub following_ends : {code : List Node} {closures : Closures} {old now : List ℕ} {count over : ℕ}
     → Following code closures old now count over → AreHops code closures.hops.onward.items
-    → length closures.hops.onward.items ≤ count → Passes code closures old now over
+    → length closures.hops.onward.items ≤ count → FollowsHops code closures old now over
 following_ends {code} {closures} {now} {over} s are h = record {
   closer = s.closer;
   done = λ z from to k flow. elim (s.closer.apart from to k flow) [
@@ -536,7 +533,7 @@ pub record Spreads (code : List Node) (closures : Closures) (old now : List ℕ)
       → IsIn now to ⊎ HopsTo closures.hops.landings.items (from / 64) to
 
 pub spreads_more : {code : List Node} {closures : Closures} {old now new : List ℕ} {before over : ℕ}
-    → Spreads code closures old now before → Passes code closures now new over → Spreads code closures old new over
+    → Spreads code closures old now before → FollowsHops code closures now new over → Spreads code closures old new over
 spreads_more s p = record { adds = adds_both s.adds p.closer.adds; apart = p.closer.apart; done = p.done }
 
 pub spreads_end : {code : List Node} {closures : Closures} {base : List ℕ} {landings : List Hop} {old now new : List ℕ}

@@ -11,7 +11,7 @@ use Rattle.scan_core.specs.{
     node.Node.{Node, TheVariants.Back},
   },
   inner.{
-    Backwards.{IsBegun, Repeats, begun},
+    Backwards.{HasBegun, Repeats, begun},
     Compiling.{AreBegun, Pops, Waits, IsNow, FinishesBy, Finishes, PopsNone, Begins, Closes, Writes, Passes},
     Compiling.{PassesLeaf, TakesIn, Takes, TakesAll},
   },
@@ -31,7 +31,7 @@ pub begun_wider : (pending : List Pending) {size wider : ℕ} → size ≤ wider
 begun_wider pending h = search rules
 
 pub popped_begun : (old new : Compiling) (d : Duplication) → Pops old (Some d) new → AreBegun old
-    → IsBegun d.high d.low d.start (length new.nodes.items) × AreBegun new
+    → HasBegun d.high d.low d.start (length new.nodes.items) × AreBegun new
 popped_begun old new d p b =
     let parts = All-pop (Waits (length new.nodes.items)) old.pending.items new.pending.items (Some (Repeated d)) p.2 (rw (← p.0) at b) in
     (parts.1, parts.0)

@@ -18,7 +18,7 @@ use Rattle.std.specs.Int.{bit_at, Count.ones_step}
 use Rattle.scan_core.{
   specs.declared.{masks.Kind.TheVariants.{Takes, Counts}, node.Node.Node},
   specs.Code.{At, weight_of},
-  specs.inner.{Words.{AreTakes, IsMask, counted_at, width, IsIn, bits, flags_of}, Sets.Passes, Each.AreEach},
+  specs.inner.{Words.{AreTakes, IsMask, counted_at, width, IsIn, bits, flags_of}, Sets.StepsBy, Each.AreEach},
   specs.Sets.{IsMarked, weight_if, positions_among},
   proofs.{Enterings.{pass_least, weight_most}, Insides.{left_bit, right_bit, either_bit, is_in_word, is_within}},
 }
@@ -51,7 +51,7 @@ counted_out (node ∷ code) (suc number) h = let r = counted_out code number (om
 
 -- what a byte leads to from a set
 abbrev pub Led : List Node → ℕ → List ℕ → ℕ → Type 0
-Led code byte words number = (before : ℕ) × IsIn words before × Passes code byte before number
+Led code byte words number = (before : ℕ) × IsIn words before × StepsBy code byte before number
 
 -- the same, with what is in each set
 abbrev pub LedOrBase : List Node → ℕ → List ℕ → List ℕ → ℕ → Type 0

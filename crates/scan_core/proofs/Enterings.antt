@@ -12,7 +12,7 @@ use Rattle.scan_core.specs.{
   },
   Code.{At, weight_of, weight},
   Sets.{weight_if, positions_among},
-  inner.{Sets.{LeadsOn, Flows, IsCode, Passes}, Branches.{IsBranch, Opens}, Each.AreEach},
+  inner.{Sets.{LeadsOn, Flows, IsCode, StepsBy}, Branches.{IsBranch, Opens}, Each.AreEach},
 }
 
 pub weight_most : (node : Node) → weight_of node ≤ 1
@@ -73,10 +73,10 @@ pub target_in : {code : List Node} (n skip : ℕ) → IsCode code → At code n 
 target_in n skip c here = c.fits n (Choose skip) here
 
 pub pass_found : (code : List Node) (n : ℕ) {byte to : ℕ} (bytes : List Bool) → At code n (Take bytes)
-    → Passes code byte n to → IsTrue (has bytes byte)
+    → StepsBy code byte n to → IsTrue (has bytes byte)
 pass_found code n bytes here p = search (rules, at_once)
 
-pub pass_least : (code : List Node) {n byte to : ℕ} → Passes code byte n to → n < length code
+pub pass_least : (code : List Node) {n byte to : ℕ} → StepsBy code byte n to → n < length code
 pass_least code {n} p = at_least _ n _ p.1
 
 pub weight_length : (code : List Node) → weight code ≤ length code

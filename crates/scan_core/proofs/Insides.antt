@@ -9,12 +9,12 @@ use Rattle.std.proofs.lemmas.{
   Bool.{cases_eq, false≢true, cases_lt},
   List.{get_or-set_same, get_or-set_other, length-set, set-get_or},
   Nat.{le_or_l, or_lt, and_le_l, mod-pow-add, pow_pos},
-  Nat.Bits.{shr_and_one, bit_at_set_same, bit_at_set_other, and_high, bit_at_and, bit_at_or, bit_at_not, bit_at-lt},
+  Nat.Bits.{bit_at-trailing_zeros, shr_and_one, bit_at_set_same, bit_at_set_other, and_high, bit_at_and, bit_at_or, bit_at_not, bit_at-lt},
   Nat.Bits.{bit_at-zero, bit_at_mask_inside, bit_at_ones, bit_at_above, bit_at_cat_low, bit_at_cat_high},
   Grind.common_steps,
 }
 use Rattle.std.proofs.Math.Nat.{mod-lt}
-use Rattle.std.specs.Int.{bit_at, bit_not, Bits.{or_zero_r, or_zero_l}}
+use Rattle.std.specs.Int.{bit_at, bit_not, trailing_zeros, Bits.{or_zero_r, or_zero_l}}
 use mir.Val.{bool_byte}
 use Rattle.scan_core.{
   specs.inner.{
@@ -281,6 +281,14 @@ pub record Insiding (code : List Node) (at word all done : ℕ) : Type 0 where
       → (bit : ℕ) × (bit < 64) × (bit_at word bit ≡ 1) × FlowsOn code false false (at * 64 + bit) (at * 64 + number)
   pub looked : (bit to : ℕ) → bit < 64 → to < 64 → bit_at done bit ≡ 1
       → Flows code false false (at * 64 + bit) (at * 64 + to) → bit_at all to ≡ 1
+
+-- the lowest bit that is in two words
+pub lowest_in : (word other : ℕ) → word < 2 ^ 64 → (bit_and word other ≡ 0 → ⊥)
+    → (trailing_zeros w64 (bit_and word other) < 64)
+    × (bit_at (bit_and word other) (trailing_zeros w64 (bit_and word other)) ≡ 1)
+lowest_in word other fits some =
+    let l = bit_at-trailing_zeros w64 (bit_and word other) (omega arith) (omega (arith, and_le_l word other)) in
+    (l.0, l.1)
 
 -- what isn't in a word yet
 pub fresh_bit : (found : ℕ) {all bit : ℕ} → all < 2 ^ 64 → bit < 64

@@ -105,7 +105,7 @@ pub is_text_needle : (code : List Node) {number : ℕ} {text needle : List ℕ} 
 is_text_needle code {number} {text} passed literal same some line are ends = (
   walk.0,
   rw same (record {
-    fits = let last = each (length text - 1) (omega arith) in omega arith;
+    fits = omega (arith, each (length text - 1) (omega arith));
     reads = λ j within. (each j within).1;
   }),
 )

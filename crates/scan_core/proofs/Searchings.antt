@@ -7,7 +7,7 @@ use Rattle.std.proofs.{
 use Rattle.scan_core.specs.{
   declared.{node.Node.{Node, TheVariants.Take}, build.Building.Building, table.{State.State, Table.Table}},
   inner.Closures.IsBase,
-  inner.Sets.{FlowsOn, Passes, Came},
+  inner.Sets.{FlowsOn, StepsBy, Came},
   inner.Table.{IsCounted, Next, InSets, entry, Tells, IsState, no_state, IsTable},
   inner.Words.{IsIn, width, flags_of, SpreadsOut},
   inner.Built.{AreAlike, Built, IsBuilding, IsOpen, LeadsTo, Led},

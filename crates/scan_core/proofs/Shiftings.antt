@@ -22,7 +22,7 @@ use Rattle.scan_core.specs.{
   Code.{Leads, Goes, Walks, Entered, weight},
   Table.IsOutcome,
   inner.Table.{IsCounted, Next, Inner, InSets, entry, IsState, no_state, IsTableOf, Walked, IsTable},
-  inner.Sets.{LeadsOn, Flows, Passes, Came, Reaches, FlowsOn},
+  inner.Sets.{LeadsOn, Flows, StepsBy, Came, Reaches, FlowsOn},
   inner.Shifts.{AreLight, IsAt, IsComplete, IsOffset, IsShiftTable, IsShifted, IsStateAt, IsWeight, IsWord, six_bits},
   inner.Each.AreEach,
 }
@@ -118,7 +118,7 @@ AreEntered code line place Now = (number : ℕ) → Now number ↔ Entered code 
 -- what a byte leads to from all that was entered at a place
 pub came_exact : (code : List Node) {line : List ℕ} {place byte : ℕ} {Now : ℕ → Type 0}
     → AreEntered code line place Now → place < length line → byte ≡ slice_index line place
-    → (number : ℕ) → ((from : ℕ) × Now from × Passes code byte from number) ↔ Came code line (suc place) number
+    → (number : ℕ) → ((from : ℕ) × Now from × StepsBy code byte from number) ↔ Came code line (suc place) number
 came_exact code a h e number = search rules
 
 -- one place more
@@ -343,14 +343,14 @@ six_first : (word : ℕ) {offset : ℕ} → offset < 64 → six_bits (word * 64 
 six_first word h = omega arith
 
 -- the last states of a word are there
-pub record IsBegun (rows : List ℕ) (count byte done word : ℕ) : Type 0 where
+pub record HasLastStates (rows : List ℕ) (count byte done word : ℕ) : Type 0 where
   pub small : word < 2 ^ (6 * done)
   pub told : (state place : ℕ) → state ≤ count → state + done ≡ count + 1 + place
       → IsOffset rows count state byte (six_bits word place)
 
-pub word_more : {rows : List ℕ} {count byte done word offset : ℕ} → IsBegun rows count byte done word → done ≤ count
+pub word_more : {rows : List ℕ} {count byte done word offset : ℕ} → HasLastStates rows count byte done word → done ≤ count
     → offset < 64 → IsOffset rows count (count - done) byte offset
-    → IsBegun rows count byte (done + 1) (word * 64 + offset)
+    → HasLastStates rows count byte (done + 1) (word * 64 + offset)
 word_more {rows} {count} {byte} {done} {word} {offset} b h o i = record {
   small =
       let e : 6 * (done + 1) ≡ 6 + 6 * done = omega arith in
@@ -367,7 +367,7 @@ word_more {rows} {count} {byte} {done} {word} {offset} b h o i = record {
         rw (← six_first word o) at (subst (λ s. IsOffset rows count s byte offset) same i)
     told state (suc place) l e = rw (← six_more _ _ _ o) at (b.told state place l (omega arith))
 
-pub word_fits : {rows : List ℕ} {count byte done word : ℕ} → IsBegun rows count byte done word → done ≤ 9
+pub word_fits : {rows : List ℕ} {count byte done word : ℕ} → HasLastStates rows count byte done word → done ≤ 9
     → word < 18014398509481984
 word_fits {done} b h =
     let two : 0 < 2 = omega arith in
@@ -394,7 +394,7 @@ at_starts {code} {line} t =
       within = omega arith;
       known = omega arith;
       going = λ h. (t.1.0, t.1.1, walked_starts t.1.1);
-      over = λ e. absurd (let s = t.1.1.states in let m = t.1.1.some in omega arith);
+      over = λ e. absurd (omega (arith, t.1.1.states, t.1.1.some));
       bound = omega arith;
     } in
     (t.0, t.1, t.2, (0, refl, starts))
