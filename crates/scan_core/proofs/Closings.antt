@@ -54,16 +54,16 @@ none_of word from bit none here there =
 
 -- Hops are added.
 
-pub adding_one : {code : List Node} {old new : List Hop} {hop : Hop} → AreHops code old → IsHop code hop
+adding_one : {code : List Node} {old new : List Hop} {hop : Hop} → AreHops code old → IsHop code hop
     → new ≡ old ++ hop ∷ [] → AreHops code new
 adding_one {old} {hop} are is e = let l = ap length e in let m = length-append old (hop ∷ []) in each_to (each_more are is e) (omega arith)
 
-pub hops_added : (old more : List Hop) {new : List Hop} {at to : ℕ} → new ≡ old ++ more → HopsTo old at to
+hops_added : (old more : List Hop) {new : List Hop} {at to : ℕ} → new ≡ old ++ more → HopsTo old at to
     → HopsTo new at to
 hops_added old more e h = grind (arith, common_steps)
 
 -- what is met stays so when hops are added
-pub meets_kept : (base : List ℕ) (old : List Hop) {new : List Hop} {at to : ℕ} → (more : List Hop) × (new ≡ old ++ more)
+meets_kept : (base : List ℕ) (old : List Hop) {new : List Hop} {at to : ℕ} → (more : List Hop) × (new ≡ old ++ more)
     → Meets base old at to → Meets base new at to
 meets_kept base old grown (inl near) = inl near
 meets_kept base old grown (inr (inl based)) = inr (inl based)
@@ -192,7 +192,7 @@ pub record Closed (code : List Node) (at : ℕ) (old now : List ℕ) : Type 0 wh
   pub fuller : unset now ≤ unset old
   pub closed : (start to : ℕ) → start / 64 ≡ at → IsIn now start → Stays code start to → IsIn now to
 
-pub close_word : {code : List Node} {at word all : ℕ} {old now : List ℕ} → at < length old → word ≡ get_or old at 0
+close_word : {code : List Node} {at word all : ℕ} {old now : List ℕ} → at < length old → word ≡ get_or old at 0
     → Closes code at word all → word < 2 ^ 64 → all < 2 ^ 64 → now ≡ set old at all → Closed code at old now
 close_word {code} {at} {word} {all} {old} {now} h ew c fits small es = record {
   adds = record {

@@ -20,7 +20,7 @@ use Rattle.bre_core.{
   proofs.Searching.{stays, contains_tells, one_truth},
 }
 
-pub at-left : (a b : List Node) (n : ℕ) (node : Node) → At a n node → At (a ++ b) n node
+at-left : (a b : List Node) (n : ℕ) (node : Node) → At a n node → At (a ++ b) n node
 at-left [] b n node h = absurd h
 at-left (x ∷ a) b zero node h = h
 at-left (x ∷ a) b (suc n) node h = at-left a b n _ h
@@ -28,14 +28,14 @@ at-left (x ∷ a) b (suc n) node h = at-left a b n _ h
 pub at_at : (code : List Node) {n m : ℕ} (node : Node) → n ≡ m → At code n node → At code m node
 at_at code node e h = rw e at h
 
-pub at-right : (a b : List Node) (n : ℕ) (node : Node) → At b n node → At (a ++ b) (length a + n) node
+at-right : (a b : List Node) (n : ℕ) (node : Node) → At b n node → At (a ++ b) (length a + n) node
 at-right [] b n node h = at_at b _ (omega arith) h
 at-right (x ∷ a) b n node h =
     let e : suc (length a + n) ≡ suc (length a) + n = omega arith in
     at_at (x ∷ (a ++ b)) node e (at-right a b n node h)
 
 -- a node of two parts is one of the first's or of the second's
-pub at-split : (a b : List Node) (n : ℕ) (node : Node) → At (a ++ b) n node
+at-split : (a b : List Node) (n : ℕ) (node : Node) → At (a ++ b) n node
     → (At a n node) ⊎ ((k : ℕ) × (n ≡ length a + k) × At b k node)
 at-split [] b n node h = inr (n, omega arith, h)
 at-split (x ∷ a) b zero node h = inl h
@@ -384,12 +384,12 @@ module _ {code : List Node} {line : List ℕ} {Kind : ℕ → ℕ → Type 0} (e
           (split.0, split.1, (k.0 - low, omega arith, split.2)))
 
 mutual
-  pub code_exact : (pattern : Pattern) (line : List ℕ) → IsOrdered pattern
+  code_exact : (pattern : Pattern) (line : List ℕ) → IsOrdered pattern
       → Exact (code_of pattern) line (Matches pattern line)
   code_exact nothing line o = exact_none
   code_exact (append pattern item) line o = exact_both (code_exact pattern line o.0) (item_exact item line o.1)
 
-  pub item_exact : (item : Item) (line : List ℕ) → IsOrderedItem item
+  item_exact : (item : Item) (line : List ℕ) → IsOrderedItem item
       → Exact (code_of_item item) line (MatchesItem item line)
   item_exact (set bytes) line o = exact_one {node = Take bytes} (λ at place at' place' h. (h.0, (h.1, h.2, h.3)))
       (λ place place' h. (omega arith, h.0, h.1, h.2)) tt

@@ -58,11 +58,11 @@ pub finish_ends : {nodes : List Node} {pending : List Pending} {final : Compilin
 finish_ends {pending} none n = ends_by _ (sym (reverse-reverse pending)) none n
 
 -- what follows from an item that is complete
-pub finished_group : {nodes : List Node} {pending : List Pending} (around : List Pending) {new : Compiling}
+finished_group : {nodes : List Node} {pending : List Pending} (around : List Pending) {new : Compiling}
     → Finishes nodes pending new → pending ≡ around ++ Group ∷ [] → IsNow nodes pending None new
 finished_group around f e = grind (arith, common_steps)
 
-pub finished_all : {nodes : List Node} {pending : List Pending} {new : Compiling} → Finishes nodes pending new
+finished_all : {nodes : List Node} {pending : List Pending} {new : Compiling} → Finishes nodes pending new
     → pending ≡ [] → IsNow nodes [] None new
 finished_all f e = rw e at f
 

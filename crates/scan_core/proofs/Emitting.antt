@@ -20,16 +20,16 @@ pub copies_more : (old : List Node) {now new : List Node} (from size count : ℕ
 copies_more old from size count e h m = grind (arith, common_steps)
 
 -- a copy may stand on either side of the others
-pub copies_turn : (count : ℕ) (code : List Node) → code ++ copies count code ≡ copies count code ++ code
+copies_turn : (count : ℕ) (code : List Node) → code ++ copies count code ≡ copies count code ++ code
 copies_turn zero code = append-nil code
 copies_turn (suc count) code = sym (append_assoc code (copies count code) code) ∙ ap (λ l. l ++ code) (copies_turn count code)
 
-pub reverse-copies : (count : ℕ) (code : List Node) → reverse (copies count code) ≡ copies count (reverse code)
+reverse-copies : (count : ℕ) (code : List Node) → reverse (copies count code) ≡ copies count (reverse code)
 reverse-copies zero code = refl
 reverse-copies (suc count) code = reverse-append (copies count code) code ∙ ap (λ l. reverse code ++ l) (reverse-copies count code) ∙ copies_turn count (reverse code)
 
 -- the stretch after a front
-pub stretch_after : (before : List Node) {code : List Node} (more : List Node) {from size : ℕ} → length before ≡ from
+stretch_after : (before : List Node) {code : List Node} (more : List Node) {from size : ℕ} → length before ≡ from
     → length code ≡ size → stretch from size (before ++ (code ++ more)) ≡ code
 stretch_after before more e f = grind (arith, common_steps)
 

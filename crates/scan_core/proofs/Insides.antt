@@ -122,7 +122,7 @@ grows_one {old} {new} {number} {word} h none ew fits en eo = record {
     fuller = rw (← en) at (unset-set old (number / 64) (bit_or word (1 * 2 ^ (number % 64) % 2 ^ 64)) (omega arith) larger
         (let m = or_lt 64 word (1 * 2 ^ (number % 64) % 2 ^ 64) fits (omega arith) in omega arith))
 
-pub goes_none : {words : List ℕ} {before : ℕ} → GoesOn words words before before
+goes_none : {words : List ℕ} {before : ℕ} → GoesOn words words before before
 goes_none = record { low = omega arith; under = λ number l h. h; fuller = omega arith; less = λ l. absurd (omega arith) }
 
 pub grows_none : {Added : ℕ → Type 0} {words : List ℕ} {on : ℕ} → ((number : ℕ) → Added number → IsIn words number)
@@ -135,7 +135,7 @@ pub grows_by : {Added Other : ℕ → Type 0} {old new : List ℕ} {before on : 
     → ((n : ℕ) → Added n → Other n) → ((n : ℕ) → Other n → Added n) → Grows Other old new before on
 grows_by g there here = search rules
 
-pub grows_both : {Added Other : ℕ → Type 0} {old middle new : List ℕ} {before between on : ℕ}
+grows_both : {Added Other : ℕ → Type 0} {old middle new : List ℕ} {before between on : ℕ}
     → Grows Added old middle before between → Grows Other middle new between on
     → Grows (λ n. Added n ⊎ Other n) old new before on
 grows_both f g = search rules
@@ -351,10 +351,10 @@ fitted n i h =
     let q : n % 2 ^ 64 ≡ bit_and n (2 ^ (64 + 0) - 2 ^ 0) = omega arith in
     ap (λ x. bit_at x i) q ∙ b ∙ omega arith
 
-pub placed_below : (n : ℕ) {s i : ℕ} → i < 64 → i < s → bit_at (n * 2 ^ s % 2 ^ 64) i ≡ 0
+placed_below : (n : ℕ) {s i : ℕ} → i < 64 → i < s → bit_at (n * 2 ^ s % 2 ^ 64) i ≡ 0
 placed_below n {s} {i} h l = fitted _ i h ∙ ap (λ x. bit_at x i) (omega arith) ∙ bit_at_cat_low n s 0 i l ∙ bit_at-zero i
 
-pub placed : (n : ℕ) {s i : ℕ} → i < 64 → s ≤ i → bit_at (n * 2 ^ s % 2 ^ 64) i ≡ bit_at n (i - s)
+placed : (n : ℕ) {s i : ℕ} → i < 64 → s ≤ i → bit_at (n * 2 ^ s % 2 ^ 64) i ≡ bit_at n (i - s)
 placed n {s} {i} h l = fitted _ i h ∙ ap (λ x. bit_at x i) (omega arith) ∙ bit_at_cat_high n s 0 i (search rules) l
 
 -- the bits of a number are those of its lower and of its higher part

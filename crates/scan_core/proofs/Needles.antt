@@ -125,7 +125,7 @@ is_text_needle code {number} {text} passed literal same some line are ends = (
 
 -- Stretches of a text
 
-pub part_at : (before part after : List ℕ) {k : ℕ} → k < length part
+part_at : (before part after : List ℕ) {k : ℕ} → k < length part
     → slice_index (before ++ part ++ after) (length before + k) ≡ slice_index part k
 part_at before part after within = grind (arith, common_steps)
 

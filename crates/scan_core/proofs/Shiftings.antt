@@ -24,7 +24,7 @@ use Rattle.scan_core.specs.{
   inner.Table.{IsCounted, Next, Inner, InSets, entry, IsState, no_state, IsTableOf, Walked, IsTable},
   inner.Sets.{LeadsOn, Flows, StepsBy, Came, Reaches, FlowsOn},
   inner.Shifts.{AreLight, IsAt, IsComplete, IsOffset, IsShiftTable, IsShifted, IsStateAt, IsWeight, IsWord, six_bits},
-  inner.Each.AreEach,
+  inner.{Each.AreEach, Needles.AreBytes},
 }
 use Rattle.scan_core.proofs.{Enterings.{positions_most, weight_length, parts_anywhere}, Codes.{path_on, parts_join}}
 
@@ -36,7 +36,7 @@ pub record IsPlace (line : List ℕ) (place : ℕ) (at_first at_last : Bool) : T
   pub first : IsTrue at_first ↔ (place ≡ 0)
   pub last : IsTrue at_last ↔ (place ≡ length line)
 
-pub flow_goes : (node : Node) {line : List ℕ} {place : ℕ} {at_first at_last : Bool} (from to : ℕ)
+flow_goes : (node : Node) {line : List ℕ} {place : ℕ} {at_first at_last : Bool} (from to : ℕ)
     → IsPlace line place at_first at_last → LeadsOn node at_first at_last from to ↔ Leads node line from place to place
 flow_goes (Take bytes) from to p = (λ h. absurd h, λ h. absurd (omega arith))
 flow_goes First from to p = (λ h. (h.1, refl, p.first.0 h.0), λ h. (p.first.1 h.2, h.0))
@@ -62,7 +62,7 @@ walk_forward code line (suc count) at to w =
     let h = walk_forward code line count w.0 to w.3 in
     elim (leads_place w.2.0 line at w.2.2) [ inl e ↦ omega arith | inr e ↦ omega arith ]
 
-pub entered_on : (code : List Node) {line : List ℕ} {at place to stop : ℕ} → Entered code line at place
+entered_on : (code : List Node) {line : List ℕ} {at place to stop : ℕ} → Entered code line at place
     → Goes code line at place to stop → Entered code line to stop
 entered_on code {to} {stop} e g = (e.0, e.1, path_on _ e.2 (1, (to, stop, g, (refl, refl))))
 
@@ -187,13 +187,13 @@ module _ {code : List Node} {line : List ℕ} {place steps : ℕ} (set : List Bo
 -- The sets of the places along a line, and a table of them.
 
 -- at every place but the last
-pub inner_entered : (code : List Node) {line : List ℕ} (place : ℕ) → place < length line → {number : ℕ}
+inner_entered : (code : List Node) {line : List ℕ} (place : ℕ) → place < length line → {number : ℕ}
     → Inner code line place number ↔ Entered code line number place
 inner_entered code zero h = reaches_exact _ (inner h refl) _
 inner_entered code (suc place) h = reaches_exact _ (inner h (sym (ne_eqb (suc place) 0 (λ e. omega arith)))) _
 
 -- at the last place, after a byte
-pub last_entered : (code : List Node) {line : List ℕ} (place : ℕ) → place ≡ length line → 0 < place → {number : ℕ}
+last_entered : (code : List Node) {line : List ℕ} (place : ℕ) → place ≡ length line → 0 < place → {number : ℕ}
     → Entered code line number place ↔ ((from : ℕ) × Inner code line place from × FlowsOn code false true from number)
 last_entered code zero h some = absurd (omega arith)
 last_entered code {line} (suc place) h some = let exact = reaches_exact _ (final h (sym (ne_eqb (length line) 0 (λ e. omega arith)))) _ in (
@@ -203,7 +203,7 @@ last_entered code {line} (suc place) h some = let exact = reaches_exact _ (final
       exact.0 (k.1.0, k.1.1, (k.1.2.0 + k.2.0, parts_join _ _ _ _ _ _ before k.2.1)),
 )
 
-pub walked_starts : {code : List Node} {sets : List (List Bool)} {table : Table} {line : List ℕ}
+walked_starts : {code : List Node} {sets : List (List Bool)} {table : Table} {line : List ℕ}
     → IsTableOf code sets table → Walked code sets line 0 0 0
 walked_starts t = search rules
 
@@ -236,7 +236,7 @@ module _ {code : List Node} {sets : List (List Bool)} {line : List ℕ} {place s
 
 walked_stay : {code : List Node} {sets : List (List Bool)} {table : Table} {line : List ℕ} (more : ℕ)
     {place state steps : ℕ} → IsTableOf code sets table → Walked code sets line place state steps
-    → place + more ≤ length line → ((k : ℕ) → k < length line → slice_index line k < 256)
+    → place + more ≤ length line → AreBytes line
     → ((k : ℕ) → place ≤ k → k < place + more → entry table.rows.items state (slice_index line k) ≡ state)
     → Walked code sets line (place + more) state (steps + positions_among code (set_at sets state) * more)
 walked_stay zero t w h b s = search rules
@@ -274,8 +274,7 @@ module _ {code : List Node} {table : Table} {line : List ℕ} {place state steps
   noted_is = noted_read d w.1 w.2.known is
 
   -- a stretch in which the state stays
-  pub walk_run : {to added : ℕ} → place ≤ to → to ≤ length line
-      → ((k : ℕ) → k < length line → slice_index line k < 256)
+  pub walk_run : {to added : ℕ} → place ≤ to → to ≤ length line → AreBytes line
       → ((k : ℕ) → place ≤ k → k < to → entry table.rows.items state (slice_index line k) ≡ state)
       → added ≡ noted.positions * (to - place) → WalkedOf code table line to state (steps + added)
   walk_run {to} l h b s a =
@@ -514,8 +513,7 @@ module _ {code : List Node} {shifts : ShiftTable} {line : List ℕ} {place : ℕ
     at_end d h some e = walk_ends d (a.3.2.going state_here) (noted_here d e) h some
 
     -- no byte can change the state
-    pub at_fixed : {rest : ℕ} {noted : State} (d : State) → 0 < length line
-        → ((k : ℕ) → k < length line → slice_index line k < 256)
+    pub at_fixed : {rest : ℕ} {noted : State} (d : State) → 0 < length line → AreBytes line
         → noted ≡ get_or shifts.states.items (word % 64 / 6) d → noted.is_fixed ≡ true
         → rest ≡ noted.positions * (length line - place)
         → IsOutcome code line (record { found = noted.ends; steps = steps + rest + noted.last_positions })
