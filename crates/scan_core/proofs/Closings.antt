@@ -48,9 +48,7 @@ one_of {word} from fits some =
 
 pub none_of : (word from bit : ℕ) → bit_and word from ≡ 0 → bit_at word bit ≡ 1 → bit_at from bit ≡ 1 → ⊥
 none_of word from bit none here there =
-    let e = bit_at_and word from bit in
-    let z = ap (λ w. bit_at w bit) none ∙ bit_at-zero bit in
-    omega arith
+    omega (arith, bit_at_and word from bit, ap (λ w. bit_at w bit) none ∙ bit_at-zero bit)
 
 -- Hops are added.
 
@@ -138,7 +136,7 @@ parting_ends {all} {onward} {landings} p h met number to f = elim (met number to
   | inr other ↦ inr (elim other [
     | inl based ↦ inl based
     | inr hop ↦ inr (rw hop.3 at (subst (λ at. PartsTo onward landings at (end_of (get_or all hop.0 no_hop))) hop.2
-        (p.parted hop.0 (let l = hop.1 in omega arith))))
+        (p.parted hop.0 (omega (arith, hop.1)))))
   ])
 ]
 
@@ -151,7 +149,7 @@ plain_node code {number} {read} e inside plain = λ to f.
     (read, here, plain number to (flows_of _ _ here f))
 
 pub plain_beyond : (code : List Node) {number : ℕ} → length code ≤ number → IsPlain code number
-plain_beyond code {number} h = λ to f. absurd (let l = at_least code number f.0 f.1 in omega arith)
+plain_beyond code {number} h = λ to f. absurd (omega (arith, at_least code number f.0 f.1))
 
 -- the first words of a set have no anchors
 abbrev pub NoneAnchors : List Node → List ℕ → ℕ → Type 0
@@ -183,7 +181,7 @@ kept_or {word} {all} c fits small = same_from_bits_below 64 (bit_or word all) al
 unset_fuller : (words : List ℕ) (at word : ℕ) → get_or words at 0 ≤ word → unset (set words at word) ≤ unset words
 unset_fuller [] at word l = omega arith
 unset_fuller (x ∷ words) zero word l = omega arith
-unset_fuller (x ∷ words) (suc at) word l = let r = unset_fuller words at word l in omega arith
+unset_fuller (x ∷ words) (suc at) word l = omega (arith, unset_fuller words at word l)
 
 -- a word was closed
 pub record Closed (code : List Node) (at : ℕ) (old now : List ℕ) : Type 0 where
@@ -215,10 +213,10 @@ close_word {code} {at} {word} {all} {old} {now} h ew c fits small es = record {
     ];
   };
   elsewhere = λ number other k. (set_elsewhere _ _ _ other).0 (rw en at k);
-  fuller = rw (← en) at (unset_fuller old at (bit_or word all) (let l = le_or_l word all in omega arith));
+  fuller = rw (← en) at (unset_fuller old at (bit_or word all) (omega (arith, le_or_l word all)));
   closed = λ start to here k s.
       let e : start ≡ at * 64 + start % 64 = omega arith in
-      let f : to ≡ at * 64 + to % 64 = (let q = s.1 in omega arith) in
+      let f : to ≡ at * 64 + to % 64 = omega (arith, s.1) in
       let flow = subst (λ n. Flows code false false n (at * 64 + to % 64)) e (rw f at s.0) in
       let b = c.closed (start % 64) (to % 64) (omega arith) (omega arith) (in_all _ (omega arith) (rw e at k)) flow in
       rw (← f) at ((is_in_word now at (to % 64) (omega arith)).0 (bit_now _ (right_bit word all (to % 64) b)));
@@ -297,7 +295,7 @@ apart_more {code} {now} {new} {count} s c begun inside size closes fits small en
 }
   where
     w : Closed code count now new
-    w = close_word (let e = s.adds.size in omega arith) refl closes fits small en
+    w = close_word (omega arith) refl closes fits small en
 
 pub apart_ends : {code : List Node} {closures : Closures} {old now : List ℕ} {count : ℕ}
     → Apart code closures old now count → length now ≤ count → IsApart code closures.hops now
@@ -317,11 +315,15 @@ entered_if words {at} {bit} true h small en other =
     (λ k. elim (e.0 k) [ inl was ↦ inl was | inr same ↦ inr (refl, same) ], λ k. e.1 (elim k [ inl was ↦ inl was | inr q ↦ inr q.1 ]))
 entered_if words false h small en other = search (rules, or_zero_r, set-get_or)
 
+-- what a hop leads to from a set is in another
+abbrev pub IsFollowed : List ℕ → List ℕ → Hop → Type 0
+IsFollowed old new hop = (bit : ℕ) → bit < 64 → bit_at hop.from bit ≡ 1 → IsIn old (hop.at * 64 + bit) → IsIn new (end_of hop)
+
 -- what a hop leads to was entered, if it leads from the set
 pub record Led (code : List Node) (hop : Hop) (old mid : List ℕ) (all : ℕ) : Type 0 where
   pub adds : Adds code false false old mid
   pub new : (number : ℕ) → IsIn mid number → IsIn old number ⊎ (number ≡ end_of hop)
-  pub followed : (bit : ℕ) → bit < 64 → bit_at hop.from bit ≡ 1 → IsIn old (hop.at * 64 + bit) → IsIn mid (end_of hop)
+  pub followed : IsFollowed old mid hop
   pub set : mid ≡ set old hop.word all
   pub larger : get_or old hop.word 0 ≤ all
   pub fits : all < 2 ^ 64
@@ -348,7 +350,7 @@ led_is {code} {hop} {old} {mid} {holds} is size fits high some any em = record {
 }
   where
     exact : (other : ℕ) → IsIn mid other ↔ (IsIn old other ⊎ (IsTrue holds × (other ≡ end_of hop)))
-    exact = entered_if _ _ (let w = is.word in omega arith) is.bit em
+    exact = entered_if _ _ (omega arith) is.bit em
 
     entered : (number : ℕ) → IsTrue holds → number ≡ end_of hop
         → (start : ℕ) × IsIn old start × FlowsOn code false false start number
@@ -429,10 +431,8 @@ module _ {code : List Node} {closures : Closures} {hop : Hop} {old mid : List �
 -- the first hops were followed
 pub record Following (code : List Node) (closures : Closures) (old now : List ℕ) (count over : ℕ) : Type 0 where
   pub closer : Closer code closures.hops old now over
-  pub done : over ≡ 0 → (place : ℕ) → place < count → (bit : ℕ) → bit < 64
-      → bit_at (get_or closures.hops.onward.items place no_hop).from bit ≡ 1
-      → IsIn now ((get_or closures.hops.onward.items place no_hop).at * 64 + bit)
-      → IsIn now (end_of (get_or closures.hops.onward.items place no_hop))
+  pub done : over ≡ 0 → (place : ℕ) → place < count
+      → IsFollowed now now (get_or closures.hops.onward.items place no_hop)
 
 pub following_more : {code : List Node} {closures : Closures} {hop : Hop} {old now new : List ℕ} {count over led : ℕ}
     → Following code closures old now count over → Follows code closures hop now new led
@@ -448,16 +448,11 @@ following_more {closures} {hop} {now} {count} {over} {led} s f eh = record {
       | inr more ↦ let l = s.closer.less more in let m = f.closer.fuller in omega arith
     ];
   };
-  done = λ z place l bit small one k.
-      let a = le_or_l over led in
-      let b = le_or_r over led in
-      let was = f.settled (omega arith) ((get_or closures.hops.onward.items place no_hop).at * 64 + bit) k in
+  done = λ z place l.
+      let was = f.settled (omega (arith, le_or_r over led)) in
       elim (cases_eq place count) [
-        | inl same ↦
-            let e : get_or closures.hops.onward.items place no_hop ≡ hop = ap (λ p. get_or closures.hops.onward.items p no_hop) same ∙ sym eh in
-            rw (← e) at (f.followed bit small (subst (λ h. bit_at h.from bit ≡ 1) e one) (subst (λ h. IsIn now (h.at * 64 + bit)) e was))
-        | inr other ↦ f.closer.adds.kept (end_of (get_or closures.hops.onward.items place no_hop))
-            (s.done (omega arith) place (omega arith) bit small one was)
+        | inl same ↦ rw (same, ← eh) (λ bit small one k. f.followed bit small one (was _ k))
+        | inr other ↦ λ bit small one k. f.closer.adds.kept _ (s.done (omega (arith, le_or_l over led)) place (omega arith) bit small one (was _ k))
       ];
 }
 
@@ -465,8 +460,7 @@ following_more {closures} {hop} {now} {count} {over} {led} s f eh = record {
 from_bit : {code : List Node} {hop : Hop} {from to : ℕ} → IsHop code hop → hop.at ≡ from / 64 → end_of hop ≡ to
     → Flows code false false from to → bit_at hop.from (from % 64) ≡ 1
 from_bit {code} {hop} {from} is at end flow =
-    let same : from ≡ hop.at * 64 + from % 64 = omega arith in
-    (is.exact (from % 64) (omega arith)).1 (rw same at (subst (Flows code false false from) (sym end) flow))
+    search rules
 
 pub following_ends : {code : List Node} {closures : Closures} {old now : List ℕ} {count over : ℕ}
     → Following code closures old now count over → AreHops code closures.hops.onward.items
@@ -482,9 +476,9 @@ following_ends {code} {closures} {now} {over} s are h = record {
     ended : over ≡ 0 → (from to : ℕ) → IsIn now from → Flows code false false from to
         → HopsTo closures.hops.onward.items (from / 64) to → IsIn now to
     ended z from to k flow hop =
-        let same : from ≡ (get_or closures.hops.onward.items hop.0 no_hop).at * 64 + from % 64 = (let e = hop.2 in omega arith) in
+        let same : from ≡ (get_or closures.hops.onward.items hop.0 no_hop).at * 64 + from % 64 = omega (arith, hop.2) in
         let one = from_bit (are.each hop.0 hop.1) hop.2 hop.3 flow in
-        rw hop.3 at (s.done z hop.0 (let l = hop.1 in omega arith) (from % 64) (omega arith) one (subst (IsIn now) same k))
+        rw hop.3 at (s.done z hop.0 (omega (arith, hop.1)) (from % 64) (omega arith) one (subst (IsIn now) same k))
 
 -- Following the landings.
 
@@ -494,8 +488,7 @@ pub record Landing_on (code : List Node) (base : List ℕ) (landings : List Hop)
   pub adds : Adds code false false old now
   pub over : (number : ℕ) → IsIn now number
       → IsIn old number ⊎ ((to : ℕ) → Flows code false false number to → IsIn base to)
-  pub led : (place : ℕ) → place < count → (bit : ℕ) → bit < 64 → bit_at (get_or landings place no_hop).from bit ≡ 1
-      → IsIn old ((get_or landings place no_hop).at * 64 + bit) → IsIn now (end_of (get_or landings place no_hop))
+  pub led : (place : ℕ) → place < count → IsFollowed old now (get_or landings place no_hop)
 
 pub landing_more : {code : List Node} {base : List ℕ} {landings : List Hop} {hop : Hop} {old now new : List ℕ}
     {count all : ℕ} → Landing_on code base landings old now count → IsLanding code base hop → Led code hop now new all
@@ -503,12 +496,9 @@ pub landing_more : {code : List Node} {base : List ℕ} {landings : List Hop} {h
 landing_more {landings} {hop} {old} {count} s is led eh = record {
   adds = adds_both s.adds led.adds;
   over = λ n k. elim (led.new n k) [ inl was ↦ s.over n was | inr e ↦ inr (rw (← e) at is.ends) ];
-  led = λ place l bit small one k. elim (cases_eq place count) [
-    | inl same ↦
-        let e : get_or landings place no_hop ≡ hop = ap (λ p. get_or landings p no_hop) same ∙ sym eh in
-        rw (← e) at (led.followed bit small (subst (λ h. bit_at h.from bit ≡ 1) e one)
-        (s.adds.kept (hop.at * 64 + bit) (subst (λ h. IsIn old (h.at * 64 + bit)) e k)))
-    | inr other ↦ led.adds.kept (end_of (get_or landings place no_hop)) (s.led place (omega arith) bit small one k)
+  led = λ place l. elim (cases_eq place count) [
+    | inl same ↦ rw (same, ← eh) (λ bit small one k. led.followed bit small one (s.adds.kept (hop.at * 64 + bit) k))
+    | inr other ↦ λ bit small one k. led.adds.kept _ (s.led place (omega arith) bit small one k)
   ];
 }
 
@@ -519,9 +509,9 @@ landing_ends {landings} {old} s are h = record {
   adds = s.adds;
   over = s.over;
   led = λ from to k flow hop.
-      let same : from ≡ (get_or landings hop.0 no_hop).at * 64 + from % 64 = (let e = hop.2 in omega arith) in
+      let same : from ≡ (get_or landings hop.0 no_hop).at * 64 + from % 64 = omega (arith, hop.2) in
       let one = from_bit (are.each hop.0 hop.1).leads hop.2 hop.3 flow in
-      rw hop.3 at (s.led hop.0 (let l = hop.1 in omega arith) (from % 64) (omega arith) one (subst (IsIn old) same k));
+      rw hop.3 at (s.led hop.0 (omega (arith, hop.1)) (from % 64) (omega arith) one (subst (IsIn old) same k));
 }
 
 -- Until nothing is missing.
@@ -568,7 +558,7 @@ spreads_front {code} {old} {new} b f size begun only e t l = rw (← t) at (subs
 
 adds_of : {code : List Node} {at_first at_last : Bool} {old new : List ℕ} → SpreadsOut code at_first at_last old new
     → Adds code at_first at_last old new
-adds_of s = record { size = s.size; kept = λ number k. (s.exact number).1 (number, k, (0, refl)); from = λ number. (s.exact number).0 }
+adds_of s = search rules
 
 closed_of : {code : List Node} {at_first at_last : Bool} {old new : List ℕ} → SpreadsOut code at_first at_last old new
     → (from to : ℕ) → IsIn new from → Flows code at_first at_last from to → IsIn new to

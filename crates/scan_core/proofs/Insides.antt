@@ -58,7 +58,7 @@ bits_more false a h is = search (rules, or_zero_r, cases_eq)
 
 pub flag_one : (flag : Bool) → (bool_byte flag ≡ 1) ↔ IsTrue flag
 flag_one true = (λ e. refl, λ t. refl)
-flag_one false = (λ e. absurd (omega arith), λ t. absurd (false≢true t))
+flag_one false = search rules
 
 pub not_one : (flag : Bool) → IsTrue flag ⊎ (bool_byte (not flag) ≡ 1)
 not_one true = inl refl
@@ -77,7 +77,7 @@ entered_one old {new} {number} {word} h ew en other = elim (cases_eq other numbe
 ]
   where
     read : get_or new (number / 64) 0 ≡ bit_or word (1 * 2 ^ (number % 64) % 2 ^ 64)
-    read = ap (λ l. get_or l (number / 64) 0) en ∙ get_or-set_same old _ _ 0 (omega arith)
+    read = search rules
 
     elsewhere : (other ≡ number → ⊥)
         → bit_at (get_or new (other / 64) 0) (other % 64) ≡ bit_at (get_or old (other / 64) 0) (other % 64)
@@ -123,11 +123,11 @@ grows_one {old} {new} {number} {word} h none ew fits en eo = record {
         (let m = or_lt 64 word (1 * 2 ^ (number % 64) % 2 ^ 64) fits (omega arith) in omega arith))
 
 goes_none : {words : List ℕ} {before : ℕ} → GoesOn words words before before
-goes_none = record { low = omega arith; under = λ number l h. h; fuller = omega arith; less = λ l. absurd (omega arith) }
+goes_none = search rules
 
 pub grows_none : {Added : ℕ → Type 0} {words : List ℕ} {on : ℕ} → ((number : ℕ) → Added number → IsIn words number)
     → Grows Added words words on on
-grows_none within = record { size = refl; exact = λ number. (λ h. inl h, elim [ inl h ↦ h | inr h ↦ within number h ]); goes = goes_none }
+grows_none within = search rules
 
 -- Sets of numbers as words that grow by what a node leads to.
 
@@ -174,7 +174,7 @@ flows_join code (suc count) f p = let r = flows_join code count f p.1 in (suc r.
 pub adds_both : {code : List Node} {at_first at_last : Bool} {old middle new : List ℕ}
     → Adds code at_first at_last old middle → Adds code at_first at_last middle new → Adds code at_first at_last old new
 adds_both f g = record {
-  size = g.size ∙ f.size;
+  size = cc;
   kept = λ number h. g.kept number (f.kept number h);
   from = λ number h. let one = g.from number h in let two = f.from one.0 one.1 in (two.0, two.1, flows_join _ _ two.2 one.2.1);
 }
@@ -224,11 +224,11 @@ spreading_more {number} s g = record {
 
 pub spreading_ends : {code : List Node} {at_first at_last : Bool} {old now : List ℕ} {number : ℕ}
     → Spreading code at_first at_last old now number → length code ≤ number → SpreadsOut code at_first at_last old now
-spreading_ends {code} s h = spreads_out s.adds (λ start to k flow. s.closed start to (let l = at_least code start flow.0 flow.1 in omega arith) k flow)
+spreading_ends {code} s h = spreads_out s.adds (λ start to k flow. s.closed start to (omega (arith, at_least code start flow.0 flow.1)) k flow)
 
 pub visits_smaller : {Added : ℕ → Type 0} {old new : List ℕ} {number on most : ℕ} → Grows Added old new (number + 1) on
     → number < most → unset new * (most + 1) + (most - on) < unset old * (most + 1) + (most - number)
-visits_smaller g h = let l = g.goes in grind (arith, common_steps)
+visits_smaller g h = grind (arith, common_steps)
 
 -- What numbers lead to without a byte, ready to be looked up.
 
@@ -236,10 +236,10 @@ pub either_bit : (a b bit : ℕ) → bit_at (bit_or a b) bit ≡ 1 → (bit_at a
 either_bit a b bit h = search (rules, cases_eq, bit_at_or, bit_at-lt)
 
 pub left_bit : (a b bit : ℕ) → bit_at a bit ≡ 1 → bit_at (bit_or a b) bit ≡ 1
-left_bit a b bit h = let e = bit_at_or a b bit in let l = bit_at-lt b bit in omega arith
+left_bit a b bit h = omega (arith, bit_at_or a b bit, bit_at-lt b bit)
 
 pub right_bit : (a b bit : ℕ) → bit_at b bit ≡ 1 → bit_at (bit_or a b) bit ≡ 1
-right_bit a b bit h = let e = bit_at_or a b bit in let l = bit_at-lt a bit in omega arith
+right_bit a b bit h = omega (arith, bit_at_or a b bit, bit_at-lt a bit)
 
 -- a bit that stands for a number of a word
 pub bit_is : {at : ℕ} (number bit : ℕ) → number / 64 ≡ at → bit < 64
@@ -251,10 +251,7 @@ bit_is number bit here h =
       λ k. elim (cases_eq bit (number % 64)) [
         | inl e ↦ omega arith
         | inr other ↦
-            let o = bit_at_set_other w64 0 (number % 64) (omega arith) bit other in
-            let z = bit_at-zero bit in
-            let w = ap (λ x. bit_at x bit) word in
-            absurd (omega arith)
+            absurd (omega (arith, bit_at_set_other w64 0 (number % 64) (omega arith) bit other, bit_at-zero bit, ap (λ x. bit_at x bit) word))
       ],
       λ e. let q : bit ≡ number % 64 = omega arith in
           ap (bit_at (1 * 2 ^ (number % 64) % 2 ^ 64)) q ∙ ap (λ x. bit_at x (number % 64)) (sym word) ∙ same,
@@ -272,7 +269,7 @@ both_led {to} one other bit w o a b = (
 
 pub none_led : (code : List Node) {number to : ℕ} (bit : ℕ) → (Flows code false false number to → ⊥)
     → (bit_at 0 bit ≡ 1) ↔ Flows code false false number to
-none_led code bit never = (λ k. let z = bit_at-zero bit in absurd (omega arith), λ f. absurd (never f))
+none_led code bit never = search rules
 
 -- what some of the numbers lead to is there
 pub record Insiding (code : List Node) (at word all done : ℕ) : Type 0 where
@@ -329,9 +326,7 @@ pub inside_smaller : (all : ℕ) {done bit : ℕ} → bit < 64 → done < 2 ^ 64
     → bit_at (bit_and all (bit_not w64 done)) bit ≡ 1 → 2 ^ 64 - bit_or done (1 * 2 ^ bit % 2 ^ 64) < 2 ^ 64 - done
 inside_smaller all {done} {bit} small fits here = elim (cases_eq (bit_or done (1 * 2 ^ bit % 2 ^ 64)) done) [
   | inl same ↦
-      let e = fresh_bit all fits small in
-      let s = sym (bit_at_set_same w64 done bit small) ∙ ap (λ w. bit_at w bit) same in
-      absurd (omega arith)
+      absurd (omega (arith, fresh_bit all fits small, sym (bit_at_set_same w64 done bit small) ∙ ap (λ w. bit_at w bit) same))
   | inr grown ↦ let l = le_or_l done (1 * 2 ^ bit % 2 ^ 64) in let m = or_lt 64 done (1 * 2 ^ bit % 2 ^ 64) fits (omega arith) in omega arith
 ]
 
@@ -371,16 +366,9 @@ halved_placed : (high low s i : ℕ) → low < 16 → i < 64
     ≡ max (bit_at (high * 16 * 2 ^ s % 2 ^ 64) i) (bit_at (low * 2 ^ s % 2 ^ 64) i)
 halved_placed high low s i h small = elim (cases_lt i s) [
   | inl l ↦
-      let a = placed_below (high * 16 + low) small l in
-      let b = placed_below (high * 16) small l in
-      let d = placed_below low small l in
-      omega arith
+      omega (arith, placed_below (high * 16 + low) small l, placed_below (high * 16) small l, placed_below low small l)
   | inr l ↦
-      let a = placed (high * 16 + low) small l in
-      let b = placed (high * 16) small l in
-      let d = placed low small l in
-      let e = halves high low 4 (i - s) h in
-      omega arith
+      omega (arith, placed (high * 16 + low) small l, placed (high * 16) small l, placed low small l, halves high low 4 (i - s) h)
 ]
 
 -- what two choices lead to is what both together lead to
@@ -390,11 +378,11 @@ closes_both : {code : List Node} {at : ℕ} (one other : ℕ) {chosen : ℕ} (al
 closes_both one other all more c d e = record {
   kept = λ bit h is. elim (cases_eq (bit_at one bit) 1) [
     | inl first ↦ left_bit _ _ _ (c.kept bit h first)
-    | inr differs ↦ right_bit _ _ _ (d.kept bit h (let q = e bit h in let l = bit_at-lt one bit in let m = bit_at-lt other bit in omega arith))
+    | inr differs ↦ right_bit _ _ _ (d.kept bit h (omega (arith, e bit h, bit_at-lt one bit, bit_at-lt other bit)))
   ];
   from_chosen = λ number h is. elim (either_bit _ _ _ is) [
-    | inl old ↦ let k = c.from_chosen number h old in (k.0, k.1, (let q = e k.0 k.1 in let is = k.2 in let l = bit_at-lt other k.0 in omega arith), k.3)
-    | inr new ↦ let k = d.from_chosen number h new in (k.0, k.1, (let q = e k.0 k.1 in let is = k.2 in let l = bit_at-lt one k.0 in omega arith), k.3)
+    | inl old ↦ let k = c.from_chosen number h old in (k.0, k.1, (omega (arith, e k.0 k.1, k.2, bit_at-lt other k.0)), k.3)
+    | inr new ↦ let k = d.from_chosen number h new in (k.0, k.1, (omega (arith, e k.0 k.1, k.2, bit_at-lt one k.0)), k.3)
   ];
   closed = λ number to h l is f. elim (either_bit _ _ _ is) [
     | inl old ↦ left_bit _ _ _ (c.closed number to h l old f)
@@ -404,11 +392,7 @@ closes_both one other all more c d e = record {
 
 -- nothing leads nowhere
 pub closes_none : (code : List Node) (at : ℕ) → Closes code at 0 0
-closes_none code at = record {
-  kept = λ bit h is. is;
-  from_chosen = λ number h is. absurd (omega (arith, bit_at-zero number));
-  closed = λ number to h l is f. absurd (omega (arith, bit_at-zero number));
-}
+closes_none code at = search rules
 
 -- the entry of the next eight numbers of a word is joined to what those before them lead to
 pub join_more : {code : List Node} {inside : List ℕ} {at eight all entry : ℕ} (word : ℕ)
@@ -450,8 +434,7 @@ entry_of_halves {code} {inside} {place} i low high = closes_both _ _ _ _ one oth
     other : Closes code (place / 2048) (place % 16 * 2 ^ (place / 256 % 8 * 8) % 2 ^ 64)
         (get_or inside (place - place / 16 % 16 * 16) 0)
     other =
-        let before : ℕ = place - place / 16 % 16 * 16 in
-        entry_at _ (omega arith) (omega arith) (omega arith) (i.each before (omega arith))
+        search rules
 
     bits : (bit : ℕ) → bit < 64
         → bit_at (chosen_at place) bit ≡ max (bit_at (place / 16 % 16 * 16 * 2 ^ (place / 256 % 8 * 8) % 2 ^ 64) bit)
