@@ -103,7 +103,7 @@ part_onward {all} {count} p is eh en = record {
   first = adding_one p.first is en;
   last = p.last;
   parted = λ place l. elim (cases_eq place count) [
-    | inl same ↦ inl (rw (eh ∙ ap (λ n. get_or all n no_hop) (sym same)) at (hops_to_last _ _ en))
+    | inl same ↦ rw (same, ← eh) (inl (hops_to_last _ _ en))
     | inr other ↦ elim (p.parted place (omega arith)) [
       | inl on ↦ inl (hops_added _ _ en on)
       | inr land ↦ inr land
@@ -118,7 +118,7 @@ part_landing {all} {landings} {count} {hop} p is eh en = record {
   first = p.first;
   last = let l = ap length en in let m = length-append landings (hop ∷ []) in each_to (each_more p.last is en) (omega arith);
   parted = λ place l. elim (cases_eq place count) [
-    | inl same ↦ inr (rw (eh ∙ ap (λ n. get_or all n no_hop) (sym same)) at (hops_to_last _ _ en))
+    | inl same ↦ rw (same, ← eh) (inr (hops_to_last _ _ en))
     | inr other ↦ elim (p.parted place (omega arith)) [
       | inl on ↦ inl on
       | inr land ↦ inr (hops_added _ _ en land)
@@ -317,7 +317,8 @@ entered_if words false h small en other = search (rules, or_zero_r, set-get_or)
 
 -- what a hop leads to from a set is in another
 abbrev pub IsFollowed : List ℕ → List ℕ → Hop → Type 0
-IsFollowed old new hop = (bit : ℕ) → bit < 64 → bit_at hop.from bit ≡ 1 → IsIn old (hop.at * 64 + bit) → IsIn new (end_of hop)
+IsFollowed old new hop = (bit : ℕ) → bit < 64 → bit_at hop.from bit ≡ 1 → IsIn old (hop.at * 64 + bit)
+    → IsIn new (end_of hop)
 
 -- what a hop leads to was entered, if it leads from the set
 pub record Led (code : List Node) (hop : Hop) (old mid : List ℕ) (all : ℕ) : Type 0 where

@@ -47,7 +47,7 @@ leads_shift : (node : Node) (line : List ℕ) (base at place at' place' : ℕ) {
 leads_shift (Take bytes) line base at place at' place' d e h = (omega arith, h.1, h.2, h.3)
 leads_shift First line base at place at' place' d e h = (omega arith, h.1, h.2)
 leads_shift Last line base at place at' place' d e h = (omega arith, h.1, h.2)
-leads_shift (Choose skip) line base at place at' place' d e h = (elim h.0 [ inl f ↦ inl (omega arith) | inr f ↦ inr (omega arith) ], h.1)
+leads_shift (Choose skip) line base at place at' place' d e h = search rules
 leads_shift (Back by) line base at place at' place' d e h = (omega arith, h.1)
 
 -- a walk over a code that stands in a longer one
@@ -204,7 +204,7 @@ exact_maybe {code} {line} {Kind} e = record {
   where
     fits : (n : ℕ) (node : Node) → At (maybe code) n node → FitsIn (suc (length code)) n node
     fits zero node h = rw h (omega arith)
-    fits (suc n) node h = fits_moved node 1 _ _ (e.fits.fits n node h) (omega arith) (omega arith)
+    fits (suc n) node h = search rules
 
     sound : (from to count : ℕ) → Walks (maybe code) line count 0 from (suc (length code)) to
         → (from ≡ to) ⊎ Kind from to

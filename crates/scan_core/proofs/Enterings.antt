@@ -149,4 +149,4 @@ module _ {A : Type 0} {none : A} {Is : ℕ → A → Type 0} {count : ℕ} {list
 
   pub each_by : {Other : ℕ → A → Type 0} → AreEach none Is count list
       → ((place : ℕ) (entry : A) → place < count → Is place entry → Other place entry) → AreEach none Other count list
-  each_by a there = record { size = a.size; each = λ place h. there place (get_or list place none) h (a.each place h) }
+  each_by a there = search rules

@@ -408,7 +408,8 @@ join_more {code} {inside} {at} {eight} {all} {entry} word j i within h e = close
         rw e (entry_at place (omega arith) (omega arith) (omega arith) (i.each place (omega arith)))
 
     bits : (bit : ℕ) → bit < 64 → bit_at (word % 2 ^ ((eight + 1) * 8)) bit
-        ≡ max (bit_at (word % 2 ^ (eight * 8)) bit) (bit_at (word / 2 ^ (eight * 8) % 256 * 2 ^ (eight * 8) % 2 ^ 64) bit)
+        ≡ max (bit_at (word % 2 ^ (eight * 8)) bit)
+        (bit_at (word / 2 ^ (eight * 8) % 256 * 2 ^ (eight * 8) % 2 ^ 64) bit)
     bits bit l =
         let next : (eight + 1) * 8 ≡ 8 + eight * 8 = omega arith in
         let low : word % 2 ^ (eight * 8) < 2 ^ (eight * 8) = mod-lt word (pow_pos (eight * 8)) in

@@ -34,7 +34,7 @@ pub record Searched (code : List Node) (line : List ℕ) (place : ℕ) (words : 
 -- at the line's front nothing came before
 pub front_is : {code : List Node} {line base words : List ℕ} {place steps : ℕ} → Searched code line place words steps
     → IsBase code base → place ≡ 0 → (number : ℕ) → IsIn words number → IsIn base number
-front_is s b z number k = elim ((s.came number).0 k) [ inl came ↦ absurd (omega (arith, came.1)) | inr on ↦ (b.exact number).1 on ]
+front_is s b z number k = search rules
 
 -- what is entered at a place
 pub entered_here : {code : List Node} {line : List ℕ} {place steps : ℕ} {at_first at_last : Bool} {old new : List ℕ}
@@ -120,12 +120,12 @@ tells_at e h = search rules
 
 next_by : (code : List Node) {byte : ℕ} {One Other : ℕ → Type 0} → ((n : ℕ) → One n → Other n) → {number : ℕ}
     → Next code byte One number → Next code byte Other number
-next_by code there h = (h.0, elim h.1 [ inl s ↦ inl (s.0, there s.0 s.1, s.2) | inr e ↦ inr e ], h.2)
+next_by code there h = search rules
 
 -- two bytes that every node treats alike lead alike
 next_alike : (code : List Node) {one other : ℕ} {Set : ℕ → Type 0} {number : ℕ} → AreAlike code one other
     → Next code one Set number → Next code other Set number
-next_alike code a n = (n.0, elim n.1 [ inl s ↦ inl (s.0, s.1, (s.2.0, s.2.1, sym (a s.0 s.2.0 s.2.1) ∙ s.2.2, s.2.3)) | inr e ↦ inr e ], n.2)
+next_alike code a n = search rules
 
 -- the entry of a byte's twin is the byte's
 pub twin_entry : {code : List Node} {most place twin read : ℕ} (d : ℕ) {building : Building}
@@ -157,7 +157,7 @@ record Grown (code : List Node) (place : ℕ) (sets sets' : List (List Bool)) (r
 grown : {code : List Node} {place : ℕ} {sets sets' : List (List Bool)} {rows : List ℕ} {set : List Bool}
     → Built code place sets rows → place ≤ length sets * 256 → place / 256 < length sets
     → (sets' ≡ sets) ⊎ ((sets' ≡ sets ++ set ∷ []) × IsOpen code set) → Grown code place sets sets' rows
-grown b r k (inl e) = rw e (record { built = b; order = r; known = k; same = refl })
+grown b r k (inl e) = search rules
 grown {sets} {set} b r k (inr e) = let l = length-append sets (set ∷ []) in rw e.0 (record {
   built = built_set b r e.1;
   order = omega arith;

@@ -39,10 +39,10 @@ pub record IsPlace (line : List ℕ) (place : ℕ) (at_first at_last : Bool) : T
 flow_goes : (node : Node) {line : List ℕ} {place : ℕ} {at_first at_last : Bool} (from to : ℕ)
     → IsPlace line place at_first at_last → LeadsOn node at_first at_last from to ↔ Leads node line from place to place
 flow_goes (Take bytes) from to p = (λ h. absurd h, λ h. absurd (omega arith))
-flow_goes First from to p = (λ h. (h.1, refl, p.first.0 h.0), λ h. (p.first.1 h.2, h.0))
-flow_goes Last from to p = (λ h. (h.1, refl, p.last.0 h.0), λ h. (p.last.1 h.2, h.0))
+flow_goes First from to p = omega arith
+flow_goes Last from to p = omega arith
 flow_goes (Choose skip) from to p = (λ h. (h, refl), λ h. h.0)
-flow_goes (Back by) from to p = (λ h. (h, refl), λ h. h.0)
+flow_goes (Back by) from to p = omega arith
 
 -- a step stays at its place or goes on by one
 leads_place : (node : Node) (line : List ℕ) (from : ℕ) {place to place' : ℕ} → Leads node line from place to place'
@@ -124,7 +124,7 @@ came_exact code a h e number = search rules
 -- one place more
 pub steps_more : (place : ℕ) {steps count size : ℕ} → steps ≤ place * size → count ≤ size
     → steps + count ≤ (place + 1) * size
-steps_more place {size} h k = let e : (place + 1) * size ≡ place * size + size = grind arith in omega arith
+steps_more place h k = omega arith
 
 pub steps_wider : {place most steps : ℕ} (size : ℕ) → steps ≤ place * size → place ≤ most → steps ≤ most * size
 steps_wider size h k = search rules
@@ -347,8 +347,8 @@ pub record HasLastStates (rows : List ℕ) (count byte done word : ℕ) : Type 0
   pub told : (state place : ℕ) → state ≤ count → state + done ≡ count + 1 + place
       → IsOffset rows count state byte (six_bits word place)
 
-pub word_more : {rows : List ℕ} {count byte done word offset : ℕ} → HasLastStates rows count byte done word → done ≤ count
-    → offset < 64 → IsOffset rows count (count - done) byte offset
+pub word_more : {rows : List ℕ} {count byte done word offset : ℕ} → HasLastStates rows count byte done word
+    → done ≤ count → offset < 64 → IsOffset rows count (count - done) byte offset
     → HasLastStates rows count byte (done + 1) (word * 64 + offset)
 word_more {rows} {count} {byte} {done} {word} {offset} b h o i = record {
   small =
@@ -497,7 +497,7 @@ module _ {code : List Node} {shifts : ShiftTable} {line : List ℕ} {place : ℕ
   -- what is noted of the state
   noted_here : {noted : State} (d : State) → noted ≡ get_or shifts.states.items (word % 64 / 6) d
       → noted ≡ get_or a.0.states.items a.3.0 d
-  noted_here d e = e ∙ ap (λ n. get_or shifts.states.items n d) state_number ∙ ap (λ l. get_or l a.3.0 d) a.2.states
+  noted_here d e = search rules
 
   -- the end wasn't entered
   module _ (n : word % 64 ≡ shifts.stop → ⊥) where
