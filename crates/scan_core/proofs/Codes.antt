@@ -1,12 +1,13 @@
 -- Walks over the nodes of a pattern.
 use Rattle.std.proofs.{
-  Common.{rules, ◌≡◌, ◌⊎◌, inl, inr, ℕ, zero, suc, ◌+◌, ◌-◌, ◌≤◌, List, [], ◌∷◌, ◌++◌, length, refl, ap, subst, arith},
+  Common.{rules, ◌≡◌, ◌⊎◌, inl, inr, ℕ, zero, suc, ◌+◌, ◌-◌, ◌≤◌, List, [], ◌∷◌, ◌++◌, length, refl, ap, subst},
+  Common.arith,
   Common.{sym, ◌∙◌, ◌↔◌, Option, Some, None, ◌*◌, ◌<◌, Bool, IsTrue, length-append, suc-mul, add-mul},
   lemmas.{Bool.cases_eq, Grind.common_steps},
 }
 use Rattle.scan_core.{
   specs.declared.node.Node.{Node, TheVariants.{Take, First, Last, Choose, Back}},
-  specs.Code.{At, Leads, Goes, Walks, Path, maybe, starred, up_to, copies, tail_of, code_of, code_of_item, Entered},
+  specs.Code.{At, Leads, Walks, Path, maybe, starred, up_to, copies, tail_of, code_of, code_of_item, Entered},
   specs.Code.{IsOrdered, IsOrderedItem, weight},
   specs.inner.Sets.{FitsIn, IsCode},
   specs.Counted.EndsIn,
@@ -307,7 +308,7 @@ module _ {code : List Node} {line : List ℕ} {Kind : ℕ → ℕ → Type 0} (e
       around from to k =
           let p = e.complete from to k in
           let inside = walk_in code (starred code) line 1 (λ n node h. at-right (Choose (length code + 2) ∷ []) (code ++ Back (length code + 1) ∷ []) n node
-              (at-left code (Back (length code + 1) ∷ []) n node h)) p.0 0 from (length code) to refl refl p.1 in
+          (at-left code (Back (length code + 1) ∷ []) n node h)) p.0 0 from (length code) to refl refl p.1 in
           let last = at_at (starred code) (Back (length code + 1)) (omega arith) (at-right (Choose (length code + 2) ∷ code) (Back (length code + 1) ∷ []) 0 _ refl) in
           path_on (starred code) (1, (1, from, (Choose (length code + 2), refl, (inl refl, refl)), (refl, refl)))
           (path_on (starred code) (p.0, inside) (1, (0, to, (Back (length code + 1), last, (omega arith, refl)), (refl, refl))))
@@ -373,15 +374,15 @@ module _ {code : List Node} {line : List ℕ} {Kind : ℕ → ℕ → Type 0} (e
   exact_repeated {low} None b = exact_by (exact_both (exact_copies low) (exact_starred e))
       (λ from to k. let often : Often Kind k.0 to = k.2 in (low + often.0, omega arith, tt, parts_join _ _ _ _ _ _ k.1 often.1))
       (λ from to k.
-          let q : k.0 ≡ low + (k.0 - low) = omega arith in
-          let split = parts_split _ _ _ _ _ (rw q at k.3) in
-          (split.0, split.1, (k.0 - low, split.2)))
+      let q : k.0 ≡ low + (k.0 - low) = omega arith in
+      let split = parts_split _ _ _ _ _ (rw q at k.3) in
+      (split.0, split.1, (k.0 - low, split.2)))
   exact_repeated {low} (Some high) b = exact_by (exact_both (exact_copies low) (exact_up_to (high - low)))
       (λ from to k. let most : AtMost Kind (high - low) k.0 to = k.2 in (low + most.0, omega arith, omega arith, parts_join _ _ _ _ _ _ k.1 most.2))
       (λ from to k.
-          let q : k.0 ≡ low + (k.0 - low) = omega arith in
-          let split = parts_split _ _ _ _ _ (rw q at k.3) in
-          (split.0, split.1, (k.0 - low, omega arith, split.2)))
+      let q : k.0 ≡ low + (k.0 - low) = omega arith in
+      let split = parts_split _ _ _ _ _ (rw q at k.3) in
+      (split.0, split.1, (k.0 - low, omega arith, split.2)))
 
 mutual
   code_exact : (pattern : Pattern) (line : List ℕ) → IsOrdered pattern

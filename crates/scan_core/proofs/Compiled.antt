@@ -8,11 +8,11 @@ use Rattle.scan_core.specs.{
   declared.{
     compile.{Compiling.Compiling, Pending.{Pending, TheVariants.{Group, Repeated}}},
     emit.Duplication.Duplication,
-    node.Node.{Node, TheVariants.Back},
+    node.Node.{Node},
   },
   inner.{
     Backwards.{HasBegun, Repeats, begun},
-    Compiling.{AreBegun, Pops, Waits, IsNow, FinishesBy, Finishes, PopsNone, Begins, Closes, Writes, Passes},
+    Compiling.{AreBegun, Pops, Waits, IsNow, FinishesBy, Finishes, PopsNone, Begins, Closes},
     Compiling.{PassesLeaf, TakesIn, Takes, TakesAll},
   },
   Code.{code_of, code_of_item, IsOrdered, IsOrderedItem, copies, tail_of, up_to},

@@ -179,8 +179,11 @@ pub none_in : (words : List ℕ) {at : ℕ} → ((n : ℕ) → n < at → get_or
 none_in words {at} zeros h number k =
     let l = is_within _ k in
     let same : number ≡ number / 64 * 64 + number % 64 = omega arith in
-    omega (arith, (is_in_word words (number / 64) (number % 64) (omega arith)).1 (rw same at k),
-    ap (λ x. bit_at x (number % 64)) (zeros (number / 64) (omega arith)) ∙ bit_at-zero (number % 64))
+    omega (
+      arith,
+      (is_in_word words (number / 64) (number % 64) (omega arith)).1 (rw same at k),
+      ap (λ x. bit_at x (number % 64)) (zeros (number / 64) (omega arith)) ∙ bit_at-zero (number % 64),
+    )
 
 -- the weights of the marked numbers
 abbrev sum_of : (ℕ → ℕ) → List Bool → ℕ

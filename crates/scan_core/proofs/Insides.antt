@@ -6,11 +6,12 @@ use Rattle.std.proofs.{
   Common.{◌-◌, max, bit_and, bit_or},
 }
 use Rattle.std.proofs.lemmas.{
-  Bool.{cases_eq, false≢true, cases_lt},
-  List.{get_or-set_same, get_or-set_other, length-set, set-get_or},
+  Bool.{cases_eq, cases_lt},
+  List.{get_or-set_other, length-set, set-get_or},
   Nat.{le_or_l, or_lt, and_le_l, mod-pow-add, pow_pos},
-  Nat.Bits.{bit_at-trailing_zeros, shr_and_one, bit_at_set_same, bit_at_set_other, and_high, bit_at_and, bit_at_or, bit_at_not, bit_at-lt},
-  Nat.Bits.{bit_at-zero, bit_at_mask_inside, bit_at_ones, bit_at_above, bit_at_cat_low, bit_at_cat_high},
+  Nat.Bits.{bit_at-trailing_zeros, shr_and_one, bit_at_set_same, bit_at_set_other, and_high, bit_at_and, bit_at_or},
+  Nat.Bits.{bit_at_not, bit_at-lt},
+  Nat.Bits.{bit_at-zero, bit_at_ones, bit_at_above, bit_at_cat_low, bit_at_cat_high},
   Grind.common_steps,
 }
 use Rattle.std.proofs.Math.Nat.{mod-lt}
@@ -413,8 +414,11 @@ join_more {code} {inside} {at} {eight} {all} {entry} word j i within h e = close
     bits bit l =
         let next : (eight + 1) * 8 ≡ 8 + eight * 8 = omega arith in
         let low : word % 2 ^ (eight * 8) < 2 ^ (eight * 8) = mod-lt word (pow_pos (eight * 8)) in
-        rw (next, mod-pow-add word 8 (eight * 8)) (omega (arith, halves (word / 2 ^ (eight * 8) % 256) _ _ bit low,
-        fitted (word / 2 ^ (eight * 8) % 256 * 2 ^ (eight * 8)) bit l))
+        rw (next, mod-pow-add word 8 (eight * 8)) (omega (
+          arith,
+          halves (word / 2 ^ (eight * 8) % 256) _ _ bit low,
+          fitted (word / 2 ^ (eight * 8) % 256 * 2 ^ (eight * 8)) bit l,
+        ))
 
 -- the entry of a choice with both lower and higher numbers
 pub entry_of_halves : {code : List Node} {inside : List ℕ} {place : ℕ} → AreEach 0 (IsInside code) place inside

@@ -1,7 +1,7 @@
 -- What each line with a match has, and where a text lacks it.
 use Rattle.std.proofs.{
   Common.{rules, ◌≡◌, inl, inr, ℕ, zero, suc, ◌+◌, ◌-◌, ◌<◌, ◌≤◌, Bool, true, false, IsTrue, List, [], ◌∷◌, ◌++◌},
-  Common.{length, slice_index, refl, sym, ap, ◌∙◌, arith, length-append},
+  Common.{length, slice_index, refl, ◌∙◌, arith, length-append},
   lemmas.{Bool.cases_eq, List.get_or_append_left, Grind.common_steps},
   Math.Seq.get_or-append_seam,
 }

@@ -1,24 +1,26 @@
 -- A search by sets of words, place by place.
 use Rattle.std.proofs.{
-  Common.{◌≡◌, ◌⊎◌, ◌↔◌, inl, inr, ℕ, suc, ◌+◌, ◌*◌, ◌<◌, ◌≤◌, Bool, true, false, IsTrue, List, length, slice_index},
-  Common.{refl, sym, ◌∙◌, subst, arith, rules, ◌/◌, ◌%◌, [], ◌∷◌, ◌++◌, length-append, get_or, ap, mul-le-mul},
+  Common.{◌≡◌, ◌⊎◌, ◌↔◌, inl, inr, ℕ, suc, ◌+◌, ◌*◌, ◌<◌, ◌≤◌, Bool, true, false, IsTrue, List, length},
+  Common.slice_index,
+  Common.{refl, sym, ◌∙◌, arith, rules, ◌/◌, ◌%◌, [], ◌∷◌, ◌++◌, length-append, get_or, ap, mul-le-mul},
   lemmas.{Bool.{false≢true, cases_eq}, List.{get_or_append_left, get_or_default}},
 }
 use Rattle.scan_core.specs.{
   declared.{node.Node.{Node, TheVariants.Take}, build.Building.Building, table.{State.State, Table.Table}},
   inner.Closures.IsBase,
-  inner.Sets.{FlowsOn, StepsBy, Came},
+  inner.Sets.{FlowsOn, Came},
   inner.Table.{IsCounted, Next, InSets, entry, Tells, IsState, no_state, IsTable},
   inner.Words.{IsIn, width, flags_of, SpreadsOut},
   inner.Built.{AreAlike, Built, IsBuilding, IsOpen, LeadsTo, Led},
   inner.Each.AreEach,
-  Code.{Entered, weight, At},
+  Code.{weight, At},
   Sets.{IsMarked, positions_among},
   Table.IsOutcome,
   Counted.set_at,
 }
 use Rattle.scan_core.proofs.{
-  Shiftings.{AreEntered, IsPlace, reaches_exact, came_exact, counted_more, counted_found, counted_ends, steps_more, steps_wider},
+  Shiftings.{AreEntered, IsPlace, reaches_exact, came_exact, counted_more, counted_found, counted_ends, steps_more},
+  Shiftings.steps_wider,
   Countings.{LedOrBase, flags_are, flags_length},
   Enterings.{positions_most, parts_anywhere, weight_length, each_more, each_to, each_by, at_index, at_once, at_least},
   Insides.flows_join,

@@ -1,4 +1,4 @@
-use Rattle.std.proofs.{Common.{rules, ◌≡◌, ◌-◌, length, refl, ap, ◌∙◌, arith}, lemmas.List.at_drop_all}
+use Rattle.std.proofs.{Common.{rules, ◌≡◌, length, refl, ap, ◌∙◌, arith}, lemmas.List.at_drop_all}
 use Rattle.scan_core.{specs.inner.Compiling.depth_in, proofs.Compiled.{bounded_at, compiled, ordered, way_more}}
 use Rattle.scan_core.proofs.compile.compile.Goals as goal
 

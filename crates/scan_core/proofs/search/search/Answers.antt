@@ -1,4 +1,4 @@
-use Rattle.std.proofs.Common.{rules, ◌≡◌, ◌<◌, length, refl, sym, ◌∙◌, arith, eqb-true}
+use Rattle.std.proofs.Common.{rules, ◌≡◌, length, refl, sym, ◌∙◌, arith, eqb-true}
 use Rattle.scan_core.proofs.{
   Shiftings.{inner, final},
   Searchings.{entered_here, front_is, search_more, search_found, search_ends, search_fits},

@@ -1,4 +1,4 @@
-use Rattle.std.proofs.Common.{rules, ◌<◌, ◌+◌, length, slice_index, arith}
+use Rattle.std.proofs.Common.{rules, ◌+◌, arith}
 use Rattle.scan_core.proofs.{
   Shiftings.{WalkedOf, bound_fits, walk_ends, walk_fits, walk_next, walk_one, walk_run, walk_stops},
   walk.walk.Goals.{After-positions_of_places-steps},

@@ -10,7 +10,7 @@ slice_bounds-search-end c =
 pub slice_bounds-search-end-2 : goal.slice_bounds-search-end-2
 slice_bounds-search-end-2 c =
     let h : c.len.result / 64 + 1 ≤ length c.args.words.now =
-        omega (arith, enough_room _ c.self.invariant.1, ap length c.self.invariant.0, ap positions_of c.self.view_is) in
+    omega (arith, enough_room _ c.self.invariant.1, ap length c.self.invariant.0, ap positions_of c.self.view_is) in
     search (rules, h)
 
 pub search-requires-clause-code : goal.search-requires-clause-code
@@ -19,5 +19,5 @@ search-requires-clause-code c = rw (← (c.deref.ensures.value ∙ c.self.invari
 pub search-requires-clause-room : goal.search-requires-clause-room
 search-requires-clause-room c =
     let h : c.len.result / 64 + 1 ≤ length c.args.words.now =
-        omega (arith, enough_room _ c.self.invariant.1, ap length c.self.invariant.0, ap positions_of c.self.view_is) in
+    omega (arith, enough_room _ c.self.invariant.1, ap length c.self.invariant.0, ap positions_of c.self.view_is) in
     search (rules, length-take, h)
