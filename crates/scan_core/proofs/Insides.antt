@@ -123,9 +123,6 @@ grows_one {old} {new} {number} {word} h none ew fits en eo = record {
     fuller = rw (← en) at (unset-set old (number / 64) (bit_or word (1 * 2 ^ (number % 64) % 2 ^ 64)) (omega arith) larger
         (let m = or_lt 64 word (1 * 2 ^ (number % 64) % 2 ^ 64) fits (omega arith) in omega arith))
 
-goes_none : {words : List ℕ} {before : ℕ} → GoesOn words words before before
-goes_none = search rules
-
 pub grows_none : {Added : ℕ → Type 0} {words : List ℕ} {on : ℕ} → ((number : ℕ) → Added number → IsIn words number)
     → Grows Added words words on on
 grows_none within = search rules
@@ -439,7 +436,8 @@ entry_of_halves {code} {inside} {place} i low high = closes_both _ _ _ _ one oth
     other : Closes code (place / 2048) (place % 16 * 2 ^ (place / 256 % 8 * 8) % 2 ^ 64)
         (get_or inside (place - place / 16 % 16 * 16) 0)
     other =
-        search rules
+        let before : ℕ = place - place / 16 % 16 * 16 in
+        entry_at _ (omega arith) (omega arith) (omega arith) (i.each before (omega arith))
 
     bits : (bit : ℕ) → bit < 64
         → bit_at (chosen_at place) bit ≡ max (bit_at (place / 16 % 16 * 16 * 2 ^ (place / 256 % 8 * 8) % 2 ^ 64) bit)

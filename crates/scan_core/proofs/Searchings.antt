@@ -159,7 +159,7 @@ record Grown (code : List Node) (place : ℕ) (sets sets' : List (List Bool)) (r
 grown : {code : List Node} {place : ℕ} {sets sets' : List (List Bool)} {rows : List ℕ} {set : List Bool}
     → Built code place sets rows → place ≤ length sets * 256 → place / 256 < length sets
     → (sets' ≡ sets) ⊎ ((sets' ≡ sets ++ set ∷ []) × IsOpen code set) → Grown code place sets sets' rows
-grown b r k (inl e) = search rules
+grown b r k (inl e) = rw e (record { built = b; order = r; known = k; same = refl })
 grown {sets} {set} b r k (inr e) = let l = length-append sets (set ∷ []) in rw e.0 (record {
   built = built_set b r e.1;
   order = omega arith;

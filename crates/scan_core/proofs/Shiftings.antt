@@ -491,9 +491,6 @@ module _ {code : List Node} {shifts : ShiftTable} {line : List ℕ} {place : ℕ
   pub at_fits : place ≤ 18446744073709551616 → steps < 340282366920938463463374607431768211456
   at_fits p = bound_fits _ a.1.1.few a.3.2.bound (omega arith)
 
-  state_number : word % 64 / 6 ≡ a.3.0
-  state_number = omega (arith, a.3.1)
-
   -- what is noted of the state
   noted_here : {noted : State} (d : State) → noted ≡ get_or shifts.states.items (word % 64 / 6) d
       → noted ≡ get_or a.0.states.items a.3.0 d
