@@ -299,7 +299,7 @@ apart_more {code} {now} {new} {count} s c begun inside size closes fits small en
 
 pub apart_ends : {code : List Node} {closures : Closures} {old now : List ℕ} {count : ℕ}
     → Apart code closures old now count → length now ≤ count → IsApart code closures.hops now
-apart_ends s h = λ start to k flow. let w = is_within _ k in s.done start to (omega arith) k flow
+apart_ends s h = λ start to k flow. s.done start to (omega (arith, is_within _ k)) k flow
 
 -- Following a hop.
 
@@ -310,8 +310,7 @@ entered_if : (words : List ℕ) {new : List ℕ} {at bit : ℕ} (holds : Bool) �
 entered_if words {at} {bit} true h small en other =
     let here : (at * 64 + bit) / 64 ≡ at = omega arith in
     let there : (at * 64 + bit) % 64 ≡ bit = omega arith in
-    let e = entered_one _ (omega arith) refl
-    (rw (here, there) en) _ in
+    let e = entered_one _ (omega arith) refl (rw (here, there) en) _ in
     (λ k. elim (e.0 k) [ inl was ↦ inl was | inr same ↦ inr (refl, same) ], λ k. e.1 (elim k [ inl was ↦ inl was | inr q ↦ inr q.1 ]))
 entered_if words false h small en other = search (rules, or_zero_r, set-get_or)
 

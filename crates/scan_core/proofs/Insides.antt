@@ -71,9 +71,7 @@ pub entered_one : (old : List ℕ) {new : List ℕ} {number word : ℕ} → numb
     → (other : ℕ) → IsIn new other ↔ (IsIn old other ⊎ (other ≡ number))
 unfolding IsIn
 entered_one old {new} {number} {word} h ew en other = elim (cases_eq other number) [
-  | inl same ↦
-      let here = ap (λ n. bit_at (get_or new (n / 64) 0) (n % 64)) same ∙ ap (λ x. bit_at x (number % 64)) read in
-      (λ k. inr same, λ k. here ∙ bit_at_set_same w64 word _ (omega arith))
+  | inl same ↦ (λ k. inr same, λ k. rw (same, read) (bit_at_set_same w64 word (number % 64) (omega arith)))
   | inr differs ↦ (λ k. inl (sym (elsewhere differs) ∙ k), λ k. elim k [ inl was ↦ elsewhere differs ∙ was | inr same ↦ absurd (differs same) ])
 ]
   where
@@ -83,10 +81,8 @@ entered_one old {new} {number} {word} h ew en other = elim (cases_eq other numbe
     elsewhere : (other ≡ number → ⊥)
         → bit_at (get_or new (other / 64) 0) (other % 64) ≡ bit_at (get_or old (other / 64) 0) (other % 64)
     elsewhere differs = elim (cases_eq (other / 64) (number / 64)) [
-      | inl same ↦ ap (λ k. bit_at (get_or new k 0) (other % 64)) same ∙ ap (λ x. bit_at x (other % 64)) read
-          ∙ bit_at_set_other w64 word _ (omega arith) _ (λ e. differs (omega arith))
-          ∙ ap (λ x. bit_at x (other % 64)) ew ∙ ap (λ k. bit_at (get_or old k 0) (other % 64)) (sym same)
-      | inr apart ↦ ap (λ x. bit_at x (other % 64)) (ap (λ l. get_or l (other / 64) 0) en ∙ get_or-set_other old _ _ _ 0 apart)
+      | inl same ↦ rw (same, read, ← ew) (bit_at_set_other w64 word (number % 64) (omega arith) (other % 64) (λ e. differs (omega arith)))
+      | inr apart ↦ rw en (ap (λ x. bit_at x (other % 64)) (get_or-set_other old _ _ _ 0 apart))
     ]
 
 -- one number more
