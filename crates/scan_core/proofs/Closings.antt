@@ -328,13 +328,18 @@ pub record Led (code : List Node) (hop : Hop) (old mid : List ℕ) (all : ℕ) :
   pub larger : get_or old hop.word 0 ≤ all
   pub fits : all < 2 ^ 64
 
+not_zero : {n : ℕ} → IsTrue (not (eqb n 0)) → n ≡ 0 → ⊥
+not_zero {n} t = eqb-false n 0 (not-true (eqb n 0) t)
+
+is_not_zero : {n : ℕ} → (n ≡ 0 → ⊥) → IsTrue (not (eqb n 0))
+is_not_zero {n} h = ap not (ne_eqb n 0 h)
+
 pub led_is : {code : List Node} {hop : Hop} {old mid : List ℕ} {holds : Bool} → IsHop code hop → length old ≡ width code
     → get_or old hop.at 0 < 2 ^ 64 → get_or old hop.word 0 < 2 ^ 64
-    → (IsTrue holds → bit_and (get_or old hop.at 0) hop.from ≡ 0 → ⊥)
-    → ((bit_and (get_or old hop.at 0) hop.from ≡ 0 → ⊥) → IsTrue holds)
+    → holds ≡ not (eqb (bit_and (get_or old hop.at 0) hop.from) 0)
     → mid ≡ set old hop.word (bit_or (get_or old hop.word 0) (bool_byte holds * 2 ^ hop.bit % 2 ^ 64))
     → Led code hop old mid (bit_or (get_or old hop.word 0) (bool_byte holds * 2 ^ hop.bit % 2 ^ 64))
-led_is {code} {hop} {old} {mid} {holds} is size fits high some any em = record {
+led_is {code} {hop} {old} {mid} {holds} is size fits high test em = record {
   adds = record {
     size = ap length em ∙ length-set old _ _;
     kept = λ n k. (exact n).1 (inl k);
@@ -343,7 +348,7 @@ led_is {code} {hop} {old} {mid} {holds} is size fits high some any em = record {
   new = λ n k. elim ((exact n).0 k) [ inl was ↦ inl was | inr led ↦ inr led.1 ];
   followed = λ bit small one k.
       let here = (is_in_word _ _ _ small).1 k in
-      (exact _).1 (inr (any (λ none. none_of _ _ _ none here one), refl));
+      (exact _).1 (inr (test ∙ is_not_zero (λ none. none_of _ _ _ none here one), refl));
   set = em;
   larger = le_or_l _ (bool_byte holds * 2 ^ hop.bit % 2 ^ 64);
   fits = or_lt 64 _ (bool_byte holds * 2 ^ hop.bit % 2 ^ 64) high (omega arith);
@@ -355,7 +360,7 @@ led_is {code} {hop} {old} {mid} {holds} is size fits high some any em = record {
     entered : (number : ℕ) → IsTrue holds → number ≡ end_of hop
         → (start : ℕ) × IsIn old start × FlowsOn code false false start number
     entered number t e =
-        let one = one_of _ fits (some t) in
+        let one = one_of _ fits (not_zero (sym test ∙ t)) in
         let start : ℕ = hop.at * 64 + one.0 in
         (start, (is_in_word _ _ _ one.1).0 one.2, (1, (start, refl, rw (← e) at ((is.exact one.0 one.1).0 one.3))))
 
@@ -576,9 +581,3 @@ pub spreads_again : {code : List Node} {at_first at_last : Bool} {old now new : 
     → SpreadsOut code false false old now → SpreadsOut code at_first at_last now new
     → SpreadsOut code at_first at_last old new
 spreads_again s t = spreads_out (adds_both (adds_anywhere (adds_of s)) (adds_of t)) (closed_of t)
-
-pub not_zero : {n : ℕ} → IsTrue (not (eqb n 0)) → n ≡ 0 → ⊥
-not_zero {n} t = eqb-false n 0 (not-true (eqb n 0) t)
-
-pub is_not_zero : {n : ℕ} → (n ≡ 0 → ⊥) → IsTrue (not (eqb n 0))
-is_not_zero {n} h = ap not (ne_eqb n 0 h)
