@@ -20,7 +20,7 @@ use mir.Val.{bool_byte}
 use Rattle.scan_core.{
   specs.inner.{
     Sets.{Flows, FlowsOn},
-    Words.{GoesOn, IsIn, unset, Grows, Adds, SpreadsOut, width},
+    Words.{IsIn, unset, Grows, Adds, SpreadsOut, width},
     Branches.{IsBranch, Opens},
     Each.AreEach,
     Closures.{Closes, IsInside, chosen_at},
