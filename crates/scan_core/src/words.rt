@@ -3,7 +3,7 @@
 ghost use Rattle.std.specs.Prelude.{◌≡◌, ◌⊎◌, ◌↔◌, ◌<◌, ◌*◌, ℕ, IsTrue, length};
 ghost use Rattle.scan_core.specs.{
   declared.masks.Kind.TheVariants.Counts,
-  inner.{Each.AreEach, Sets.{IsCode, Flows, Passes}, Words.{AreTakes, Grows, IsIn, IsMask, flags_of, width}},
+  inner.{Each.AreEach, Sets.{IsCode, Flows, StepsBy}, Words.{AreTakes, Grows, IsIn, IsMask, flags_of, width}},
   Sets.positions_among,
 };
 
@@ -75,7 +75,7 @@ pub fn pass(words: &mut [u64], nodes: &[Node], base: &[u64], takes: &[u64], byte
     ensures size { length words.new ≡ length words.old }
     ensures exact { (number : ℕ)
         → IsIn words.new number
-        ↔ (((before : ℕ) × IsIn words.old before × Passes nodes.now byte before number) ⊎ IsIn base.now number) }
+        ↔ (((before : ℕ) × IsIn words.old before × StepsBy nodes.now byte before number) ⊎ IsIn base.now number) }
 {
     let from = byte as usize * words.len();
     let mut carry: u64 = 0;

@@ -1,11 +1,11 @@
-use Rattle.std.proofs.{Common.{rules, ◌≡◌, ◌-◌, length, refl, ap, ◌∙◌, arith}, lemmas.List.at_drop_all}
+use Rattle.std.proofs.{Common.{rules, ◌≡◌, length, refl, ap, ◌∙◌, arith}, lemmas.List.at_drop_all}
 use Rattle.scan_core.{specs.inner.Compiling.depth_in, proofs.Compiled.{bounded_at, compiled, ordered, way_more}}
 use Rattle.scan_core.proofs.compile.compile.Goals as goal
 
 pub loop-place-init : goal.loop-place-init
 loop-place-init c = let first = c.new-compiling.result in record {
   begun = search rules;
-  depth = let d = ap depth_in c.new-compiling.ensures.passing in omega arith;
+  depth = omega (arith, ap depth_in c.new-compiling.ensures.passing);
   branch = (
     first,
     record { nodes = c.new-compiling.ensures.nodes; pending = c.new-compiling.ensures.pending; passing = c.new-compiling.ensures.passing },
